@@ -1,10 +1,10 @@
-//! A device with two outputs: `door_device PORT RATE`, at address 5. A line `card 12345640` says that a card was read. Each output that is switched on is
-//! printed.
+//! A device with two outputs: `door_device PORT RATE`, at address 5. A line `card 12345640` is a card. Each output that is switched on is printed.
 mod port;
 
-use osdp::{Answer, Command, Device, DeviceAnswer, DeviceConfig, Moment, NakReason, Order, Output};
-use port::{Came, Port};
+use osdp::{Command, Device, DeviceAnswer, DeviceConfig, Moment, NakReason, Order, Output, Step};
+use port::{Came, Port, run_on_port};
 use std::error::Error;
+use std::process::ExitCode;
 use std::time::Duration;
 
 /// How long it waits at most.
@@ -29,14 +29,11 @@ fn switch(record: Output) {
 
 type Done = Result<(), Box<dyn Error>>;
 
-/// What the device says goes out, and then it does what it is to do.
-fn take(device: &mut Device, port: &mut Port, answer: &Answer) -> Done {
-    if let Some(burst) = &answer.burst {
-        port.write(burst)?;
-    }
-    match &answer.order {
+/// What the device does about a command, once what is said to it has gone out.
+fn act(device: &mut Device, order: Option<Order>) -> Done {
+    match order {
         Some(Order::Pending(command)) => {
-            decide(command).map_or(Ok(()), |said| device.answer_next(said))?
+            decide(&command).map_or(Ok(()), |said| device.answer_next(said))?
         }
         Some(Order::Once(command)) => command
             .outputs()
@@ -50,22 +47,20 @@ fn take(device: &mut Device, port: &mut Port, answer: &Answer) -> Done {
 /// Hands bytes to the device, until nothing is said to them.
 fn hear(device: &mut Device, port: &mut Port, mut bytes: &[u8], now: Moment) -> Done {
     loop {
-        let (taken, answer) = device.step(bytes, now)?;
+        let Step { taken, answer } = device.step(bytes, now)?;
         bytes = &bytes[taken..];
         match answer {
-            Some(answer) => take(device, port, &answer)?,
+            Some(answer) => {
+                let order = answer.send(|burst| port.write(burst))?;
+                act(device, order)?;
+            }
             None if bytes.is_empty() => return Ok(()),
             None => {}
         }
     }
 }
 
-fn main() -> Done {
-    let words: Vec<String> = std::env::args().collect();
-    let [_, path, rate] = &words[..] else {
-        return Err("door_device PORT RATE".into());
-    };
-    let mut port = Port::open(path, rate)?;
+fn run(mut port: Port) -> Done {
     let mut device = Device::new(&DeviceConfig::new(5))?;
     device.set_outputs(&[0, 0])?;
     loop {
@@ -73,17 +68,24 @@ fn main() -> Done {
         let now = port.now(); // after the read: not before it
         match &came {
             Came::Bytes(bytes) => hear(&mut device, &mut port, bytes, now)?,
-            Came::Line(line) => match line.strip_prefix("card ") {
-                Some(card) => device.event_text(&format!("RAW 0 0 26 {card}"))?,
-                None => println!("refused line"),
-            },
+            Came::Line(line) => {
+                let event = line.replacen("card ", "RAW 0 0 26 ", 1);
+                if device.event_text(&event).is_err() {
+                    println!("refused line");
+                }
+            }
             Came::Nothing => {}
         }
-        if let Some(answer) = device.tick(now)? {
-            take(&mut device, &mut port, &answer)?;
+        if let Some(answer) = device.tick(now)?.answer {
+            let order = answer.send(|burst| port.write(burst))?;
+            act(&mut device, order)?;
             hear(&mut device, &mut port, &[], now)?;
         }
     }
+}
+
+fn main() -> ExitCode {
+    run_on_port("door_device", run)
 }
 
 #[test]

@@ -2,7 +2,8 @@
 mod port;
 
 use osdp::{Card, Command, Entry, Error, Moment, Output, Panel, PanelConfig, Reply, Report};
-use port::{Came, Port};
+use port::{Came, Port, run_on_port};
+use std::process::ExitCode;
 use std::time::Duration;
 
 /// From a lost session to the next one.
@@ -59,12 +60,7 @@ fn begin(panel: &mut Panel, door: &mut Door, now: Moment) -> Result<(), Error> {
     Ok(())
 }
 
-fn main() -> Result<(), Box<dyn std::error::Error>> {
-    let words: Vec<String> = std::env::args().collect();
-    let [_, path, rate] = &words[..] else {
-        return Err("door_panel PORT RATE".into());
-    };
-    let mut port = Port::open(path, rate)?;
+fn run(mut port: Port) -> Result<(), Box<dyn std::error::Error>> {
     let mut panel = Panel::new(&PanelConfig::default())?;
     let entry = panel.add(5)?;
     let begins = Some(port.now());
@@ -82,11 +78,13 @@ fn main() -> Result<(), Box<dyn std::error::Error>> {
         }
         take_reports(&mut panel, &mut door, now)?;
         begin(&mut panel, &mut door, now)?;
-        if let Some(burst) = panel.tick(now)? {
-            port.write(&burst)?;
-        }
+        panel.tick(now)?.send(|burst| port.write(burst))?;
         take_reports(&mut panel, &mut door, now)?;
     }
+}
+
+fn main() -> ExitCode {
+    run_on_port("door_panel", run)
 }
 
 #[test]

@@ -1,7 +1,7 @@
 //! A panel and a reader in one program, joined in memory: a card opens a door. One answer in seven is lost on the way.
 use osdp::{
     Card, Command, Device, DeviceConfig, Error, Moment, Order, Output, Panel, PanelConfig, Reply,
-    Report,
+    Report, Step,
 };
 use std::time::Duration;
 
@@ -21,11 +21,12 @@ struct Line {
 }
 
 impl Line {
-    fn carry(&mut self, burst: &[u8]) {
+    fn carry(&mut self, burst: &[u8]) -> Result<(), Error> {
         self.answers += 1;
         if !self.answers.is_multiple_of(7) {
             self.bytes.extend_from_slice(burst);
         }
+        Ok(())
     }
 }
 
@@ -38,7 +39,7 @@ fn device_hears(
 ) -> Result<usize, Error> {
     let mut opened = 0;
     loop {
-        let (taken, answer) = device.step(bytes, now)?;
+        let Step { taken, answer } = device.step(bytes, now)?;
         bytes = &bytes[taken..];
         let Some(answer) = answer else {
             if bytes.is_empty() {
@@ -46,10 +47,7 @@ fn device_hears(
             }
             continue;
         };
-        if let Some(burst) = &answer.burst {
-            line.carry(burst);
-        }
-        if let Some(Order::Once(command)) = &answer.order {
+        if let Some(Order::Once(command)) = answer.send(|burst| line.carry(burst))? {
             opened += usize::from(command.outputs().eq([STRIKE]));
         }
     }
@@ -97,15 +95,15 @@ fn main() -> Result<(), Error> {
                 other => panic!("{other:?}"),
             }
         }
-        match panel.tick(now)? {
-            Some(burst) => opened += device_hears(&mut device, &burst, now, &mut line)?,
-            None if line.bytes.is_empty() => {
-                now = panel
-                    .next_deadline()
-                    .unwrap_or(now + Duration::from_millis(1))
-                    .max(now)
-            }
-            None => {}
+        let sent = panel.tick(now)?.send(|burst| {
+            opened += device_hears(&mut device, burst, now, &mut line)?;
+            Ok::<(), Error>(())
+        })?;
+        if !sent && line.bytes.is_empty() {
+            now = panel
+                .next_deadline()
+                .unwrap_or(now + Duration::from_millis(1))
+                .max(now);
         }
     }
     println!(

@@ -2,7 +2,7 @@
 
 use crate::error::{Error, check};
 use crate::fields::NakReason;
-use crate::message::{Burst, Command, no_burst, no_message};
+use crate::message::{Command, Unsent, no_burst, no_message};
 use crate::numbered::numbered;
 use crate::panel::milliseconds;
 use crate::sys;
@@ -96,23 +96,56 @@ pub struct Moved {
     pub baud_rate: u32,
 }
 
-/// What a reader says to a packet.
-#[derive(Clone, Debug)]
-pub struct Answer {
+/// What a reader says to a packet. It borrows the device: its burst goes out before the next call.
+#[must_use = "its burst goes out before the next call: `send` hands it over"]
+#[derive(Debug)]
+pub struct Answer<'a> {
     /// How the packet was answered.
     pub said: Said,
-    /// What came of a command: whether the device is to do it, after the burst has gone out, or the reader has refused it.
-    pub order: Option<Order>,
-    /// What a COMSET that was accepted has set. Keep it in memory that stays, before the burst is written: a reader that restarts is to be where it was.
+    /// What a COMSET that was accepted has set. Keep it in memory that stays, before the burst is sent: a reader that restarts is to be where it was.
     pub moved: Option<Moved>,
-    /// What is to be written to the line.
-    pub burst: Option<Burst>,
+    order: Option<Order>,
+    unsent: Unsent<'a>,
 }
 
-fn answer_of(raw: &sys::osdp_answer) -> Option<Answer> {
+impl Answer<'_> {
+    /// Hands the burst, where there is one, to what writes it to the line. Then it tells what came of a command: whether the device is to do it, or the reader
+    /// has refused it.
+    ///
+    /// # Errors
+    ///
+    /// Those of what writes it.
+    pub fn send<E>(self, write: impl FnOnce(&[u8]) -> Result<(), E>) -> Result<Option<Order>, E> {
+        self.unsent.send(write)?;
+        Ok(self.order)
+    }
+}
+
+/// What a call of a device comes to.
+#[must_use = "what is said goes out before the next call"]
+#[derive(Debug)]
+pub struct Step<'a> {
+    /// How many of the bytes were taken.
+    pub taken: usize,
+    /// What the reader says. None where no packet is left that it answers.
+    pub answer: Option<Answer<'a>>,
+}
+
+fn step_of<'a>(taken: usize, raw: &sys::osdp_answer) -> Step<'a> {
+    Step {
+        taken,
+        answer: answer_of(raw),
+    }
+}
+
+fn answer_of<'a>(raw: &sys::osdp_answer) -> Option<Answer<'a>> {
     let command = Command::from_sys(&raw.command);
     Some(Answer {
         said: Said::of(raw.kind)?,
+        moved: (raw.moved != 0).then_some(Moved {
+            address: raw.address as u8,
+            baud_rate: raw.baud_rate,
+        }),
         order: match raw.order {
             sys::OSDP_ORDER_ONCE => command.map(Order::Once),
             sys::OSDP_ORDER_AGAIN => command.map(Order::Again),
@@ -120,11 +153,7 @@ fn answer_of(raw: &sys::osdp_answer) -> Option<Answer> {
             sys::OSDP_ORDER_PENDING => command.map(Order::Pending),
             _ => None,
         },
-        moved: (raw.moved != 0).then_some(Moved {
-            address: raw.address as u8,
-            baud_rate: raw.baud_rate,
-        }),
-        burst: Burst::from_sys(&raw.burst),
+        unsent: Unsent::from_sys(&raw.burst),
     })
 }
 
@@ -344,35 +373,57 @@ impl Device {
     /// the first that it answers. Call it again with the others, at the same moment, until all are taken and nothing is said.
     ///
     /// ```no_run
-    /// # use osdp::{Answer, Command, Device, Error, Moment, Order};
-    /// # fn write(_: &[u8]) {}
+    /// # use osdp::{Answer, Command, Device, Error, Moment, Order, Step};
+    /// # fn write(_: &[u8]) -> Result<(), Error> { Ok(()) }
     /// # fn act(_: &Command) {}
     /// fn hear(device: &mut Device, mut bytes: &[u8], now: Moment) -> Result<(), Error> {
     ///     loop {
-    ///         let (taken, answer) = device.step(bytes, now)?;
+    ///         let Step { taken, answer } = device.step(bytes, now)?;
     ///         bytes = &bytes[taken..];
     ///         match answer {
-    ///             Some(answer) => obey(&answer),
+    ///             Some(answer) => obey(answer)?,
     ///             None if bytes.is_empty() => return Ok(()),
     ///             None => {}
     ///         }
     ///     }
     /// }
     ///
-    /// fn obey(answer: &Answer) {
-    ///     if let Some(burst) = &answer.burst {
-    ///         write(burst);
+    /// fn obey(answer: Answer<'_>) -> Result<(), Error> {
+    ///     if let Some(Order::Once(command)) = answer.send(|burst| write(burst))? {
+    ///         act(&command);
     ///     }
-    ///     if let Some(Order::Once(command)) = &answer.order {
-    ///         act(command);
+    ///     Ok(())
+    /// }
+    /// ```
+    ///
+    /// An answer that is forgotten is warned of, and no other call is made before it is sent:
+    ///
+    /// ```compile_fail
+    /// # #![deny(unused_must_use)]
+    /// # use osdp::{Device, Error, Moment};
+    /// fn forgets(device: &mut Device, now: Moment) -> Result<(), Error> {
+    ///     device.tick(now)?;
+    ///     Ok(())
+    /// }
+    /// ```
+    ///
+    /// ```compile_fail
+    /// # use osdp::{Device, Error, Moment};
+    /// # fn write(_: &[u8]) -> Result<(), Error> { Ok(()) }
+    /// fn is_late(device: &mut Device, now: Moment) -> Result<(), Error> {
+    ///     let first = device.tick(now)?.answer;
+    ///     let second = device.tick(now)?.answer;
+    ///     for answer in [first, second].into_iter().flatten() {
+    ///         answer.send(|burst| write(burst))?;
     ///     }
+    ///     Ok(())
     /// }
     /// ```
     ///
     /// # Errors
     ///
     /// `MomentTooFar`.
-    pub fn step(&mut self, bytes: &[u8], now: Moment) -> Result<(usize, Option<Answer>), Error> {
+    pub fn step(&mut self, bytes: &[u8], now: Moment) -> Result<Step<'_>, Error> {
         let mut taken = 0;
         let mut answer = no_answer();
         // SAFETY: the handle is ours alone, and what is written is apart.
@@ -386,7 +437,7 @@ impl Device {
                 &mut answer,
             )
         })?;
-        Ok((taken, answer_of(&answer)))
+        Ok(step_of(taken, &answer))
     }
 
     /// No bytes have come up to a moment: a run after which the line was silent for the gap is over. Where something is said, call `step` with
@@ -395,11 +446,11 @@ impl Device {
     /// # Errors
     ///
     /// `MomentTooFar`.
-    pub fn tick(&mut self, now: Moment) -> Result<Option<Answer>, Error> {
+    pub fn tick(&mut self, now: Moment) -> Result<Step<'_>, Error> {
         let mut answer = no_answer();
         // SAFETY: the handle is ours alone, and the answer is one.
         check(unsafe { sys::osdp_device_tick(&mut self.0, now.as_millis(), &mut answer) })?;
-        Ok(answer_of(&answer))
+        Ok(step_of(0, &answer))
     }
 
     /// The line was seen silent: the run is over. Else as `tick`.
@@ -407,11 +458,11 @@ impl Device {
     /// # Errors
     ///
     /// `MomentTooFar`.
-    pub fn silence(&mut self, now: Moment) -> Result<Option<Answer>, Error> {
+    pub fn silence(&mut self, now: Moment) -> Result<Step<'_>, Error> {
         let mut answer = no_answer();
         // SAFETY: the handle is ours alone, and the answer is one.
         check(unsafe { sys::osdp_device_silence(&mut self.0, now.as_millis(), &mut answer) })?;
-        Ok(answer_of(&answer))
+        Ok(step_of(0, &answer))
     }
 
     /// A moment is seen, however far it lies after the greatest one: of a host that slept.

@@ -8,7 +8,7 @@
 //! use osdp::{Card, Command, Entry, Error, Moment, Output, Panel, PanelConfig, Reply, Report};
 //!
 //! # fn read(_: &mut [u8], _: Option<Moment>) -> usize { 0 }
-//! # fn write(_: &[u8]) {}
+//! # fn write(_: &[u8]) -> Result<(), Error> { Ok(()) }
 //! # fn now() -> Moment { Moment::from_millis(0) }
 //! const PAUSE: Duration = Duration::from_secs(1); // from a lost session to the next one
 //!
@@ -59,9 +59,7 @@
 //!         begin_again(&mut panel, door, now)?;
 //!         begins = None;
 //!     }
-//!     if let Some(burst) = panel.tick(now)? {
-//!         write(&burst);
-//!     }
+//!     panel.tick(now)?.send(|burst| write(burst))?;
 //!     begins = take_reports(&mut panel, now)?.or(begins);
 //! }
 //! # }
@@ -82,11 +80,11 @@ mod panel;
 pub mod sys;
 mod time;
 
-pub use device::{Answer, Device, DeviceAnswer, DeviceConfig, Moved, Order, Said};
+pub use device::{Answer, Device, DeviceAnswer, DeviceConfig, Moved, Order, Said, Step};
 pub use error::Error;
 pub use fields::{
     Buzzer, Bytes, Capabilities, Capability, Card, Led, NakReason, Output, PdId, Reply, Text,
 };
-pub use message::{Burst, Command, RawReply};
+pub use message::{Command, RawReply, Unsent};
 pub use panel::{Check, Entry, LostCause, Panel, PanelConfig, Report};
 pub use time::Moment;

@@ -5,6 +5,7 @@ use crate::fields::{Buzzer, Led, Output, Text};
 use crate::sys;
 use core::ffi::c_char;
 use core::fmt;
+use core::marker::PhantomData;
 
 /// The text of each command and reply, and a zero after it, have room in so many bytes.
 const TEXT_ROOM: usize = sys::OSDP_MOST_TEXT as usize + 1;
@@ -217,11 +218,10 @@ impl Command {
 }
 
 /// Bytes to write to the line, at once and in their order. It derefs to them.
-#[derive(Clone)]
-pub struct Burst(sys::osdp_burst);
+struct Burst(sys::osdp_burst);
 
 impl Burst {
-    pub(crate) fn from_sys(burst: &sys::osdp_burst) -> Option<Burst> {
+    fn from_sys(burst: &sys::osdp_burst) -> Option<Burst> {
         (burst.length != 0).then_some(Burst(*burst))
     }
 }
@@ -241,9 +241,33 @@ impl core::ops::Deref for Burst {
     }
 }
 
-impl AsRef<[u8]> for Burst {
-    fn as_ref(&self) -> &[u8] {
-        self
+/// What a call has to send, if there is a burst. It borrows the panel or the device: a program that calls it again before `send` isn't compiled, and the
+/// compiler warns of one that forgets it.
+#[must_use = "its burst goes out before the next call: `send` hands it over"]
+#[derive(Debug)]
+pub struct Unsent<'a> {
+    burst: Option<Burst>,
+    end: PhantomData<&'a mut ()>,
+}
+
+impl Unsent<'_> {
+    pub(crate) fn from_sys<'a>(burst: &sys::osdp_burst) -> Unsent<'a> {
+        Unsent {
+            burst: Burst::from_sys(burst),
+            end: PhantomData,
+        }
+    }
+
+    /// Hands the burst, where there is one, to what writes it to the line, at once and in its order. Tells whether there was one.
+    ///
+    /// # Errors
+    ///
+    /// Those of what writes it.
+    pub fn send<E>(self, write: impl FnOnce(&[u8]) -> Result<(), E>) -> Result<bool, E> {
+        match self.burst {
+            Some(burst) => write(&burst).map(|()| true),
+            None => Ok(false),
+        }
     }
 }
 

@@ -2,7 +2,7 @@
 
 use crate::error::{Error, check};
 use crate::fields::{PdId, Reply};
-use crate::message::{Burst, Command, no_burst, no_message};
+use crate::message::{Command, Unsent, no_burst, no_message};
 use crate::numbered::numbered;
 use crate::sys;
 use crate::time::Moment;
@@ -348,16 +348,47 @@ impl Panel {
         check(unsafe { sys::osdp_panel_silence(&mut self.handle, now.as_millis()) })
     }
 
-    /// What is due at a moment: a burst to write. While a report waits, none.
+    /// What is due at a moment: a burst to send. While a report waits, none.
+    ///
+    /// ```no_run
+    /// # use osdp::{Error, Moment, Panel};
+    /// # fn write(_: &[u8]) -> Result<(), Error> { Ok(()) }
+    /// fn turn(panel: &mut Panel, now: Moment) -> Result<(), Error> {
+    ///     panel.tick(now)?.send(|burst| write(burst))?;
+    ///     Ok(())
+    /// }
+    /// ```
+    ///
+    /// One that is forgotten is warned of, and no other call is made before it is sent:
+    ///
+    /// ```compile_fail
+    /// # #![deny(unused_must_use)]
+    /// # use osdp::{Error, Moment, Panel};
+    /// fn forgets(panel: &mut Panel, now: Moment) -> Result<(), Error> {
+    ///     panel.tick(now)?;
+    ///     Ok(())
+    /// }
+    /// ```
+    ///
+    /// ```compile_fail
+    /// # use osdp::{Error, Moment, Panel};
+    /// # fn write(_: &[u8]) -> Result<(), Error> { Ok(()) }
+    /// fn is_late(panel: &mut Panel, now: Moment) -> Result<(), Error> {
+    ///     let unsent = panel.tick(now)?;
+    ///     panel.on_silence(now)?;
+    ///     unsent.send(|burst| write(burst))?;
+    ///     Ok(())
+    /// }
+    /// ```
     ///
     /// # Errors
     ///
     /// `MomentTooFar`.
-    pub fn tick(&mut self, now: Moment) -> Result<Option<Burst>, Error> {
+    pub fn tick(&mut self, now: Moment) -> Result<Unsent<'_>, Error> {
         let mut burst = no_burst();
         // SAFETY: the handle is ours alone, and the burst is one.
         check(unsafe { sys::osdp_panel_tick(&mut self.handle, now.as_millis(), &mut burst) })?;
-        Ok(Burst::from_sys(&burst))
+        Ok(Unsent::from_sys(&burst))
     }
 
     /// A moment is seen, however far it lies after the greatest one: of a host that slept.

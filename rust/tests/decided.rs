@@ -6,6 +6,7 @@ use osdp::{
     PanelConfig, Reply,
 };
 use settings::DEVICE;
+use std::io::Write;
 use std::thread::spawn;
 
 /// `OUT 0:2:0` and `MFG 010203 04` with number 0, worked by hand, and what is said to them.
@@ -50,12 +51,13 @@ fn said(packet: &[u8], answer: DeviceAnswer<'_>) -> Option<Vec<u8>> {
     device.set_outputs(&[0]).ok()?;
     let now = Moment::from_millis(0);
     assert_eq!(device.answer_next(answer), Err(Error::NotAsked));
-    let (_, asked) = device.step(packet, now).ok()?;
-    assert!(
-        matches!(asked?.order, Some(Order::Pending(command)) if device.pending() == Some(command))
-    );
+    let asked = device.step(packet, now).ok()?.answer?;
+    let order = asked.send(|_| Err("nothing is said yet")).ok()?;
+    assert!(matches!(order, Some(Order::Pending(command)) if device.pending() == Some(command)));
     device.answer_next(answer).ok()?;
-    let said = device.step(&[], now).ok()?.1?.burst?.to_vec();
+    let mut said = Vec::new();
+    let told = device.step(&[], now).ok()?.answer?;
+    told.send(|burst| said.write_all(burst)).ok()?;
     assert_eq!(device.answer_next(answer), Err(Error::NotAsked));
     Some(said)
 }

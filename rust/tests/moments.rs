@@ -1,7 +1,7 @@
 //! A moment that lies too far after the greatest one seen is refused, and changes nothing; one that is set outright is seen.
 mod settings;
 
-use osdp::{Device, Error, Moment, Panel, PanelConfig};
+use osdp::{Device, Error, Moment, Panel, PanelConfig, Step};
 use settings::DEVICE;
 use std::time::Duration;
 
@@ -25,7 +25,8 @@ fn a_panel_refuses_what_lies_too_far_ahead() {
     assert_eq!(panel.on_silence(at(u64::MAX)), Err(Error::MomentTooFar));
     // the opening ID is due 400 ms after `begin`, as if no other moment had come
     assert_eq!(panel.next_deadline(), Some(at(begin + 400)));
-    assert!(panel.tick(at(begin + 400)).unwrap().is_some());
+    let unsent = panel.tick(at(begin + 400)).unwrap();
+    assert_eq!(unsent.send(|_| Ok::<(), Error>(())), Ok(true));
     panel.set_moment(at(begin + 5000));
     assert!(panel.tick(at(begin + 6000)).is_ok());
 }
@@ -40,6 +41,6 @@ fn a_device_too() {
     let step = device.step(&[0x53], late);
     assert_eq!(step.err(), Some(Error::MomentTooFar));
     device.set_moment(late);
-    let (taken, answer) = device.step(&[0x53], late).unwrap();
+    let Step { taken, answer } = device.step(&[0x53], late).unwrap();
     assert!(taken == 1 && answer.is_none());
 }

@@ -1,8 +1,9 @@
 //! A serial port, a clock, and lines of standard input, by `std` alone: `stty` sets the port, and a thread reads it.
 use osdp::Moment;
+use std::error::Error;
 use std::fs::{File, OpenOptions};
 use std::io::{self, BufRead, Read, Write};
-use std::process::Command;
+use std::process::{Command, ExitCode};
 use std::sync::mpsc::{Receiver, RecvTimeoutError, Sender, channel};
 use std::thread::spawn;
 use std::time::{Duration, Instant};
@@ -63,6 +64,22 @@ impl Port {
 
     pub fn write(&mut self, bytes: &[u8]) -> io::Result<()> {
         self.file.write_all(bytes)
+    }
+}
+
+/// Runs a program on the port that its words name, at their rate. An error is told, with status 1; other words have status 2.
+pub fn run_on_port(name: &str, run: impl FnOnce(Port) -> Result<(), Box<dyn Error>>) -> ExitCode {
+    let words: Vec<String> = std::env::args().skip(1).collect();
+    let [path, rate] = &words[..] else {
+        eprintln!("usage: {name} PORT RATE");
+        return ExitCode::from(2);
+    };
+    match Port::open(path, rate).map_err(Into::into).and_then(run) {
+        Ok(()) => ExitCode::SUCCESS,
+        Err(error) => {
+            eprintln!("{name}: {error}");
+            ExitCode::FAILURE
+        }
     }
 }
 
