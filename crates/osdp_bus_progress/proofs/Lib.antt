@@ -9,3 +9,7 @@ pub mod Coming
 pub mod OneMore
 pub mod Clearing
 pub mod Answered
+pub mod RowsAfterLosses
+pub mod RowsOfTaken
+pub mod RowsOfRounds
+pub mod RowsOfTurns

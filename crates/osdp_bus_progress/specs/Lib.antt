@@ -1,2 +1,6 @@
 pub mod Progress
 pub mod Resting
+pub mod RowsOfRounds
+pub mod RowsAfterLosses
+pub mod RowsOfTaken
+pub mod RowsOfTurns

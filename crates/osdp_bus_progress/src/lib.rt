@@ -1,15 +1,24 @@
-//! Progress over a bus: what rounds that lose nothing come to for each of several readers. The functions do nothing: their contracts are
-//! laws.
+//! Progress over a bus: what rounds that lose nothing come to for each of several readers, and rows of the program that follow from it.
+//!
+//! The functions do nothing: their contracts are laws. The laws of the rows have named settings, a schedule and numbers. A law of progress that is
+//! weakened no longer gives these numbers. The program prints them, in rows of `tests/rows/scripts.txt` and `tests/rows/buses.txt` that name the law.
 #![tactic(auto)]
 
 ghost use Rattle.osdp_bus_progress.specs.Progress.{EachAnswerRecovers, EachComesThrough, EachRecovers};
 ghost use Rattle.osdp_bus_progress.specs.Resting.{ClearsTheLine, EachHasItsRound, EachIsIdle, EachRoundBringsOneMore, EachRoundRests};
+ghost use Rattle.osdp_bus_progress.specs.RowsAfterLosses.{FourRoundsBringThree, SixRoundsBringThreeOfTwo};
+ghost use Rattle.osdp_bus_progress.specs.RowsOfRounds.{ThreeRoundsSettleTwoAndReportOne};
+ghost use Rattle.osdp_bus_progress.specs.RowsOfTaken.{OfTwoTakenOneIsSettled};
+ghost use Rattle.osdp_bus_progress.specs.RowsOfTurns.{ItsSecondRoundSettles, OneOfTwoIsItsRound};
 
 use osdp_reader::Handler;
+use osdp_script::ScriptReader;
 
-/// After steps in which no session begins again and that leave nothing on the line, no reader busy and no COMSET to a device's address
-/// issued: over m rounds that lose nothing, each as long as the longest of the four waits or longer, each of n readers whose session has
-/// not ended has m / n - 1 more of its commands and events, or all of them, settled and reported.
+/// Over m rounds that lose nothing each of n readers has m / n - 1 more of its commands and events settled and reported, or all of them. m / n is rounded
+/// down.
+///
+/// This is said of each reader whose session has not ended. Each round is as long as the longest of the four waits, or longer. In the steps before the
+/// rounds no session begins again. They leave nothing on the line and no reader busy, and no COMSET to a device's address was issued.
 pub fn each_comes_through<H: Handler>()
     ensures { EachComesThrough H.answer_of H.after }
 {
@@ -24,10 +33,13 @@ pub fn each_comes_through<H: Handler>()
     osdp_controller_laws::ticks_come_due();
 }
 
-/// Between the clearing of a line and the rounds after it, and between these. Where no COMSET to a device's address was issued: once every reader has been
-/// set ready and, for each of the steps, a burst has been lost in each direction, nothing is on the line, and no account has changed. After steps that
-/// leave nothing on the line, as `each_comes_through` asks, each round that loses nothing ends with no burst on the line and no exchange outstanding,
-/// where some reader's session has not ended.
+/// A line that is cleared is empty, and each round after it ends at rest.
+///
+/// To clear a line is to set every reader ready and, for each of the steps before, to lose a burst in each direction. Then nothing is on the line, and no
+/// account has changed. It is asked that no COMSET to a device's address was issued.
+///
+/// Each round that loses nothing, after such steps as `each_comes_through` asks for, ends with no burst on the line and no exchange outstanding. This holds
+/// while some reader's session has not ended.
 pub fn rests_between_rounds<H: Handler>()
     ensures cleared { ClearsTheLine H.answer_of H.after }
     ensures rest { EachRoundRests H.answer_of H.after }
@@ -44,10 +56,11 @@ pub fn rests_between_rounds<H: Handler>()
     osdp_controller_laws::ticks_come_due();
 }
 
-/// Whose round each is, and what it brings, after steps that leave nothing on the line, as `each_comes_through` asks. A round is of the reader whose
-/// controller ticks in it. Of as many rounds as there are readers each reader has one, wherever they begin, where its session has not ended. Once it
-/// has had one its controller is idle after each round, and each round of it but its first settles or reports one more of its commands and events than the
-/// rounds before it had, unless all are.
+/// A round is of the reader whose controller ticks in it. Of as many rounds as there are readers each reader has one, wherever they begin, where its session
+/// has not ended. Once a reader has had a round its controller is idle after each round. Each round of it but its first settles or reports one more of its
+/// commands and events than the rounds before it had, unless all are.
+///
+/// The steps before the rounds are such as `each_comes_through` asks for.
 pub fn each_round_brings_one_more<H: Handler>()
     ensures turn { EachHasItsRound H.answer_of H.after }
     ensures idle { EachIsIdle H.answer_of H.after }
@@ -64,13 +77,12 @@ pub fn each_round_brings_one_more<H: Handler>()
     osdp_controller_laws::ticks_come_due();
 }
 
-/// The same after any steps in which no session begins again, with no COMSET to a device's address issued: once every reader has been set
-/// ready and, for each of the steps, a burst has been lost in each direction, each of n readers whose session has not ended has m / n - 1
-/// more of its commands and events, or all of them, settled and reported over m such rounds.
+/// The same after any steps in which no session begins again, once the line is cleared (`rests_between_rounds`): over m such rounds each of n readers whose
+/// session has not ended has m / n - 1 more of its commands and events settled and reported, or all of them. No COMSET to a device's address was issued.
 ///
-/// So it is of the accounts that are answered where no step is refused and memory suffices: of each such reader m / n - 1 commands and
-/// events, or all of them, are settled and reported. Where m / n is more than all of them, each command issued is settled with this reader's
-/// own answer, and each event queued is reported.
+/// So it is of the accounts that are answered where no step is refused and memory suffices: of each such reader m / n - 1 commands and events, or all of
+/// them, are settled and reported. Where m / n is more than all of them, each command issued is settled with this reader's own answer, and each event
+/// queued is reported.
 pub fn each_recovers<H: Handler>()
     ensures state { EachRecovers H.answer_of H.after }
     ensures answer { EachAnswerRecovers H.answer_of H.after }
@@ -79,4 +91,55 @@ pub fn each_recovers<H: Handler>()
     rests_between_rounds::<H>();
     osdp_sim_bus_laws::each_account_holds_once::<H>();
     osdp_sim_bus::laws::has_an_account_each::<H>();
+}
+
+/// A reader at 5 with room for four events, an OUT and a BUZ for it, two events of it, and `clean 3`: where there is memory, both commands are taken
+/// and settled by ACK in their order, the first event is reported, no command is unsettled, and the session lasts.
+pub fn three_rounds_settle_two_and_report_one()
+    ensures { ThreeRoundsSettleTwoAndReportOne }
+{
+    osdp_sim_laws::accepts_by_room::<ScriptReader>();
+    osdp_sim_laws::schedule_goes_in_turn::<ScriptReader>();
+}
+
+/// An OUT, a BUZ and an event of a reader at 5, and a first frame that is lost: once the line is cleared, four rounds of 400 ms settle both commands by ACK and
+/// report the event, where there is memory and the session lasts.
+pub fn four_rounds_bring_three()
+    ensures { FourRoundsBringThree }
+{
+    osdp_sim_laws::accepts_by_room::<ScriptReader>();
+    osdp_sim_laws::schedule_comes_through::<ScriptReader>();
+}
+
+/// An OUT for a reader at 5, a BUZ for one at 6 and an event of it, and a first frame that is lost: once the line is cleared, six rounds of 400 ms, three for
+/// each reader, settle each command by ACK and report the event, where there is memory and both sessions last.
+pub fn six_rounds_bring_three_of_two()
+    ensures { SixRoundsBringThreeOfTwo }
+{
+    osdp_sim_bus_laws::each_accepts_by_room::<ScriptReader>();
+    each_recovers::<ScriptReader>();
+    osdp_sim_bus::laws::has_an_account_each::<ScriptReader>();
+}
+
+/// An OUT for a reader at 5 and a BUZ for one at 6, and four rounds of 400 ms: of the third and the fourth one is the first reader's, where its session
+/// lasts.
+pub fn one_of_two_is_its_round()
+    ensures { OneOfTwoIsItsRound }
+{
+    each_round_brings_one_more::<ScriptReader>();
+}
+
+/// The same bus: once the first reader has had two rounds its OUT is settled, and its controller is idle, where its session lasts.
+pub fn its_second_round_settles()
+    ensures { ItsSecondRoundSettles }
+{
+    each_round_brings_one_more::<ScriptReader>();
+}
+
+/// Whatever is lost in one session of a reader at 5: where an OUT and then a BUZ were taken, the OUT was settled by ACK. So one taken command at most
+/// isn't settled.
+pub fn of_two_taken_one_is_settled()
+    ensures { OfTwoTakenOneIsSettled }
+{
+    osdp_sim_laws::schedule_holds_once::<ScriptReader>();
 }

@@ -2,8 +2,8 @@
 use Rattle.std.proofs.Common.{◌≡◌, ◌<◌, ap, suc, length, refl, arith}
 use Rattle.osdp_bus_progress.specs.Resting.{EachHasItsRound, EachIsIdle, EachRoundBringsOneMore}
 use Rattle.osdp_script.specs.Handler.{handler_after, handler_answer}
-use Rattle.osdp_row_laws.specs.Recovering.{bus, readers}
-use Rattle.osdp_row_laws.specs.Turns.{ItsSecondRoundSettles, OneOfTwoIsItsRound, both_issued}
+use Rattle.osdp_bus_progress.specs.RowsAfterLosses.{bus, readers}
+use Rattle.osdp_bus_progress.specs.RowsOfTurns.{ItsSecondRoundSettles, OneOfTwoIsItsRound, both_issued}
 
 pub one_of_two : EachHasItsRound handler_answer handler_after → OneOfTwoIsItsRound
 one_of_two turns a are lasts = turns bus readers both_issued 2 400 0 a are lasts

@@ -8,7 +8,7 @@ use Rattle.osdp_sim.specs.Account.{lists_of}
 use Rattle.osdp_sim.specs.declared.account.Account as declared
 use Rattle.osdp_sim.specs.declared.step.SimStep.{SimStep}
 use Rattle.osdp_sim_laws.specs.Accounts.{IsAnswer, IsInSession}
-use Rattle.osdp_row_laws.specs.Rounds.{buz, config, out}
+use Rattle.osdp_bus_progress.specs.RowsOfRounds.{buz, config, out}
 
 -- whatever is lost in one session: where an OUT and a BUZ were taken, the OUT was settled by ACK
 abbrev pub OfTwoTakenOneIsSettled : Type 0

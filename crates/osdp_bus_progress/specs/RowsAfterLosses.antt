@@ -20,7 +20,7 @@ use Rattle.osdp_sim_bus.specs.State.{Given}
 use Rattle.osdp_sim_bus_laws.specs.Accounts as accounts
 use Rattle.osdp_sim_laws.specs.Accounts.{IsAnswer}
 use Rattle.osdp_sim_laws.specs.Progress.{clear}
-use Rattle.osdp_row_laws.specs.Rounds.{buz, config, first_key, out}
+use Rattle.osdp_bus_progress.specs.RowsOfRounds.{buz, config, first_key, out}
 
 -- an OUT, a BUZ and an event, of which nothing has come through; the first frame is lost
 abbrev pub one_lost : List SimStep

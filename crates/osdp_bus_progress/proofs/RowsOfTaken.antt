@@ -7,8 +7,8 @@ use Rattle.osdp_msg.specs.declared.reply.Reply.TheVariants.{Ack}
 use Rattle.osdp_script.specs.Handler.{handler_after, handler_answer, new_handler}
 use Rattle.osdp_sim.specs.Account.{lists_of}
 use Rattle.osdp_sim_laws.specs.Accounts.{AnswersHoldOnce}
-use Rattle.osdp_row_laws.specs.Rounds.{buz, config, out}
-use Rattle.osdp_row_laws.specs.Taken.{OfTwoTakenOneIsSettled}
+use Rattle.osdp_bus_progress.specs.RowsOfRounds.{buz, config, out}
+use Rattle.osdp_bus_progress.specs.RowsOfTaken.{OfTwoTakenOneIsSettled}
 
 same_first : {A : Type 0} (x y : A) (xs ys : List A) → x ∷ xs ≡ y ∷ ys → x ≡ y
 same_first x y xs ys is = cc

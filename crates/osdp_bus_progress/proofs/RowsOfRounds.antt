@@ -13,7 +13,7 @@ use Rattle.osdp_sim.specs.Runs.{AreSettings}
 use Rattle.osdp_sim_laws.specs.Accepted.{AcceptsByRoom, IsAcceptedByRoom}
 use Rattle.osdp_sim.specs.declared.step.SimStep.TheVariants.{Issue, Queue}
 use Rattle.osdp_sim_laws.specs.Clean.{GoesInTurn, IsInTurn, IsOrder}
-use Rattle.osdp_row_laws.specs.Rounds.{ThreeRoundsSettleTwoAndReportOne, buz, config, first_key, orders, out, second_key}
+use Rattle.osdp_bus_progress.specs.RowsOfRounds.{ThreeRoundsSettleTwoAndReportOne, buz, config, first_key, orders, out, second_key}
 
 is_config : IsConfig config.controller
 is_config = record {

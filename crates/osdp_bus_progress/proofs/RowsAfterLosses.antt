@@ -20,9 +20,9 @@ use Rattle.osdp_sim_bus_laws.specs.Accepted.{EachAccepts, IsNoComset}
 use Rattle.osdp_sim_laws.specs.Accepted.{AcceptsByRoom}
 use Rattle.osdp_sim_laws.specs.Accounts.{IsInSession}
 use Rattle.osdp_sim_laws.specs.Progress.{AnswerRecovers, clear}
-use Rattle.osdp_row_laws.specs.Recovering.{FourRoundsBringThree, SixRoundsBringThreeOfTwo, both_lost, bus, one_lost, readers}
-use Rattle.osdp_row_laws.specs.Rounds.{buz, config, first_key, out}
-use Rattle.osdp_row_laws.proofs.Rounds.{no_moves}
+use Rattle.osdp_bus_progress.specs.RowsAfterLosses.{FourRoundsBringThree, SixRoundsBringThreeOfTwo, both_lost, bus, one_lost, readers}
+use Rattle.osdp_bus_progress.specs.RowsOfRounds.{buz, config, first_key, out}
+use Rattle.osdp_bus_progress.proofs.RowsOfRounds.{no_moves}
 
 -- a step that begins no session again is one by its kind alone
 is_one : Unit {0}

@@ -7,8 +7,8 @@ use Rattle.osdp_sim.specs.Account.{Account}
 use Rattle.osdp_sim.specs.declared.step.SimStep.{SimStep}
 use Rattle.osdp_sim.specs.declared.step.SimStep.TheVariants.{Issue}
 use Rattle.osdp_sim_bus.specs.State.{LineState, accounts}
-use Rattle.osdp_row_laws.specs.Recovering.{bus, readers}
-use Rattle.osdp_row_laws.specs.Rounds.{buz, out}
+use Rattle.osdp_bus_progress.specs.RowsAfterLosses.{bus, readers}
+use Rattle.osdp_bus_progress.specs.RowsOfRounds.{buz, out}
 
 -- an OUT for the first reader and a BUZ for the second
 abbrev pub both_issued : List SimStep

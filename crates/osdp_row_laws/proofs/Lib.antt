@@ -1,4 +1,0 @@
-pub mod Rounds
-pub mod Recovering
-pub mod Taken
-pub mod Turns

@@ -1,5 +1,0 @@
-use Rattle.osdp_row_laws.proofs.Recovering.{four_rounds}
-use Rattle.osdp_row_laws.proofs.four_rounds_bring_three.Goals as goal
-
-pub returns : goal.returns
-returns c = four_rounds c.accepts_by_room.ensures c.schedule_comes_through.ensures.answer

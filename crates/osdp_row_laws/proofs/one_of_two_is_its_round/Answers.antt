@@ -1,5 +1,0 @@
-use Rattle.osdp_row_laws.proofs.Turns.{one_of_two}
-use Rattle.osdp_row_laws.proofs.one_of_two_is_its_round.Goals as goal
-
-pub returns : goal.returns
-returns c = one_of_two c.each_round_brings_one_more.ensures.turn
