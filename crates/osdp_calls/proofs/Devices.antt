@@ -10,6 +10,7 @@ use Rattle.osdp_device.specs.Telling.{items_of, next_told}
 use Rattle.osdp_link_laws.specs.Link as link
 use Rattle.osdp_link_laws.specs.Sessions.{unless_full}
 use Rattle.osdp_link_laws.proofs.Lines.{each_of}
+use Rattle.osdp_link_laws.proofs.Stages.{Each}
 use Rattle.osdp_reader.specs.State.{ReaderState, after_set_handler, after_submit}
 use Rattle.osdp_reader.specs.Table.{hears}
 use Rattle.osdp_reader.specs.declared.handler.Answer.{Answer}
@@ -21,12 +22,12 @@ use Rattle.osdp_calls.specs.Calls as calls
 use Rattle.osdp_calls.specs.Calls.{SubmitEvent, after_next, answers, by_device, changes_at, first_answered, last_of, on_station, queues, read_up_to, reply_to}
 use Rattle.osdp_calls.specs.Lines.{Burst, InUse, Station, is_past_for_device}
 use Rattle.osdp_calls.specs.Premises.{NextInOrder, NextInRange}
-use Rattle.osdp_calls.proofs.Losing.{changed_twice}
+use Rattle.osdp_calls.proofs.Losing.{IsStill, changed_twice}
 use Rattle.osdp_calls.proofs.Matching.{FoundAt, Nobody, Somebody, found}
-use Rattle.osdp_calls.proofs.Nexts.{read_to, reads_all, then_refines}
+use Rattle.osdp_calls.proofs.Nexts.{read_to, reads_all, then_rests_to}
 use Rattle.osdp_calls.proofs.Replying.{next_reader, reader_with}
 use Rattle.osdp_calls.proofs.Same.{IsNetOf}
-use Rattle.osdp_calls.proofs.Stations.{Refines, Sites, both_change, by_none, station_changes}
+use Rattle.osdp_calls.proofs.Stations.{RestsTo, Sites, both_change, make_none, station_changes}
 use Rattle.osdp_calls.proofs.Steps.{StepsTo, by_own, one_queue, queue_no_command, site_queues}
 
 module _ {H : Type 0} (answer_of : H → Command → Answer) (after : H → Command → H) where
@@ -70,6 +71,7 @@ module _ {H : Type 0} (answer_of : H → Command → Answer) (after : H → Comm
         (ap (λ (r : ReaderState H). length r.queue.events == r.queue.capacity) is.reader)
         (queued_so (length s.reader.queue.events == s.reader.queue.capacity) event l k d t s is));
     kinds = (refl, tt);
+    made = (tt, tt);
     submitted = λ j. queue_no_command answer_of after k j event n;
     queued = λ j. one_queue answer_of after k j event n ∙ ap (λ xs. cond (k == j) xs []) (takes_same k event l n h);
   }
@@ -78,7 +80,7 @@ module _ {H : Type 0} (answer_of : H → Command → Answer) (after : H → Comm
       → StepsTo answer_of after (calls.SetHandler k handler) l n (on_station k (λ t. record t { reader = after_set_handler handler t.reader }) l)
   handling k handler l n h =
       by_own answer_of after (calls.SetHandler k handler) (line.SetHandler k handler) l n
-      (on_station k (λ t. record t { reader = after_set_handler handler t.reader }) l) (λ j. refl) (λ j. refl) tt refl tt
+      (on_station k (λ t. record t { reader = after_set_handler handler t.reader }) l) (λ j. refl) (λ j. refl) tt refl (tt, tt) tt
       (both_change k (λ t. record t { reader = after_set_handler handler t.reader }) (line.calls answer_of after (link.SetHandler handler)) l n h
       (λ d t s is. record {
         controller = is.controller;
@@ -93,9 +95,9 @@ module _ {H : Type 0} (answer_of : H → Command → Answer) (after : H → Comm
 
   -- what has come on a line is nothing to the net
   pub lines_change : (k : ℕ) (change : Station H → Received) (l : InUse H) (n : Net H) → IsNetOf l n
-      → Refines answer_of after n (on_station k (λ t. record t { line = change t }) l)
+      → RestsTo answer_of after n (on_station k (λ t. record t { line = change t }) l)
   lines_change k change l n h =
-      by_none answer_of after (on_station k (λ t. record t { line = change t }) l) n
+      make_none answer_of after (Each IsStill) (on_station k (λ t. record t { line = change t }) l) n tt
       (station_changes k (λ t. record t { line = change t }) l n h (λ d t s is. record {
         controller = is.controller;
         reserved = is.reserved;
@@ -116,12 +118,12 @@ module _ {H : Type 0} (answer_of : H → Command → Answer) (after : H → Comm
 
   pub nexting : (k : ℕ) (places : List ℕ) (l : InUse H) (n : Net H) → IsNetOf l n → NextInOrder l.said places (site_at k l.stations)
       → All (λ i. (b : Burst) → site_at i l.said ≡ Some b → is_past_for_device k l.openings i b ≡ false) places
-      → NextInRange answer_of after (site_at k l.stations) → Refines answer_of after n (after_next answer_of after k places (site_at k l.stations) l)
+      → NextInRange answer_of after (site_at k l.stations) → RestsTo answer_of after n (after_next answer_of after k places (site_at k l.stations) l)
   nexting k places l n h in_order quiet in_range = by_station (site_at k l.stations) refl in_order in_range
     where
       by_station : (o : Option (Station H)) → site_at k l.stations ≡ o → NextInOrder l.said places o → NextInRange answer_of after o
-          → Refines answer_of after n (after_next answer_of after k places o l)
-      by_station None none in_order in_range = by_none answer_of after l n h
+          → RestsTo answer_of after n (after_next answer_of after k places o l)
+      by_station None none in_order in_range = make_none answer_of after (Each IsStill) l n tt h
       by_station (Some t) is in_order in_range =
           let parts = items_of t.line.held in
           let ps = read_up_to t.reader parts in
@@ -134,12 +136,12 @@ module _ {H : Type 0} (answer_of : H → Command → Answer) (after : H → Comm
           let t1 : Station H = record (answers answer_of after o t) { reader = reader_with answer_of after o t.reader; place = last_of places t.place } in
           let with_line : Received → Station H = λ q. record t1 { line = q } in
           let held : Received = record t.line { held = told.held } in
-          let second = then_refines answer_of after n l1 (on_station k (λ u. record u { line = held }) l1) first (λ m h1. lines_change k (λ u. held) l1 m h1) in
-          subst (λ (r : _). Refines answer_of after n (record l {
+          let second = then_rests_to answer_of after n l1 (on_station k (λ u. record u { line = held }) l1) first (λ m h1. lines_change k (λ u. held) l1 m h1) in
+          subst (λ (r : _). RestsTo answer_of after n (record l {
             stations = changed k (record (answers answer_of after o t) { reader = r; line = held; place = last_of places t.place }) l.stations;
             said = l.said ++ by_device k (reply_to answer_of after o t.reader);
           })) (sym (next_reader answer_of after parts t.reader t.line.held))
-          (subst (λ ts. Refines answer_of after n (record l { stations = ts; said = l.said ++ by_device k (reply_to answer_of after o t.reader) }))
+          (subst (λ ts. RestsTo answer_of after n (record l { stations = ts; said = l.said ++ by_device k (reply_to answer_of after o t.reader) }))
           (ap (λ u. changes_at k (λ v. record v { line = held }) u (changed k t1 l.stations)) (at_changed k t1 t l.stations is)
           ∙ changed_twice k (with_line held) t1 l.stations)
           second)

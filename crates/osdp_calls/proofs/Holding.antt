@@ -39,8 +39,8 @@ use Rattle.osdp_calls.proofs.Powers.{device_anew, panel_anew, waiting_too}
 use Rattle.osdp_calls.proofs.Runs.{NotPast, reads_bytes, reads_end}
 use Rattle.osdp_calls.proofs.Same.{Controls, IsNetOf}
 use Rattle.osdp_calls.proofs.Setting.{Starts, first_net, first_site, first_there, starts}
-use Rattle.osdp_calls.proofs.Stations.{Refines, Sites, busying, by_none}
-use Rattle.osdp_calls.proofs.Steps.{IsOf, IsOfOne, StepsTo, by_plain, queues_none, submits_none}
+use Rattle.osdp_calls.proofs.Stations.{Makes, Sites, busying, make_none}
+use Rattle.osdp_calls.proofs.Steps.{IsOf, IsOfOne, Made, StepsTo, by_plain, queues_none, submits_none}
 use Rattle.osdp_calls.proofs.Ticks.{ticking}
 
 module _ {H : Type 0} (answer_of : H → Command → Answer) (after : H → Command → H) where
@@ -48,7 +48,7 @@ module _ {H : Type 0} (answer_of : H → Command → Answer) (after : H → Comm
 
   -- a call of the panel that accepts no command
   reads : (call : bus.Call) (places : List ℕ) (l : InUse H) (n : Net H) → ((k : ℕ) → accepted_by k (OfPanel call) l ≡ [])
-      → Refines answer_of after n (after_call answer_of after (OfPanel call) places l)
+      → Makes answer_of after (λ moves. Made (OfPanel call) l moves) n (after_call answer_of after (OfPanel call) places l)
       → StepsTo answer_of after (OfPanel call) l n (after_call answer_of after (OfPanel call) places l)
   reads call places l n none r =
       by_plain answer_of after (OfPanel call) l n (after_call answer_of after (OfPanel call) places l) none (λ k. refl) r
@@ -68,20 +68,23 @@ module _ {H : Type 0} (answer_of : H → Command → Answer) (after : H → Comm
       reads (bus.Retarget entry address) [] l n (λ k. refl) (retargeting answer_of after entry address l n h addresses)
   panel_call (bus.Retarget entry address) (i ∷ places) l n h order past addresses range = absurd order
   panel_call (bus.OnBytes bytes now) places l n h order past addresses range =
-      reads (bus.OnBytes bytes now) places l n (λ k. refl) (reads_bytes answer_of after bytes now places l n h order past)
+      reads (bus.OnBytes bytes now) places l n (λ k. refl) (record { refines = reads_bytes answer_of after bytes now places l n h order past; made = tt })
   panel_call (bus.OnSilence now) places l n h order past addresses range =
       reads (bus.OnSilence now) places l n (λ k. refl)
-      (reads_end answer_of after places (record l { bus = Rattle.osdp_bus.specs.Buses.seen now l.bus }) n (at_seen now l n h) order past)
+      (record {
+        refines = reads_end answer_of after places (record l { bus = Rattle.osdp_bus.specs.Buses.seen now l.bus }) n (at_seen now l n h) order past;
+        made = tt;
+      })
   panel_call (bus.Tick now) places l n h order past addresses range =
-      reads (bus.Tick now) places l n (λ k. refl) (ticking answer_of after now places l n h order past)
+      reads (bus.Tick now) places l n (λ k. refl) (record { refines = ticking answer_of after now places l n h order past; made = tt })
   panel_call bus.NextReport [] l n h order past addresses range =
-      reads bus.NextReport [] l n (λ k. refl) (by_none answer_of after (after_call answer_of after (OfPanel bus.NextReport) [] l) n
+      reads bus.NextReport [] l n (λ k. refl) (make_none answer_of after (λ moves. Made (OfPanel bus.NextReport) l moves) (after_call answer_of after (OfPanel bus.NextReport) [] l) n tt
       (record { sites = h.sites; to_panel = h.to_panel; place = h.place; openings = h.openings; said = h.said }))
   panel_call bus.NextReport (i ∷ places) l n h order past addresses range = absurd order
 
   -- a call of a device that takes no event
   device_reads : (call : Call H) (next l : InUse H) (n : Net H) → ((k : ℕ) → accepted_by k call l ≡ []) → ((k : ℕ) → queued_by k call l ≡ [])
-      → Refines answer_of after n next → StepsTo answer_of after call l n next
+      → Makes answer_of after (λ moves. Made call l moves) n next → StepsTo answer_of after call l n next
   device_reads call next l n no_command no_event r = by_plain answer_of after call l n next no_command no_event r
 
   pub one_call : (call : Call H) (places : List ℕ) (l : InUse H) (n : Net H) → IsNetOf l n → InOrder call places l → QuietOpening call places l

@@ -26,3 +26,11 @@ mod Ends
 mod Refusing
 mod OneDevice
 mod Undisturbed
+mod Along
+mod Noticing
+mod Agreeing
+mod Agreed
+mod Accepting
+mod Heeding
+mod Heeded
+mod Ruling

@@ -8,7 +8,7 @@ use Rattle.osdp_link_laws.proofs.Lines.{each_append}
 use Rattle.osdp_link_laws.proofs.Stages.{Each}
 use Rattle.osdp_shared_line.specs.Addresses.{NetMoveFits, NetMovesFit}
 use Rattle.osdp_shared_line.specs.Line as line
-use Rattle.osdp_shared_line.specs.Line.{LoseToPanel, LoseToReader, Net, NetMove, Queue, RestartPanel, RestartReader, SetHandler, Site, Submit, Withdraw, after_net, changed, run, site_at}
+use Rattle.osdp_shared_line.specs.Line.{LoseToPanel, LoseToReader, Net, NetMove, Queue, Reopen, RestartPanel, RestartReader, Retarget, SetHandler, Site, Submit, ToPanel, Withdraw, after_net, changed, run, site_at}
 use Rattle.osdp_shared_line.proofs.Sites.{at_changed}
 use Rattle.osdp_calls.specs.Lines.{Burst, those}
 
@@ -54,6 +54,16 @@ IsPlain (RestartReader k address handler room) = ⊥
 IsPlain (RestartPanel settings) = ⊥
 IsPlain _ = Unit {0}
 
+-- a move of which a program notes nothing, and which its rule lets pass
+abbrev pub IsStill : {H : Type 0} → NetMove H → Type 0
+IsStill (Submit k command) = ⊥
+IsStill (Retarget k address) = ⊥
+IsStill (ToPanel how now) = ⊥
+IsStill (Reopen k now) = ⊥
+IsStill (RestartReader k address handler room) = ⊥
+IsStill (RestartPanel settings) = ⊥
+IsStill _ = Unit {0}
+
 module _ {H : Type 0} (answer_of : H → Command → Answer) (after : H → Command → H) where
   -- ---- what moves come to
 
@@ -86,21 +96,46 @@ module _ {H : Type 0} (answer_of : H → Command → Answer) (after : H → Comm
   pub one_move : (move : NetMove H) (n : Net H) → IsPlain move → NetMoveFits answer_of after move n → Reaches n (after_net answer_of after move n)
   one_move move n plain fits = record { moves = move ∷ []; fit = (fits, tt); run = refl; plain = (plain, tt) }
 
+  -- .. by moves that are still
+  pub record Rests (n m : Net H) : Type 0 where
+    pub reached : Reaches n m
+    pub still : Each IsStill reached.moves
+
+  rests_there : (n : Net H) → Rests n n
+  rests_there n = record { reached = record { moves = []; fit = tt; run = refl; plain = tt }; still = tt }
+
+  pub then_rests : (a b c : Net H) → Rests a b → Rests b c → Rests a c
+  then_rests a b c p q =
+      let x = p.reached in
+      let y = q.reached in
+      record {
+        reached = record {
+          moves = x.moves ++ y.moves;
+          fit = fit_then x.moves y.moves a x.fit (subst (NetMovesFit answer_of after y.moves) (sym x.run) y.fit);
+          run = run_then x.moves y.moves a ∙ ap (run answer_of after y.moves) x.run ∙ y.run;
+          plain = each_append IsPlain x.moves y.moves x.plain y.plain;
+        };
+        still = each_append IsStill x.moves y.moves p.still q.still;
+      }
+
+  pub one_rest : (move : NetMove H) (n : Net H) → IsPlain move → IsStill move → NetMoveFits answer_of after move n → Rests n (after_net answer_of after move n)
+  one_rest move n plain still fits = record { reached = record { moves = move ∷ []; fit = (fits, tt); run = refl; plain = (plain, tt) }; still = (still, tt) }
+
   -- ---- losses
 
   abbrev pub with_panel : List (ℕ × Packet) → Net H → Net H
   with_panel qs n = record n { to_panel = qs }
 
-  pub lose_to_panel : (xs ys front : List (ℕ × Packet)) (n : Net H) → Sub xs ys → Reaches (with_panel (front ++ ys) n) (with_panel (front ++ xs) n)
-  lose_to_panel us vs front n SubNil = stays (with_panel (front ++ []) n)
+  pub lose_to_panel : (xs ys front : List (ℕ × Packet)) (n : Net H) → Sub xs ys → Rests (with_panel (front ++ ys) n) (with_panel (front ++ xs) n)
+  lose_to_panel us vs front n SubNil = rests_there (with_panel (front ++ []) n)
   lose_to_panel us vs front n (SubKeep x xs ys sub) =
-      subst (λ l. Reaches (with_panel l n) (with_panel (front ++ x ∷ xs) n)) (append_assoc front (x ∷ []) ys)
-      (subst (λ l. Reaches (with_panel ((front ++ x ∷ []) ++ ys) n) (with_panel l n)) (append_assoc front (x ∷ []) xs)
+      subst (λ l. Rests (with_panel l n) (with_panel (front ++ x ∷ xs) n)) (append_assoc front (x ∷ []) ys)
+      (subst (λ l. Rests (with_panel ((front ++ x ∷ []) ++ ys) n) (with_panel l n)) (append_assoc front (x ∷ []) xs)
       (lose_to_panel xs ys (front ++ x ∷ []) n sub))
   lose_to_panel us vs front n (SubLeave x xs ys sub) =
-      then_reaches (with_panel (front ++ x ∷ ys) n) (with_panel (front ++ ys) n) (with_panel (front ++ xs) n)
-      (subst (λ l. Reaches (with_panel (front ++ x ∷ ys) n) (with_panel l n)) (lost_middle front x ys)
-      (one_move (LoseToPanel (length front)) (with_panel (front ++ x ∷ ys) n) tt tt))
+      then_rests (with_panel (front ++ x ∷ ys) n) (with_panel (front ++ ys) n) (with_panel (front ++ xs) n)
+      (subst (λ l. Rests (with_panel (front ++ x ∷ ys) n) (with_panel l n)) (lost_middle front x ys)
+      (one_rest (LoseToPanel (length front)) (with_panel (front ++ x ∷ ys) n) tt tt tt))
       (lose_to_panel xs ys front n sub)
 
   abbrev pub with_coming : ℕ → Site H → List (ℕ × Packet) → Net H → Net H
@@ -117,14 +152,14 @@ module _ {H : Type 0} (answer_of : H → Command → Answer) (after : H → Comm
       ∙ ap (λ l. with_coming k s l n) (lost_middle front x ys)
 
   pub lose_to_reader : (k : ℕ) (s : Site H) (xs ys front : List (ℕ × Packet)) (n : Net H) → site_at k n.sites ≡ Some s → Sub xs ys
-      → Reaches (with_coming k s (front ++ ys) n) (with_coming k s (front ++ xs) n)
-  lose_to_reader k s us vs front n is SubNil = stays (with_coming k s (front ++ []) n)
+      → Rests (with_coming k s (front ++ ys) n) (with_coming k s (front ++ xs) n)
+  lose_to_reader k s us vs front n is SubNil = rests_there (with_coming k s (front ++ []) n)
   lose_to_reader k s us vs front n is (SubKeep x xs ys sub) =
-      subst (λ l. Reaches (with_coming k s l n) (with_coming k s (front ++ x ∷ xs) n)) (append_assoc front (x ∷ []) ys)
-      (subst (λ l. Reaches (with_coming k s ((front ++ x ∷ []) ++ ys) n) (with_coming k s l n)) (append_assoc front (x ∷ []) xs)
+      subst (λ l. Rests (with_coming k s l n) (with_coming k s (front ++ x ∷ xs) n)) (append_assoc front (x ∷ []) ys)
+      (subst (λ l. Rests (with_coming k s ((front ++ x ∷ []) ++ ys) n) (with_coming k s l n)) (append_assoc front (x ∷ []) xs)
       (lose_to_reader k s xs ys (front ++ x ∷ []) n is sub))
   lose_to_reader k s us vs front n is (SubLeave x xs ys sub) =
-      then_reaches (with_coming k s (front ++ x ∷ ys) n) (with_coming k s (front ++ ys) n) (with_coming k s (front ++ xs) n)
-      (subst (λ m. Reaches (with_coming k s (front ++ x ∷ ys) n) m) (lose_one k s front ys x n is)
-      (one_move (LoseToReader k (length front)) (with_coming k s (front ++ x ∷ ys) n) tt tt))
+      then_rests (with_coming k s (front ++ x ∷ ys) n) (with_coming k s (front ++ ys) n) (with_coming k s (front ++ xs) n)
+      (subst (λ m. Rests (with_coming k s (front ++ x ∷ ys) n) m) (lose_one k s front ys x n is)
+      (one_rest (LoseToReader k (length front)) (with_coming k s (front ++ x ∷ ys) n) tt tt tt))
       (lose_to_reader k s xs ys front n is sub)

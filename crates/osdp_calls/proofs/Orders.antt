@@ -1,5 +1,5 @@
 -- The calls of a panel's program that read nothing: sessions, commands and addresses.
-use Rattle.std.proofs.Common.{◌≡◌, ◌||◌, ℕ, zero, suc, ◌+◌, max, Bool, true, false, cond, List, [], ◌∷◌, ◌++◌, length, map, take, drop, Option, Some, None, refl, sym, subst, ap, ◌∙◌, arith, append-nil}
+use Rattle.std.proofs.Common.{◌≡◌, ◌||◌, ℕ, zero, suc, ◌+◌, max, Bool, true, false, cond, List, [], ◌∷◌, ◌++◌, length, map, take, drop, Option, Some, None, refl, sym, subst, ap, ◌∙◌, arith, append-nil, inl, inr}
 use Rattle.std.specs.Prelude.{is_some, nat_lt, option_map, option_to_list, slice_get, slice_set}
 use Rattle.osdp_frame.specs.Packet.{Packet}
 use Rattle.osdp_msg.specs.CommandTable.{CommandFits}
@@ -23,28 +23,30 @@ use Rattle.osdp_bus.specs.declared.fault.BusFault.{BusFault}
 use Rattle.osdp_bus.specs.declared.fault.BusFault.TheVariants.{AddressTaken}
 use Rattle.osdp_bus_laws.specs.Calls as panel
 use Rattle.osdp_link_laws.specs.Link as link
+use Rattle.osdp_link_laws.proofs.Stages.{Each}
 use Rattle.osdp_reader.specs.declared.handler.Answer.{Answer}
 use Rattle.osdp_shared_line.specs.Addresses as addresses
 use Rattle.osdp_shared_line.specs.Addresses.{HasNoOther, Sets, Somewhere, asked_in}
 use Rattle.osdp_shared_line.specs.Line as line
-use Rattle.osdp_shared_line.specs.Line.{Net, Retarget, Site, Submit, Withdraw, after_net, changed, site_at}
+use Rattle.osdp_shared_line.specs.Line.{Net, NetMove, Retarget, Site, Submit, Withdraw, after_net, changed, site_at}
 use Rattle.osdp_shared_line.proofs.Sites.{some_same}
 use Rattle.osdp_calls.specs.Calls.{OfPanel, change_at, changes_at, is_to_begin, issues, takes_back, withdrawn}
 use Rattle.osdp_calls.specs.Lines.{InUse, Station}
 use Rattle.osdp_calls.specs.Premises.{IsAsked, IsNoOthers, IsSaid, IsThere, MayBeAt}
+use Rattle.osdp_calls.proofs.Losing.{IsStill}
 use Rattle.osdp_calls.proofs.Controllers.{closed_of, config_same, is_to_open, retargeted_same, submitted_same, waiting_same, withdrawn_same}
 use Rattle.osdp_calls.proofs.Matching.{And, Done, FoundAt, Match, Nobody, Somebody, changed_same, found, set, set_same}
 use Rattle.osdp_calls.proofs.Panel.{at_seen}
 use Rattle.osdp_calls.proofs.Same.{Controls, IsNetOf, IsSame, IsToOpen}
-use Rattle.osdp_calls.proofs.Stations.{Refines, Sites, by_move, by_none}
-use Rattle.osdp_calls.proofs.Steps.{StepsTo, by_own, by_plain, by_refusal, by_submit}
+use Rattle.osdp_calls.proofs.Stations.{Makes, RestsTo, Sites, make_move, make_none}
+use Rattle.osdp_calls.proofs.Steps.{Made, MadeByPanel, StepsTo, by_own, by_plain, by_refusal, by_submit}
 
 some_fault : (o : Option ControllerFault) → option_map bus_fault o ≡ None → o ≡ None
 some_fault None none = refl
 some_fault (Some fault) none = absurd cc
 
 -- no session of it was begun where its controller is closed
-not_begun : (o : Option ℕ) (top : ℕ) (m c : Machine) → Controls o top m c → m.session.state ≡ Closed → o ≡ None
+pub not_begun : (o : Option ℕ) (top : ℕ) (m c : Machine) → Controls o top m c → m.session.state ≡ Closed → o ≡ None
 not_begun None top m c is shut = refl
 not_begun (Some began) top m c is shut = absurd (let e = sym is.quiet ∙ shut in cc)
 
@@ -52,7 +54,7 @@ or_assoc : (a b c : Bool) → (a || b) || c ≡ a || (b || c)
 or_assoc true b c = refl
 or_assoc false b c = refl
 
-asked_same : (o : Option ℕ) (top : ℕ) (m c : Machine) → Controls o top m c → asked_in c.session.state ≡ asked_in m.session.state
+pub asked_same : (o : Option ℕ) (top : ℕ) (m c : Machine) → Controls o top m c → asked_in c.session.state ≡ asked_in m.session.state
 asked_same None top m c is = ap (λ (x : Machine). asked_in x.session.state) is.same
 asked_same (Some began) top m c is = ap (λ (x : Machine). asked_in x.session.state) is.same ∙ sym (ap asked_in is.quiet)
 
@@ -138,20 +140,20 @@ module _ {H : Type 0} where
   module _ (answer_of : H → Command → Answer) (after : H → Command → H) where
     -- ---- a session is to begin
 
-    pub beginning : (entry now : ℕ) (l : InUse H) (n : Net H) → IsNetOf l n → Refines answer_of after n (record l {
+    pub beginning : (entry now : ℕ) (l : InUse H) (n : Net H) → IsNetOf l n → RestsTo answer_of after n (record l {
       bus = changed_unless (begin_refusal_at entry l.bus) l.bus (after_begin_at entry now l.bus);
       stations = changed_unless (begin_refusal_at entry l.bus) l.stations (change_at entry (is_to_begin (max l.bus.greatest now)) l.stations);
     })
     beginning entry now l n h = by_fault (begin_refusal_at entry l.bus) refl
       where
-        by_fault : (f : Option BusFault) → begin_refusal_at entry l.bus ≡ f → Refines answer_of after n (record l {
+        by_fault : (f : Option BusFault) → begin_refusal_at entry l.bus ≡ f → RestsTo answer_of after n (record l {
           bus = changed_unless f l.bus (after_begin_at entry now l.bus);
           stations = changed_unless f l.stations (change_at entry (is_to_begin (max l.bus.greatest now)) l.stations);
         })
-        by_fault (Some fault) is = by_none answer_of after l n h
+        by_fault (Some fault) is = make_none answer_of after (Each IsStill) l n tt h
         by_fault None is = by_found (found (Sites l) entry l.bus.devices.entries l.stations n.sites h.sites)
           where
-            by_found : FoundAt (Sites l) entry entry l.bus.devices.entries l.stations n.sites → Refines answer_of after n (record l {
+            by_found : FoundAt (Sites l) entry entry l.bus.devices.entries l.stations n.sites → RestsTo answer_of after n (record l {
               bus = after_begin_at entry now l.bus;
               stations = change_at entry (is_to_begin (max l.bus.greatest now)) l.stations;
             })
@@ -166,11 +168,11 @@ module _ {H : Type 0} where
                 let control : IsSame l.bus.greatest d.controller s.controller = subst (λ o. Controls o l.bus.greatest d.controller s.controller) begun has.controller in
                 let e : Device = device_begins moment d in
                 let u : Station H = is_to_begin moment t in
-                subst (Refines answer_of after n) (sym (changes_one entry (device_begins moment) (is_to_begin moment) l1 d t a b))
-                (by_none answer_of after (record l1 {
+                subst (RestsTo answer_of after n) (sym (changes_one entry (device_begins moment) (is_to_begin moment) l1 d t a b))
+                (make_none answer_of after (Each IsStill) (record l1 {
                   bus = record l1.bus { devices = record l1.bus.devices { entries = slice_set l.bus.devices.entries entry e } };
                   stations = changed entry u l.stations;
-                }) n (record {
+                }) n tt (record {
                   sites = subst (λ ss. Match (Sites l1) 0 (slice_set l.bus.devices.entries entry e) (changed entry u l.stations) ss) (changed_same entry s n.sites c)
                       (set (Sites l1) entry e u s l.bus.devices.entries l.stations n.sites h1.sites (record {
                         controller = is_to_open l.bus.greatest moment d.controller s.controller (omega arith) shut control;
@@ -194,7 +196,7 @@ module _ {H : Type 0} where
     or_left true b is = absurd cc
     or_left false b is = (refl, is)
 
-    refused_same : (o : Option Communication) (k : ℕ) (d : Device) (t : Station H) (s : Site H) (l : InUse H) (n : Net H) → IsNetOf l n → Sites l k d t s
+    pub refused_same : (o : Option Communication) (k : ℕ) (d : Device) (t : Station H) (s : Site H) (l : InUse H) (n : Net H) → IsNetOf l n → Sites l k d t s
         → line.is_comset_refused k o s n.sites ≡ bus.is_comset_refused o k d l.bus
     refused_same None k d t s l n h is = refl
     refused_same (Some asked) k d t s l n h is =
@@ -204,11 +206,11 @@ module _ {H : Type 0} where
     reserves_same None r = refl
     reserves_same (Some asked) r = refl
 
-    unrefused : (x : Bool) (o : Option ControllerFault) → cond x (Some AddressTaken) (option_map bus_fault o) ≡ None → (x ≡ false) × (o ≡ None)
+    pub unrefused : (x : Bool) (o : Option ControllerFault) → cond x (Some AddressTaken) (option_map bus_fault o) ≡ None → (x ≡ false) × (o ≡ None)
     unrefused true o is = absurd cc
     unrefused false o is = (refl, some_fault o is)
 
-    refusal_same : (command : Command) (o : Option ℕ) (top : ℕ) (m c : Machine) → Controls o top m c → submit_refusal command c ≡ submit_refusal command m
+    pub refusal_same : (command : Command) (o : Option ℕ) (top : ℕ) (m c : Machine) → Controls o top m c → submit_refusal command c ≡ submit_refusal command m
     refusal_same command None top m c is =
         submit_alike command m c (ap (λ (x : Machine). x.waiting) is.same) (ap (λ (x : Machine). x.capacity) is.same)
     refusal_same command (Some began) top m c is =
@@ -304,7 +306,7 @@ module _ {H : Type 0} where
             by_own answer_of after (OfPanel (panel.Withdraw k)) (Withdraw k) l n (record l {
               bus = record l.bus { devices = record l.bus.devices { entries = slice_set l.bus.devices.entries k e } };
               stations = changed k u l.stations;
-            }) (λ j. refl) (λ j. refl) tt refl tt
+            }) (λ j. refl) (λ j. refl) tt refl (tt, tt) tt
             (subst (IsNetOf (record l {
               bus = record l.bus { devices = record l.bus.devices { entries = slice_set l.bus.devices.entries k e } };
               stations = changed k u l.stations;
@@ -341,7 +343,7 @@ module _ {H : Type 0} where
               stations = changed k (takes_back (option_to_list (bus.withdrawn_of d)) t) l.stations;
             })) (sym (ap (slice_set l.bus.devices.entries k) kept ∙ set_same k d l.bus.devices.entries a))
             (subst (λ x. StepsTo answer_of after (OfPanel (panel.Withdraw k)) l n (record l { stations = x })) (sym (ap (λ x. changed k x l.stations) stays ∙ changed_same k t l.stations b))
-            (by_plain answer_of after (OfPanel (panel.Withdraw k)) l n l (λ j. refl) (λ j. refl) (by_none answer_of after l n h)))
+            (by_plain answer_of after (OfPanel (panel.Withdraw k)) l n l (λ j. refl) (λ j. refl) (make_none answer_of after (λ moves. Made (OfPanel (panel.Withdraw k)) l moves) l n tt h)))
 
         by_found : FoundAt (Sites l) k k l.bus.devices.entries l.stations n.sites → StepsTo answer_of after (OfPanel (panel.Withdraw k)) l n (record l {
           bus = bus.after_withdraw_at k l.bus;
@@ -354,7 +356,7 @@ module _ {H : Type 0} where
                 devices = record l.bus.devices { entries = slice_set l.bus.devices.entries k (bus.device_withdraws e) };
               }) (sym a i) l.bus;
               stations = changes_at k (takes_back (withdrawn (bus.withdrawal_at k l.bus))) (sym b i) l.stations;
-            }) (by_plain answer_of after (OfPanel (panel.Withdraw k)) l n l (λ j. refl) (λ j. refl) (by_none answer_of after l n h))
+            }) (by_plain answer_of after (OfPanel (panel.Withdraw k)) l n l (λ j. refl) (λ j. refl) (make_none answer_of after (λ moves. Made (OfPanel (panel.Withdraw k)) l moves) l n tt h))
         by_found (Somebody d t s a b c has) =
             subst (λ o. StepsTo answer_of after (OfPanel (panel.Withdraw k)) l n (record l {
               bus = bus.after_withdraw_at k l.bus;
@@ -365,22 +367,25 @@ module _ {H : Type 0} where
 
     -- ---- another address
 
-    or_taken_none : (o : Option ControllerFault) (x : Bool) → bus.or_taken (option_map bus_fault o) x ≡ None → (o ≡ None) × (x ≡ false)
+    pub or_taken_none : (o : Option ControllerFault) (x : Bool) → bus.or_taken (option_map bus_fault o) x ≡ None → (o ≡ None) × (x ≡ false)
     or_taken_none None false is = (refl, refl)
     or_taken_none None true is = absurd cc
     or_taken_none (Some fault) x is = absurd cc
 
-    no_device_none : (o : Option ControllerFault) (address : ℕ) → controllers.or_no_device o address ≡ None → o ≡ None
+    pub no_device_none : (o : Option ControllerFault) (address : ℕ) → controllers.or_no_device o address ≡ None → o ≡ None
     no_device_none None address is = refl
     no_device_none (Some fault) address is = absurd cc
 
+    abbrev Retargeted : ℕ → ℕ → InUse H → List (NetMove H) → Type 0
+    Retargeted k address l moves = MadeByPanel (panel.Retarget k address) l moves
+
     pub retargeting : (k address : ℕ) (l : InUse H) (n : Net H) → IsNetOf l n
         → (bus.retarget_refusal_at k address l.bus ≡ None → IsNoOthers k address l)
-        → Refines answer_of after n (record l { bus = changed_unless (bus.retarget_refusal_at k address l.bus) l.bus (bus.after_retarget_at k address l.bus) })
+        → Makes answer_of after (Retargeted k address l) n (record l { bus = changed_unless (bus.retarget_refusal_at k address l.bus) l.bus (bus.after_retarget_at k address l.bus) })
     retargeting k address l n h free = by_fault (bus.retarget_refusal_at k address l.bus) refl
       where
         by_found : bus.retarget_refusal_at k address l.bus ≡ None → FoundAt (Sites l) k k l.bus.devices.entries l.stations n.sites
-            → Refines answer_of after n (record l { bus = bus.after_retarget_at k address l.bus })
+            → Makes answer_of after (Retargeted k address l) n (record l { bus = bus.after_retarget_at k address l.bus })
         by_found is (Nobody a b c) = absurd (let e = sym (ap (λ o. bus.retarget_refusal_of k address o l.bus) a) ∙ is in cc)
         by_found is (Somebody d t s a b c has) =
             let taken = devices.is_taken_beside k address l.bus.devices.entries || has_comset d.controller.waiting in
@@ -401,12 +406,12 @@ module _ {H : Type 0} where
             }) same in
             let e : Device = bus.device_retargets address d in
             let l1 : InUse H = record l { bus = record l.bus { devices = record l.bus.devices { entries = slice_set l.bus.devices.entries k e } } } in
-            subst (λ (o : Option Device). Refines answer_of after n (record l {
+            subst (λ (o : Option Device). Makes answer_of after (Retargeted k address l) n (record l {
               bus = Rattle.std.specs.Option.option_map_or (λ (f : Device). record l.bus {
                 devices = record l.bus.devices { entries = slice_set l.bus.devices.entries k (bus.device_retargets address f) };
               }) o l.bus;
             })) (sym a)
-            (by_move answer_of after (Retarget k address) l1 n tt (λ s2 at2 ok. no_other k address l n h (free is))
+            (make_move answer_of after (Retargeted k address l) (Retarget k address) l1 n (inr (is, refl)) tt (λ s2 at2 ok. no_other k address l n h (free is))
             (subst (IsNetOf l1) (sym next) (record {
               sites = subst (λ ts. Match (Sites l1) 0 (slice_set l.bus.devices.entries k e) ts (changed k s1 n.sites)) (changed_same k t l.stations b)
                   (set (Sites l) k e t s1 l.bus.devices.entries l.stations n.sites h.sites (record {
@@ -427,6 +432,6 @@ module _ {H : Type 0} where
             })))
 
         by_fault : (f : Option BusFault) → bus.retarget_refusal_at k address l.bus ≡ f
-            → Refines answer_of after n (record l { bus = changed_unless f l.bus (bus.after_retarget_at k address l.bus) })
-        by_fault (Some fault) is = by_none answer_of after l n h
+            → Makes answer_of after (Retargeted k address l) n (record l { bus = changed_unless f l.bus (bus.after_retarget_at k address l.bus) })
+        by_fault (Some fault) is = make_none answer_of after (Retargeted k address l) l n (inl (fault, is, refl)) h
         by_fault None is = by_found is (found (Sites l) k l.bus.devices.entries l.stations n.sites h.sites)

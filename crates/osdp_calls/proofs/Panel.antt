@@ -18,16 +18,16 @@ use Rattle.osdp_bus_laws.specs.Reports.{told_at, told_by_entry, told_by_item, to
 use Rattle.osdp_link_laws.specs.Link.{Repeated, after_report}
 use Rattle.osdp_reader.specs.declared.handler.Answer.{Answer}
 use Rattle.osdp_shared_line.specs.Line as line
-use Rattle.osdp_shared_line.specs.Line.{Net, Site, ToPanel, address_of, after_net, changed, first_gets, freed_by, freed_for, gets, left_by, link_of, site_at}
+use Rattle.osdp_shared_line.specs.Line.{Net, NetMove, Site, ToPanel, address_of, after_net, changed, first_gets, freed_by, freed_for, gets, left_by, link_of, site_at}
 use Rattle.osdp_calls.specs.Calls.{all_hear, change_at, changes_at, hears_of}
 use Rattle.osdp_calls.specs.Lines.{Burst, InUse, Station, ahead_of_panel, is_past_for_panel}
 use Rattle.osdp_calls.proofs.Ahead.{panel_front, panel_further}
 use Rattle.osdp_calls.proofs.Controllers.{config_same, controls_later, heard_same, hears_same, ignored_command, ignored_quiet, saw}
-use Rattle.osdp_calls.proofs.Losing.{Reaches, lose_to_panel, with_panel}
+use Rattle.osdp_calls.proofs.Losing.{Rests, lose_to_panel, with_panel}
 use Rattle.osdp_calls.proofs.Matching.{And, Done, Match, changed_same, matched, set}
-use Rattle.osdp_calls.proofs.Nexts.{each_at}
+use Rattle.osdp_calls.proofs.Nexts.{each_at, rests_to}
 use Rattle.osdp_calls.proofs.Same.{Controls, IsNetOf, IsRightly, IsSame, IsSiteOf, IsToOpen}
-use Rattle.osdp_calls.proofs.Stations.{Refines, Sites, by_move, by_none}
+use Rattle.osdp_calls.proofs.Stations.{Makes, RestsTo, Sites, make_move, make_none}
 
 -- ---- the address that is kept
 
@@ -109,16 +109,19 @@ module _ {H : Type 0} where
   told_then (x ∷ xs) ys ts = told_then xs ys (change_at x.0 (hears_of x.1) ts)
 
   module _ (answer_of : H → Command → Answer) (after : H → Command → H) where
-    pub panel_on : (i : ℕ) (l : InUse H) (n : Net H) → IsNetOf l n → l.place ≤ i → i ≤ length l.said → Refines answer_of after n (record l { place = i })
+    pub panel_on : (i : ℕ) (l : InUse H) (n : Net H) → IsNetOf l n → l.place ≤ i → i ≤ length l.said → RestsTo answer_of after n (record l { place = i })
     panel_on i l n h le within =
         let ahead = ahead_of_panel i l.openings l.said in
         let before : n ≡ with_panel answer_of after (ahead_of_panel l.place l.openings l.said) n = ap (λ qs. with_panel answer_of after qs n) h.to_panel in
-        record {
-          net = with_panel answer_of after ahead n;
-          reached = subst (λ m. Reaches answer_of after m (with_panel answer_of after ahead n)) (sym before)
-              (lose_to_panel answer_of after ahead (ahead_of_panel l.place l.openings l.said) [] n (panel_further l.place i l.openings l.said le));
-          same = record { sites = h.sites; to_panel = refl; place = within; openings = h.openings; said = h.said };
-        }
+        rests_to answer_of after n (with_panel answer_of after ahead n) (record l { place = i })
+        (subst (λ m. Rests answer_of after m (with_panel answer_of after ahead n)) (sym before)
+        (lose_to_panel answer_of after ahead (ahead_of_panel l.place l.openings l.said) [] n (panel_further l.place i l.openings l.said le)))
+        (record { sites = h.sites; to_panel = refl; place = within; openings = h.openings; said = h.said })
+
+    -- a packet is nothing to the controllers, or it is in front for the panel and may be read again
+    pub data IsRead (b : Burst) (l : InUse H) (n : Net H) (told : List (ℕ × Report)) (moves : List (NetMove H)) : Type 0 where
+      IsIgnored : told ≡ [] → moves ≡ [] → IsRead b l n told moves
+      IsHeard : (rest : List (ℕ × Packet)) → n.to_panel ≡ (b.entry, b.packet) ∷ rest → moves ≡ ToPanel Repeated l.bus.greatest ∷ [] → IsRead b l n told moves
 
     -- the packet is heard at the greatest moment seen
     abbrev pub hears_one : Packet → InUse H → InUse H
@@ -128,7 +131,8 @@ module _ {H : Type 0} where
     }
 
     pub reads_here : (p : Packet) (b : Burst) (l : InUse H) (n : Net H) → IsNetOf l n → site_at l.place l.said ≡ Some b → b.packet ≡ p
-        → is_past_for_panel l.openings l.place b ≡ false → Refines answer_of after n (hears_one p l)
+        → is_past_for_panel l.openings l.place b ≡ false
+        → Makes answer_of after (IsRead b l n (told_by_item l.bus.greatest (PacketItem p) l.bus.devices)) n (hears_one p l)
     reads_here p b l n h said_it same past = by_place (at_address l p g 0 ds.entries l.stations n.sites h.sites)
       where
         g : ℕ
@@ -157,10 +161,10 @@ module _ {H : Type 0} where
 
         ignored : (k : ℕ) (d : Device) (t : Station H) (s : Site H) → site_at k l.stations ≡ Some t → site_at k n.sites ≡ Some s → Sites l k d t s
             → hears p l.bus.greatest d.controller.session ≡ ignores (clocks.seen l.bus.greatest d.controller.session)
-            → Refines answer_of after n (by_heard k d (hears p l.bus.greatest d.controller.session))
+            → Makes answer_of after (IsRead b l n (told_at k (hears p l.bus.greatest d.controller.session).report)) n (by_heard k d (hears p l.bus.greatest d.controller.session))
         ignored k d t s there c is nothing =
-            subst (λ heard. Refines answer_of after n (by_heard k d heard)) (sym nothing)
-            (by_none answer_of after (by_heard k d (ignores (clocks.seen l.bus.greatest d.controller.session))) n (record {
+            subst (λ (heard : Heard). Makes answer_of after (IsRead b l n (told_at k heard.report)) n (by_heard k d heard)) (sym nothing)
+            (make_none answer_of after (IsRead b l n []) (by_heard k d (ignores (clocks.seen l.bus.greatest d.controller.session))) n (IsIgnored refl refl) (record {
               sites =
                   let e : Device = record { controller = record d.controller { session = clocks.seen l.bus.greatest d.controller.session }; reserved = d.reserved } in
                   subst (λ ts. Match (Sites l) 0 (slice_set l.bus.devices.entries k e) ts n.sites) (changed_same k t l.stations there)
@@ -183,7 +187,7 @@ module _ {H : Type 0} where
 
         heard_by : (k : ℕ) (d : Device) (t : Station H) (s : Site H) → site_at k l.stations ≡ Some t → Sites l k d t s → t.begun ≡ None
             → p.reply ≡ true → first_gets p l.bus.greatest n.sites ≡ changed k (gets p l.bus.greatest s) n.sites
-            → Refines answer_of after n (by_heard k d (hears p l.bus.greatest d.controller.session))
+            → Makes answer_of after (IsRead b l n (told_at k (hears p l.bus.greatest d.controller.session).report)) n (by_heard k d (hears p l.bus.greatest d.controller.session))
         heard_by k d t s there is begun reply got =
             let top = l.bus.greatest in
             let control : IsSame top d.controller s.controller = subst (λ o. Controls o top d.controller s.controller) begun is.controller in
@@ -196,7 +200,8 @@ module _ {H : Type 0} where
             let same_heard : hears p top s.controller.session ≡ heard = hears_same p top d.controller s.controller control in
             let e : Device = record { controller = record d.controller { session = heard.session }; reserved = reserved_after heard.report d.reserved } in
             let u : Station H = record t { account = after_report heard.report t.account } in
-            by_move answer_of after (ToPanel Repeated top) (by_heard k d heard) n tt tt
+            make_move answer_of after (IsRead b l n (told_at k heard.report)) (ToPanel Repeated top) (by_heard k d heard) n
+            (IsHeard front.0 (h.to_panel ∙ front.1) refl) tt tt
             (subst (IsNetOf (by_heard k d heard)) (sym next) (record {
               sites = subst (λ ts. Match (Sites l) 0 (slice_set l.bus.devices.entries k e) ts (changed k (gets p top s) n.sites)) (sym (one_told k heard.report t l.stations there))
                   (set (Sites l) k e u (gets p top s) l.bus.devices.entries l.stations n.sites h.sites (record {
@@ -221,7 +226,7 @@ module _ {H : Type 0} where
 
         by_kind : (k : ℕ) (d : Device) (t : Station H) (s : Site H) → site_at k l.stations ≡ Some t → site_at k n.sites ≡ Some s → Sites l k d t s
             → first_gets p l.bus.greatest n.sites ≡ changed k (gets p l.bus.greatest s) n.sites → (x : Bool) → p.reply ≡ x → (o : Option ℕ) → t.begun ≡ o
-            → Refines answer_of after n (by_heard k d (hears p l.bus.greatest d.controller.session))
+            → Makes answer_of after (IsRead b l n (told_at k (hears p l.bus.greatest d.controller.session).report)) n (by_heard k d (hears p l.bus.greatest d.controller.session))
         by_kind k d t s there c is got false command o begun = ignored k d t s there c is (ignored_command p l.bus.greatest d.controller.session command)
         by_kind k d t s there c is got true reply None begun = heard_by k d t s there is begun reply got
         by_kind k d t s there c is got true reply (Some began) begun =
@@ -229,10 +234,13 @@ module _ {H : Type 0} where
             ignored k d t s there c is (ignored_quiet p l.bus.greatest d.controller.session
             (clocks.later d.controller.session.config.quiet_wait (clocks.seen began (record d.controller.session { greatest = control.moment }))) control.quiet)
 
-        by_place : AtAddress l p l.bus.greatest 0 l.bus.devices.entries l.stations n.sites → Refines answer_of after n (hears_one p l)
-        by_place (NoneThere none) = subst (λ o. Refines answer_of after n (by_entry o)) (sym none) (by_none answer_of after l n h)
+        by_place : AtAddress l p l.bus.greatest 0 l.bus.devices.entries l.stations n.sites
+            → Makes answer_of after (IsRead b l n (told_by_item l.bus.greatest (PacketItem p) l.bus.devices)) n (hears_one p l)
+        by_place (NoneThere none) =
+            subst (λ o. Makes answer_of after (IsRead b l n (told_by_entry p l.bus.greatest o l.bus.devices)) n (by_entry o)) (sym none)
+            (make_none answer_of after (IsRead b l n []) l n (IsIgnored refl refl) h)
         by_place (OneThere k j at d t s some a there c is got) =
             let here : j ≡ k = omega (arith, at) in
-            subst (λ o. Refines answer_of after n (by_entry o)) (sym (some ∙ ap Some here))
-            (subst (λ o. Refines answer_of after n (by_device k o)) (sym a)
+            subst (λ o. Makes answer_of after (IsRead b l n (told_by_entry p l.bus.greatest o l.bus.devices)) n (by_entry o)) (sym (some ∙ ap Some here))
+            (subst (λ o. Makes answer_of after (IsRead b l n (told_with p l.bus.greatest k o)) n (by_device k o)) (sym a)
             (by_kind k d t s there c (subst (λ x. Sites l x d t s) here is) got p.reply refl t.begun refl))

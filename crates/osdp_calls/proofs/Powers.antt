@@ -127,7 +127,7 @@ module _ {H : Type 0} where
         → (address < 127) × (1 ≤ room) × (room ≤ 1024) → StepsTo answer_of after (NewDevice k address handler room gap) l n (on_station k (made_anew address handler room gap) l)
     device_anew k address handler room gap l n h free fits =
         by_own answer_of after (NewDevice k address handler room gap) (RestartReader k address handler room) l n (on_station k (made_anew address handler room gap) l)
-        (λ j. refl) (λ j. refl) tt (gap, refl) (new_device_fits k address handler room l n h free fits) (new_device_is k address handler room gap l n h)
+        (λ j. refl) (λ j. refl) tt (gap, refl) refl (new_device_fits k address handler room l n h free fits) (new_device_is k address handler room gap l n h)
 
     -- ---- the panel
 
@@ -170,6 +170,7 @@ module _ {H : Type 0} where
     panel_anew config xs l n h apart fits =
         by_own answer_of after (NewPanel config xs) (RestartPanel (settings_of config xs)) l n (panel_made_anew config xs l)
         (λ j. refl) (λ j. refl) tt (config, xs, refl)
+        (settings_of config xs, refl, λ k a is. some_same (address_at k xs) a (sym (there_is k xs (within k a xs is)) ∙ is))
         (λ k s at. (
           are_settings config (address_at k xs) fits.0 (each_at (λ a. a < 127) k (address_at k xs) xs (each_of (λ a. a < 127) xs fits.1) (there_is k xs (count k s at))),
           λ j t other there. by_name k j other (there_is k xs (count k s at)) t there (found (Sites l) j l.bus.devices.entries l.stations n.sites h.sites),

@@ -229,9 +229,9 @@ module _ {H : Type 0} where
           let inside = place_within i all.0 l.said all.1 in
           let l1 = record l { place = i } in
           let l2 = hears_one answer_of after p l1 in
-          let on = panel_on answer_of after i l n h all.3 (omega (arith, inside)) in
+          let on = (panel_on answer_of after i l n h all.3 (omega (arith, inside))).refines in
           let r1 = reached_more n0 n on.net r on.reached in
-          let read = reads_here answer_of after p all.0 l1 on.net on.same all.1 all.2 (past.0 all.0 all.1) in
+          let read = (reads_here answer_of after p all.0 l1 on.net on.same all.1 all.2 (past.0 all.0 all.1)).refines in
           let told = told_by_entry p l.bus.greatest (first_from 0 (is_at p.address) l.bus.devices.entries) l.bus.devices in
           each_append (Tells k) told
           (told_by_all l.bus.greatest ps (hears_packet p l.bus.greatest l.bus.devices))

@@ -78,8 +78,8 @@ module _ {H : Type 0} where
         let l2 = hears_one answer_of after p l1 in
         let g = l.bus.greatest in
         let ds = l.bus.devices in
-        let first = panel_on answer_of after i l n h all.3 (omega (arith, inside)) in
-        let second = then_refines answer_of after n l1 l2 first (λ m h1. reads_here answer_of after p all.0 l1 m h1 all.1 all.2 (past.0 all.0 all.1)) in
+        let first = (panel_on answer_of after i l n h all.3 (omega (arith, inside))).refines in
+        let second = then_refines answer_of after n l1 l2 first (λ m h1. (reads_here answer_of after p all.0 l1 m h1 all.1 all.2 (past.0 all.0 all.1)).refines) in
         subst (λ ts. Refines answer_of after n (record l {
           bus = record l.bus { devices = hears_items g parts (hears_item g (PacketItem p) ds) };
           stations = ts;

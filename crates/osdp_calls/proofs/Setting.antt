@@ -100,6 +100,7 @@ module _ {H : Type 0} where
       pub config : BusConfig
       pub is_set_up : addresses.IsSetUp (first_net config l.stations)
       pub settings : ℕ → ControllerConfig × ℕ
+      pub given : (k : ℕ) (t : Station H) → site_at k l.stations ≡ Some t → (settings k).0.address ≡ address_of t
       pub fits : addresses.NetMoveFits answer_of after (RestartPanel settings) (first_net config l.stations)
       pub same : IsNetOf l (after_net answer_of after (RestartPanel settings) (first_net config l.stations))
 
@@ -132,6 +133,7 @@ module _ {H : Type 0} where
             (sym (ap (λ (x : Site H). x.controller.session.config.address) a.2) ∙ e ∙ ap (λ (x : Site H). x.controller.session.config.address) b.2);
       };
       settings = settings_of up.config (map address_of l.stations);
+      given = λ k t is. address_there k t l.stations is;
       fits = fits;
       same = subst (λ b. IsNetOf (record l { bus = b }) n1) (sym up.bus) (record {
         sites = made_first up.config (settings_of up.config (map address_of l.stations)) l.openings l.said 0 l.stations up.said

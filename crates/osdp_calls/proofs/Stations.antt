@@ -1,8 +1,9 @@
 -- What changes a station and its site alone, and what calls come to.
-use Rattle.std.proofs.Common.{ℕ, Bool, sym, subst, ap}
+use Rattle.std.proofs.Common.{ℕ, Bool, List, [], ◌∷◌, refl, sym, subst, ap}
 use Rattle.osdp_msg.specs.declared.command.Command.{Command}
 use Rattle.osdp_bus.specs.declared.device.Device.{Device}
 use Rattle.osdp_link_laws.specs.Link as link
+use Rattle.osdp_link_laws.proofs.Stages.{Each}
 use Rattle.osdp_reader.specs.State.{after_set_busy}
 use Rattle.osdp_reader.specs.declared.handler.Answer.{Answer}
 use Rattle.osdp_shared_line.specs.Addresses.{NetMoveFits}
@@ -10,7 +11,7 @@ use Rattle.osdp_shared_line.specs.Line as line
 use Rattle.osdp_shared_line.specs.Line.{Net, NetMove, Queue, SetBusy, SetHandler, Site, after_net, changed, left_by, link_of, site_at}
 use Rattle.osdp_calls.specs.Calls.{changes_at, on_station}
 use Rattle.osdp_calls.specs.Lines.{InUse, Station}
-use Rattle.osdp_calls.proofs.Losing.{IsPlain, Reaches, one_move, stays}
+use Rattle.osdp_calls.proofs.Losing.{IsPlain, IsStill, Reaches, one_move, stays}
 use Rattle.osdp_calls.proofs.Matching.{FoundAt, Match, Nobody, Somebody, changed_same, found, set_station}
 use Rattle.osdp_calls.proofs.Same.{IsNetOf, IsSiteOf}
 
@@ -70,10 +71,36 @@ module _ {H : Type 0} where
     pub by_none : (l : InUse H) (n : Net H) → IsNetOf l n → Refines n l
     by_none l n same = record { net = n; reached = stays answer_of after n; same = same }
 
+    -- .. moves of which this holds, too
+    pub record Makes (Q : List (NetMove H) → Type 0) (n : Net H) (l : InUse H) : Type 0 where
+      pub refines : Refines n l
+      pub made : Q refines.reached.moves
+
+    -- .. still ones
+    abbrev pub RestsTo : Net H → InUse H → Type 0
+    RestsTo n l = Makes (Each IsStill) n l
+
+    pub make_move : (Q : List (NetMove H) → Type 0) (move : NetMove H) (l : InUse H) (n : Net H) → Q (move ∷ []) → IsPlain move
+        → NetMoveFits answer_of after move n → IsNetOf l (after_net answer_of after move n) → Makes Q n l
+    make_move Q move l n made plain fits same = record {
+      refines = record {
+        net = after_net answer_of after move n;
+        reached = record { moves = move ∷ []; fit = (fits, tt); run = refl; plain = (plain, tt) };
+        same = same;
+      };
+      made = made;
+    }
+
+    pub make_none : (Q : List (NetMove H) → Type 0) (l : InUse H) (n : Net H) → Q [] → IsNetOf l n → Makes Q n l
+    make_none Q l n made same = record {
+      refines = record { net = n; reached = record { moves = []; fit = tt; run = refl; plain = tt }; same = same };
+      made = made;
+    }
+
     pub busying : (k : ℕ) (busy : Bool) (l : InUse H) (n : Net H) → IsNetOf l n
-        → Refines n (on_station k (λ t. record t { reader = after_set_busy busy t.reader }) l)
+        → RestsTo n (on_station k (λ t. record t { reader = after_set_busy busy t.reader }) l)
     busying k busy l n h =
-        by_move (SetBusy k busy) (on_station k (λ t. record t { reader = after_set_busy busy t.reader }) l) n tt tt
+        make_move (Each IsStill) (SetBusy k busy) (on_station k (λ t. record t { reader = after_set_busy busy t.reader }) l) n (tt, tt) tt tt
         (both_change k (λ t. record t { reader = after_set_busy busy t.reader }) (line.calls answer_of after (link.SetBusy busy)) l n h
         (λ d t s is. record {
           controller = is.controller;

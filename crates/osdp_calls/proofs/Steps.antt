@@ -1,12 +1,13 @@
 -- What one call comes to: moves of its own kind alone, and what they give is what the call has accepted.
-use Rattle.std.proofs.Common.{◌≡◌, ℕ, true, false, cond, List, [], ◌∷◌, ◌++◌, length, Option, Some, None, refl, sym, subst, ap, ◌∙◌, append-nil, inl, inr}
+use Rattle.std.proofs.Common.{◌≡◌, ℕ, true, false, cond, List, [], ◌∷◌, ◌++◌, ◌⊎◌, length, Option, Some, None, refl, sym, subst, ap, ◌∙◌, append-nil, inl, inr}
 use Rattle.std.proofs.lemmas.Bool.Decides.{eqb_tells}
 use Rattle.std.specs.Prelude.{◌==◌}
 use Rattle.osdp_msg.specs.declared.command.Command.{Command}
 use Rattle.osdp_msg.specs.declared.event.Event.{Event}
 use Rattle.osdp_controller.specs.Hearing.{comset_of}
 use Rattle.osdp_controller.specs.Machine.{submit_refusal}
-use Rattle.osdp_bus.specs.Machine.{changed_unless, submit_refusal_at}
+use Rattle.osdp_controller.specs.declared.config.ControllerConfig.{ControllerConfig}
+use Rattle.osdp_bus.specs.Machine.{changed_unless, retarget_refusal_at, submit_refusal_at}
 use Rattle.osdp_bus.specs.declared.config.BusConfig.{BusConfig}
 use Rattle.osdp_bus.specs.declared.fault.BusFault.{BusFault}
 use Rattle.osdp_bus_laws.specs.Calls as bus
@@ -25,9 +26,9 @@ use Rattle.osdp_calls.specs.Calls as calls
 use Rattle.osdp_calls.specs.Calls.{Call, NewDevice, NewPanel, OfPanel, Step, SubmitEvent}
 use Rattle.osdp_calls.specs.Lines.{InUse}
 use Rattle.osdp_calls.proofs.Counting.{GivesNone, LinkGivesNone, at_site, counted, in_net, net_none}
-use Rattle.osdp_calls.proofs.Losing.{IsPlain}
+use Rattle.osdp_calls.proofs.Losing.{IsPlain, IsStill}
 use Rattle.osdp_calls.proofs.Same.{IsNetOf}
-use Rattle.osdp_calls.proofs.Stations.{Refines}
+use Rattle.osdp_calls.proofs.Stations.{Makes}
 
 module _ {H : Type 0} where
   -- a move that a call may come to: any that is plain, and of the others that of its own name
@@ -43,6 +44,27 @@ module _ {H : Type 0} where
   -- a move that one of these calls comes to
   abbrev pub IsOfOne : List (Step H) → NetMove H → Type 0
   IsOfOne steps move = Somewhere (λ (step : Step H). IsOf step.call move) steps
+
+  -- what a call comes to that reads nothing: the move of its own name, unless the bus refuses it, or moves that are still
+  abbrev pub MadeByPanel : bus.Call → InUse H → List (NetMove H) → Type 0
+  MadeByPanel (bus.Submit k command) l moves =
+      ((fault : BusFault) × (submit_refusal_at k command l.bus ≡ Some fault) × (moves ≡ []))
+      ⊎ ((submit_refusal_at k command l.bus ≡ None) × (moves ≡ Submit k command ∷ []))
+  MadeByPanel (bus.Retarget k address) l moves =
+      ((fault : BusFault) × (retarget_refusal_at k address l.bus ≡ Some fault) × (moves ≡ []))
+      ⊎ ((retarget_refusal_at k address l.bus ≡ None) × (moves ≡ Retarget k address ∷ []))
+  MadeByPanel (bus.OnBytes bytes now) l moves = Unit {0}
+  MadeByPanel (bus.OnSilence now) l moves = Unit {0}
+  MadeByPanel (bus.Tick now) l moves = Unit {0}
+  MadeByPanel _ l moves = Each IsStill moves
+
+  abbrev pub Made : Call H → InUse H → List (NetMove H) → Type 0
+  Made (OfPanel call) l moves = MadeByPanel call l moves
+  Made (NewDevice k address handler room gap) l moves = moves ≡ RestartReader k address handler room ∷ []
+  Made (NewPanel config addresses) l moves =
+      (settings : ℕ → ControllerConfig × ℕ) × (moves ≡ RestartPanel settings ∷ [])
+      × ((k a : ℕ) → site_at k addresses ≡ Some a → (settings k).0.address ≡ a)
+  Made _ l moves = Each IsStill moves
 
   plain_of : (call : Call H) (move : NetMove H) → IsPlain move → IsOf call move
   plain_of call (Submit k command) plain = absurd plain
@@ -86,13 +108,15 @@ module _ {H : Type 0} where
       pub run : run answer_of after moves n ≡ net
       pub same : IsNetOf next net
       pub kinds : Each (IsOf call) moves
+      pub made : Made call l moves
       pub submitted : (k : ℕ) → in_net answer_of after submitted k moves n ≡ accepted_by k call l
       pub queued : (k : ℕ) → in_net answer_of after queued k moves n ≡ queued_by k call l
 
     -- a call that accepts nothing
     pub by_plain : (call : Call H) (l : InUse H) (n : Net H) (next : InUse H) → ((k : ℕ) → accepted_by k call l ≡ []) → ((k : ℕ) → queued_by k call l ≡ [])
-        → Refines answer_of after n next → StepsTo call l n next
-    by_plain call l n next no_command no_event r =
+        → Makes answer_of after (λ moves. Made call l moves) n next → StepsTo call l n next
+    by_plain call l n next no_command no_event m =
+        let r = m.refines in
         let gives = each_map IsPlain GivesNone plain_gives r.reached.moves r.reached.plain in
         record {
           net = r.net;
@@ -101,20 +125,23 @@ module _ {H : Type 0} where
           run = r.reached.run;
           same = r.same;
           kinds = each_map IsPlain (IsOf call) (plain_of call) r.reached.moves r.reached.plain;
+          made = m.made;
           submitted = λ k. net_none answer_of after submitted submits_none k r.reached.moves n gives ∙ sym (no_command k);
           queued = λ k. net_none answer_of after queued queues_none k r.reached.moves n gives ∙ sym (no_event k);
         }
 
     pub by_own : (call : Call H) (move : NetMove H) (l : InUse H) (n : Net H) (next : InUse H) → ((k : ℕ) → accepted_by k call l ≡ [])
-        → ((k : ℕ) → queued_by k call l ≡ []) → GivesNone move → IsOf call move → NetMoveFits answer_of after move n
+        → ((k : ℕ) → queued_by k call l ≡ []) → GivesNone move → IsOf call move → Made call l (move ∷ [])
+        → NetMoveFits answer_of after move n
         → IsNetOf next (after_net answer_of after move n) → StepsTo call l n next
-    by_own call move l n next no_command no_event none of_it fits same = record {
+    by_own call move l n next no_command no_event none of_it made fits same = record {
       net = after_net answer_of after move n;
       moves = move ∷ [];
       fit = (fits, tt);
       run = refl;
       same = same;
       kinds = (of_it, tt);
+      made = made;
       submitted = λ k. net_none answer_of after submitted submits_none k (move ∷ []) n (none, tt) ∙ sym (no_command k);
       queued = λ k. net_none answer_of after queued queues_none k (move ∷ []) n (none, tt) ∙ sym (no_event k);
     }
@@ -217,6 +244,7 @@ module _ {H : Type 0} where
       run = refl;
       same = same;
       kinds = (refl, tt);
+      made = inr (none, refl);
       submitted = λ j. one_submit k j command s n is free accepts ∙ sym (accepts_so k j command (submit_refusal_at k command l.bus) None none);
       queued = λ j. submit_no_event k j command n;
     }
@@ -231,6 +259,7 @@ module _ {H : Type 0} where
       run = refl;
       same = same;
       kinds = tt;
+      made = inl (fault, is, refl);
       submitted = λ j. sym (accepts_so k j command (submit_refusal_at k command l.bus) (Some fault) is ∙ both (λ xs. xs ≡ []) (k == j) [] [] refl refl);
       queued = λ j. refl;
     }

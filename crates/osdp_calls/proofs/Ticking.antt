@@ -1,11 +1,12 @@
 -- A tick of one of the bus's controllers: what it says goes to every device. Where a session was to begin, it begins with that.
-use Rattle.std.proofs.Common.{◌≡◌, ◌≢◌, ℕ, zero, suc, ◌+◌, Bool, true, false, cond, List, [], ◌∷◌, ◌++◌, length, Option, Some, None, IfSome, refl, sym, subst, ap, ◌∙◌, arith, append-nil}
+use Rattle.std.proofs.Common.{◌≡◌, ◌≢◌, ℕ, zero, suc, ◌+◌, Bool, true, false, cond, List, [], ◌∷◌, ◌++◌, length, Option, Some, None, IfSome, ◌⊎◌, refl, sym, subst, ap, ◌∙◌, arith, append-nil, inl, inr}
 use Rattle.std.specs.Prelude.{map, nat_le, nat_lt, option_to_list, slice_get, slice_set}
 use Rattle.osdp_frame.specs.Packet.{Packet, next_sequence}
 use Rattle.osdp_msg.specs.declared.command.Command.{Command}
 use Rattle.osdp_controller.specs.Machine.{Machine, after_begin, begin_refusal}
 use Rattle.osdp_controller.specs.Sessions as clocks
 use Rattle.osdp_controller.specs.Sessions.{frame_of}
+use Rattle.osdp_controller.specs.States.{is_closed}
 use Rattle.osdp_controller.specs.Ticking as ticking
 use Rattle.osdp_controller.specs.Ticking.{Ticked, ticks, ticks_in}
 use Rattle.osdp_controller.specs.declared.exchange.Exchange.TheVariants.{Opening as OpeningExchange, Polling}
@@ -21,22 +22,24 @@ use Rattle.osdp_link_laws.specs.Link as link
 use Rattle.osdp_link_laws.specs.Link.{after_report}
 use Rattle.osdp_link_laws.proofs.Lines.{both, each_all, each_append}
 use Rattle.osdp_link_laws.proofs.Reports.{tick_so}
+use Rattle.osdp_link_laws.proofs.Stages.{Each}
 use Rattle.osdp_reader.specs.declared.handler.Answer.{Answer}
 use Rattle.osdp_shared_line.specs.Line as line
-use Rattle.osdp_shared_line.specs.Line.{Net, Reopen, Site, Tick, address_of, after_net, changed, is_told, site_at, tagged}
+use Rattle.osdp_shared_line.specs.Line.{Net, NetMove, Reopen, Site, Tick, address_of, after_net, changed, is_told, run, site_at, tagged}
+use Rattle.osdp_shared_line.specs.Addresses.{NetMovesFit}
 use Rattle.osdp_shared_line.specs.Views.{IsQuiet}
 use Rattle.osdp_shared_line.proofs.Sites.{at_changed, some_same}
 use Rattle.osdp_calls.specs.Calls.{all_hear, begins_session, begins_with, begun_of, change_at, changes_at, panel_says, waiting_of}
 use Rattle.osdp_calls.specs.Lines.{InUse, Opening, Station}
 use Rattle.osdp_calls.proofs.Ahead.{device_quiet, from_panel, panel_quiet, panel_told_device, panel_told_panel}
 use Rattle.osdp_calls.proofs.Controllers.{equal_same, opened_ticks, saw, ticked_same, ticks_same}
-use Rattle.osdp_calls.proofs.Losing.{Reaches, changed_twice, one_move, then_reaches}
+use Rattle.osdp_calls.proofs.Losing.{IsPlain, IsStill, changed_twice, fit_then, run_then}
 use Rattle.osdp_calls.proofs.Matching.{FoundAt, Match, Nobody, Somebody, changed_same, found, matched_map, set}
-use Rattle.osdp_calls.proofs.Nexts.{within_more, length_more, then_refines}
+use Rattle.osdp_calls.proofs.Nexts.{within_more, length_more}
 use Rattle.osdp_calls.proofs.Opens.{opens}
 use Rattle.osdp_calls.proofs.Panel.{one_told}
-use Rattle.osdp_calls.proofs.Same.{Controls, IsNetOf, IsRightly, IsSame, IsSiteOf, IsToOpen}
-use Rattle.osdp_calls.proofs.Stations.{Refines, Sites, by_move, by_none}
+use Rattle.osdp_calls.proofs.Same.{Controls, IsNetOf, IsRightly, IsSiteOf, IsToOpen}
+use Rattle.osdp_calls.proofs.Stations.{Makes, Sites, make_move, make_none}
 
 -- ---- what a controller sends are commands
 
@@ -119,11 +122,20 @@ module _ {H : Type 0} where
   ticked_line k d t l = panel_says (Some k) t.step.frame (ticked_bus k d t l)
 
   module _ (answer_of : H → Command → Answer) (after : H → Command → H) where
+    -- what a tick comes to: moves that are still, where no session begins; or what is lost as one opens, its beginning, and the tick
+    pub data IsTicked (o : Option ℕ) (l : InUse H) (n : Net H) (moves : List (NetMove H)) : Type 0 where
+      GoesOn : Each IsStill moves
+          → ((k : ℕ) → o ≡ Some k → (begun_of (site_at k l.stations) ≡ None) ⊎ ((ticks_at o l.bus).sent ≡ None)) → IsTicked o l n moves
+      Opens : (k began : ℕ) (p : Packet) (s : Site H) (mid : Net H) (lost : List (NetMove H)) → o ≡ Some k
+          → begun_of (site_at k l.stations) ≡ Some began → (ticks_at o l.bus).sent ≡ Some p → Each IsStill lost → run answer_of after lost n ≡ mid
+          → site_at k mid.sites ≡ Some s → is_closed s.controller.session.state ≡ true
+          → moves ≡ lost ++ Reopen k began ∷ Tick k l.bus.greatest ∷ [] → IsTicked o l n moves
+
     -- ---- a controller whose session has begun, or is not to begin
 
     pub ticks_on : (k : ℕ) (d : Device) (t : Station H) (s : Site H) (l : InUse H) (n : Net H) → IsNetOf l n
         → slice_get l.bus.devices.entries k ≡ Some d → site_at k l.stations ≡ Some t → site_at k n.sites ≡ Some s → Sites l k d t s → t.begun ≡ None
-        → Refines answer_of after n (ticked_line k d (ticks l.bus.greatest d.controller.session d.controller.waiting) l)
+        → Makes answer_of after (IsTicked (Some k) l n) n (ticked_line k d (ticks l.bus.greatest d.controller.session d.controller.waiting) l)
     ticks_on k d t s l n h a b c is begun = by_frame x.step.frame refl (frames_so d.controller.session.state (clocks.seen g d.controller.session) d.controller.waiting)
       where
         g : ℕ
@@ -172,6 +184,9 @@ module _ {H : Type 0} where
             ∙ ap (λ (z : Ticked). record n { sites = map (is_told (tagged k (option_to_list z.step.frame))) (changed k (line.ticks answer_of after l.bus.greatest s) n.sites) })
             (ticks_same l.bus.greatest d.controller s.controller (subst (λ o. Controls o l.bus.greatest d.controller s.controller) begun is.controller))
 
+        still : IsTicked (Some k) l n (Tick k l.bus.greatest ∷ [])
+        still = GoesOn (tt, tt) (λ j is. inl (subst (λ i. begun_of (site_at i l.stations) ≡ None) (some_same k j is) (ap begun_of b ∙ begun)))
+
         not_begun : begun_of (site_at k (ticked_bus k d (ticks l.bus.greatest d.controller.session d.controller.waiting) l).stations) ≡ None
         not_begun =
             let y = ticks l.bus.greatest d.controller.session d.controller.waiting in
@@ -180,19 +195,19 @@ module _ {H : Type 0} where
 
         by_frame : (o : Option Packet) → (ticks l.bus.greatest d.controller.session d.controller.waiting).step.frame ≡ o
             → IfSome (ticks l.bus.greatest d.controller.session d.controller.waiting).step.frame (λ p. p.reply ≡ false)
-            → Refines answer_of after n (ticked_line k d (ticks l.bus.greatest d.controller.session d.controller.waiting) l)
+            → Makes answer_of after (IsTicked (Some k) l n) n (ticked_line k d (ticks l.bus.greatest d.controller.session d.controller.waiting) l)
         by_frame None none so =
             let l1 = ticked_bus k d (ticks l.bus.greatest d.controller.session d.controller.waiting) l in
-            subst (λ o. Refines answer_of after n (panel_says (Some k) o l1)) (sym none)
-            (by_move answer_of after (Tick k l.bus.greatest) l1 n tt tt
+            subst (λ o. Makes answer_of after (IsTicked (Some k) l n) n (panel_says (Some k) o l1)) (sym none)
+            (make_move answer_of after (IsTicked (Some k) l n) (Tick k l.bus.greatest) l1 n still tt tt
             (subst (IsNetOf l1) (sym (next ∙ ap (λ o. record n { sites = map (is_told (tagged k (option_to_list o))) (changed k (line.ticks answer_of after l.bus.greatest s) n.sites) }) none))
             (nothing_said l1 (record n { sites = changed k (line.ticks answer_of after l.bus.greatest s) n.sites }) first)))
         by_frame (Some p) some so =
             let l1 = ticked_bus k d (ticks l.bus.greatest d.controller.session d.controller.waiting) l in
             let command : p.reply ≡ false = subst (λ o. IfSome o (λ q. q.reply ≡ false)) some so in
-            subst (λ o. Refines answer_of after n (panel_says (Some k) o l1)) (sym some)
-            (subst (λ o. Refines answer_of after n (record (begins_with k p o l1) { said = l1.said ++ from_panel k p ∷ [] })) (sym not_begun)
-            (by_move answer_of after (Tick k l.bus.greatest) (record l1 { said = l1.said ++ from_panel k p ∷ [] }) n tt tt
+            subst (λ o. Makes answer_of after (IsTicked (Some k) l n) n (panel_says (Some k) o l1)) (sym some)
+            (subst (λ o. Makes answer_of after (IsTicked (Some k) l n) n (record (begins_with k p o l1) { said = l1.said ++ from_panel k p ∷ [] })) (sym not_begun)
+            (make_move answer_of after (IsTicked (Some k) l n) (Tick k l.bus.greatest) (record l1 { said = l1.said ++ from_panel k p ∷ [] }) n still tt tt
             (subst (IsNetOf (record l1 { said = l1.said ++ from_panel k p ∷ [] }))
             (sym (next ∙ ap (λ o. record n { sites = map (is_told (tagged k (option_to_list o))) (changed k (line.ticks answer_of after l.bus.greatest s) n.sites) }) some))
             (panel_said k p l1 (record n { sites = changed k (line.ticks answer_of after l.bus.greatest s) n.sites }) command first))))
@@ -217,12 +232,19 @@ module _ {H : Type 0} where
       said = l.said ++ from_panel k (opening_packet d.controller) ∷ [];
     }
 
+    -- of a closed controller a session begins, and it ticks
+    pub record IsBegun (k began g : ℕ) (m : Net H) (moves : List (NetMove H)) : Type 0 where
+      pub site : Site H
+      pub there : site_at k m.sites ≡ Some site
+      pub closed : is_closed site.controller.session.state ≡ true
+      pub are : moves ≡ Reopen k began ∷ Tick k g ∷ []
+
     -- the session of a site begins, and its controller ticks
     begins_then : (k began : ℕ) (d : Device) (t : Station H) (s : Site H) (l : InUse H) (m : Net H) → IsNetOf (record l { openings = opening_of k d l ∷ l.openings }) m
         → slice_get l.bus.devices.entries k ≡ Some d → site_at k l.stations ≡ Some t → site_at k m.sites ≡ Some s
         → Sites (record l { openings = opening_of k d l ∷ l.openings }) k d t s → IsToOpen began l.bus.greatest d.controller s.controller
         → ticks l.bus.greatest d.controller.session d.controller.waiting ≡ opened d.controller l.bus.greatest
-        → Refines answer_of after m (with_opening k d t l)
+        → Makes answer_of after (IsBegun k began l.bus.greatest m) m (with_opening k d t l)
     begins_then k began d t s l m h a b c is control ticked =
         let g = l.bus.greatest in
         let lo : InUse H = record l { openings = opening_of k d l ∷ l.openings } in
@@ -247,7 +269,6 @@ module _ {H : Type 0} where
         let reopened : after_net answer_of after (Reopen k began) m ≡ m1 =
         ap (λ o. line.change_at k o (line.calls answer_of after (link.Reopen began)) m) c
         ∙ ap (λ f. record m { sites = changed k (line.left_by s (link.reopens f [] [] began (line.link_of s [] []))) m.sites }) shut in
-        let first : Reaches answer_of after m m1 = subst (Reaches answer_of after m) reopened (one_move answer_of after (Reopen k began) m tt quiet) in
         let there : site_at k m1.sites ≡ Some s1 = at_changed k s1 s m.sites c in
         let eq : ticks g s1.controller.session s1.controller.waiting ≡ opened d.controller g = opened_ticks began g d.controller s.controller control ∙ ticked in
         let s2 : Site H = line.ticks answer_of after g s1 in
@@ -256,7 +277,6 @@ module _ {H : Type 0} where
         ap (λ o. line.tick_at answer_of after k g o m1) there
         ∙ ap (λ (z : Ticked). record m1 { sites = map (is_told (tagged k (option_to_list z.step.frame))) (changed k s2 (changed k s1 m.sites)) }) eq
         ∙ ap (λ ss. record m { sites = map (is_told ((k, opening_packet d.controller) ∷ [])) ss }) (changed_twice k s2 s1 m.sites) in
-        let second : Reaches answer_of after m1 m2 = subst (Reaches answer_of after m1) next (one_move answer_of after (Tick k g) m1 tt tt) in
         let waiting : s.controller.waiting ≡ d.controller.waiting = ap (λ (x : Machine). x.waiting) control.same in
         let room : s.controller.capacity ≡ d.controller.capacity = ap (λ (x : Machine). x.capacity) control.same in
         let y : Ticked = opened d.controller g in
@@ -281,23 +301,49 @@ module _ {H : Type 0} where
           said = h.said;
         } in
         record {
-          net = m2;
-          reached = then_reaches answer_of after m m1 m2 first second;
-          same = panel_said k (opening_packet d.controller) lb (record m { sites = changed k s2 m.sites }) refl before;
+          refines = record {
+            net = m2;
+            reached = record {
+              moves = Reopen k began ∷ Tick k g ∷ [];
+              fit = (quiet, (tt, tt));
+              run = ap (after_net answer_of after (Tick k g)) reopened ∙ next;
+              plain = (tt, (tt, tt));
+            };
+            same = panel_said k (opening_packet d.controller) lb (record m { sites = changed k s2 m.sites }) refl before;
+          };
+          made = record { site = s; there = c; closed = ap (λ (x : Machine). is_closed x.session.state) control.same; are = refl };
         }
 
     pub opens_then : (k began : ℕ) (d : Device) (t : Station H) (s : Site H) (l : InUse H) (n : Net H) → IsNetOf l n
         → slice_get l.bus.devices.entries k ≡ Some d → site_at k l.stations ≡ Some t → site_at k n.sites ≡ Some s → Sites l k d t s → t.begun ≡ Some began
         → ticks l.bus.greatest d.controller.session d.controller.waiting ≡ opened d.controller l.bus.greatest
-        → Refines answer_of after n (with_opening k d t l)
+        → Makes answer_of after (IsTicked (Some k) l n) n (with_opening k d t l)
     opens_then k began d t s l n h a b c is begun ticked =
-        then_refines answer_of after n (record l { openings = opening_of k d l ∷ l.openings }) (with_opening k d t l)
-        (opens answer_of after (opening_of k d l) d t s l n h (omega arith) a b c is)
-        (λ m h1. by_found m h1 (found (Sites (record l { openings = opening_of k d l ∷ l.openings })) k l.bus.devices.entries l.stations m.sites h1.sites))
+        let lo : InUse H = record l { openings = opening_of k d l ∷ l.openings } in
+        let quiet = opens answer_of after (opening_of k d l) d t s l n h (omega arith) a b c is in
+        let x = quiet.refines in
+        let begins = by_found x.net x.same (found (Sites lo) k l.bus.devices.entries l.stations x.net.sites x.same.sites) in
+        let y = begins.refines in
+        record {
+          refines = record {
+            net = y.net;
+            reached = record {
+              moves = x.reached.moves ++ y.reached.moves;
+              fit = fit_then answer_of after x.reached.moves y.reached.moves n x.reached.fit
+                  (subst (NetMovesFit answer_of after y.reached.moves) (sym x.reached.run) y.reached.fit);
+              run = run_then answer_of after x.reached.moves y.reached.moves n ∙ ap (run answer_of after y.reached.moves) x.reached.run ∙ y.reached.run;
+              plain = each_append IsPlain x.reached.moves y.reached.moves x.reached.plain y.reached.plain;
+            };
+            same = y.same;
+          };
+          made = Opens k began (opening_packet d.controller) begins.made.site x.net x.reached.moves refl (ap begun_of b ∙ begun)
+              (ap (λ o. (ticks_with k o l.bus).sent) a ∙ ap (λ (z : Ticked). z.step.frame) ticked) quiet.made x.reached.run begins.made.there
+              begins.made.closed (ap (λ ms. x.reached.moves ++ ms) begins.made.are);
+        }
       where
         by_found : (m : Net H) → IsNetOf (record l { openings = opening_of k d l ∷ l.openings }) m
             → FoundAt (Sites (record l { openings = opening_of k d l ∷ l.openings })) k k l.bus.devices.entries l.stations m.sites
-            → Refines answer_of after m (with_opening k d t l)
+            → Makes answer_of after (IsBegun k began l.bus.greatest m) m (with_opening k d t l)
         by_found m h1 (Nobody x y z) = absurd (let e = sym y ∙ b in cc)
         by_found m h1 (Somebody d1 t1 s1 x y z has) =
             let lo : InUse H = record l { openings = opening_of k d l ∷ l.openings } in
@@ -309,7 +355,7 @@ module _ {H : Type 0} where
 
     pub ticks_to_open : (k began : ℕ) (d : Device) (t : Station H) (s : Site H) (l : InUse H) (n : Net H) → IsNetOf l n
         → slice_get l.bus.devices.entries k ≡ Some d → site_at k l.stations ≡ Some t → site_at k n.sites ≡ Some s → Sites l k d t s → t.begun ≡ Some began
-        → Refines answer_of after n (ticked_line k d (ticks l.bus.greatest d.controller.session d.controller.waiting) l)
+        → Makes answer_of after (IsTicked (Some k) l n) n (ticked_line k d (ticks l.bus.greatest d.controller.session d.controller.waiting) l)
     ticks_to_open k began d t s l n h a b c is begun =
         by_due (nat_le control_until (clocks.seen l.bus.greatest d.controller.session).greatest) (ap (λ st. ticks_in st (clocks.seen l.bus.greatest d.controller.session) d.controller.waiting) control.quiet)
       where
@@ -321,10 +367,14 @@ module _ {H : Type 0} where
             let ctl = subst (λ o. Controls o l.bus.greatest d.controller s.controller) begun is.controller in
             clocks.later d.controller.session.config.quiet_wait (clocks.seen began (record d.controller.session { greatest = ctl.moment }))
 
-        waits : Refines answer_of after n (ticked_line k d (ticking.stays (clocks.seen l.bus.greatest d.controller.session) d.controller.waiting) l)
-        waits =
+        resting : (ticks l.bus.greatest d.controller.session d.controller.waiting
+            ≡ ticking.stays (clocks.seen l.bus.greatest d.controller.session) d.controller.waiting) → IsTicked (Some k) l n []
+        resting eq = GoesOn tt (λ j e. inr (ap (λ o. (ticks_with k o l.bus).sent) a ∙ ap (λ (z : Ticked). z.step.frame) eq))
+
+        waits : IsTicked (Some k) l n [] → Makes answer_of after (IsTicked (Some k) l n) n (ticked_line k d (ticking.stays (clocks.seen l.bus.greatest d.controller.session) d.controller.waiting) l)
+        waits rests =
             let e : Device = record { controller = record d.controller { session = clocks.seen l.bus.greatest d.controller.session }; reserved = d.reserved } in
-            by_none answer_of after (ticked_bus k d (ticking.stays (clocks.seen l.bus.greatest d.controller.session) d.controller.waiting) l) n (record {
+            make_none answer_of after (IsTicked (Some k) l n) (ticked_bus k d (ticking.stays (clocks.seen l.bus.greatest d.controller.session) d.controller.waiting) l) n rests (record {
               sites = subst (λ ts. Match (Sites l) 0 (slice_set l.bus.devices.entries k e) ts n.sites) (changed_same k t l.stations b)
                   (subst (λ ss. Match (Sites l) 0 (slice_set l.bus.devices.entries k e) (changed k t l.stations) ss) (changed_same k s n.sites c)
                   (set (Sites l) k e t s l.bus.devices.entries l.stations n.sites h.sites (record {
@@ -345,21 +395,21 @@ module _ {H : Type 0} where
 
         by_due : (x : Bool) → ticks l.bus.greatest d.controller.session d.controller.waiting
             ≡ cond x (opened d.controller l.bus.greatest) (ticking.stays (clocks.seen l.bus.greatest d.controller.session) d.controller.waiting)
-            → Refines answer_of after n (ticked_line k d (ticks l.bus.greatest d.controller.session d.controller.waiting) l)
-        by_due false eq = subst (λ z. Refines answer_of after n (ticked_line k d z l)) (sym eq) waits
+            → Makes answer_of after (IsTicked (Some k) l n) n (ticked_line k d (ticks l.bus.greatest d.controller.session d.controller.waiting) l)
+        by_due false eq = subst (λ z. Makes answer_of after (IsTicked (Some k) l n) n (ticked_line k d z l)) (sym eq) (waits (resting eq))
         by_due true eq =
             let y = opened d.controller l.bus.greatest in
             let lb = ticked_bus k d y l in
             let p = opening_packet d.controller in
             let e : Device = record { controller = record d.controller { session = y.session; waiting = y.waiting }; reserved = d.reserved } in
-            subst (λ z. Refines answer_of after n (ticked_line k d z l)) (sym eq)
-            (subst (λ o. Refines answer_of after n (record (begins_with k p o lb) { said = l.said ++ from_panel k p ∷ [] })) (sym (ap begun_of b ∙ begun))
-            (subst (λ (o : Option Device). Refines answer_of after n (record lb {
+            subst (λ z. Makes answer_of after (IsTicked (Some k) l n) n (ticked_line k d z l)) (sym eq)
+            (subst (λ o. Makes answer_of after (IsTicked (Some k) l n) n (record (begins_with k p o lb) { said = l.said ++ from_panel k p ∷ [] })) (sym (ap begun_of b ∙ begun))
+            (subst (λ (o : Option Device). Makes answer_of after (IsTicked (Some k) l n) n (record lb {
               stations = change_at k (begins_session (waiting_of o)) l.stations;
               openings = opening_of k d l ∷ l.openings;
               said = l.said ++ from_panel k p ∷ [];
             })) (sym (got_set k e d l.bus.devices.entries a))
-            (subst (λ o. Refines answer_of after n (record lb {
+            (subst (λ o. Makes answer_of after (IsTicked (Some k) l n) n (record lb {
               stations = changes_at k (begins_session d.controller.waiting) o l.stations;
               openings = opening_of k d l ∷ l.openings;
               said = l.said ++ from_panel k p ∷ [];
@@ -368,26 +418,28 @@ module _ {H : Type 0} where
     -- ---- a tick of the controller of an entry, or of none
 
     pub ticks_entry : (o : Option ℕ) (l : InUse H) (n : Net H) → IsNetOf l n
-        → Refines answer_of after n (panel_says o (ticks_at o l.bus).sent (record l { bus = (ticks_at o l.bus).bus; stations = all_hear (told_by_ticking o l.bus) l.stations }))
-    ticks_entry None l n h = by_none answer_of after l n h
+        → Makes answer_of after (IsTicked o l n) n (panel_says o (ticks_at o l.bus).sent (record l { bus = (ticks_at o l.bus).bus; stations = all_hear (told_by_ticking o l.bus) l.stations }))
+    ticks_entry None l n h = make_none answer_of after (IsTicked None l n) l n (GoesOn tt (λ k e. absurd (let f = e in cc))) h
     ticks_entry (Some k) l n h = by_found (found (Sites l) k l.bus.devices.entries l.stations n.sites h.sites)
       where
         Goal : Option Device → Type 0
-        Goal o = Refines answer_of after n (panel_says (Some k) (ticks_with k o l.bus).sent (record l {
+        Goal o = Makes answer_of after (IsTicked (Some k) l n) n (panel_says (Some k) (ticks_with k o l.bus).sent (record l {
           bus = (ticks_with k o l.bus).bus;
           stations = all_hear (told_by_device k o l.bus) l.stations;
         }))
 
         by_begun : (d : Device) (t : Station H) (s : Site H) → slice_get l.bus.devices.entries k ≡ Some d → site_at k l.stations ≡ Some t
             → site_at k n.sites ≡ Some s → Sites l k d t s → (o : Option ℕ) → t.begun ≡ o
-            → Refines answer_of after n (ticked_line k d (ticks l.bus.greatest d.controller.session d.controller.waiting) l)
+            → Makes answer_of after (IsTicked (Some k) l n) n (ticked_line k d (ticks l.bus.greatest d.controller.session d.controller.waiting) l)
         by_begun d t s a b c is None begun = ticks_on k d t s l n h a b c is begun
         by_begun d t s a b c is (Some began) begun = ticks_to_open k began d t s l n h a b c is begun
 
         by_found : FoundAt (Sites l) k k l.bus.devices.entries l.stations n.sites
-            → Refines answer_of after n (panel_says (Some k) (ticks_at (Some k) l.bus).sent (record l {
+            → Makes answer_of after (IsTicked (Some k) l n) n (panel_says (Some k) (ticks_at (Some k) l.bus).sent (record l {
               bus = (ticks_at (Some k) l.bus).bus;
               stations = all_hear (told_by_ticking (Some k) l.bus) l.stations;
             }))
-        by_found (Nobody a b c) = subst Goal (sym a) (by_none answer_of after l n h)
+        by_found (Nobody a b c) =
+            let nobody : IsTicked (Some k) l n [] = GoesOn tt (λ j e. inr (ap (λ o. (ticks_with k o l.bus).sent) a)) in
+            subst Goal (sym a) (make_none answer_of after (IsTicked (Some k) l n) l n nobody h)
         by_found (Somebody d t s a b c is) = subst Goal (sym a) (by_begun d t s a b c is t.begun refl)

@@ -39,7 +39,7 @@ module _ {H : Type 0} (answer_of : H → Command → Answer) (after : H → Comm
       subst (λ ts. Refines answer_of after n (panel_says o (ticks_at o e).sent (record l { bus = (ticks_at o e).bus; stations = ts; place = last_of places l.place })))
       (sym (told_then (told_by_end l.bus) (told_by_ticking o e) l.stations))
       (then_refines answer_of after n l1 (panel_says o (ticks_at o e).sent (record l1 { bus = (ticks_at o e).bus; stations = all_hear (told_by_ticking o e) l1.stations }))
-      (reads_end answer_of after places l n h all past) (λ m h1. ticks_entry answer_of after o l1 m h1))
+      (reads_end answer_of after places l n h all past) (λ m h1. (ticks_entry answer_of after o l1 m h1).refines))
 
   nothing_read : (places : List ℕ) (l : InUse H) (n : Net H) → IsNetOf l n → AreSaid l.said [] places l.place
       → Refines answer_of after n (ticked_to (stays l.bus) None [] (last_of places l.place) l)

@@ -11,3 +11,4 @@ pub mod Ends
 pub mod Refusals
 pub mod OneDevice
 pub mod Undisturbed
+pub mod Programs

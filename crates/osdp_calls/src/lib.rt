@@ -7,6 +7,7 @@ ghost use Rattle.osdp_calls.specs.Ends.{BusIsReached, GoByTheirOwn, OneExchange}
 ghost use Rattle.osdp_calls.specs.Handing.{HandsOver};
 ghost use Rattle.osdp_calls.specs.Lines.{InUse};
 ghost use Rattle.osdp_calls.specs.OneDevice.{OneDeviceHoldsOnce};
+ghost use Rattle.osdp_calls.specs.Programs.{CallsRuleSuffices, RuledCallsHoldOnce};
 ghost use Rattle.osdp_calls.specs.Promises.{CallsHoldOnce, CallsKeepApart};
 ghost use Rattle.osdp_calls.specs.Refusals.{CallsRefuseNoNumber};
 ghost use Rattle.osdp_calls.specs.Restarts.{NewDeviceCosts, NewDeviceReportsNoMore, NewPanelCosts};
@@ -37,6 +38,20 @@ pub fn calls_hold_once<H: Handler>()
     osdp_shared_line::nobody_else_hears::<H>();
     osdp_shared_line::promises::each_holds_once::<H>();
     osdp_shared_line::promises::each_has_sessions_in_a_row::<H>();
+}
+
+/// A rule for the programs of the panel and its devices stands for the premise on addresses: programs that keep to it give no address where another
+/// device may come, and so the promises hold. Until an entry's next session has opened, neither the address that a COMSET, a `retarget` or a
+/// restart of the panel left nor the one that it set goes to another entry; `retarget` and a restart of the panel set no other than these; and a
+/// device is made anew where it is. Programs go by what they see: their calls and what these answer, reports, and restarts.
+pub fn calls_rule_suffices<H: Handler>()
+    ensures suffices { CallsRuleSuffices H.answer_of H.after }
+    ensures holds { RuledCallsHoldOnce H.answer_of H.after }
+{
+    calls_hold_once::<H>();
+    osdp_shared_line::nobody_else_hears::<H>();
+    osdp_shared_line::programs::rule_suffices::<H>();
+    osdp_link_laws::reads_what_is_asked();
 }
 
 /// Under the same premises no two devices are ever at one address.

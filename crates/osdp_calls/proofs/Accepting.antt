@@ -1,0 +1,239 @@
+-- From the rule for programs, as it is said of a line in use, follows the rule on its net's moves, and so the premise on addresses.
+use Rattle.std.proofs.Common.{◌≡◌, ◌≢◌, ◌<◌, ◌||◌, ℕ, zero, suc, true, false, not, List, [], ◌∷◌, ◌++◌, All, length, Option, Some, None, refl, sym, subst, ap, ◌∙◌, arith, inl, inr}
+use Rattle.std.specs.Prelude.{is_some}
+use Rattle.osdp_frame.specs.Packet.{Packet}
+use Rattle.osdp_msg.specs.CommandTable.{CommandFits}
+use Rattle.osdp_msg.specs.declared.command.Command.{Command}
+use Rattle.osdp_msg.specs.declared.command_fields.Communication.{Communication}
+use Rattle.osdp_controller.specs.Comsets.{has_comset}
+use Rattle.osdp_controller.specs.Hearing.{comset_of}
+use Rattle.osdp_controller.specs.Machine as controllers
+use Rattle.osdp_controller.specs.Machine.{Machine, retarget_refusal, submit_refusal}
+use Rattle.osdp_controller.specs.declared.state.State.{State}
+use Rattle.osdp_controller.specs.declared.state.State.TheVariants.{Closed}
+use Rattle.osdp_controller.specs.declared.config.ControllerConfig.{ControllerConfig}
+use Rattle.osdp_bus.specs.Buses.{device_of}
+use Rattle.osdp_bus.specs.Devices as devices
+use Rattle.osdp_bus.specs.Machine as bus
+use Rattle.osdp_bus.specs.Settings.{IsBusConfig}
+use Rattle.osdp_bus.specs.declared.config.BusConfig.{BusConfig}
+use Rattle.osdp_bus.specs.declared.device.Device.{Device}
+use Rattle.osdp_bus_laws.specs.Calls as panel
+use Rattle.osdp_link_laws.proofs.Lines.{each_of}
+use Rattle.osdp_reader.specs.State.{ReaderState}
+use Rattle.osdp_reader.specs.declared.handler.Answer.{Answer}
+use Rattle.osdp_shared_line.specs.Addresses as addresses
+use Rattle.osdp_shared_line.specs.Addresses.{HasNoOther, IsNameOf, IsSetUp, NetMoveFits, Sets, Somewhere}
+use Rattle.osdp_shared_line.specs.Line as line
+use Rattle.osdp_shared_line.specs.Line.{Net, RestartPanel, Retarget, Site, Submit, restarts, site_at}
+use Rattle.osdp_shared_line.specs.Programs as programs
+use Rattle.osdp_shared_line.specs.Programs.{Note, RuleSuffices}
+use Rattle.osdp_shared_line.proofs.Sites.{some_same}
+use Rattle.osdp_calls.specs.Lines.{InUse, Station}
+use Rattle.osdp_calls.specs.Premises.{IsAsked, IsNoOthers, IsSaid, IsThere, PanelIsApart}
+use Rattle.osdp_calls.specs.Programs.{IsKnown, KeepsRule, PanelKeepsRule}
+use Rattle.osdp_calls.specs.Calls.{NewPanel, begun_of}
+use Rattle.osdp_calls.proofs.Agreeing.{AllAgree, at_entry}
+use Rattle.osdp_calls.proofs.Along.{Path, next_fits}
+use Rattle.osdp_calls.proofs.Controllers.{closed_of, config_same, waiting_same}
+use Rattle.osdp_calls.proofs.Matching.{FoundAt, Nobody, Somebody, found}
+use Rattle.osdp_calls.proofs.Nexts.{each_at}
+use Rattle.osdp_calls.proofs.Noticing.{Agrees}
+use Rattle.osdp_calls.proofs.Orders.{asked_same, beside_same, no_device_none, not_begun, or_taken_none, refused_same, refusal_same, unrefused}
+use Rattle.osdp_calls.proofs.Powers.{address_at, are_settings, as_many, settings_of, there_is, within}
+use Rattle.osdp_calls.proofs.Same.{Controls, IsNetOf, IsSame}
+use Rattle.osdp_calls.proofs.Stations.{Sites}
+
+some_at : {A : Type 0} (k : ℕ) (xs : List A) → k < length xs → (x : A) × (site_at k xs ≡ Some x)
+some_at k [] lt = absurd (omega (arith, lt))
+some_at zero (x ∷ xs) lt = (x, refl)
+some_at (suc k) (x ∷ xs) lt = some_at k xs (omega (arith, lt))
+
+module _ {H : Type 0} where
+  -- ---- the entry and the station of a site, and those of a station
+
+  pub record OfSite (k : ℕ) (s : Site H) (l : InUse H) : Type 0 where
+    pub device : Device
+    pub station : Station H
+    pub entry : device_of k l.bus ≡ Some device
+    pub there : site_at k l.stations ≡ Some station
+    pub is : Sites l k device station s
+
+  pub of_site : (k : ℕ) (s : Site H) (l : InUse H) (n : Net H) → IsNetOf l n → site_at k n.sites ≡ Some s → OfSite k s l
+  of_site k s l n h at = by_found (found (Sites l) k l.bus.devices.entries l.stations n.sites h.sites)
+    where
+      by_found : FoundAt (Sites l) k k l.bus.devices.entries l.stations n.sites → OfSite k s l
+      by_found (Nobody a b c) = absurd (let e = sym c ∙ at in cc)
+      by_found (Somebody d t s1 a b c has) =
+          record { device = d; station = t; entry = a; there = b; is = subst (λ u. Sites l k d t u) (some_same s1 s (sym c ∙ at)) has }
+
+  pub record OfStation (k : ℕ) (t : Station H) (l : InUse H) (n : Net H) : Type 0 where
+    pub device : Device
+    pub site : Site H
+    pub entry : device_of k l.bus ≡ Some device
+    pub at : site_at k n.sites ≡ Some site
+    pub is : Sites l k device t site
+
+  pub of_station : (k : ℕ) (t : Station H) (l : InUse H) (n : Net H) → IsNetOf l n → site_at k l.stations ≡ Some t → OfStation k t l n
+  of_station k t l n h there = by_found (found (Sites l) k l.bus.devices.entries l.stations n.sites h.sites)
+    where
+      by_found : FoundAt (Sites l) k k l.bus.devices.entries l.stations n.sites → OfStation k t l n
+      by_found (Nobody a b c) = absurd (let e = sym b ∙ there in cc)
+      by_found (Somebody d t1 s a b c has) =
+          record { device = d; site = s; entry = a; at = c; is = subst (λ u. Sites l k d u s) (some_same t1 t (sym b ∙ there)) has }
+
+  -- ---- the same addresses are known
+
+  to_site : (k a : ℕ) (d : Device) (t : Station H) (s : Site H) (l : InUse H) (o : Option ℕ) (st : State) (x y : Note) → Sites l k d t s → Agrees o st x y
+      → IsKnown a d x → programs.IsKnown a s y
+  to_site k a d t s l o st x y is agree (inl here) =
+      inl (ap (λ (c : _). c.address) (config_same t.begun l.bus.greatest d.controller s.controller is.controller) ∙ here)
+  to_site k a d t s l o st x y is agree (inr noted) = inr (subst (Somewhere (λ b. b ≡ a)) (sym agree.addresses) noted)
+
+  from_site : (k a : ℕ) (d : Device) (t : Station H) (s : Site H) (l : InUse H) (o : Option ℕ) (st : State) (x y : Note) → Sites l k d t s → Agrees o st x y
+      → programs.IsKnown a s y → IsKnown a d x
+  from_site k a d t s l o st x y is agree (inl here) =
+      inl (sym (ap (λ (c : _). c.address) (config_same t.begun l.bus.greatest d.controller s.controller is.controller)) ∙ here)
+  from_site k a d t s l o st x y is agree (inr noted) = inr (subst (Somewhere (λ b. b ≡ a)) agree.addresses noted)
+
+  -- ---- what the bus accepts, the net does
+
+  module _ (answer_of : H → Command → Answer) (after : H → Command → H) where
+    pub command_accepted : (k : ℕ) (command : Command) (d : Device) (t : Station H) (s : Site H) (l : InUse H) (n : Net H) → IsNetOf l n
+        → device_of k l.bus ≡ Some d → Sites l k d t s → bus.submit_refusal_at k command l.bus ≡ None → line.is_command_accepted k command s n.sites ≡ true
+    command_accepted k command d t s l n h a has none =
+        let accepted = unrefused answer_of after (bus.is_comset_refused (comset_of command) k d l.bus) (submit_refusal command d.controller)
+        (sym (ap (λ o. bus.submit_refusal_of k command o l.bus) a) ∙ none) in
+        let unrefused_too : line.is_comset_refused k (comset_of command) s n.sites ≡ false = refused_same answer_of after (comset_of command) k d t s l n h has ∙ accepted.0 in
+        let same : submit_refusal command s.controller ≡ None = refusal_same answer_of after command t.begun l.bus.greatest d.controller s.controller has.controller ∙ accepted.1 in
+        (λ i. not (unrefused_too i || is_some (same i)))
+
+    pub retarget_accepted : (k address : ℕ) (d : Device) (t : Station H) (s : Site H) (l : InUse H) (n : Net H) → IsNetOf l n
+        → device_of k l.bus ≡ Some d → Sites l k d t s → bus.retarget_refusal_at k address l.bus ≡ None → line.is_retarget_accepted k address s n.sites ≡ true
+    retarget_accepted k address d t s l n h a has none =
+        let taken = devices.is_taken_beside k address l.bus.devices.entries || has_comset d.controller.waiting in
+        let accepted = or_taken_none answer_of after (retarget_refusal address d.controller) taken (sym (ap (λ o. bus.retarget_refusal_of k address o l.bus) a) ∙ none) in
+        let shut : d.controller.session.state ≡ Closed =
+        closed_of d.controller.session.state (no_device_none answer_of after (controllers.refused_unless_closed d.controller.session.state) address accepted.0) in
+        let begun : t.begun ≡ None = not_begun t.begun l.bus.greatest d.controller s.controller has.controller shut in
+        let control : IsSame l.bus.greatest d.controller s.controller = subst (λ o. Controls o l.bus.greatest d.controller s.controller) begun has.controller in
+        let same : retarget_refusal address s.controller ≡ None = ap (retarget_refusal address) control.same ∙ accepted.0 in
+        let untaken : line.is_retarget_refused k address s n.sites ≡ false =
+        (λ i. sym (beside_same k address l n h) i || has_comset (ap (λ (x : Machine). x.waiting) control.same i)) ∙ accepted.1 in
+        (λ i. not (untaken i || is_some (same i)))
+
+  -- ---- no other device is there
+
+  no_others : (k address : ℕ) (l : InUse H) (n : Net H) → IsNetOf l n → HasNoOther k address n → IsNoOthers k address l
+  no_others k address l n h none j other (IsThere t at is) =
+      let e = of_station j t l n h at in
+      none j e.site other e.at (addresses.IsThere (ap (λ (r : ReaderState H). r.config.address) e.is.reader ∙ is))
+  no_others k address l n h none j other (IsAsked d at asked) =
+      let e = at_entry j d l n h at in
+      let control = e.is.controller in
+      none j e.site other e.at (addresses.IsAsked (subst (Somewhere (Sets address))
+      (λ i. sym (asked_same e.station.begun l.bus.greatest d.controller e.site.controller control) i
+      ++ sym (waiting_same e.station.begun l.bus.greatest d.controller e.site.controller control) i) asked))
+  no_others k address l n h none j other (IsSaid t at said) =
+      let e = of_station j t l n h at in
+      none j e.site other e.at (addresses.IsSaid (subst (Somewhere (λ (q : ℕ × Packet). (q.0 ≡ j) × addresses.SetsReader address q.1)) (sym e.is.coming) said))
+
+  -- ---- the rule on moves
+
+  pub submit_rule : (k : ℕ) (command : Command) (l : InUse H) (n : Net H) (notes noted : ℕ → Note) → IsNetOf l n → AllAgree l notes noted
+      → PanelKeepsRule (panel.Submit k command) l.bus notes → bus.submit_refusal_at k command l.bus ≡ None → programs.KeepsRule (Submit k command) n noted
+  submit_rule k command l n notes noted h agree rule none s asked at accepted asks j u other there known =
+      let it = of_site j u l n h there in
+      rule none asked asks j it.device other it.entry
+      (from_site j asked.address it.device it.station u l (begun_of (site_at j l.stations)) it.device.controller.session.state
+      (notes j) (noted j) it.is (agree j it.device it.entry) known)
+
+  pub retarget_rule : (k address : ℕ) (l : InUse H) (n : Net H) (notes noted : ℕ → Note) → IsNetOf l n → AllAgree l notes noted
+      → PanelKeepsRule (panel.Retarget k address) l.bus notes → bus.retarget_refusal_at k address l.bus ≡ None → programs.KeepsRule (Retarget k address) n noted
+  retarget_rule k address l n notes noted h agree rule none s at accepted =
+      let it = of_site k s l n h at in
+      to_site k address it.device it.station s l (begun_of (site_at k l.stations)) it.device.controller.session.state
+      (notes k) (noted k) it.is (agree k it.device it.entry) (rule none it.device it.entry)
+
+  pub panel_rule : (config : BusConfig) (xs : List ℕ) (settings : ℕ → ControllerConfig × ℕ) (l : InUse H) (n : Net H) (notes noted : ℕ → Note) → IsNetOf l n
+      → AllAgree l notes noted → KeepsRule (NewPanel config xs) l notes → length xs ≡ length l.stations
+      → ((k a : ℕ) → site_at k xs ≡ Some a → (settings k).0.address ≡ a) → programs.KeepsRule (RestartPanel settings) n noted
+  panel_rule config xs settings l n notes noted h agree rule many set k s at =
+      let it = of_site k s l n h at in
+      let less = within k it.station l.stations it.there in
+      let here = there_is k xs (omega (arith, less, many)) in
+      subst (λ a. programs.IsKnown a s (noted k)) (sym (set k (address_at k xs) here))
+      (to_site k (address_at k xs) it.device it.station s l (begun_of (site_at k l.stations))
+      it.device.controller.session.state (notes k) (noted k) it.is (agree k it.device it.entry) (rule k (address_at k xs) it.device here it.entry))
+
+  -- ---- the premise
+
+  module _ (answer_of : H → Command → Answer) (after : H → Command → H) (suffices : RuleSuffices answer_of after) (n0 : Net H) (up : IsSetUp n0)
+      (l : InUse H) (n : Net H) (notes noted : ℕ → Note) (h : IsNetOf l n) (path : Path answer_of after n0 n noted) (agree : AllAgree l notes noted) where
+    pub submit_premise : (k : ℕ) (command : Command) → CommandFits command → PanelKeepsRule (panel.Submit k command) l.bus notes
+        → bus.submit_refusal_at k command l.bus ≡ None → (asked : Communication) → comset_of command ≡ Some asked → IsNoOthers k asked.address l
+    submit_premise k command range rule none asked asks =
+        by_found (found (Sites l) k l.bus.devices.entries l.stations n.sites h.sites)
+      where
+        by_found : FoundAt (Sites l) k k l.bus.devices.entries l.stations n.sites → IsNoOthers k asked.address l
+        by_found (Nobody a b c) = absurd (let e = sym (ap (λ o. bus.submit_refusal_of k command o l.bus) a) ∙ none in cc)
+        by_found (Somebody d t s a b c has) =
+            let fits = next_fits answer_of after suffices n0 up n noted path (Submit k command) range (submit_rule k command l n notes noted h agree rule none) in
+            no_others k asked.address l n h (fits.1 s asked c (command_accepted answer_of after k command d t s l n h a has none) asks)
+
+    pub retarget_premise : (k address : ℕ) → PanelKeepsRule (panel.Retarget k address) l.bus notes
+        → bus.retarget_refusal_at k address l.bus ≡ None → IsNoOthers k address l
+    retarget_premise k address rule none = by_found (found (Sites l) k l.bus.devices.entries l.stations n.sites h.sites)
+      where
+        by_found : FoundAt (Sites l) k k l.bus.devices.entries l.stations n.sites → IsNoOthers k address l
+        by_found (Nobody a b c) = absurd (let e = sym (ap (λ o. bus.retarget_refusal_of k address o l.bus) a) ∙ none in cc)
+        by_found (Somebody d t s a b c has) =
+            let fits = next_fits answer_of after suffices n0 up n noted path (Retarget k address) tt (retarget_rule k address l n notes noted h agree rule none) in
+            no_others k address l n h (fits s c (retarget_accepted answer_of after k address d t s l n h a has none))
+
+    panel_fits : (config : BusConfig) (xs : List ℕ) → IsBusConfig config × All (λ a. a < 127) xs × (length xs ≡ length l.stations)
+        → KeepsRule (NewPanel config xs) l notes → NetMoveFits answer_of after (RestartPanel (settings_of config xs)) n
+    panel_fits config xs range rule =
+        next_fits answer_of after suffices n0 up n noted path (RestartPanel (settings_of config xs))
+        (λ k s at.
+        let it = of_site k s l n h at in
+        let less = within k it.station l.stations it.there in
+        let many = range.2 in
+        are_settings config (address_at k xs) range.0
+        (each_at (λ a. a < 127) k (address_at k xs) xs (each_of (λ a. a < 127) xs range.1) (there_is k xs (omega (arith, less, many)))))
+        (panel_rule config xs (settings_of config xs) l n notes noted h agree rule range.2
+        (λ k a is. some_same (address_at k xs) a (sym (there_is k xs (within k a xs is)) ∙ is)))
+
+    pub panel_premise : (config : BusConfig) (xs : List ℕ) → IsBusConfig config × All (λ a. a < 127) xs × (length xs ≡ length l.stations)
+        → KeepsRule (NewPanel config xs) l notes → PanelIsApart xs l
+    panel_premise config xs range rule = record {
+      own = λ j k a b other at there e.
+          let s = site_of j a at in
+          let u = site_of k b there in
+          apart j k s.0 u.0 other s.1 u.1 (inl (address_is j a at ∙ e ∙ sym (address_is k b there)));
+      there = λ j k a t other at there e.
+          let it = of_station j t l n h there in
+          let u = site_of k a at in
+          apart j k it.site u.0 other it.at u.1
+          (inr (addresses.IsThere (ap (λ (r : ReaderState H). r.config.address) it.is.reader ∙ e ∙ sym (address_is k a at))));
+      said = λ j k a t other at there said.
+          let it = of_station j t l n h there in
+          let u = site_of k a at in
+          apart j k it.site u.0 other it.at u.1
+          (inr (addresses.IsSaid (subst (λ to. Somewhere (λ (q : ℕ × Packet). (q.0 ≡ j) × addresses.SetsReader to q.1) it.site.coming) (sym (address_is k a at))
+          (subst (Somewhere (λ (q : ℕ × Packet). (q.0 ≡ j) × addresses.SetsReader a q.1)) (sym it.is.coming) said))));
+    }
+      where
+        apart : (j k : ℕ) (s u : Site H) → j ≢ k → site_at j n.sites ≡ Some s → site_at k n.sites ≡ Some u
+            → IsNameOf (address_at k xs) j (restarts answer_of after (settings_of config xs j) s) → ⊥
+        apart j k s u other at there name = (panel_fits config xs range rule k u there).1 j s other at name
+
+        address_is : (k a : ℕ) → site_at k xs ≡ Some a → address_at k xs ≡ a
+        address_is k a is = some_same (address_at k xs) a (sym (there_is k xs (within k a xs is)) ∙ is)
+
+        site_of : (k a : ℕ) → site_at k xs ≡ Some a → (s : Site H) × (site_at k n.sites ≡ Some s)
+        site_of k a is =
+            let less = within k a xs is in
+            let many = as_many (Sites l) 0 l.bus.devices.entries l.stations n.sites h.sites in
+            let same = range.2 in
+            some_at k n.sites (omega (arith, less, many, same))

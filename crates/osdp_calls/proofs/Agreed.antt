@@ -1,0 +1,230 @@
+-- What is noted of the entries of a line in use agrees with what is noted along the moves of its net, as a controller ticks.
+use Rattle.std.proofs.Common.{◌≡◌, ◌≢◌, ℕ, Bool, true, false, cond, List, [], ◌∷◌, ◌++◌, Option, Some, None, refl, sym, subst, ap, ◌∙◌, inl, inr}
+use Rattle.std.proofs.lemmas.Bool.Decides.{eqb_tells}
+use Rattle.std.specs.Prelude.{◌==◌, ◌&&◌, slice_get}
+use Rattle.osdp_frame.specs.Packet.{Packet}
+use Rattle.osdp_msg.specs.declared.command.Command.{Command}
+use Rattle.osdp_controller.specs.Sessions as clocks
+use Rattle.osdp_controller.specs.States.{is_closed}
+use Rattle.osdp_controller.specs.declared.report.Report.{Report}
+use Rattle.osdp_bus.specs.Buses.{BusState, device_of}
+use Rattle.osdp_bus.specs.Devices.{device_ticks, step_of}
+use Rattle.osdp_bus.specs.Ticking.{ticks_at, ticks_with}
+use Rattle.osdp_bus.specs.declared.device.Device.{Device}
+use Rattle.osdp_bus_laws.specs.Reports.{told_at, told_by_device, told_by_ticking}
+use Rattle.osdp_link_laws.specs.Peers.{ReadsWhatIsAsked}
+use Rattle.osdp_link_laws.proofs.Lines.{each_append, each_map}
+use Rattle.osdp_link_laws.proofs.Numbers.{is_false, is_true}
+use Rattle.osdp_link_laws.proofs.Reports.{tick_so}
+use Rattle.osdp_link_laws.proofs.Stages.{Each}
+use Rattle.osdp_reader.specs.declared.handler.Answer.{Answer}
+use Rattle.osdp_shared_line.specs.Line.{Net, NetMove, Reopen, Site, Tick, after_net, run, site_at}
+use Rattle.osdp_shared_line.specs.Programs.{Note, is_opened, noted_at, notes_after}
+use Rattle.osdp_shared_line.proofs.Sites.{at_changed, at_other, some_same}
+use Rattle.osdp_calls.specs.Calls.{all_hear, begins_session, begins_with, begun_of, changes_at, panel_says, waiting_of}
+use Rattle.osdp_calls.specs.Lines.{InUse, Station}
+use Rattle.osdp_calls.specs.Programs.{noted_report, noted_reports}
+use Rattle.osdp_calls.proofs.Agreeing.{AllAgree, begun_heard, told_note}
+use Rattle.osdp_calls.proofs.Along.{IsFree, along_then, notes_along, still_along, still_free}
+use Rattle.osdp_calls.proofs.Losing.{IsStill}
+use Rattle.osdp_calls.proofs.Noticing.{Agrees, agrees_next, got_new, got_other, same_begun, ticked_closed, ticked_next}
+use Rattle.osdp_calls.proofs.Ticking.{GoesOn, IsTicked, Opens}
+
+-- ---- a tick tells of no session that has opened
+
+none_opened : (k e : ℕ) (d : Device) (r : Option Report) (note : Note) → is_opened r ≡ false → noted_reports k d (told_at e r) note ≡ note
+none_opened k e d None note none = refl
+none_opened k e d (Some r) note none = by_test (e == k)
+  where
+    by_test : (b : Bool) → cond b (noted_report d r note) note ≡ note
+    by_test true = ap (λ o. cond (o && note.begun) (record {
+      begun = false;
+      addresses = Rattle.osdp_shared_line.specs.Programs.all_addresses (Rattle.osdp_bus.specs.Devices.address_of d) d.controller.waiting;
+    }) note) none
+    by_test false = refl
+
+ticking_tells : (k : ℕ) (d : Device) (o : Option ℕ) (b : BusState) (note : Note) → noted_reports k d (told_by_ticking o b) note ≡ note
+ticking_tells k d None b note = refl
+ticking_tells k d (Some e) b note = by_device (device_of e b)
+  where
+    by_device : (q : Option Device) → noted_reports k d (told_by_device e q b) note ≡ note
+    by_device None = refl
+    by_device (Some f) = none_opened k e d (step_of b.greatest f).report note
+        (tick_so (λ r. is_opened r ≡ false) refl (λ out. refl) f.controller.session.state (clocks.seen b.greatest f.controller.session) f.controller.waiting)
+
+pub ticking_told : (k : ℕ) (q : Option Device) (o : Option ℕ) (b : BusState) (note : Note) → told_note k q (told_by_ticking o b) note ≡ note
+ticking_told k None o b note = refl
+ticking_told k (Some d) o b note = ticking_tells k d o b note
+
+-- ---- the entries
+
+data TickedAt (e k : ℕ) (b : BusState) (next : Device) : Type 0 where
+  OtherThere : k ≢ e → device_of k b ≡ Some next → TickedAt e k b next
+  ItTicks : k ≡ e → (d : Device) → device_of k b ≡ Some d → device_ticks b.greatest d ≡ next → TickedAt e k b next
+
+ticked_at : (e k : ℕ) (b : BusState) (next : Device) → slice_get (ticks_at (Some e) b).bus.devices.entries k ≡ Some next → TickedAt e k b next
+ticked_at e k b next at = by_device (device_of e b) refl
+  where
+    by_device : (q : Option Device) → device_of e b ≡ q → TickedAt e k b next
+    by_device None none =
+        let was : device_of k b ≡ Some next = sym (ap (λ o. slice_get (ticks_with e o b).bus.devices.entries k) none) ∙ at in
+        OtherThere (λ same. let there = subst (λ i. device_of i b ≡ Some next) same was in absurd (let f = sym none ∙ there in cc)) was
+    by_device (Some d) there =
+        let set = sym (ap (λ o. slice_get (ticks_with e o b).bus.devices.entries k) there) ∙ at in
+        elim (eqb_tells k e) [
+          | inl equal ↦
+              ItTicks equal.1 d (subst (λ i. device_of i b ≡ Some d) (sym equal.1) there)
+              (some_same (device_ticks b.greatest d) next (sym (got_new e (device_ticks b.greatest d) d b.devices.entries there)
+              ∙ subst (λ i. slice_get (Rattle.std.specs.Prelude.slice_set b.devices.entries e (device_ticks b.greatest d)) i ≡ Some next) equal.1 set))
+          | inr differs ↦ OtherThere differs.1 (sym (got_other k e (device_ticks b.greatest d) b.devices.entries differs.1) ∙ set)
+        ]
+
+module _ {H : Type 0} where
+  -- ---- what the panel says
+
+  says_bus : (o : Option ℕ) (s : Option Packet) (l : InUse H) → (panel_says o s l).bus ≡ l.bus
+  says_bus None s l = refl
+  says_bus (Some e) None l = refl
+  says_bus (Some e) (Some p) l = by_begun (begun_of (site_at e l.stations))
+    where
+      by_begun : (q : Option ℕ) → (begins_with e p q l).bus ≡ l.bus
+      by_begun None = refl
+      by_begun (Some moment) = refl
+
+  says_other : (j e : ℕ) (s : Option Packet) (l : InUse H) → j ≢ e → begun_of (site_at j (panel_says (Some e) s l).stations) ≡ begun_of (site_at j l.stations)
+  says_other j e None l other = refl
+  says_other j e (Some p) l other = by_begun (begun_of (site_at e l.stations))
+    where
+      by_station : (change : Station H → Station H) (o : Option (Station H)) → begun_of (site_at j (changes_at e change o l.stations)) ≡ begun_of (site_at j l.stations)
+      by_station change None = refl
+      by_station change (Some t) = ap begun_of (at_other j e (change t) l.stations other)
+
+      by_begun : (q : Option ℕ) → begun_of (site_at j (begins_with e p q l).stations) ≡ begun_of (site_at j l.stations)
+      by_begun None = refl
+      by_begun (Some moment) = by_station (begins_session (waiting_of (device_of e l.bus))) (site_at e l.stations)
+
+  says_on : (e : ℕ) (s : Option Packet) (l : InUse H) → begun_of (site_at e l.stations) ≡ None → begun_of (site_at e (panel_says (Some e) s l).stations) ≡ None
+  says_on e None l none = none
+  says_on e (Some p) l none = ap (λ q. begun_of (site_at e (begins_with e p q l).stations)) none ∙ none
+
+  says_opening : (e began : ℕ) (p : Packet) (l : InUse H) → begun_of (site_at e l.stations) ≡ Some began
+      → begun_of (site_at e (panel_says (Some e) (Some p) l).stations) ≡ None
+  says_opening e began p l is = ap (λ q. begun_of (site_at e (begins_with e p q l).stations)) is ∙ by_station (site_at e l.stations) refl
+    where
+      by_station : (o : Option (Station H)) → site_at e l.stations ≡ o
+          → begun_of (site_at e (changes_at e (begins_session (waiting_of (device_of e l.bus))) o l.stations)) ≡ None
+      by_station None at = ap begun_of at
+      by_station (Some t) at = ap begun_of (at_changed e (begins_session (waiting_of (device_of e l.bus)) t) t l.stations at)
+
+  -- ---- a session that begins is noted of its site
+
+  reopened_other : (j k began : ℕ) (o : Option (Site H)) (n : Net H) (note : Note) → k ≢ j → noted_at j o (Reopen k began) n note ≡ note
+  reopened_other j k began None n note other = refl
+  reopened_other j k began (Some s) n note other =
+      ap (λ b. cond b (cond (is_closed s.controller.session.state) (record note { begun = true }) note) note) (is_false k j other)
+
+  reopened : (k began : ℕ) (s : Site H) (n : Net H) (note : Note) → site_at k n.sites ≡ Some s → is_closed s.controller.session.state ≡ true
+      → noted_at k (site_at k n.sites) (Reopen k began) n note ≡ record note { begun = true }
+  reopened k began s n note at closed =
+      ap (λ o. noted_at k o (Reopen k began) n note) at
+      ∙ ap (λ b. cond b (cond (is_closed s.controller.session.state) (record note { begun = true }) note) note) (is_true k k refl)
+      ∙ ap (λ b. cond b (record note { begun = true }) note) closed
+
+  module _ (answer_of : H → Command → Answer) (after : H → Command → H) where
+    pub ticked_free : (o : Option ℕ) (l : InUse H) (n : Net H) (moves : List (NetMove H)) → IsTicked answer_of after o l n moves → Each IsFree moves
+    ticked_free o l n moves (GoesOn still why) = each_map IsStill IsFree still_free moves still
+    ticked_free o l n moves (Opens k began p s mid lost is begun sent still runs there closed are) =
+        subst (Each IsFree) (sym are) (each_append IsFree lost (Reopen k began ∷ Tick k l.bus.greatest ∷ [])
+        (each_map IsStill IsFree still_free lost still) (tt, (tt, tt)))
+
+    opened_along : (k began now : ℕ) (mid n : Net H) (lost moves : List (NetMove H)) (noted : ℕ → Note) → Each IsStill lost
+        → run answer_of after lost n ≡ mid → moves ≡ lost ++ Reopen k began ∷ Tick k now ∷ []
+        → notes_along answer_of after moves n noted ≡ notes_after (Reopen k began) mid noted
+    opened_along k began now mid n lost moves noted still runs are =
+        ap (λ ms. notes_along answer_of after ms n noted) are
+        ∙ along_then answer_of after lost (Reopen k began ∷ Tick k now ∷ []) n noted
+        ∙ (λ i. notes_along answer_of after (Reopen k began ∷ Tick k now ∷ []) (runs i) (still_along answer_of after lost n noted still i))
+        ∙ still_along answer_of after (Tick k now ∷ []) (after_net answer_of after (Reopen k began) mid) (notes_after (Reopen k began) mid noted) (tt, tt)
+
+    -- the line after the tick of this controller, or of none
+    abbrev pub ticks_to : Option ℕ → InUse H → InUse H
+    ticks_to o l = panel_says o (ticks_at o l.bus).sent (record l { bus = (ticks_at o l.bus).bus; stations = all_hear (told_by_ticking o l.bus) l.stations })
+
+    module _ (e : ℕ) (l : InUse H) (n : Net H) (notes noted : ℕ → Note) (agree : AllAgree l notes noted) where
+      abbrev Ticked : InUse H
+      Ticked = record l { bus = (ticks_at (Some e) l.bus).bus; stations = all_hear (told_by_ticking (Some e) l.bus) l.stations }
+
+      -- of another entry
+      of_other : (k : ℕ) (d : Device) → k ≢ e → device_of k l.bus ≡ Some d → (moves : List (NetMove H)) → IsTicked answer_of after (Some e) l n moves
+          → Agrees (begun_of (site_at k (ticks_to (Some e) l).stations)) d.controller.session.state (notes k) (notes_along answer_of after moves n noted k)
+      of_other k d other was moves ticked =
+          subst (λ (q : Option ℕ × Note). Agrees q.0 d.controller.session.state (notes k) q.1)
+          (λ i. (
+            sym (says_other k e (ticks_at (Some e) l.bus).sent Ticked other ∙ begun_heard k (told_by_ticking (Some e) l.bus) l.stations) i,
+            sym (by_moves ticked) i,
+          )) (agree k d was)
+        where
+          by_moves : IsTicked answer_of after (Some e) l n moves → notes_along answer_of after moves n noted k ≡ noted k
+          by_moves (GoesOn still why) = (λ i. still_along answer_of after moves n noted still i k)
+          by_moves (Opens j began p s mid lost is begun sent still runs there closed are) =
+              let mine : e ≡ j = some_same e j is in
+              (λ i. opened_along j began l.bus.greatest mid n lost moves noted still runs are i k)
+              ∙ reopened_other k j began (site_at k mid.sites) mid (noted k) (λ f. other (sym (mine ∙ f)))
+
+      -- of the one that ticks
+      of_it : ReadsWhatIsAsked → (d : Device) → device_of e l.bus ≡ Some d → (moves : List (NetMove H)) → IsTicked answer_of after (Some e) l n moves
+          → Agrees (begun_of (site_at e (ticks_to (Some e) l).stations)) (device_ticks l.bus.greatest d).controller.session.state (notes e)
+          (notes_along answer_of after moves n noted e)
+      of_it reads d was moves (GoesOn still why) =
+          subst (λ (q : Option ℕ × Note). Agrees q.0 (device_ticks l.bus.greatest d).controller.session.state (notes e) q.1)
+          (λ i. (sym begun i, sym (λ j. still_along answer_of after moves n noted still j e) i))
+          (agrees_next (begun_of (site_at e l.stations)) d.controller.session.state (device_ticks l.bus.greatest d).controller.session.state (notes e) (noted e)
+          (ticked_closed l.bus.greatest d.controller.session d.controller.waiting)
+          (ticked_next reads l.bus.greatest d.controller.session d.controller.waiting) (agree e d was))
+        where
+          begun : begun_of (site_at e (ticks_to (Some e) l).stations) ≡ begun_of (site_at e l.stations)
+          begun = elim (why e refl) [
+            | inl none ↦ says_on e (ticks_at (Some e) l.bus).sent Ticked (begun_heard e (told_by_ticking (Some e) l.bus) l.stations ∙ none) ∙ sym none
+            | inr nothing ↦
+                ap (λ s. begun_of (site_at e (panel_says (Some e) s Ticked).stations)) nothing ∙ begun_heard e (told_by_ticking (Some e) l.bus) l.stations
+          ]
+      of_it reads d was moves (Opens j began p s mid lost is begun sent still runs there closed are) =
+          let mine : j ≡ e = sym (some_same e j is) in
+          let to_begin : begun_of (site_at e l.stations) ≡ Some began = subst (λ i. begun_of (site_at i l.stations) ≡ Some began) mine begun in
+          let old = subst (λ o. Agrees o d.controller.session.state (notes e) (noted e)) to_begin (agree e d was) in
+          let opened : begun_of (site_at e (ticks_to (Some e) l).stations) ≡ None =
+          ap (λ q. begun_of (site_at e (panel_says (Some e) q Ticked).stations)) sent
+          ∙ says_opening e began p Ticked (begun_heard e (told_by_ticking (Some e) l.bus) l.stations ∙ to_begin) in
+          let note : notes_along answer_of after moves n noted e ≡ record (noted e) { begun = true } =
+          (λ i. opened_along j began l.bus.greatest mid n lost moves noted still runs are i e)
+          ∙ ap (λ i. noted_at e (site_at e mid.sites) (Reopen i began) mid (noted e)) mine
+          ∙ reopened e began s mid (noted e) (subst (λ i. site_at i mid.sites ≡ Some s) mine there) closed in
+          subst (λ (q : Option ℕ × Note). Agrees q.0 (device_ticks l.bus.greatest d).controller.session.state (notes e) q.1)
+          (λ i. (sym opened i, sym note i))
+          (record {
+            addresses = old.addresses;
+            begun = same_begun (device_ticks l.bus.greatest d).controller.session.state (notes e).begun true (sym old.begun);
+            opening = λ b. ticked_next reads l.bus.greatest d.controller.session d.controller.waiting (old.opening b);
+          })
+
+    pub all_ticked : ReadsWhatIsAsked → (o : Option ℕ) (l : InUse H) (n : Net H) (notes noted : ℕ → Note) → AllAgree l notes noted
+        → (moves : List (NetMove H)) → IsTicked answer_of after o l n moves → AllAgree (ticks_to o l) notes (notes_along answer_of after moves n noted)
+    all_ticked reads None l n notes noted agree moves (GoesOn still why) k next at =
+        (subst (AllAgree l notes) (sym (still_along answer_of after moves n noted still)) agree) k next at
+    all_ticked reads None l n notes noted agree moves (Opens j began p s mid lost is begun sent still runs there closed are) k next at =
+        absurd (let f = is in cc)
+    all_ticked reads (Some e) l n notes noted agree moves ticked k next at = by_entry (ticked_at e k l.bus next at_bus)
+      where
+        at_bus : slice_get (ticks_at (Some e) l.bus).bus.devices.entries k ≡ Some next
+        at_bus = ap (λ b. device_of k b) (sym (says_bus (Some e) (ticks_at (Some e) l.bus).sent
+            (record l { bus = (ticks_at (Some e) l.bus).bus; stations = all_hear (told_by_ticking (Some e) l.bus) l.stations }))) ∙ at
+
+        by_entry : TickedAt e k l.bus next
+            → Agrees (begun_of (site_at k (ticks_to (Some e) l).stations)) next.controller.session.state (notes k) (notes_along answer_of after moves n noted k)
+        by_entry (OtherThere other was) = of_other e l n notes noted agree k next other was moves ticked
+        by_entry (ItTicks same d was becomes) =
+            subst (λ i. Agrees (begun_of (site_at i (ticks_to (Some e) l).stations)) next.controller.session.state (notes i)
+            (notes_along answer_of after moves n noted i)) (sym same)
+            (subst (λ (f : Device). Agrees (begun_of (site_at e (ticks_to (Some e) l).stations)) f.controller.session.state (notes e)
+            (notes_along answer_of after moves n noted e)) becomes
+            (of_it e l n notes noted agree reads d (subst (λ i. device_of i l.bus ≡ Some d) same was) moves ticked))

@@ -1,0 +1,269 @@
+-- So programs that keep to the rule keep the premise on addresses, over every list of calls.
+use Rattle.std.proofs.Common.{◌≡◌, ◌<◌, ℕ, zero, suc, Bool, true, false, List, [], ◌∷◌, length, map, Option, Some, None, refl, sym, subst, ap, ◌∙◌, arith, inl}
+use Rattle.std.specs.Prelude.{◌==◌}
+use Rattle.osdp_frame.specs.Packet.{Packet}
+use Rattle.osdp_msg.specs.declared.command.Command.{Command}
+use Rattle.osdp_msg.specs.declared.event.Event.{Event}
+use Rattle.osdp_controller.specs.declared.state.State.{State}
+use Rattle.osdp_controller.specs.declared.state.State.TheVariants.{Closed}
+use Rattle.osdp_bus.specs.Buses.{device_of}
+use Rattle.osdp_bus.specs.Devices as devices
+use Rattle.osdp_bus.specs.declared.config.BusConfig.{BusConfig}
+use Rattle.osdp_bus.specs.declared.device.Device.{Device}
+use Rattle.osdp_bus_laws.specs.Calls as panel
+use Rattle.osdp_device.specs.Deciding.{passed}
+use Rattle.osdp_device.specs.Receiving.{after_silence, after_take, after_tick}
+use Rattle.osdp_device.specs.Telling.{items_of}
+use Rattle.osdp_link_laws.specs.Peers.{ReadsWhatIsAsked}
+use Rattle.osdp_link_laws.proofs.Stages.{Each}
+use Rattle.osdp_reader.specs.State.{ReaderState, after_set_busy, after_set_handler}
+use Rattle.osdp_reader.specs.declared.handler.Answer.{Answer}
+use Rattle.osdp_shared_line.specs.Addresses.{IsSetUp, NetMovesFit, NobodyElseHears}
+use Rattle.osdp_shared_line.specs.Line.{Net, NetMove, RestartPanel, RestartReader, after_net, site_at}
+use Rattle.osdp_shared_line.specs.Line as line
+use Rattle.osdp_shared_line.specs.Programs.{KeepRule, Note, RuleSuffices, no_notes, noted_at}
+use Rattle.osdp_shared_line.specs.Programs as programs
+use Rattle.osdp_calls.specs.Calls.{Call, Next, NewDevice, NewPanel, OfPanel, Pending, SetBusy, SetHandler, Silence, Step, SubmitEvent, Take, TickDevice, after_call, after_next, answers, begun_of, first_answered, made_anew, nexts, queues, read_up_to}
+use Rattle.osdp_calls.specs.Lines.{InUse, Station}
+use Rattle.osdp_calls.specs.Premises as premises
+use Rattle.osdp_calls.specs.Premises.{InOrder, InRange, QuietOpening}
+use Rattle.osdp_calls.specs.Programs.{AllKeepRule, CallsRuleSuffices, KeepsRule, RuledCallsHoldOnce, first_note, first_notes, noted_of, notes_after}
+use Rattle.osdp_calls.specs.Promises.{CallsHoldOnce}
+use Rattle.osdp_calls.proofs.Accepting.{of_site, of_station, panel_rule}
+use Rattle.osdp_calls.proofs.Agreeing.{AllAgree, Ruled, begun_change, begun_changed}
+use Rattle.osdp_calls.proofs.Along.{IsFree, Path, free_rule, notes_along, still_free}
+use Rattle.osdp_calls.proofs.Heeded.{by_rest, by_steps, bytes_ruled, call_addresses, retarget_ruled, silence_ruled, submit_ruled, tick_ruled}
+use Rattle.osdp_calls.proofs.Heeding.{all_carried, as_it_was, begin_agrees, new_at, panel_agrees, withdraw_agrees}
+use Rattle.osdp_calls.proofs.Holding.{one_call}
+use Rattle.osdp_calls.proofs.Losing.{IsStill}
+use Rattle.osdp_calls.proofs.Noticing.{Agrees}
+use Rattle.osdp_calls.proofs.Powers.{within}
+use Rattle.osdp_calls.proofs.Same.{IsNetOf}
+use Rattle.osdp_calls.proofs.Setting.{Starts, first_from, first_net, first_site, first_there, starts}
+use Rattle.osdp_calls.proofs.Setting as setting
+use Rattle.osdp_calls.proofs.Steps.{StepsTo}
+use Rattle.osdp_shared_line.proofs.Sites.{some_same}
+use Rattle.osdp_link_laws.proofs.Lines.{each_map}
+
+some_there : {A : Type 0} (k : ℕ) (xs : List A) → k < length xs → (x : A) × (site_at k xs ≡ Some x)
+some_there k [] lt = absurd (omega (arith, lt))
+some_there zero (x ∷ xs) lt = (x, refl)
+some_there (suc k) (x ∷ xs) lt = some_there k xs (omega (arith, lt))
+
+mapped_at : {A B : Type 0} (f : A → B) (k : ℕ) (b : B) (xs : List A) → site_at k (map f xs) ≡ Some b → (x : A) × (site_at k xs ≡ Some x) × (b ≡ f x)
+mapped_at f k b [] is = absurd (let e = is in cc)
+mapped_at f zero b (x ∷ xs) is = (x, refl, some_same b (f x) (sym is))
+mapped_at f (suc k) b (x ∷ xs) is = mapped_at f k b xs is
+
+module _ {H : Type 0} where
+  queues_begun : (full : Bool) (event : Event) (t : Station H) → (queues full event t).begun ≡ t.begun
+  queues_begun true event t = refl
+  queues_begun false event t = refl
+
+  module _ (answer_of : H → Command → Answer) (after : H → Command → H) where
+    answers_begun : (o : Option Packet) (t : Station H) → (answers answer_of after o t).begun ≡ t.begun
+    answers_begun None t = refl
+    answers_begun (Some p) t = refl
+
+    next_begun : (j k : ℕ) (places : List ℕ) (o : Option (Station H)) (l : InUse H) → site_at k l.stations ≡ o
+        → begun_of (site_at j (after_next answer_of after k places o l).stations) ≡ begun_of (site_at j l.stations)
+    next_begun j k places None l is = refl
+    next_begun j k places (Some t) l is =
+        begun_changed j k (nexts answer_of after places t) t l.stations is
+        (answers_begun (first_answered t.reader (read_up_to t.reader (items_of t.line.held))) t)
+
+    next_entries : (k : ℕ) (places : List ℕ) (o : Option (Station H)) (l : InUse H)
+        → (after_next answer_of after k places o l).bus.devices.entries ≡ l.bus.devices.entries
+    next_entries k places None l = refl
+    next_entries k places (Some t) l = refl
+
+    module _ (suffices : RuleSuffices answer_of after) (nobody : NobodyElseHears answer_of after) (reads : ReadsWhatIsAsked) (n0 : Net H) (up : IsSetUp n0)
+        (l : InUse H) (n : Net H) (notes noted : ℕ → Note) (h : IsNetOf l n) (path : Path answer_of after n0 n noted) (agree : AllAgree l notes noted) where
+      -- what a call comes to
+      steps_to : (call : Call H) (places : List ℕ) → InOrder call places l → QuietOpening call places l → KeepsRule call l notes → InRange answer_of after call l
+          → StepsTo answer_of after call l n (after_call answer_of after call places l)
+      steps_to call places order quiet rule range =
+          one_call answer_of after call places l n h order quiet (call_addresses answer_of after suffices nobody reads n0 up l n notes noted h path agree call rule range) range
+
+      rests : (call : Call H) (next : InUse H) (s : StepsTo answer_of after call l n next) → Each IsStill s.moves
+          → next.bus.devices.entries ≡ l.bus.devices.entries → ((j : ℕ) → begun_of (site_at j next.stations) ≡ begun_of (site_at j l.stations))
+          → ((j : ℕ) (d : Device) → noted_of j (Some d) call l (notes j) ≡ notes j) → Ruled answer_of after n0 next (notes_after call l notes)
+      rests call next s still entries begun mine = by_rest answer_of after suffices nobody reads n0 up l n notes noted h path agree call next s still entries begun mine
+
+      panel_ruled : (call : panel.Call) (places : List ℕ) → InOrder (OfPanel call) places l → QuietOpening (OfPanel call) places l
+          → KeepsRule (OfPanel call) l notes → InRange answer_of after (OfPanel call) l
+          → Ruled answer_of after n0 (after_call answer_of after (OfPanel call) places l) (notes_after (OfPanel call) l notes)
+      panel_ruled (panel.Add address) places order quiet rule range = absurd range
+      panel_ruled (panel.Begin k now) places order quiet rule range =
+          let s = steps_to (OfPanel (panel.Begin k now)) places order quiet rule range in
+          by_steps answer_of after suffices nobody reads n0 up l n notes noted h path agree (OfPanel (panel.Begin k now))
+          (after_call answer_of after (OfPanel (panel.Begin k now)) places l) s
+          (free_rule answer_of after s.moves n noted (each_map IsStill IsFree still_free s.moves s.made) s.fit)
+          (begin_agrees answer_of after k now l n n notes noted s.moves h s.made agree)
+      panel_ruled (panel.Submit k command) places order quiet rule range =
+          submit_ruled answer_of after suffices nobody reads n0 up l n notes noted h path agree k command places rule range
+          (steps_to (OfPanel (panel.Submit k command)) places order quiet rule range)
+      panel_ruled (panel.Withdraw k) places order quiet rule range =
+          let s = steps_to (OfPanel (panel.Withdraw k)) places order quiet rule range in
+          by_steps answer_of after suffices nobody reads n0 up l n notes noted h path agree (OfPanel (panel.Withdraw k))
+          (after_call answer_of after (OfPanel (panel.Withdraw k)) places l) s
+          (free_rule answer_of after s.moves n noted (each_map IsStill IsFree still_free s.moves s.made) s.fit)
+          (withdraw_agrees answer_of after k l n notes noted s.moves s.made agree)
+      panel_ruled (panel.Retarget k address) places order quiet rule range =
+          retarget_ruled answer_of after suffices nobody reads n0 up l n notes noted h path agree k address places rule
+          (steps_to (OfPanel (panel.Retarget k address)) places order quiet rule range)
+      panel_ruled (panel.OnBytes bytes now) places order quiet rule range =
+          bytes_ruled answer_of after suffices nobody reads n0 up l n notes noted h path agree bytes now places order quiet
+      panel_ruled (panel.OnSilence now) places order quiet rule range =
+          silence_ruled answer_of after suffices nobody reads n0 up l n notes noted h path agree now places order quiet
+      panel_ruled (panel.Tick now) places order quiet rule range =
+          tick_ruled answer_of after suffices nobody reads n0 up l n notes noted h path agree now places order quiet
+      panel_ruled panel.NextReport places order quiet rule range =
+          let s = steps_to (OfPanel panel.NextReport) places order quiet rule range in
+          rests (OfPanel panel.NextReport) (after_call answer_of after (OfPanel panel.NextReport) places l) s s.made refl (λ j. refl) (λ j d. refl)
+
+      device_ruled : (k address : ℕ) (handler : H) (room gap : ℕ) (places : List ℕ)
+          → KeepsRule (NewDevice k address handler room gap) l notes
+          → StepsTo answer_of after (NewDevice k address handler room gap) l n (after_call answer_of after (NewDevice k address handler room gap) places l)
+          → Ruled answer_of after n0 (after_call answer_of after (NewDevice k address handler room gap) places l) (notes_after (NewDevice k address handler room gap) l notes)
+      device_ruled k address handler room gap places rule s =
+          let call : Call H = NewDevice k address handler room gap in
+          let next = after_call answer_of after call places l in
+          let made : s.moves ≡ RestartReader k address handler room ∷ [] = s.made in
+          let fit = subst (λ ms. NetMovesFit answer_of after ms n) made s.fit in
+          by_steps answer_of after suffices nobody reads n0 up l n notes noted h path agree call next s
+          (subst (λ ms. KeepRule answer_of after ms n noted) (sym made) (
+            (λ u at.
+                let it = of_site k u l n h at in
+                ((fit.0 u at).0, ap (λ (r : ReaderState H). r.config.address) it.is.reader ∙ rule it.station it.there)),
+            tt,
+            tt,
+          ))
+          (subst (λ ms. AllAgree next (notes_after call l notes) (notes_along answer_of after ms n noted)) (sym made)
+          (all_carried call l next notes noted (notes_along answer_of after (RestartReader k address handler room ∷ []) n noted) agree
+          (λ j e at.
+          as_it_was call l next notes noted (notes_along answer_of after (RestartReader k address handler room ∷ []) n noted) j e e at refl
+          (begun_change j k (made_anew address handler room gap) l.stations (λ t. refl)) refl (unnoted j (site_at j n.sites)))))
+        where
+          unnoted : (j : ℕ) (o : Option (line.Site H)) → noted_at j o (RestartReader k address handler room) n (noted j) ≡ noted j
+          unnoted j None = refl
+          unnoted j (Some u) = refl
+
+      new_panel_ruled : (config : BusConfig) (xs : List ℕ) (places : List ℕ) → KeepsRule (NewPanel config xs) l notes
+          → InRange answer_of after (NewPanel config xs) l
+          → StepsTo answer_of after (NewPanel config xs) l n (after_call answer_of after (NewPanel config xs) places l)
+          → Ruled answer_of after n0 (after_call answer_of after (NewPanel config xs) places l) (notes_after (NewPanel config xs) l notes)
+      new_panel_ruled config xs places rule range s =
+          let call : Call H = NewPanel config xs in
+          let next = after_call answer_of after call places l in
+          let settings = s.made.0 in
+          let made = s.made.1 in
+          let fit = subst (λ ms. NetMovesFit answer_of after ms n) made s.fit in
+          let many : length xs ≡ length l.stations = range.2 in
+          by_steps answer_of after suffices nobody reads n0 up l n notes noted h path agree call next s
+          (subst (λ ms. KeepRule answer_of after ms n noted) (sym made)
+          ((λ k u at. (fit.0 k u at).0), panel_rule config xs settings l n notes noted h agree rule many s.made.2, tt))
+          (subst (λ ms. AllAgree next (notes_after call l notes) (notes_along answer_of after ms n noted)) (sym made)
+          (panel_agrees answer_of after config xs settings l n notes noted h (λ k a is.
+          let less = within k a xs is in
+          let t = some_there k l.stations (omega (arith, less, many)) in
+          let it = of_station k t.0 l n h t.1 in
+          (it.device, it.entry)) agree))
+
+      call_ruled : (call : Call H) (places : List ℕ) → InOrder call places l → QuietOpening call places l → KeepsRule call l notes → InRange answer_of after call l
+          → Ruled answer_of after n0 (after_call answer_of after call places l) (notes_after call l notes)
+      call_ruled (OfPanel call) places order quiet rule range = panel_ruled call places order quiet rule range
+      call_ruled (SubmitEvent k event) places order quiet rule range =
+          let s = steps_to (SubmitEvent k event) places order quiet rule range in
+          rests (SubmitEvent k event) (after_call answer_of after (SubmitEvent k event) places l) s s.made refl
+          (λ j. begun_change j k (λ t. queues (length t.reader.queue.events == t.reader.queue.capacity) event t) l.stations
+          (λ t. queues_begun (length t.reader.queue.events == t.reader.queue.capacity) event t)) (λ j d. refl)
+      call_ruled (SetBusy k busy) places order quiet rule range =
+          let s = steps_to (SetBusy k busy) places order quiet rule range in
+          rests (SetBusy k busy) (after_call answer_of after (SetBusy k busy) places l) s s.made refl
+          (λ j. begun_change j k (λ t. record t { reader = after_set_busy busy t.reader }) l.stations (λ t. refl)) (λ j d. refl)
+      call_ruled (SetHandler k handler) places order quiet rule range =
+          let s = steps_to (SetHandler k handler) places order quiet rule range in
+          rests (SetHandler k handler) (after_call answer_of after (SetHandler k handler) places l) s s.made refl
+          (λ j. begun_change j k (λ t. record t { reader = after_set_handler handler t.reader }) l.stations (λ t. refl)) (λ j d. refl)
+      call_ruled (Take k bytes now) places order quiet rule range =
+          let s = steps_to (Take k bytes now) places order quiet rule range in
+          rests (Take k bytes now) (after_call answer_of after (Take k bytes now) places l) s s.made refl
+          (λ j. begun_change j k (λ t. record t { line = after_take bytes now t.line }) l.stations (λ t. refl)) (λ j d. refl)
+      call_ruled (TickDevice k now) places order quiet rule range =
+          let s = steps_to (TickDevice k now) places order quiet rule range in
+          rests (TickDevice k now) (after_call answer_of after (TickDevice k now) places l) s s.made refl
+          (λ j. begun_change j k (λ t. record t { line = after_tick now t.line }) l.stations (λ t. refl)) (λ j d. refl)
+      call_ruled (Silence k now) places order quiet rule range =
+          let s = steps_to (Silence k now) places order quiet rule range in
+          rests (Silence k now) (after_call answer_of after (Silence k now) places l) s s.made refl
+          (λ j. begun_change j k (λ t. record t { line = after_silence now t.line }) l.stations (λ t. refl)) (λ j d. refl)
+      call_ruled (Next k) places order quiet rule range =
+          let s = steps_to (Next k) places order quiet rule range in
+          rests (Next k) (after_call answer_of after (Next k) places l) s s.made (next_entries k places (site_at k l.stations) l)
+          (λ j. next_begun j k places (site_at k l.stations) l refl) (λ j d. refl)
+      call_ruled (Pending k) places order quiet rule range =
+          let s = steps_to (Pending k) places order quiet rule range in
+          rests (Pending k) (after_call answer_of after (Pending k) places l) s s.made refl
+          (λ j. begun_change j k (λ t. record t { line = record t.line { held = passed t.reader t.line.held } }) l.stations (λ t. refl)) (λ j d. refl)
+      call_ruled (NewDevice k address handler room gap) places order quiet rule range =
+          device_ruled k address handler room gap places rule (steps_to (NewDevice k address handler room gap) places order quiet rule range)
+      call_ruled (NewPanel config xs) places order quiet rule range =
+          new_panel_ruled config xs places rule range (steps_to (NewPanel config xs) places order quiet rule range)
+
+    -- ---- a list of calls
+
+    module _ (suffices : RuleSuffices answer_of after) (nobody : NobodyElseHears answer_of after) (reads : ReadsWhatIsAsked) where
+      all_keep : (n0 : Net H) → IsSetUp n0 → (steps : List (Step H)) (l : InUse H) (n : Net H) (notes noted : ℕ → Note) → IsNetOf l n
+          → Path answer_of after n0 n noted → AllAgree l notes noted → AllKeepRule answer_of after steps l notes → premises.AllKeep answer_of after steps l
+      all_keep n0 up [] l n notes noted h path agree keep = tt
+      all_keep n0 up (step ∷ steps) l n notes noted h path agree keep =
+          let k = keep.0 in
+          let r = call_ruled suffices nobody reads n0 up l n notes noted h path agree step.call step.places k.in_order k.quiet_opening k.rule k.in_range in (
+            record {
+              in_order = k.in_order;
+              quiet_opening = k.quiet_opening;
+              addresses = call_addresses answer_of after suffices nobody reads n0 up l n notes noted h path agree step.call k.rule k.in_range;
+              in_range = k.in_range;
+            },
+            all_keep n0 up steps (after_call answer_of after step.call step.places l) r.net (notes_after step.call l notes) r.noted r.same r.path r.agree keep.1,
+          )
+
+      first_agree : (l : InUse H) → premises.IsSetUp l → (s : Starts answer_of after l)
+          → AllAgree l (first_notes l) (programs.notes_after (RestartPanel s.settings) (first_net s.config l.stations) no_notes)
+      first_agree l up s k d at =
+          let made = new_at up.config k d (map setting.address_of l.stations) (sym (ap (λ b. device_of k b) up.bus) ∙ at) in
+          let t = mapped_at setting.address_of k made.0 l.stations made.1 in
+          let f = first_site s.config t.0 in
+          let begun : begun_of (site_at k l.stations) ≡ None = ap begun_of t.1 ∙ (up.place k t.0 t.1).1 in
+          let mine : first_notes l k ≡ first_note (Some d) = ap first_note at in
+          let its : programs.notes_after (RestartPanel s.settings) (first_net s.config l.stations) no_notes k
+          ≡ programs.also_at (setting.address_of t.0 ∷ []) (no_notes k) =
+          ap (λ o. noted_at k o (RestartPanel s.settings) (first_net s.config l.stations) (no_notes k)) (first_there s.config k t.0 l.stations t.1) in
+          let state : d.controller.session.state ≡ Closed = ap (λ (e : Device). e.controller.session.state) made.2 in
+          let address : setting.address_of t.0 ≡ devices.address_of d = sym (ap devices.address_of made.2 ∙ t.2) in
+          subst (λ (q : Option ℕ × State × Note × Note). Agrees q.0 q.1 q.2 q.3) (λ i. (sym begun i, sym state i, sym mine i, sym its i))
+          (record { addresses = ap (λ a. a ∷ []) address; begun = tt; opening = λ b. tt })
+
+      pub calls_rule_suffices : CallsRuleSuffices answer_of after
+      calls_rule_suffices l steps up keep =
+          let s = starts answer_of after l up in
+          let n0 = first_net s.config l.stations in
+          let restart : NetMove H = RestartPanel s.settings in
+          all_keep n0 s.is_set_up steps l (after_net answer_of after restart n0) (first_notes l) (programs.notes_after restart n0 no_notes) s.same
+          (record {
+            moves = restart ∷ [];
+            rule = (
+              (λ k u at. (s.fits k u at).0),
+              (λ k u at.
+                  let t = first_from s.config k u l.stations at in
+                  inl (ap (λ (x : line.Site H). line.address_of x) t.2 ∙ sym (s.given k t.0 t.1))),
+              tt,
+            );
+            is = refl;
+            noted = refl;
+          })
+          (first_agree l up s) keep
+
+      pub ruled_calls_hold : CallsHoldOnce answer_of after → RuledCallsHoldOnce answer_of after
+      ruled_calls_hold hold l steps up keep k first last is there = hold l steps up (calls_rule_suffices l steps up keep) k first last is there
