@@ -1,2 +1,3 @@
 pub mod Instance
 pub mod TwoEntries
+pub mod Rule

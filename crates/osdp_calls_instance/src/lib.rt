@@ -3,6 +3,7 @@
 #![tactic(auto)]
 
 ghost use Rattle.osdp_calls_instance.specs.Instance.{SomeCallsKeep};
+ghost use Rattle.osdp_calls_instance.specs.Rule.{TwoCallsKeepRule};
 ghost use Rattle.osdp_calls_instance.specs.TwoEntries.{TwoCallsKeep};
 
 use osdp_reader::Handler;
@@ -17,4 +18,10 @@ pub fn premises_are_met<H: Handler>()
 /// unsettled, the panel asks at its address and goes back, and a second session opens while it is unread, and then one of the other entry.
 pub fn premises_are_met_by_two<H: Handler>()
     ensures { (handler : H) → TwoCallsKeep H.answer_of H.after handler }
+{}
+
+/// In that list with two entries programs keep to the rule that stands for the premise on addresses: each address that `retarget` sets is one of the
+/// two of the COMSET.
+pub fn rule_is_kept_by_two<H: Handler>()
+    ensures { (handler : H) → TwoCallsKeepRule H.answer_of H.after handler }
 {}

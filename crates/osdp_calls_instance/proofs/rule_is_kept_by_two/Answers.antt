@@ -1,0 +1,5 @@
+use Rattle.osdp_calls_instance.proofs.RuleKept.{two_keep_rule}
+use Rattle.osdp_calls_instance.proofs.rule_is_kept_by_two.Goals as goal
+
+pub returns : goal.returns
+returns g c = two_keep_rule g.H.Handler.answer_of g.H.Handler.after
