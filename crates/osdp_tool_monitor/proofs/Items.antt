@@ -10,8 +10,8 @@ use Rattle.osdp_frame_laws.proofs.Readings.{is_reading, item_size-positive, read
 use Rattle.osdp_tool_monitor.specs.declared.listener.Listener.{Listener}
 use Rattle.osdp_tool_streams.specs.declared.fault.ToolFault.{ToolFault}
 use Rattle.osdp_tool_streams.specs.declared.fault.ToolFault.TheVariants.{NoMemory, TooLong}
-use Rattle.osdp_tool_lines.specs.Tally.{counted}
-use Rattle.osdp_tool_lines.proofs.Lines.{counted-tally_after}
+use Rattle.osdp_tool_show.specs.Tally.{counted}
+use Rattle.osdp_tool_show.proofs.Lines.{counted-tally_after}
 use Rattle.osdp_tool_monitor.specs.Listening.{HearsFirst, IsLineFault, Listening, heard_item, heard_items, item_report, items_report, listening_of, tells_all}
 
 not_true : IsTrue false → ⊥

@@ -12,8 +12,8 @@ use Rattle.osdp_frame.proofs.Decided.{undecided_none, undecided_ended}
 use Rattle.osdp_frame_laws.proofs.LawsOfSpellings.{AreBytes-append}
 use Rattle.osdp_frame_laws.proofs.LeftOver.{left_is, left_over-append, reading_split, total_size-append}
 use Rattle.osdp_frame_laws.proofs.Readings.{decided_nothing, is_reading, item_size-positive, item_size-decided, items-append, items_decided, items_undecided, sizes_reading}
-use Rattle.osdp_tool_lines.specs.Tally.{counted}
-use Rattle.osdp_tool_lines.proofs.Lines.{counted-tally_after}
+use Rattle.osdp_tool_show.specs.Tally.{counted}
+use Rattle.osdp_tool_show.proofs.Lines.{counted-tally_after}
 use Rattle.osdp_tool_monitor.specs.declared.listener.Listener.{Listener}
 use Rattle.osdp_tool_monitor.specs.declared.open_line.OpenLine.{OpenLine}
 use Rattle.osdp_tool_monitor.specs.Hearing.{Come, Drained, Hearing, Hears, HearsItems, IsOpen, LineEvent, RunEnds, TableDue, after_event, after_events, event_report, events_report, hearing_of, load, prints_all}

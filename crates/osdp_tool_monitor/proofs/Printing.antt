@@ -2,7 +2,7 @@
 use Rattle.std.proofs.Common.{◌≡◌, ℕ, ◌+◌, List, [], ◌∷◌, ◌++◌, sym, ◌∙◌, ap, append_assoc}
 use Rattle.osdp_frame.specs.Reading.{PacketItem}
 use Rattle.osdp_monitor.specs.Line.{after_items, expected_in, found_in}
-use Rattle.osdp_tool_lines.specs.Told.{shown_line}
+use Rattle.osdp_tool_show.specs.ToldItems.{shown_line}
 use Rattle.osdp_tool_monitor.specs.Laws.{PrintsAccusations}
 use Rattle.osdp_tool_monitor.specs.Listening.{heard_item, heard_items, item_report, items_report}
 use Rattle.osdp_tool_monitor.specs.Text.{accusation_line, expected_bytes, expected_lines, notice_line}

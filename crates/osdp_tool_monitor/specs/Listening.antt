@@ -4,9 +4,9 @@ use Rattle.osdp_frame.specs.Items.{reading}
 use Rattle.osdp_frame.specs.Reading.{RunItem, PacketItem, SkippedItem, RefusedItem, Stands, item_size}
 use Rattle.osdp_monitor.specs.Monitors.{knowledge_of}
 use Rattle.osdp_monitor.specs.Line.{Knowledge, after_item, copies_last, expected_in, found_in, no_knowledge}
-use Rattle.osdp_tool_lines.specs.declared.tally.Tally.{Tally}
-use Rattle.osdp_tool_lines.specs.Tally.{after_run, no_tally, tally_after}
-use Rattle.osdp_tool_lines.specs.Told.{shown_line}
+use Rattle.osdp_tool_show.specs.declared.tally.Tally.{Tally}
+use Rattle.osdp_tool_show.specs.Tally.{after_run, no_tally, tally_after}
+use Rattle.osdp_tool_show.specs.ToldItems.{shown_line}
 use Rattle.osdp_tool_streams.specs.declared.fault.ToolFault.{ToolFault}
 use Rattle.osdp_tool_streams.specs.declared.fault.ToolFault.TheVariants.{NoMemory, TooLong}
 use Rattle.osdp_tool_monitor.specs.declared.counts.Counts.{Counts}

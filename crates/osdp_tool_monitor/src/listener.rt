@@ -4,14 +4,14 @@ ghost use Rattle.std.specs.Prelude.{◌≡◌, ◌++◌, ◌+◌, ◌*◌, ◌<�
 ghost use Rattle.osdp_frame.specs.Bytes.{AreBytes};
 ghost use Rattle.osdp_frame.specs.Reading.{item_size};
 ghost use Rattle.osdp_frame.specs.Shown.{item_of, item_read};
-ghost use Rattle.osdp_tool_lines.specs.Tally.{counted};
+ghost use Rattle.osdp_tool_show.specs.Tally.{counted};
 
 use crate::counts::{Counts, more_if};
 use crate::table::push_table;
 use crate::text::push_found;
 use osdp_frame::{Burst, FrameView, Item, ReadItem, read_at, whole_item};
 use osdp_monitor::Monitor;
-use osdp_tool_lines::{Tally, tell};
+use osdp_tool_show::{Tally, tell};
 use osdp_tool_streams::ToolFault;
 use std::alloc::{AllocError, Global};
 

@@ -2,7 +2,7 @@
 
 ghost use Rattle.std.specs.Prelude.{◌≡◌, ◌+◌, ◌*◌, ◌<◌, ◌≤◌, [], ◌∷◌, true, length, take, IfErr, IfOk, OnOk, string_bytes};
 ghost use Rattle.osdp_frame.specs.Bytes.{AreBytes};
-ghost use Rattle.osdp_tool_lines.specs.Tally.{counted};
+ghost use Rattle.osdp_tool_show.specs.Tally.{counted};
 
 use crate::listener::Listener;
 use osdp_frame::Framer;

@@ -5,7 +5,7 @@ ghost use Rattle.osdp_tool_monitor.specs.Counts.{address_column, answered_column
 
 use crate::counts::Counts;
 use itoa::Buffer;
-use osdp_tool_lines::Tally;
+use osdp_tool_show::Tally;
 use std::alloc::AllocError;
 
 /// Writes so many spaces.

@@ -6,9 +6,9 @@ use Rattle.osdp_frame.specs.Held.{Held}
 use Rattle.osdp_tool_streams.specs.declared.form.Form.{Form}
 use Rattle.osdp_tool_streams.specs.declared.form.Form.TheVariants.{Raw, Joined, Apart}
 use Rattle.osdp_tool_streams.specs.Runs.{ended_runs, open_run}
-use Rattle.osdp_tool_lines.specs.Tally.{counted}
-use Rattle.osdp_tool_lines.specs.declared.tally.Tally.{Tally}
-use Rattle.osdp_tool_lines.specs.Told.{lines_so_far}
+use Rattle.osdp_tool_show.specs.Tally.{counted}
+use Rattle.osdp_tool_show.specs.declared.tally.Tally.{Tally}
+use Rattle.osdp_tool_show.specs.ToldItems.{lines_so_far}
 use Rattle.osdp_tool_show.specs.declared.capture.Capture.{Capture}
 use Rattle.osdp_tool_show.specs.declared.report.Report.{Report}
 use Rattle.osdp_tool_show.specs.Machine.{KeepsReport, Stands}

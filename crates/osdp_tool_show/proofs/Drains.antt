@@ -9,9 +9,9 @@ use Rattle.osdp_frame.specs.Items.{items}
 use Rattle.osdp_frame.proofs.Head.{AreBytes-drop}
 use Rattle.osdp_frame.proofs.Decided.{undecided_none, undecided_ended}
 use Rattle.osdp_frame_laws.proofs.Readings.{item_size-positive, item_size-decided, decided_nothing, items_undecided, items_decided}
-use Rattle.osdp_tool_lines.specs.Tally.{tally_after, tally_after_all, counted}
-use Rattle.osdp_tool_lines.specs.Told.{shown_lines}
-use Rattle.osdp_tool_lines.proofs.Lines.{tally_after_all-nil, tally_after_all-cons, shown_lines-append, counted-later}
+use Rattle.osdp_tool_show.specs.Tally.{tally_after, tally_after_all, counted}
+use Rattle.osdp_tool_show.specs.ToldItems.{shown_lines}
+use Rattle.osdp_tool_show.proofs.Lines.{tally_after_all-nil, tally_after_all-cons, shown_lines-append, counted-later}
 use Rattle.osdp_tool_show.specs.Written.{StopsWithin}
 use Rattle.osdp_tool_show.proofs.Beginnings.{stops_after}
 use Rattle.osdp_tool_show.specs.declared.report.Report.{Report}

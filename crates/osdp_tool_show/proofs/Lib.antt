@@ -12,3 +12,14 @@ pub mod Readings
 pub mod OneInput
 pub mod Stopping
 pub mod Finishing
+pub mod HexText
+pub mod Lines
+pub mod BareMessages
+pub mod Decimals
+pub mod Cuts
+pub mod OneMessage
+pub mod OneItem
+pub mod NoFeed
+pub mod OneLine
+pub mod OneCount
+pub mod PassedItems

@@ -15,11 +15,11 @@ use Rattle.osdp_tool_streams.specs.declared.form.Form.{Form}
 use Rattle.osdp_tool_streams.specs.declared.form.Form.TheVariants.{Raw}
 use Rattle.osdp_tool_streams.specs.Runs.{runs_of, with_bytes}
 use Rattle.osdp_tool_streams.proofs.Lengths.{runs_short}
-use Rattle.osdp_tool_lines.specs.ItemText.{item_line}
-use Rattle.osdp_tool_lines.specs.Laws.{IsItem}
-use Rattle.osdp_tool_lines.specs.Tally.{no_tally}
-use Rattle.osdp_tool_lines.specs.Told.{runs_lines}
-use Rattle.osdp_tool_lines.proofs.OneLine.{next_line, some_line}
+use Rattle.osdp_tool_show.specs.ItemText.{item_line}
+use Rattle.osdp_tool_show.specs.Laws.{IsItem}
+use Rattle.osdp_tool_show.specs.Tally.{no_tally}
+use Rattle.osdp_tool_show.specs.ToldItems.{runs_lines}
+use Rattle.osdp_tool_show.proofs.OneLine.{next_line, some_line}
 use Rattle.osdp_tool_show.specs.Shown.{shown}
 use Rattle.osdp_tool_show.specs.Told.{AreReadings, HasRuns, TellsRuns, items_text, readings_text}
 use Rattle.osdp_tool_show.proofs.Readings.{HasBytes, runs_are, runs_have_bytes, shown_is, some_readings}

@@ -12,9 +12,9 @@ use Rattle.osdp_frame.specs.Items.{items}
 use Rattle.osdp_frame.specs.Spelling.{start_of_message}
 use Rattle.osdp_frame.proofs.Head.{AreBytes-drop, AreBytes-take}
 use Rattle.osdp_frame_laws.proofs.Readings.{decided_nothing, items_undecided, items_decided}
-use Rattle.osdp_tool_lines.specs.Tally.{tally_after_all, counted}
-use Rattle.osdp_tool_lines.specs.Told.{shown_lines}
-use Rattle.osdp_tool_lines.proofs.Passed.{after_passed, lines_passed}
+use Rattle.osdp_tool_show.specs.Tally.{tally_after_all, counted}
+use Rattle.osdp_tool_show.specs.ToldItems.{shown_lines}
+use Rattle.osdp_tool_show.proofs.PassedItems.{after_passed, lines_passed}
 use Rattle.osdp_tool_show.specs.declared.report.Report.{Report}
 use Rattle.osdp_tool_show.specs.Machine.{Tells, Drained, Took}
 use Rattle.osdp_tool_show.proofs.WholeItems.{settled_new, took_after, took_drained}

@@ -19,9 +19,9 @@ use Rattle.osdp_tool_streams.specs.Line.{is_blank, kept, said}
 use Rattle.osdp_tool_streams.specs.Runs.{good_front, bad_line, ended_runs, open_run, first_bad_ended}
 use Rattle.osdp_tool_streams.proofs.FormLemmas.{ended_lines-hold, unended_line-hold, ended_lines-feed, unended_line-feed, kept-append, hold_runs, feed_joined, feed_apart, feed_bad}
 use Rattle.osdp_tool_streams.proofs.Lengths.{said_short}
-use Rattle.osdp_tool_lines.specs.Tally.{no_tally, counted, tally_after_all}
-use Rattle.osdp_tool_lines.specs.Told.{shown_lines, after_runs, runs_lines, tally_so_far, lines_so_far}
-use Rattle.osdp_tool_lines.proofs.Lines.{tally_after_all-nil, shown_lines-nil}
+use Rattle.osdp_tool_show.specs.Tally.{no_tally, counted, tally_after_all}
+use Rattle.osdp_tool_show.specs.ToldItems.{shown_lines, after_runs, runs_lines, tally_so_far, lines_so_far}
+use Rattle.osdp_tool_show.proofs.Lines.{tally_after_all-nil, shown_lines-nil}
 use Rattle.osdp_tool_show.specs.declared.capture.Capture.{Capture}
 use Rattle.osdp_tool_show.specs.declared.report.Report.{Report}
 use Rattle.osdp_tool_show.specs.Machine.{written_or_held, IsSettled, Stands, Took, EndedRun}

@@ -21,11 +21,11 @@ use Rattle.osdp_tool_streams.specs.Line.{line_bytes}
 use Rattle.osdp_tool_streams.specs.Runs.{good_front, with_bytes, runs_of, ended_runs, open_run}
 use Rattle.osdp_tool_streams.proofs.CutLemmas.{ended_lines-cut}
 use Rattle.osdp_tool_streams.proofs.Bytes.{is_cut, good_front-bytes}
-use Rattle.osdp_tool_lines.specs.declared.tally.Tally.{Tally}
-use Rattle.osdp_tool_lines.specs.ItemText.{is_refusal, counts_line}
-use Rattle.osdp_tool_lines.specs.Tally.{no_tally, one_if, tally_after, tally_after_all, after_run}
-use Rattle.osdp_tool_lines.specs.Told.{shown_line, shown_lines, after_runs, runs_lines, end_line}
-use Rattle.osdp_tool_lines.proofs.Lines.{after_runs-place}
+use Rattle.osdp_tool_show.specs.declared.tally.Tally.{Tally}
+use Rattle.osdp_tool_show.specs.ItemText.{is_refusal, counts_line}
+use Rattle.osdp_tool_show.specs.Tally.{no_tally, one_if, tally_after, tally_after_all, after_run}
+use Rattle.osdp_tool_show.specs.ToldItems.{shown_line, shown_lines, after_runs, runs_lines, end_line}
+use Rattle.osdp_tool_show.proofs.Lines.{after_runs-place}
 use Rattle.osdp_tool_show.specs.Shown.{shown, shown_so_far, is_refused_input, tally_of}
 use Rattle.osdp_tool_show.specs.Told.{Say, Says, SaysSoFar, HasRuns, HasRunsSoFar, AreReadings, items_text, readings_text, is_packet, is_skipped, count_items, counts_text}
 

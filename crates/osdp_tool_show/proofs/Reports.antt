@@ -3,9 +3,9 @@ use Rattle.std.proofs.Common.{◌≡◌, ℕ, Bool, List, [], ◌∷◌, ◌++�
 use Rattle.std.specs.Io.KnownBytes.{Appends, Keeps, append_known}
 use Rattle.std.proofs.KnownBytes.{Appends-trans, Appends-kept, Appends-nil}
 use Rattle.osdp_frame.specs.Reading.{RunItem}
-use Rattle.osdp_tool_lines.specs.Tally.{tally_after, tally_after_all}
-use Rattle.osdp_tool_lines.specs.Told.{shown_line, shown_lines}
-use Rattle.osdp_tool_lines.proofs.Lines.{tally_after_all-nil, tally_after_all-cons, tally_after_all-append, shown_lines-nil, shown_lines-cons, shown_lines-append}
+use Rattle.osdp_tool_show.specs.Tally.{tally_after, tally_after_all}
+use Rattle.osdp_tool_show.specs.ToldItems.{shown_line, shown_lines}
+use Rattle.osdp_tool_show.proofs.Lines.{tally_after_all-nil, tally_after_all-cons, tally_after_all-append, shown_lines-nil, shown_lines-cons, shown_lines-append}
 use Rattle.osdp_tool_show.specs.declared.report.Report.{Report}
 use Rattle.osdp_tool_show.specs.Machine.{written_or_held, Tells, KeepsReport}
 

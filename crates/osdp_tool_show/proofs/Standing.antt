@@ -15,9 +15,9 @@ use Rattle.osdp_frame_laws.proofs.LawsOfSpellings.{AreBytes-append, AreBytes-nil
 use Rattle.osdp_frame_laws.proofs.LeftOver.{gap_items, items_nothing, left_bytes, left_is, left_nothing, left_over-append, reading_split}
 use Rattle.osdp_frame_laws.proofs.Readings.{items-append, left_undecided, sizes_reading, is_reading}
 use Rattle.osdp_tool_streams.specs.Runs.{closed_runs, with_bytes}
-use Rattle.osdp_tool_lines.specs.Tally.{no_tally, tally_after_all, after_run, counted}
-use Rattle.osdp_tool_lines.specs.Told.{shown_lines, after_runs, runs_lines, tally_so_far, lines_so_far}
-use Rattle.osdp_tool_lines.proofs.Lines.{tally_after_all-nil, tally_after_all-append, shown_lines-nil, shown_lines-append, after_runs-append, after_runs-one, runs_lines-append, runs_lines-one, after_run-none, after_runs-place, counted-after_run}
+use Rattle.osdp_tool_show.specs.Tally.{no_tally, tally_after_all, after_run, counted}
+use Rattle.osdp_tool_show.specs.ToldItems.{shown_lines, after_runs, runs_lines, tally_so_far, lines_so_far}
+use Rattle.osdp_tool_show.proofs.Lines.{tally_after_all-nil, tally_after_all-append, shown_lines-nil, shown_lines-append, after_runs-append, after_runs-one, runs_lines-append, runs_lines-one, after_run-none, after_runs-place, counted-after_run}
 use Rattle.osdp_tool_show.specs.declared.report.Report.{Report}
 use Rattle.osdp_tool_show.specs.Machine.{Drained, IsSettled, Stands, Took, EndedRun, StopsIn, StopsAtRunEnd}
 use Rattle.osdp_tool_show.specs.Written.{StopsWithin}

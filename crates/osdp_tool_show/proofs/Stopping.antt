@@ -13,8 +13,8 @@ use Rattle.osdp_tool_streams.proofs.FormLemmas.{feed_joined, feed_apart}
 use Rattle.osdp_tool_streams.proofs.Bytes.{good_front-bytes}
 use Rattle.std.specs.List.{AllByRecursion}
 use Rattle.std.specs.Option.{option_map_or}
-use Rattle.osdp_tool_lines.specs.Tally.{no_tally}
-use Rattle.osdp_tool_lines.specs.Told.{shown_lines, after_runs, runs_lines, end_line, tally_so_far, lines_so_far}
+use Rattle.osdp_tool_show.specs.Tally.{no_tally}
+use Rattle.osdp_tool_show.specs.ToldItems.{shown_lines, after_runs, runs_lines, end_line, tally_so_far, lines_so_far}
 use Rattle.osdp_tool_show.specs.declared.capture.Capture.{Capture}
 use Rattle.osdp_tool_show.specs.declared.report.Report.{Report}
 use Rattle.osdp_tool_show.specs.Machine.{written_or_held, IsSettled, Took, EndedRun, StopsIn, StopsAtRunEnd}

@@ -8,8 +8,8 @@ use Rattle.std.proofs.lemmas.Bool.{le-leb, lt-leb}
 use Rattle.osdp_tool_streams.specs.declared.form.Form.{Form}
 use Rattle.osdp_tool_streams.specs.Runs.{first_bad, first_bad_ended}
 use Rattle.osdp_tool_streams.proofs.FormLemmas.{bad_stays}
-use Rattle.osdp_tool_lines.specs.Tally.{no_tally}
-use Rattle.osdp_tool_lines.specs.Told.{after_runs, runs_lines, end_line}
+use Rattle.osdp_tool_show.specs.Tally.{no_tally}
+use Rattle.osdp_tool_show.specs.ToldItems.{after_runs, runs_lines, end_line}
 use Rattle.osdp_tool_streams.specs.declared.fault.ToolFault.{ToolFault}
 use Rattle.osdp_tool_streams.specs.declared.fault.ToolFault.TheVariants.{NotHex, TooLong, ReadFailed, WriteFailed, NoMemory}
 use Rattle.osdp_tool_show.specs.Shown.{shown, shown_so_far, answer_to, is_refused_input, ends_within}

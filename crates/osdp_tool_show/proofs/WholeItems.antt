@@ -11,9 +11,9 @@ use Rattle.osdp_frame_laws.proofs.LawsOfSpellings.{AreBytes-append, AreBytes-nil
 use Rattle.osdp_frame_laws.proofs.LeftOver.{gap_some}
 use Rattle.osdp_frame_laws.proofs.Readings.{decided_nothing, item_size-decided, item_size-positive}
 use Rattle.osdp_tool_show.specs.declared.report.Report.{Report}
-use Rattle.osdp_tool_lines.specs.Tally.{tally_after}
-use Rattle.osdp_tool_lines.specs.Told.{shown_lines}
-use Rattle.osdp_tool_lines.proofs.Lines.{tally_after_all-nil, tally_after_all-cons}
+use Rattle.osdp_tool_show.specs.Tally.{tally_after}
+use Rattle.osdp_tool_show.specs.ToldItems.{shown_lines}
+use Rattle.osdp_tool_show.proofs.Lines.{tally_after_all-nil, tally_after_all-cons}
 use Rattle.std.specs.Io.KnownBytes.{append_known}
 use Rattle.osdp_tool_show.specs.Machine.{Tells, Drained, IsSettled, Stands, Took, StopsIn}
 use Rattle.osdp_tool_show.specs.Written.{StopsWithin}

@@ -12,9 +12,9 @@ use Rattle.osdp_tool_streams.specs.Cut.{line_feed, unended_line}
 use Rattle.osdp_tool_streams.specs.Line.{line_bytes}
 use Rattle.osdp_tool_streams.specs.Runs.{ended_runs, open_run, runs_of, first_bad, first_bad_ended, closed_runs}
 use Rattle.osdp_tool_streams.proofs.FormLemmas.{feed_joined, feed_apart, feed_bad, end_joined, end_apart, end_bad, bad_stays}
-use Rattle.osdp_tool_lines.specs.Tally.{no_tally, tally_after_all}
-use Rattle.osdp_tool_lines.specs.Told.{shown_lines, after_runs, runs_lines, end_line, tally_so_far, lines_so_far}
-use Rattle.osdp_tool_lines.proofs.Lines.{tally_after_all-nil, shown_lines-nil}
+use Rattle.osdp_tool_show.specs.Tally.{no_tally, tally_after_all}
+use Rattle.osdp_tool_show.specs.ToldItems.{shown_lines, after_runs, runs_lines, end_line, tally_so_far, lines_so_far}
+use Rattle.osdp_tool_show.proofs.Lines.{tally_after_all-nil, shown_lines-nil}
 use Rattle.osdp_tool_show.specs.declared.capture.Capture.{Capture}
 use Rattle.osdp_tool_show.specs.declared.report.Report.{Report}
 use Rattle.osdp_tool_streams.specs.declared.fault.ToolFault.{ToolFault}

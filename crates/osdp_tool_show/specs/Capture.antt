@@ -5,7 +5,7 @@ use Rattle.osdp_tool_streams.specs.declared.form.Form.TheVariants.{Raw, Joined, 
 use Rattle.osdp_tool_streams.specs.Cut.{ended_lines, unended_line}
 use Rattle.osdp_tool_streams.specs.Line.{kept}
 use Rattle.osdp_tool_streams.specs.Runs.{ended_runs, open_run, first_bad_ended}
-use Rattle.osdp_tool_lines.specs.Tally.{counted}
+use Rattle.osdp_tool_show.specs.Tally.{counted}
 use Rattle.osdp_tool_show.specs.declared.capture.Capture.{Capture}
 use Rattle.osdp_tool_show.specs.Machine.{Stands, IsSettled}
 use Rattle.osdp_tool_show.specs.Shown.{shown_so_far}

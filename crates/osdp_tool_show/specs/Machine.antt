@@ -6,8 +6,8 @@ use Rattle.osdp_frame.specs.Held.{Held, decided}
 use Rattle.osdp_frame.specs.Bytes.{AreBytes}
 use Rattle.osdp_frame.specs.Items.{items, left_over}
 use Rattle.osdp_tool_streams.specs.Runs.{closed_runs}
-use Rattle.osdp_tool_lines.specs.Tally.{tally_after_all, counted}
-use Rattle.osdp_tool_lines.specs.Told.{shown_lines, tally_so_far, lines_so_far}
+use Rattle.osdp_tool_show.specs.Tally.{tally_after_all, counted}
+use Rattle.osdp_tool_show.specs.ToldItems.{shown_lines, tally_so_far, lines_so_far}
 use Rattle.osdp_tool_streams.specs.declared.fault.ToolFault.{ToolFault}
 use Rattle.osdp_tool_streams.specs.declared.fault.ToolFault.TheVariants.{WriteFailed, NoMemory}
 use Rattle.osdp_tool_show.specs.declared.report.Report.{Report}

@@ -5,9 +5,9 @@ use Rattle.osdp_tool_streams.specs.declared.form.Form.{Form}
 use Rattle.osdp_tool_streams.specs.declared.form.Form.TheVariants.{Raw, Joined, Apart}
 use Rattle.osdp_tool_streams.specs.Runs.{runs_of, ended_runs, open_run, first_bad, first_bad_ended}
 use Rattle.osdp_tool_streams.specs.declared.mode.Mode.{Mode}
-use Rattle.osdp_tool_lines.specs.declared.tally.Tally.{Tally}
-use Rattle.osdp_tool_lines.specs.Tally.{no_tally}
-use Rattle.osdp_tool_lines.specs.Told.{after_runs, runs_lines, end_line, lines_so_far}
+use Rattle.osdp_tool_show.specs.declared.tally.Tally.{Tally}
+use Rattle.osdp_tool_show.specs.Tally.{no_tally}
+use Rattle.osdp_tool_show.specs.ToldItems.{after_runs, runs_lines, end_line, lines_so_far}
 use Rattle.osdp_tool_streams.specs.declared.fault.ToolFault.{ToolFault}
 use Rattle.osdp_tool_streams.specs.declared.fault.ToolFault.TheVariants.{NotHex, TooLong}
 

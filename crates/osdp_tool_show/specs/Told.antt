@@ -9,7 +9,7 @@ use Rattle.osdp_tool_streams.specs.declared.form.Form.TheVariants.{Raw, Joined, 
 use Rattle.osdp_tool_streams.specs.Cut.{IsCut, last_line}
 use Rattle.osdp_tool_streams.specs.Line.{line_bytes}
 use Rattle.osdp_tool_streams.specs.Runs.{with_bytes}
-use Rattle.osdp_tool_lines.specs.ItemText.{is_refusal, item_line, counts_line}
+use Rattle.osdp_tool_show.specs.ItemText.{is_refusal, item_line, counts_line}
 use Rattle.osdp_tool_show.specs.Shown.{shown, shown_so_far, is_refused_input}
 
 -- ---- the runs of an input

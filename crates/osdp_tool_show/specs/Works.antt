@@ -3,8 +3,8 @@ use Rattle.std.specs.Prelude.{◌≡◌, ◌⊎◌, ℕ, ◌+◌, ◌≤◌, Boo
 use Rattle.std.specs.Io.KnownBytes.{Appends, Consumes, IsAtEnd}
 use Rattle.osdp_tool_streams.specs.declared.form.Form.{Form}
 use Rattle.osdp_tool_streams.specs.Runs.{runs_of, first_bad, closed_runs}
-use Rattle.osdp_tool_lines.specs.Tally.{no_tally}
-use Rattle.osdp_tool_lines.specs.Told.{after_runs, runs_lines, end_line}
+use Rattle.osdp_tool_show.specs.Tally.{no_tally}
+use Rattle.osdp_tool_show.specs.ToldItems.{after_runs, runs_lines, end_line}
 use Rattle.osdp_tool_streams.specs.declared.fault.ToolFault.{ToolFault}
 use Rattle.osdp_tool_streams.specs.declared.fault.ToolFault.TheVariants.{NotHex, WriteFailed, NoMemory}
 use Rattle.osdp_tool_show.specs.declared.capture.Capture.{Capture}

@@ -6,11 +6,11 @@ ghost use Rattle.osdp_tool_streams.specs.Cut.{line_feed, IsLine};
 ghost use Rattle.osdp_tool_show.specs.Machine.{written_or_held, IsStep, IsSettled};
 ghost use Rattle.osdp_tool_show.specs.Feeds.{HasLine};
 
+use crate::Tally;
 use crate::report::Report;
 use crate::runs::{end_run, take};
 use memchr::memchr;
 use osdp_frame::Framer;
-use osdp_tool_lines::Tally;
 use osdp_tool_streams::{Digits, Form, ToolFault, Watched, keep, read_line};
 use std::alloc::Global;
 use std::io::Write;
@@ -103,6 +103,7 @@ impl Capture {
             return Ok(false);
         }
         take(&mut self.framer, &mut self.report, &self.bytes, output)?;
+        // An arm for each form, here and at the last line, since the proof goes by forms.
         match self.form {
             Form::Raw => Ok(true),
             Form::Joined => Ok(true),

@@ -4,13 +4,13 @@ ghost use Rattle.std.specs.Prelude.{◌≡◌, ◌+◌, ◌<◌, ◌^◌, [], �
 ghost use Rattle.std.specs.Io.KnownBytes.{Appends, Keeps};
 ghost use Rattle.osdp_frame.specs.Reading.{item_size};
 ghost use Rattle.osdp_frame.specs.Shown.{item_of};
-ghost use Rattle.osdp_tool_lines.specs.Tally.{counted};
-ghost use Rattle.osdp_tool_lines.specs.Told.{end_line, shown_lines};
+ghost use Rattle.osdp_tool_show.specs.Tally.{counted};
+ghost use Rattle.osdp_tool_show.specs.ToldItems.{end_line, shown_lines};
 ghost use Rattle.osdp_tool_show.specs.Written.{IsBeginning, StopsWithin};
 ghost use Rattle.osdp_tool_streams.specs.Watched.{inner_of, has_failed};
 
+use crate::{Tally, push_end, tell};
 use osdp_frame::Item;
-use osdp_tool_lines::{Tally, push_end, tell};
 use osdp_tool_streams::{ToolFault, Watched, write_out};
 use std::io::Write;
 

@@ -6,24 +6,24 @@ ghost use Rattle.osdp_frame.specs.Bytes.{AreBytes};
 ghost use Rattle.osdp_frame.specs.Held.{after_gap, by_itself, decided, new_run};
 ghost use Rattle.osdp_frame.specs.Shown.{item_of};
 ghost use Rattle.osdp_frame.specs.Spelling.{start_of_message};
-ghost use Rattle.osdp_tool_lines.specs.Tally.{counted};
+ghost use Rattle.osdp_tool_show.specs.Tally.{counted};
 ghost use Rattle.osdp_tool_streams.specs.Watched.{inner_of, has_failed};
 ghost use Rattle.osdp_frame.specs.Items.{items};
-ghost use Rattle.osdp_tool_lines.specs.Told.{shown_lines};
+ghost use Rattle.osdp_tool_show.specs.ToldItems.{shown_lines};
 ghost use Rattle.osdp_tool_show.specs.Machine.{written_or_held, IsStep, Drained, IsSettled, Took, EndedRun, StopsIn, StopsAtRunEnd};
 ghost use Rattle.osdp_tool_show.specs.Written.{StopsWithin};
 
 use crate::report::Report;
 use memchr::memchr;
-use osdp_frame::{Framer, Item, MAX_PACKET, whole_item};
+use osdp_frame::{Framer, Item, MAX_BODY, MAX_PACKET, whole_item};
 use osdp_tool_streams::{ToolFault, Watched};
 use std::io::Write;
 
 /// So many bytes are given to a framer one by one before it is given all that there are.
 const TRIES: u8 = 8;
 
-/// So many bytes stand before the body of a packet, and tell its count.
-const HEAD: usize = 5;
+/// So many bytes stand before the body of a packet, and tell its count. The shortest check after the body has one byte.
+const HEAD: usize = MAX_PACKET - MAX_BODY - 1;
 
 /// Tells of the items that the held bytes decide, and takes them off.
 #[inline(never)]

@@ -1,5 +1,5 @@
 use Rattle.std.proofs.Common.{◌≡◌, ◌≤◌, ◌+◌, ◌-◌, ◌*◌, ◌++◌, length, drop, string_bytes}
-use Rattle.osdp_tool_lines.specs.Tally.{counted}
+use Rattle.osdp_tool_show.specs.Tally.{counted}
 use Rattle.osdp_frame.specs.Items.{reading}
 use Rattle.osdp_tool_monitor.specs.Listening.{heard_items, items_report, listening_of, tells_all}
 use Rattle.osdp_tool_monitor.proofs.listener.Listener.hear_run.Given as goal

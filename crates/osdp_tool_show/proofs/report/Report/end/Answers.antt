@@ -1,5 +1,5 @@
 use Rattle.std.proofs.Common.{string_bytes}
-use Rattle.osdp_tool_lines.specs.Told.{end_line}
+use Rattle.osdp_tool_show.specs.ToldItems.{end_line}
 use Rattle.osdp_tool_streams.specs.Watched.{inner_of}
 use Rattle.osdp_tool_show.specs.declared.report.Report.{Report}
 use Rattle.osdp_tool_show.specs.Machine.{written_or_held}

@@ -1,4 +1,0 @@
-pub mod ItemText
-pub mod Laws
-pub mod Tally
-pub mod Told

@@ -1,0 +1,108 @@
+-- Lines and counts, piece by piece.
+use Rattle.std.proofs.Common.{◌≡◌, ℕ, ◌+◌, ◌*◌, ◌<◌, ◌≤◌, ◌==◌, cond, Bool, true, false, List, [], ◌∷◌, ◌++◌, length, drop, refl, sym, ap, ◌∙◌, arith, append_assoc, append-nil}
+use Rattle.std.proofs.Common.{length-drop}
+use Rattle.std.proofs.lemmas.Bool.{eqb-true, eqb-false}
+use Rattle.osdp_frame.specs.Reading.{RunItem, PacketItem, SkippedItem, RefusedItem, item_size}
+use Rattle.osdp_frame.specs.Items.{reading}
+use Rattle.osdp_tool_show.specs.declared.tally.Tally.{Tally}
+use Rattle.osdp_tool_show.specs.ItemText.{is_refusal}
+use Rattle.osdp_tool_show.specs.Tally.{one_if, tally_after, tally_after_all, after_run, counted}
+use Rattle.osdp_tool_show.specs.ToldItems.{shown_line, shown_lines, after_runs, runs_lines}
+
+pub tally_after_all-append : (tally : Tally) (xs ys : List RunItem) → tally_after_all tally (xs ++ ys) ≡ tally_after_all (tally_after_all tally xs) ys
+unfolding tally_after_all
+tally_after_all-append tally [] ys = refl
+tally_after_all-append tally (x ∷ xs) ys = tally_after_all-append (tally_after tally x) xs ys
+
+pub shown_lines-append : (full : Bool) (tally : Tally) (xs ys : List RunItem)
+    → shown_lines full tally (xs ++ ys) ≡ shown_lines full tally xs ++ shown_lines full (tally_after_all tally xs) ys
+unfolding tally_after_all shown_lines
+shown_lines-append full tally [] ys = refl
+shown_lines-append full tally (x ∷ xs) ys =
+    ap (λ l. shown_line full tally x ++ l) (shown_lines-append full (tally_after tally x) xs ys)
+    ∙ sym (append_assoc (shown_line full tally x) (shown_lines full (tally_after tally x) xs) (shown_lines full (tally_after_all (tally_after tally x) xs) ys))
+
+pub after_runs-append : (tally : Tally) (xs ys : List (List ℕ)) → after_runs tally (xs ++ ys) ≡ after_runs (after_runs tally xs) ys
+unfolding after_runs
+after_runs-append tally [] ys = refl
+after_runs-append tally (x ∷ xs) ys = after_runs-append (after_run (tally_after_all tally (reading x))) xs ys
+
+pub runs_lines-append : (full : Bool) (tally : Tally) (xs ys : List (List ℕ))
+    → runs_lines full tally (xs ++ ys) ≡ runs_lines full tally xs ++ runs_lines full (after_runs tally xs) ys
+unfolding after_runs runs_lines
+runs_lines-append full tally [] ys = refl
+runs_lines-append full tally (x ∷ xs) ys =
+    let next = after_run (tally_after_all tally (reading x)) in
+    ap (λ l. shown_lines full tally (reading x) ++ l) (runs_lines-append full next xs ys)
+    ∙ sym (append_assoc (shown_lines full tally (reading x)) (runs_lines full next xs) (runs_lines full (after_runs next xs) ys))
+
+-- one run
+pub after_runs-one : (tally : Tally) (run : List ℕ) → after_runs tally (run ∷ []) ≡ after_run (tally_after_all tally (reading run))
+unfolding after_runs
+after_runs-one tally run = refl
+
+pub runs_lines-one : (full : Bool) (tally : Tally) (run : List ℕ) → runs_lines full tally (run ∷ []) ≡ shown_lines full tally (reading run)
+unfolding runs_lines
+runs_lines-one full tally run = append-nil (shown_lines full tally (reading run))
+
+-- no items
+pub tally_after_all-nil : (tally : Tally) → tally_after_all tally [] ≡ tally
+unfolding tally_after_all
+tally_after_all-nil tally = refl
+
+pub shown_lines-nil : (full : Bool) (tally : Tally) → shown_lines full tally [] ≡ []
+unfolding shown_lines
+shown_lines-nil full tally = refl
+
+pub tally_after_all-cons : (tally : Tally) (part : RunItem) (parts : List RunItem) → tally_after_all tally (part ∷ parts) ≡ tally_after_all (tally_after tally part) parts
+unfolding tally_after_all
+tally_after_all-cons tally part parts = refl
+
+pub shown_lines-cons : (full : Bool) (tally : Tally) (part : RunItem) (parts : List RunItem)
+    → shown_lines full tally (part ∷ parts) ≡ shown_line full tally part ++ shown_lines full (tally_after tally part) parts
+unfolding shown_lines
+shown_lines-cons full tally part parts = refl
+
+-- ---- places
+
+-- a run begins at place 0
+pub after_run-place : (tally : Tally) → (after_run tally).place ≡ 0
+after_run-place tally = by_test (tally.place == 0) refl
+  where
+    by_test : (t : Bool) → (tally.place == 0) ≡ t → (cond t tally (record tally { runs = tally.runs + 1; place = 0 })).place ≡ 0
+    by_test true e = eqb-true tally.place 0 e
+    by_test false e = refl
+
+pub after_runs-place : (tally : Tally) (runs : List (List ℕ)) → tally.place ≡ 0 → (after_runs tally runs).place ≡ 0
+unfolding after_runs
+after_runs-place tally [] h = h
+after_runs-place tally (run ∷ runs) h =
+    after_runs-place (after_run (tally_after_all tally (reading run))) runs (after_run-place (tally_after_all tally (reading run)))
+
+-- where nothing has come of a run its end changes nothing
+pub after_run-none : (tally : Tally) → tally.place ≡ 0 → after_run tally ≡ tally
+after_run-none tally h = ap (λ n. cond (n == 0) tally (record tally { runs = tally.runs + 1; place = 0 })) h
+
+-- ---- bounds
+
+one_if-le : (t : Bool) → one_if t ≤ 1
+one_if-le true = omega arith
+one_if-le false = omega arith
+
+-- an item of some bytes counts for at most that many and two more
+pub counted-tally_after : (tally : Tally) (part : RunItem) → counted (tally_after tally part) ≤ counted tally + (item_size part + 2)
+counted-tally_after tally (PacketItem p) = let b = one_if-le (is_refusal (PacketItem p)) in omega arith
+counted-tally_after tally (SkippedItem b) = omega arith
+counted-tally_after tally (RefusedItem fault) = omega arith
+
+-- so what is counted and five times the bytes that are left do not grow
+pub counted-later : (tally : Tally) (part : RunItem) (bytes : List ℕ) → 0 < item_size part → item_size part ≤ length bytes
+    → counted (tally_after tally part) + 5 * length (drop (item_size part) bytes) ≤ counted tally + 5 * length bytes
+counted-later tally part bytes some short = omega (arith, counted-tally_after tally part, length-drop (item_size part) bytes)
+
+pub counted-after_run : (tally : Tally) → counted (after_run tally) ≤ counted tally
+counted-after_run tally = by_test (tally.place == 0) refl
+  where
+    by_test : (t : Bool) → (tally.place == 0) ≡ t → counted (cond t tally (record tally { runs = tally.runs + 1; place = 0 })) ≤ counted tally
+    by_test true e = omega arith
+    by_test false e = let ne = eqb-false tally.place 0 e in omega arith

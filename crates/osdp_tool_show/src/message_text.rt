@@ -1,0 +1,143 @@
+//! What is told of a packet's code and data.
+
+ghost use Rattle.std.specs.Prelude.{◌≡◌, ◌++◌, ℕ, Bool, List, false, true, IfSome, OnOk, string_bytes};
+ghost use Rattle.osdp_tool_show.specs.ItemText.{data_text, unread_text, told_text, is_refused, is_refused_message, message_text};
+ghost use Rattle.osdp_msg.specs.CommandText.{command_text};
+ghost use Rattle.osdp_msg.specs.ReplyText.{reply_text};
+
+use crate::hex_text::push_bytes;
+use osdp_msg::{Command, MsgFault, Reply};
+use std::alloc::AllocError;
+
+/// The messages of one direction, as they are told.
+pub(crate) trait Told: Drop {
+    /// They are replies.
+    ghost reply: { Bool };
+
+    /// What is told of a message.
+    ghost told: { Self → List ℕ };
+
+    /// What is told of a message without data, where that is its name alone: most packets of a line are such, and
+    /// are told without a value of the message.
+    fn bare(code: u8, bytes: &[u8]) -> Option<&'static str>
+        ensures { IfSome result (λ name. (message_text reply code bytes.now ≡ name.now) × (is_refused_message reply code bytes.now ≡ false)) };
+
+    /// The message of a code and data.
+    fn read_message(code: u8, bytes: &[u8]) -> Result<Self, MsgFault>
+        ensures told { told_text told result code bytes.now ≡ message_text reply code bytes.now }
+        ensures refused { is_refused result ≡ is_refused_message reply code bytes.now };
+
+    /// Writes what is told of the message.
+    fn push_text(&self, text: &mut String) -> Result<(), AllocError>
+        ensures { OnOk result (string_bytes text.new ≡ string_bytes text.old ++ told self.now) };
+}
+
+impl Told for Command {
+    ghost reply = { false };
+
+    ghost told = { command_text };
+
+    #[inline(always)]
+    fn bare(code: u8, bytes: &[u8]) -> Option<&'static str> {
+        if !bytes.is_empty() {
+            return None;
+        }
+        match code {
+            0x60 => Some("POLL"),
+            0x64 => Some("LSTAT"),
+            0x65 => Some("ISTAT"),
+            0x66 => Some("OSTAT"),
+            0x67 => Some("RSTAT"),
+            _ => None,
+        }
+    }
+
+    #[inline(always)]
+    fn read_message(code: u8, bytes: &[u8]) -> Result<Command, MsgFault> {
+        Command::read(code, bytes)
+    }
+
+    #[inline(always)]
+    fn push_text(&self, text: &mut String) -> Result<(), AllocError> {
+        write!(text, "{self}")
+    }
+}
+
+impl Told for Reply {
+    ghost reply = { true };
+
+    ghost told = { reply_text };
+
+    #[inline(always)]
+    fn bare(code: u8, bytes: &[u8]) -> Option<&'static str> {
+        if !bytes.is_empty() {
+            return None;
+        }
+        match code {
+            0x40 => Some("ACK"),
+            0x79 => Some("BUSY"),
+            _ => None,
+        }
+    }
+
+    #[inline(always)]
+    fn read_message(code: u8, bytes: &[u8]) -> Result<Reply, MsgFault> {
+        Reply::read(code, bytes)
+    }
+
+    #[inline(always)]
+    fn push_text(&self, text: &mut String) -> Result<(), AllocError> {
+        write!(text, "{self}")
+    }
+}
+
+/// Whether the message is refused; an unknown code is no refusal.
+pub(crate) fn is_refused<M>(read: &Result<M, MsgFault>) -> bool
+    ensures { result ≡ is_refused read.now }
+{
+    match read {
+        Ok(_) | Err(MsgFault::UnknownCode) => false,
+        Err(MsgFault::Length | MsgFault::Count) => true,
+    }
+}
+
+/// Writes data as digits, after a space, where there are any.
+fn push_data(text: &mut String, bytes: &[u8]) -> Result<(), AllocError>
+    ensures { OnOk result (string_bytes text.new ≡ string_bytes text.old ++ data_text bytes.now) }
+{
+    if bytes.is_empty() {
+        return Ok(());
+    }
+    text.push_str(" ")?;
+    push_bytes(text, bytes)
+}
+
+/// Writes a code and data that are no message, with the refusal before them; an unknown code is no refusal.
+fn push_unread(text: &mut String, fault: MsgFault, code: u8, bytes: &[u8]) -> Result<(), AllocError>
+    ensures { OnOk result (string_bytes text.new ≡ string_bytes text.old ++ unread_text fault code bytes.now) }
+{
+    let refusal = match fault {
+        MsgFault::UnknownCode => "",
+        MsgFault::Length => "refused M2 ",
+        MsgFault::Count => "refused M3 ",
+    };
+    text.push_str(refusal)?;
+    text.push_str("code ")?;
+    push_bytes(text, &[code])?;
+    push_data(text, bytes)
+}
+
+/// Writes what is told of a message that was read, or of a code and data that are none.
+pub(crate) fn push_message<M: Told>(
+    text: &mut String,
+    read: &Result<M, MsgFault>,
+    code: u8,
+    bytes: &[u8],
+) -> Result<(), AllocError>
+    ensures { OnOk result (string_bytes text.new ≡ string_bytes text.old ++ told_text M.told read.now code bytes.now) }
+{
+    match read {
+        Ok(message) => message.push_text(text),
+        Err(fault) => push_unread(text, *fault, code, bytes),
+    }
+}
