@@ -35,7 +35,7 @@ impl Tally {
     }
 
     /// Counts skipped bytes at once, where none of them has a line.
-    #[tactic(auto, using(crate::proofs::Passed::after_passed))]
+    #[tactic(auto, using(crate::proofs::PassedItems::after_passed))]
     pub fn pass(&mut self, bytes: &[u8])
         requires { counted self.old + 2 * length bytes.now < 2 ^ 63 }
         ensures { self.new ≡ tally_after_all self.old (map SkippedItem bytes.now) }
