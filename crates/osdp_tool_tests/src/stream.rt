@@ -1,66 +1,58 @@
 use crate::faulty::{Pieces, Refusal, make_pieces, make_sink};
 use osdp_tool_streams::*;
-use std::alloc::{AllocError, Global};
+use std::alloc::Global;
 use std::io::{ErrorKind, Read, Write};
 use std::process::Abort;
-use std::test::Fail;
 
 const DIGITS: [u8; 10] = *b"0123456789";
 
 /// Reads to the end of the input, or to its first fault.
 fn read_to_end<R: Read>(
-    input: &mut Watched<R>,
+    rt: &impl Abort,
     alloc: Global,
-) -> Result<(Vec<u8>, Option<ToolFault>), AllocError> {
+    input: &mut Watched<R>,
+) -> (Vec<u8>, Option<ToolFault>) {
     let mut all = Vec::new(alloc);
     let mut piece = [0u8; 4];
     for _ in 0..20 {
         match read_some(input, &mut piece) {
-            Ok(0) => return Ok((all, None)),
-            Ok(count) => all.extend_from_slice(&piece[..count])?,
-            Err(fault) => return Ok((all, Some(fault))),
+            Ok(0) => return (all, None),
+            Ok(count) => assert!(rt; all.extend_from_slice(&piece[..count]).is_ok()),
+            Err(fault) => return (all, Some(fault)),
         }
     }
-    Ok((all, None))
+    (all, None)
 }
 
 /// The digits, in pieces of at most four, are read up to this many calls, of which the last finds the end or fails.
-fn reads_digits(
-    rt: &impl Abort,
-    alloc: Global,
-    mut pieces: Pieces<'_>,
-    calls: u64,
-    count: usize,
-) -> Result<(), Fail> {
+fn reads_digits(rt: &impl Abort, alloc: Global, mut pieces: Pieces<'_>, calls: u64, count: usize) {
     let failing = pieces.failing_call > 0;
     let mut input = Watched::new(&mut pieces);
-    let (all, fault) = read_to_end(&mut input, alloc)?;
+    let (all, fault) = read_to_end(rt, alloc, &mut input);
     assert_eq!(rt; fault, failing.then_some(ToolFault::ReadFailed));
     assert_eq!(rt; input.failed(), failing);
     assert_eq!(rt; pieces.calls, calls, "nothing is tried again");
     assert_eq!(rt; all.len(), count);
     assert!(rt; DIGITS.starts_with(all.as_slice()));
-    Ok(())
 }
 
 #[test]
-fn input_is_read_to_its_end(rt: HostRuntime) -> Result<(), Fail> {
+fn input_is_read_to_its_end(rt: HostRuntime) {
     let digits = make_pieces(&DIGITS, 4, 0, ErrorKind::Other);
-    reads_digits(&rt, rt.alloc(), digits, 4, 10)
+    reads_digits(&rt, rt.alloc(), digits, 4, 10);
 }
 
 /// Each read fails in turn.
-fn each_read_fails(rt: &impl Abort, alloc: Global, kind: ErrorKind) -> Result<(), Fail> {
+fn each_read_fails(rt: &impl Abort, alloc: Global, kind: ErrorKind) {
     for (call, count) in [(1, 0), (2, 4), (3, 8), (4, 10)] {
-        reads_digits(rt, alloc, make_pieces(&DIGITS, 4, call, kind), call, count)?;
+        reads_digits(rt, alloc, make_pieces(&DIGITS, 4, call, kind), call, count);
     }
-    Ok(())
 }
 
 #[test]
-fn each_failed_read_ends_the_input(rt: HostRuntime) -> Result<(), Fail> {
-    each_read_fails(&rt, rt.alloc(), ErrorKind::Other)?;
-    each_read_fails(&rt, rt.alloc(), ErrorKind::Interrupted)
+fn each_failed_read_ends_the_input(rt: HostRuntime) {
+    each_read_fails(&rt, rt.alloc(), ErrorKind::Other);
+    each_read_fails(&rt, rt.alloc(), ErrorKind::Interrupted);
 }
 
 #[test]
@@ -110,12 +102,11 @@ fn each_failed_write_ends_the_output(rt: HostRuntime) {
 }
 
 #[test]
-fn an_empty_write_may_take_none(rt: HostRuntime) -> Result<(), Fail> {
+fn an_empty_write_may_take_none(rt: HostRuntime) {
     let mut sink = make_sink(rt.alloc(), 3, 1, None, false);
     let mut output = Watched::new(&mut sink);
-    assert_eq!(rt; output.write(b"")?, 0);
+    assert_eq!(rt; output.write(b"").ok(), Some(0));
     assert!(rt; !output.failed());
-    Ok(())
 }
 
 #[test]
@@ -175,41 +166,30 @@ fn output_is_flushed_before_the_answer(rt: HostRuntime) {
 }
 
 /// The fault has this exit status and text.
-fn is_told(
-    rt: &impl Abort,
-    alloc: Global,
-    fault: ToolFault,
-    status: u8,
-    text: &str,
-) -> Result<(), Fail> {
+fn is_told(rt: &impl Abort, alloc: Global, fault: ToolFault, status: u8, text: &str) {
     assert_eq!(rt; fault.status(), status);
-    assert_eq!(rt; fault.to_string(alloc)?.as_str(), text);
-    Ok(())
+    let told = fault.to_string(alloc).ok().expect(rt, "memory for a text");
+    assert_eq!(rt; told.as_str(), text);
 }
 
 #[test]
-fn faults_of_the_input_are_told(rt: HostRuntime) -> Result<(), Fail> {
+fn faults_of_the_input_are_told(rt: HostRuntime) {
     let alloc = rt.alloc();
-    is_told(&rt, alloc, ToolFault::NotHex(7), 2, "osdp: line 7: not hex")?;
-    is_told(&rt, alloc, ToolFault::TooLong, 2, "osdp: input too long")?;
-    is_told(&rt, alloc, ToolFault::BadWords, 2, "osdp: bad words")?;
-    is_told(
-        &rt,
-        alloc,
-        ToolFault::BadStep(12),
-        2,
-        "osdp: line 12: bad step",
-    )?;
+    is_told(&rt, alloc, ToolFault::NotHex(7), 2, "osdp: line 7: not hex");
+    is_told(&rt, alloc, ToolFault::TooLong, 2, "osdp: input too long");
+    is_told(&rt, alloc, ToolFault::BadWords, 2, "osdp: bad words");
+    let step = ToolFault::BadStep(12);
+    is_told(&rt, alloc, step, 2, "osdp: line 12: bad step");
     let holds = ToolFault::HoldsPacket(0);
-    is_told(&rt, alloc, holds, 2, "osdp: step 0: damage holds a packet")?;
+    is_told(&rt, alloc, holds, 2, "osdp: step 0: damage holds a packet");
     let loud = ToolFault::NotQuiet(67108864);
-    is_told(&rt, alloc, loud, 2, "osdp: step 67108864: line not quiet")
+    is_told(&rt, alloc, loud, 2, "osdp: step 67108864: line not quiet");
 }
 
 #[test]
-fn faults_of_the_host_are_told(rt: HostRuntime) -> Result<(), Fail> {
+fn faults_of_the_host_are_told(rt: HostRuntime) {
     let alloc = rt.alloc();
-    is_told(&rt, alloc, ToolFault::ReadFailed, 3, "osdp: read failed")?;
-    is_told(&rt, alloc, ToolFault::WriteFailed, 3, "osdp: write failed")?;
-    is_told(&rt, alloc, ToolFault::NoMemory, 4, "osdp: no memory")
+    is_told(&rt, alloc, ToolFault::ReadFailed, 3, "osdp: read failed");
+    is_told(&rt, alloc, ToolFault::WriteFailed, 3, "osdp: write failed");
+    is_told(&rt, alloc, ToolFault::NoMemory, 4, "osdp: no memory");
 }

@@ -1,7 +1,5 @@
 mod failures;
-mod rows;
 mod streams;
-mod vectors;
 
 use osdp_tool::Job;
 use osdp_tool_show::{check, show};
@@ -69,13 +67,4 @@ fn expect_told(
 ) {
     let mut input = input;
     expect(rt, &told_from(alloc, job, &mut input), answer, text);
-}
-
-/// `show` of each row's input, its lines apart, prints the row's text, and answers so. A bar stands between the
-/// two, and a semicolon between rows.
-fn expect_rows(rt: &impl Abort, alloc: Global, rows: &str, answer: Result<bool, ToolFault>) {
-    for row in rows.split(';') {
-        let (input, text) = row.split_once('|').expect(rt, "a bar");
-        expect_told(rt, alloc, SHOW_LINES, input.as_bytes(), answer, text);
-    }
 }

@@ -1,4 +1,4 @@
-ghost use Rattle.std.specs.Prelude.{◌≤◌};
+//! Words that are read and printed. Which other words are refused stands in rows of `tests/rows/words.txt` and `tests/rows/largest.txt`.
 
 use osdp_words::{
     ByteList, Fields, Record, byte_list, number_u8, number_u16, number_u32, record, vendor,
@@ -7,20 +7,10 @@ use std::alloc::Global;
 use std::fmt::Display;
 use std::process::Abort;
 
-/// Words that are no number of eight bits, with a bar between each two.
-const NO_NUMBERS: &str = "256|1000||00|01|007|+5|+0|-0|5 | 5|1_0|0x5|A|٣|none";
-
 #[test]
 fn reads_numbers(rt: HostRuntime) {
     for (word, number) in "0 7 10 255".split(' ').zip([0, 7, 10, 255]) {
         assert_eq!(rt; number_u8(word), Some(number), "at {word}");
-    }
-}
-
-#[test]
-fn other_words_are_no_numbers(rt: HostRuntime) {
-    for word in NO_NUMBERS.split('|') {
-        assert_eq!(rt; number_u8(word), None, "at {word}");
     }
 }
 
@@ -60,47 +50,10 @@ fn reads_short_lists_of_bytes(rt: HostRuntime) {
     assert_eq!(rt; byte_list::<0>("none").expect(&rt, "no room").len(), 0);
 }
 
-/// Words that are no list of up to four bytes, with a bar between each two.
-const NO_LISTS: &str =
-    "|0|0A0|0G|G0|/0|:0|@0|`0|0x|+1| 1|None|nonE|NONE|nono|none |0A 0B|0A0B0C4001";
-
 #[test]
-fn other_words_are_no_lists(rt: HostRuntime) {
-    for word in NO_LISTS.split('|') {
-        assert!(rt; byte_list::<4>(word).is_none(), "at {word}");
-    }
+fn refuses_a_byte_too_many(rt: HostRuntime) {
+    assert!(rt; byte_list::<4>("0A0B0C4001").is_none());
     assert!(rt; byte_list::<0>("00").is_none());
-}
-
-/// The word of `count` bytes.
-fn long_word(rt: &impl Abort, alloc: Global, count: usize) -> String {
-    let mut word = String::new(alloc);
-    for _ in 0..count {
-        word.push_str("fE").ok().expect(rt, "memory for a word");
-    }
-    word
-}
-
-/// A list with room for `N` bytes reads a word of `N` bytes, and refuses one of a byte more.
-fn fills_room<const N: usize>(rt: &impl Abort, alloc: Global)
-    requires { N ≤ 1432 }
-{
-    let mut word = long_word(rt, alloc, N);
-    let list = byte_list::<N>(word.as_str()).expect(rt, "a list of the word's bytes");
-    assert_eq!(rt; list.len(), N);
-    word.push_str("fE")
-        .ok()
-        .expect(rt, "memory for a byte more");
-    assert!(rt; byte_list::<N>(word.as_str()).is_none());
-}
-
-/// The rooms of digits, of a maker's data, of a detail and of states.
-#[test]
-fn fills_each_room(rt: HostRuntime) {
-    fills_room::<255>(&rt, rt.alloc());
-    fills_room::<1429>(&rt, rt.alloc());
-    fills_room::<1431>(&rt, rt.alloc());
-    fills_room::<1432>(&rt, rt.alloc());
 }
 
 #[test]
@@ -138,17 +91,6 @@ fn reads_long_records(rt: HostRuntime) {
     let bad = "0:0:2:5:5:1:0:30:1:1:0:2 0:0:2:5:5:1:256:30:1:1:0:2:0 0:0:2:5:5:1:0:65536:1:1:0:2:0";
     for word in bad.split(' ') {
         assert_eq!(rt; record::<13>(word, &LED), None, "at {word}");
-    }
-}
-
-/// Words that are no record of an output, with a bar between each two.
-const NO_OUTPUTS: &str = "|0|0:2|0:2:0:0|:0:2|0:2:|0::0|0:2:0:|:0:2:0|00:2:0|0:2:00|0:+2:0|0:-2:0|\
-    256:2:0|0:256:0|0:2:65536|0;2;0|0:2;0|0: 2:0|none";
-
-#[test]
-fn other_words_are_no_records(rt: HostRuntime) {
-    for word in NO_OUTPUTS.split('|') {
-        assert_eq!(rt; record::<3>(word, &OUTPUT), None, "at {word}");
     }
 }
 

@@ -67,32 +67,38 @@ fn expect_cut(
 /// would find the end.
 #[test]
 fn failed_reads_cut_what_is_told(rt: HostRuntime) {
-    let rows: [(Job, &[u8], Range<u64>, &str); 7] = [
-        (CHECK_LINES, REFUSED, 1..16, ""),
-        (CHECK_LINES, REFUSED, 16..20, REFUSAL),
-        (SHOW_RAW, SKIPPED, 1..2, ""),
-        (SHOW_RAW, SKIPPED, 2..9, SKIP_TEXT),
-        (SHOW_RAW, SKIPPED, 9..10, BOTH_TEXT),
-        (SHOW_JOINED, JOINED_LINES, 1..17, ""),
-        (SHOW_JOINED, JOINED_LINES, 17..18, POLL_TEXT),
-    ];
-    for (job, bytes, calls, text) in rows {
-        expect_cut(&rt, rt.alloc(), job, bytes, calls, text);
-    }
+    let alloc = rt.alloc();
+    expect_cut(&rt, alloc, CHECK_LINES, REFUSED, 1..16, "");
+    expect_cut(&rt, alloc, CHECK_LINES, REFUSED, 16..20, REFUSAL);
+    expect_cut(&rt, alloc, SHOW_RAW, SKIPPED, 1..2, "");
+    expect_cut(&rt, alloc, SHOW_RAW, SKIPPED, 2..9, SKIP_TEXT);
+    expect_cut(&rt, alloc, SHOW_RAW, SKIPPED, 9..10, BOTH_TEXT);
+    expect_cut(&rt, alloc, SHOW_JOINED, JOINED_LINES, 1..17, "");
+    expect_cut(&rt, alloc, SHOW_JOINED, JOINED_LINES, 17..18, POLL_TEXT);
+}
+
+/// The bytes come one a read, until the read of this number, which is not tried.
+fn expect_whole(
+    rt: &impl Abort,
+    alloc: Global,
+    job: Job,
+    bytes: &[u8],
+    call: u64,
+    answer: Result<bool, ToolFault>,
+    text: &str,
+) {
+    let shown = told_from(alloc, job, &mut one_a_read(bytes, call));
+    expect(rt, &shown, answer, text);
 }
 
 /// The end is found once, and no read of a later number is tried.
 #[test]
 fn bytes_one_a_read_are_told_whole(rt: HostRuntime) {
-    let rows: [(Job, &[u8], u64, Result<bool, ToolFault>, &str); 3] = [
-        (CHECK_LINES, REFUSED, 20, Ok(true), COUNTED),
-        (SHOW_RAW, SKIPPED, 10, Ok(false), BOTH_TEXT),
-        (SHOW_JOINED, JOINED_LINES, 18, Ok(false), POLL_TEXT),
-    ];
-    for (job, bytes, call, answer, text) in rows {
-        let shown = told_from(rt.alloc(), job, &mut one_a_read(bytes, call));
-        expect(&rt, &shown, answer, text);
-    }
+    let alloc = rt.alloc();
+    expect_whole(&rt, alloc, CHECK_LINES, REFUSED, 20, Ok(true), COUNTED);
+    expect_whole(&rt, alloc, SHOW_RAW, SKIPPED, 10, Ok(false), BOTH_TEXT);
+    let joined = JOINED_LINES;
+    expect_whole(&rt, alloc, SHOW_JOINED, joined, 18, Ok(false), POLL_TEXT);
 }
 
 #[test]
@@ -134,19 +140,4 @@ fn a_check_tells_each_failed_write(rt: HostRuntime) {
     expect(&rt, &whole, Ok(true), COUNTED);
     let unflushed = checked_to(rt.alloc(), 0, None, true);
     expect(&rt, &unflushed, Err(ToolFault::WriteFailed), COUNTED);
-}
-
-#[test]
-fn a_comment_is_counted_as_a_line(rt: HostRuntime) {
-    let alloc = rt.alloc();
-    let lines = b"# a capture\n\n5\n";
-    expect_told(&rt, alloc, SHOW_LINES, lines, Err(ToolFault::NotHex(3)), "");
-    expect_told(
-        &rt,
-        alloc,
-        SHOW_JOINED,
-        lines,
-        Err(ToolFault::NotHex(3)),
-        "",
-    );
 }

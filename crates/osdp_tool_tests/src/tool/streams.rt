@@ -1,4 +1,4 @@
-//! Streams that fail, and inputs past the limit.
+//! Streams that fail, inputs past the limit, and a text that is longer than the room in which it is gathered.
 
 ghost use Rattle.std.specs.Prelude.{◌<◌};
 
@@ -161,4 +161,21 @@ fn lines_past_the_limit_are_told(rt: HostRuntime) {
     expect(&rt, &shown, Err(ToolFault::TooLong), two);
     let shown = shown_within(alloc, Form::Apart, 8, lines);
     expect(&rt, &shown, Err(ToolFault::NotHex(3)), two);
+}
+
+/// What is shown of so many bytes 0xFE.
+fn skipped_text(rt: &impl Abort, alloc: Global, count: u64) -> String {
+    let mut text = String::new(alloc);
+    for place in 0..count {
+        let line = write!(text, "1:{place} skip FE\n");
+        line.ok().expect(rt, "memory for a line");
+    }
+    text
+}
+
+#[test]
+fn long_texts_are_written_whole(rt: HostRuntime) {
+    let noise = [0xFEu8; 9000];
+    let text = skipped_text(&rt, rt.alloc(), 9000);
+    expect_told(&rt, rt.alloc(), SHOW_RAW, &noise, Ok(false), text.as_str());
 }
