@@ -1,16 +1,13 @@
 -- What was printed where a write failed.
-use Rattle.std.proofs.Common.{◌≡◌, ◌||◌, ℕ, Bool, true, false, is_err, List, [], ◌++◌, take, drop, take-append-drop, Option, Result, Ok, Err, OnOk, OnErr, IfOk, inl, inr, refl, sym, subst, ap, ◌∙◌, append-nil}
+use Rattle.std.proofs.Common.{◌≡◌, ◌||◌, ℕ, Bool, true, false, is_err, List, ◌++◌, take, drop, take-append-drop, Option, Result, Ok, Err, OnOk, OnErr, inr, sym, subst, ap, ◌∙◌}
 use Rattle.std.specs.Prelude.{IsOkUnless}
-use Rattle.std.specs.Io.KnownBytes.{Appends, Keeps}
-use Rattle.std.proofs.KnownBytes.{Appends-kept}
+use Rattle.std.specs.Io.KnownBytes.{Appends}
 use Rattle.osdp_tool_streams.specs.Watched.{AppendsPart}
 use Rattle.osdp_tool_streams.specs.declared.fault.ToolFault.{ToolFault}
-use Rattle.osdp_tool_streams.specs.declared.fault.ToolFault.TheVariants.{NotHex, TooLong, BadWords, BadStep}
-use Rattle.osdp_tool_streams.specs.declared.fault.ToolFault.TheVariants.{HoldsPacket, NotQuiet, ReadFailed}
-use Rattle.osdp_tool_streams.specs.declared.fault.ToolFault.TheVariants.{WriteFailed, NoMemory}
+use Rattle.osdp_tool_streams.specs.declared.fault.ToolFault.TheVariants.{WriteFailed}
 use Rattle.osdp_tool.specs.declared.order.PacketOrder.{PacketOrder}
 use Rattle.osdp_tool.specs.PacketOrder.{order_line}
-use Rattle.osdp_tool.specs.Ending.{Ends, Order, Printed, PrintedPart, PrintedSome}
+use Rattle.osdp_tool.specs.Ending.{Ends, Order, PrintedSome}
 
 pub part_printed : (given : List (List ℕ)) (order : PacketOrder) (before after : Option (List ℕ)) (bytes : List ℕ) → Order given order
     → bytes ≡ order_line order → AppendsPart before after bytes → PrintedSome given before after

@@ -11,6 +11,12 @@ use osdp_frame::{Address, CheckKind, Frame, MAX_BODY, Seq};
 use osdp_msg::{Command, MAX_MESSAGE, Reply};
 use osdp_words::number_u8;
 
+/// A packet by words has no security block.
+const NO_BLOCK: bool = false;
+
+/// Its reserved bits are clear.
+const NO_RESERVED_BITS: u8 = 0;
+
 /// What a packet carries.
 #[derive(Debug, Drop)]
 pub enum Message {
@@ -103,8 +109,8 @@ impl PacketOrder {
             address,
             seq,
             self.check,
-            false,
-            0,
+            NO_BLOCK,
+            NO_RESERVED_BITS,
             body,
         );
         made.unwrap()

@@ -1,4 +1,4 @@
-use Rattle.std.proofs.Common.{◌≡◌, ◌∙◌}
+use Rattle.std.proofs.Common.{◌∙◌}
 use Rattle.osdp_tool_streams.specs.Watched.{inner_of, has_failed}
 use Rattle.osdp_words.specs.Word.{texts}
 use Rattle.osdp_tool.proofs.Printing.{line_written}
