@@ -85,13 +85,24 @@ module _ {H : Type 0} (answer_of : H → Command → Answer) (after : H → Comm
   fit_then [] more n first last = last
   fit_then (m ∷ ms) more n first last = (first.0, fit_then ms more (after_net answer_of after m n) first.1 last)
 
-  pub then_reaches : (a b c : Net H) → Reaches a b → Reaches b c → Reaches a c
-  then_reaches a b c x y = record {
-    moves = x.moves ++ y.moves;
-    fit = fit_then x.moves y.moves a x.fit (subst (NetMovesFit answer_of after y.moves) (sym x.run) y.fit);
-    run = run_then x.moves y.moves a ∙ ap (run answer_of after y.moves) x.run ∙ y.run;
-    plain = each_append IsPlain x.moves y.moves x.plain y.plain;
+  -- moves, and then more
+  pub record Joins (a c : Net H) (ms : List (NetMove H)) : Type 0 where
+    pub reached : Reaches a c
+    pub are : reached.moves ≡ ms
+
+  pub joins : (a b c : Net H) (x : Reaches a b) (y : Reaches b c) → Joins a c (x.moves ++ y.moves)
+  joins a b c x y = record {
+    reached = record {
+      moves = x.moves ++ y.moves;
+      fit = fit_then x.moves y.moves a x.fit (subst (NetMovesFit answer_of after y.moves) (sym x.run) y.fit);
+      run = run_then x.moves y.moves a ∙ ap (run answer_of after y.moves) x.run ∙ y.run;
+      plain = each_append IsPlain x.moves y.moves x.plain y.plain;
+    };
+    are = refl;
   }
+
+  pub then_reaches : (a b c : Net H) → Reaches a b → Reaches b c → Reaches a c
+  then_reaches a b c x y = (joins a b c x y).reached
 
   pub one_move : (move : NetMove H) (n : Net H) → IsPlain move → NetMoveFits answer_of after move n → Reaches n (after_net answer_of after move n)
   one_move move n plain fits = record { moves = move ∷ []; fit = (fits, tt); run = refl; plain = (plain, tt) }
@@ -104,19 +115,12 @@ module _ {H : Type 0} (answer_of : H → Command → Answer) (after : H → Comm
   rests_there : (n : Net H) → Rests n n
   rests_there n = record { reached = record { moves = []; fit = tt; run = refl; plain = tt }; still = tt }
 
+  pub both_still : (a b c : Net H) (x : Reaches a b) (y : Reaches b c) → Each IsStill x.moves → Each IsStill y.moves → Each IsStill (joins a b c x y).reached.moves
+  both_still a b c x y first second = subst (Each IsStill) (sym (joins a b c x y).are) (each_append IsStill x.moves y.moves first second)
+
   pub then_rests : (a b c : Net H) → Rests a b → Rests b c → Rests a c
   then_rests a b c p q =
-      let x = p.reached in
-      let y = q.reached in
-      record {
-        reached = record {
-          moves = x.moves ++ y.moves;
-          fit = fit_then x.moves y.moves a x.fit (subst (NetMovesFit answer_of after y.moves) (sym x.run) y.fit);
-          run = run_then x.moves y.moves a ∙ ap (run answer_of after y.moves) x.run ∙ y.run;
-          plain = each_append IsPlain x.moves y.moves x.plain y.plain;
-        };
-        still = each_append IsStill x.moves y.moves p.still q.still;
-      }
+      record { reached = (joins a b c p.reached q.reached).reached; still = both_still a b c p.reached q.reached p.still q.still }
 
   pub one_rest : (move : NetMove H) (n : Net H) → IsPlain move → IsStill move → NetMoveFits answer_of after move n → Rests n (after_net answer_of after move n)
   one_rest move n plain still fits = record { reached = record { moves = move ∷ []; fit = (fits, tt); run = refl; plain = (plain, tt) }; still = (still, tt) }

@@ -13,15 +13,15 @@ use Rattle.osdp_link_laws.proofs.Stages.{Each}
 use Rattle.osdp_reader.specs.State.{ReaderState}
 use Rattle.osdp_reader.specs.Table.{hears, kind_of}
 use Rattle.osdp_reader.specs.declared.handler.Answer.{Answer}
-use Rattle.osdp_shared_line.specs.Addresses.{NetMovesFit, in_front}
+use Rattle.osdp_shared_line.specs.Addresses.{in_front}
 use Rattle.osdp_shared_line.specs.Line as line
-use Rattle.osdp_shared_line.specs.Line.{Net, Site, ToReader, after_net, changed, left_by, link_of, run, site_at, tagged}
+use Rattle.osdp_shared_line.specs.Line.{Net, Site, ToReader, after_net, changed, left_by, link_of, site_at, tagged}
 use Rattle.osdp_shared_line.proofs.Sites.{at_changed, some_same}
 use Rattle.osdp_calls.specs.Calls.{answers, by_device, first_answered, last_of, reply_to}
 use Rattle.osdp_calls.specs.Lines.{Burst, InUse, Opening, Station, ahead_of_device, is_past_for_device}
 use Rattle.osdp_calls.specs.Premises.{AreSaid}
 use Rattle.osdp_calls.proofs.Ahead.{AreWithin, device_front, device_further, device_told_device, device_told_panel, from_device}
-use Rattle.osdp_calls.proofs.Losing.{IsPlain, IsStill, Rests, changed_twice, fit_then, lose_to_reader, run_then, then_reaches, with_coming}
+use Rattle.osdp_calls.proofs.Losing.{IsStill, Rests, both_still, changed_twice, joins, lose_to_reader, then_reaches, with_coming}
 use Rattle.osdp_calls.proofs.Matching.{FoundAt, Nobody, Somebody, changed_same, found, matched, set_station}
 use Rattle.osdp_calls.proofs.Replying.{IsReply, hears_replies, reader_with, silent_to_replies}
 use Rattle.osdp_calls.proofs.Same.{IsNetOf, IsRightly, IsSiteOf}
@@ -191,18 +191,8 @@ module _ {H : Type 0} where
         let q = f x.net x.same in
         let y = q.refines in
         record {
-          refines = record {
-            net = y.net;
-            reached = record {
-              moves = x.reached.moves ++ y.reached.moves;
-              fit = fit_then answer_of after x.reached.moves y.reached.moves n x.reached.fit
-                  (subst (NetMovesFit answer_of after y.reached.moves) (sym x.reached.run) y.reached.fit);
-              run = run_then answer_of after x.reached.moves y.reached.moves n ∙ ap (run answer_of after y.reached.moves) x.reached.run ∙ y.reached.run;
-              plain = each_append IsPlain x.reached.moves y.reached.moves x.reached.plain y.reached.plain;
-            };
-            same = y.same;
-          };
-          made = each_append IsStill x.reached.moves y.reached.moves p.made q.made;
+          refines = record { net = y.net; reached = (joins answer_of after n x.net y.net x.reached y.reached).reached; same = y.same };
+          made = both_still answer_of after n x.net y.net x.reached y.reached p.made q.made;
         }
 
     last_within : (said : List Burst) (ps : List Packet) (places : List ℕ) (before : ℕ) → before ≤ length said → AreSaid said ps places before

@@ -26,14 +26,13 @@ use Rattle.osdp_link_laws.proofs.Stages.{Each}
 use Rattle.osdp_reader.specs.declared.handler.Answer.{Answer}
 use Rattle.osdp_shared_line.specs.Line as line
 use Rattle.osdp_shared_line.specs.Line.{Net, NetMove, Reopen, Site, Tick, address_of, after_net, changed, is_told, run, site_at, tagged}
-use Rattle.osdp_shared_line.specs.Addresses.{NetMovesFit}
 use Rattle.osdp_shared_line.specs.Views.{IsQuiet}
 use Rattle.osdp_shared_line.proofs.Sites.{at_changed, some_same}
 use Rattle.osdp_calls.specs.Calls.{all_hear, begins_session, begins_with, begun_of, change_at, changes_at, panel_says, waiting_of}
 use Rattle.osdp_calls.specs.Lines.{InUse, Opening, Station}
 use Rattle.osdp_calls.proofs.Ahead.{device_quiet, from_panel, panel_quiet, panel_told_device, panel_told_panel}
 use Rattle.osdp_calls.proofs.Controllers.{equal_same, opened_ticks, saw, ticked_same, ticks_same}
-use Rattle.osdp_calls.proofs.Losing.{IsPlain, IsStill, changed_twice, fit_then, run_then}
+use Rattle.osdp_calls.proofs.Losing.{IsStill, changed_twice, joins}
 use Rattle.osdp_calls.proofs.Matching.{FoundAt, Match, Nobody, Somebody, changed_same, found, matched_map, set}
 use Rattle.osdp_calls.proofs.Nexts.{within_more, length_more}
 use Rattle.osdp_calls.proofs.Opens.{opens}
@@ -324,21 +323,12 @@ module _ {H : Type 0} where
         let x = quiet.refines in
         let begins = by_found x.net x.same (found (Sites lo) k l.bus.devices.entries l.stations x.net.sites x.same.sites) in
         let y = begins.refines in
+        let both = joins answer_of after n x.net y.net x.reached y.reached in
         record {
-          refines = record {
-            net = y.net;
-            reached = record {
-              moves = x.reached.moves ++ y.reached.moves;
-              fit = fit_then answer_of after x.reached.moves y.reached.moves n x.reached.fit
-                  (subst (NetMovesFit answer_of after y.reached.moves) (sym x.reached.run) y.reached.fit);
-              run = run_then answer_of after x.reached.moves y.reached.moves n ∙ ap (run answer_of after y.reached.moves) x.reached.run ∙ y.reached.run;
-              plain = each_append IsPlain x.reached.moves y.reached.moves x.reached.plain y.reached.plain;
-            };
-            same = y.same;
-          };
+          refines = record { net = y.net; reached = both.reached; same = y.same };
           made = Opens k began (opening_packet d.controller) begins.made.site x.net x.reached.moves refl (ap begun_of b ∙ begun)
               (ap (λ o. (ticks_with k o l.bus).sent) a ∙ ap (λ (z : Ticked). z.step.frame) ticked) quiet.made x.reached.run begins.made.there
-              begins.made.closed (ap (λ ms. x.reached.moves ++ ms) begins.made.are);
+              begins.made.closed (both.are ∙ ap (λ ms. x.reached.moves ++ ms) begins.made.are);
         }
       where
         by_found : (m : Net H) → IsNetOf (record l { openings = opening_of k d l ∷ l.openings }) m
