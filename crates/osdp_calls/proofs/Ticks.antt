@@ -1,7 +1,7 @@
 -- A tick of the bus: runs that are over are read, and then the controller of an entry ticks, or none.
 use Rattle.std.proofs.Common.{◌||◌, ℕ, not, Bool, true, false, cond, List, [], ◌∷◌, ◌++◌, Option, Some, None, sym, subst, ap, ◌∙◌, append-nil}
 use Rattle.osdp_msg.specs.declared.command.Command.{Command}
-use Rattle.osdp_bus.specs.Buses.{BusState, has_report, holder, seen}
+use Rattle.osdp_bus.specs.Buses.{has_report, holder, seen}
 use Rattle.osdp_bus.specs.Hearing.{ends_run}
 use Rattle.osdp_bus.specs.Ticking.{BusTicked, bus_ticks, is_due_at, is_held_and_due, next_due, stays, ticks_at, ticks_by}
 use Rattle.osdp_bus_laws.specs.Reports.{told_by_end, told_by_holder, told_by_silence, told_by_tick, told_by_ticking}

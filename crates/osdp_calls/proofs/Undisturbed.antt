@@ -1,5 +1,5 @@
 -- Call by call, the accounts of an entry that nobody disturbs.
-use Rattle.std.proofs.Common.{◌≡◌, ◌≢◌, ℕ, zero, suc, max, Bool, true, false, List, [], ◌∷◌, ◌++◌, length, All, Option, Some, None, refl, sym, subst, ap, ◌∙◌, inl, inr}
+use Rattle.std.proofs.Common.{◌≡◌, ◌≢◌, ℕ, max, Bool, true, false, List, [], ◌∷◌, ◌++◌, length, Option, Some, None, refl, sym, subst, ap, ◌∙◌, inl, inr}
 use Rattle.std.specs.Prelude.{◌==◌}
 use Rattle.osdp_frame.specs.Packet.{Packet}
 use Rattle.osdp_msg.specs.declared.command.Command.{Command}
@@ -28,7 +28,7 @@ use Rattle.osdp_reader.specs.declared.kind.Kind.{Kind}
 use Rattle.osdp_reader.specs.declared.kind.Kind.TheVariants as kind
 use Rattle.osdp_shared_line.specs.Line.{site_at}
 use Rattle.osdp_shared_line.proofs.Sites.{changed_from}
-use Rattle.osdp_calls.specs.Calls.{Call, NewDevice, NewPanel, Next, OfPanel, Pending, SetBusy, SetHandler, Silence, Step, SubmitEvent, Take, TickDevice, after_call, after_calls, after_next, all_hear, answers, asked_at, begins_session, begins_with, begun_of, change_at, changes_at, first_answered, hears_of, is_to_begin, issues, last_of, made_anew, nexts, noted, panel_says, queues, read_up_to, said_at, takes_back, waiting_of, withdrawn}
+use Rattle.osdp_calls.specs.Calls.{Call, NewDevice, NewPanel, Next, OfPanel, Pending, SetBusy, SetHandler, Silence, Step, SubmitEvent, Take, TickDevice, after_call, after_calls, all_hear, answers, asked_at, begins_session, begins_with, begun_of, change_at, changes_at, first_answered, hears_of, is_to_begin, issues, last_of, made_anew, nexts, noted, panel_says, queues, read_up_to, said_at, takes_back, waiting_of, withdrawn}
 use Rattle.osdp_calls.specs.Lines.{InUse, Station}
 use Rattle.osdp_calls.specs.Premises.{IsSetUp}
 use Rattle.osdp_calls.specs.Undisturbed.{IsOrdinaryOf, LeavesCommandsOf, OrdinaryCallsDisturbNone}
