@@ -6,3 +6,4 @@ pub mod Turning
 pub mod Pieces
 pub mod Sets
 pub mod Staying
+pub mod Moments

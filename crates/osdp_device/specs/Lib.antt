@@ -5,6 +5,8 @@ pub mod Telling
 pub mod Hearing
 pub mod Status
 pub mod Program
+pub mod Moments
 pub mod Deciding
+pub mod Sending
 pub mod Orders
 pub mod DecidingLaws

@@ -1,6 +1,6 @@
 //! A device whose program decides what is said to each command that the reader doesn't answer by itself.
 
-ghost use Rattle.std.specs.Prelude.{◌≡◌, ◌↔◌, IfErr, IsOk, None, OnOk, true};
+ghost use Rattle.std.specs.Prelude.{◌≡◌, ◌↔◌, IfErr, IsOk, IsSome, None, OnOk, true};
 ghost use Rattle.std.specs.Option.{option_map};
 ghost use Rattle.osdp_frame.specs.Reading.{PacketItem};
 ghost use Rattle.osdp_reader.specs.declared.config.ReaderConfig.{ReaderConfig as Configured};
@@ -13,6 +13,7 @@ ghost use Rattle.osdp_device.specs.declared.program.Question.TheVariants.{Answer
 
 use crate::device::Device;
 use crate::program::{ProgramAnswers, Question};
+use crate::unsent::Unsent;
 use osdp_frame::{FrameView, Item};
 use osdp_msg::{Command, MsgFault};
 use osdp_reader::{Answer, Handler, Kind, Reader, Response};
@@ -100,8 +101,10 @@ impl Device<ProgramAnswers> {
     }
 
     /// Takes bytes that have come up to a moment, as `take` does, and then does as `settle`. The next turn takes those that weren't taken, at
-    /// the same moment, until all are taken and nothing more comes of it.
-    pub fn turn(&mut self, bytes: &[u8], now: u64, turn: &mut Turn)
+    /// the same moment, until all are taken and nothing more comes of it. Where something is said, its bytes are told as unsent: they go out before
+    /// the next turn.
+    pub fn turn(&mut self, bytes: &[u8], now: u64, turn: &mut Turn) -> Option<Unsent>
+        ensures unsent { IsSome result ↔ IsSome turn.new.response }
         ensures taken { turn.new.taken ≡ count_taken bytes.now now self.old.line }
         ensures pending { turn.new.pending ≡ (turned self.old.reader (after_take bytes.now now self.old.line).held).pending }
         ensures said { option_map said_in turn.new.response ≡ (turned self.old.reader (after_take bytes.now now self.old.line).held).said }
@@ -110,6 +113,7 @@ impl Device<ProgramAnswers> {
     {
         turn.taken = self.take(bytes, now);
         self.settle(turn);
+        Unsent::of(turn)
     }
 
     /// Answers the next packet. What was asked and set is gone with it.

@@ -8,6 +8,7 @@ ghost use Rattle.osdp_reader.specs.State.{ReaderState};
 ghost use Rattle.osdp_device.specs.Deciding.{pending_of};
 ghost use Rattle.osdp_device.specs.DecidingLaws.{IsSaidOnce, RepeatsWhatIsStored, SaysItToNoOther, SaysWhatWasSet, StaysPending, StopsFirst};
 ghost use Rattle.osdp_device.specs.Hearing.{IsAllRead, NeedsFewerTurns, TakesInTurn, hears_bytes, reads_all, then_hears};
+ghost use Rattle.osdp_device.specs.Moments.{MomentsAreSeen, RunsAreReadAtTheirEnd};
 ghost use Rattle.osdp_device.specs.Receiving.{IsReceived, Received};
 ghost use Rattle.osdp_device.specs.Saying.{said_to};
 ghost use Rattle.osdp_device.specs.Silences.{SilencesEndRuns};
@@ -61,6 +62,18 @@ pub fn hears_nothing_in_no_bytes<H: Handler>()
 /// one.
 pub fn silences_end_runs()
     ensures { (l : Received) → IsReceived l → SilencesEndRuns l }
+{}
+
+/// Bytes, also none of them, a tick and a silence leave the greater one of their moment and the greatest seen as the greatest. To read what is
+/// held moves no moment.
+pub fn moments_are_seen<H: Handler>()
+    ensures { (r : ReaderState H) (l : Received) → MomentsAreSeen H.answer_of H.after r l }
+{}
+
+/// A run that has ended is read, all of what is held of it, by the call that ends it: a silence, a tick or bytes once the gap has passed, to the
+/// millisecond. Within the gap a tick reads what the bytes decide, and the run goes on.
+pub fn runs_are_read_at_their_end<H: Handler>()
+    ensures { (r : ReaderState H) (l : Received) → IsReceived l → RunsAreReadAtTheirEnd H.answer_of H.after r l }
 {}
 
 /// Where a reader answers a packet anew, what it sends is a NAK by its sixth byte exactly where the reply is one. So a command is told as

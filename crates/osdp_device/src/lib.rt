@@ -37,6 +37,7 @@ mod order;
 mod program;
 mod receiver;
 mod status;
+mod unsent;
 
 pub use deciding::Turn;
 pub use device::{Device, again, taken};
@@ -50,3 +51,4 @@ pub use osdp_reader::{Answer, Handler, Kind, Reader, ReaderConfig, ReaderFault, 
 pub use program::{ProgramAnswers, Question};
 pub use receiver::Receiver;
 pub use status::DeviceStatus;
+pub use unsent::Unsent;

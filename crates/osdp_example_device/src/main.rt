@@ -1,5 +1,4 @@
-//! A device with two outputs at address 5, called by lines (`osdp_example_lines`). A line `card 12345640` says that a card was read. A line is answered by
-//! `send` and the bytes that go out, by `on` and each output that is switched on, and last by `done`.
+//! A device with two outputs at address 5, by lines (`osdp_example_lines`). `card 12345640` is a card. It answers `send` and bytes, `on` and an output, `done`.
 #![tactic(auto)]
 
 use arrayvec::ArrayVec;
@@ -49,9 +48,8 @@ fn decide(device: &mut Doors, command: &Command) {
     }
 }
 
-/// What the device says goes out, and then it does what it is to do.
-fn take(rt: &HostRuntime, response: &Response) -> io::Result<()> {
-    send(rt, response.bytes())?;
+/// Does what the device is to do.
+fn act(rt: &HostRuntime, response: &Response) -> io::Result<()> {
     if let (Order::Once, Some(Command::Output(out))) = (order_of(response), ordered(response)) {
         for record in out.records().iter().filter(|record| record.control == 5) {
             println!(rt; "on {}", record.output)?;
@@ -65,11 +63,13 @@ fn hear(rt: &HostRuntime, device: &mut Doors, mut bytes: &[u8], now: u64) -> io:
     let mut turn = Turn::new();
     device.tick(now);
     for _ in 0..10_000 {
-        device.turn(bytes, now, &mut turn);
+        if let Some(unsent) = device.turn(bytes, now, &mut turn) {
+            send(rt, unsent.bytes(&turn))?;
+        }
         bytes = &bytes[turn.taken..];
         match (&turn.pending, &turn.response) {
             (Some(command), _) => decide(device, command),
-            (None, Some(response)) => take(rt, response)?,
+            (None, Some(response)) => act(rt, response)?,
             (None, None) if bytes.is_empty() => break,
             (None, None) => {}
         }

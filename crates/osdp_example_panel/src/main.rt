@@ -1,5 +1,5 @@
-//! A panel that opens a door for two cards, called by lines (`osdp_example_lines`). The door is the device at address 5. A turn is answered by what the
-//! panel reports, by `send` and the bytes that go out, where there are some, and last by `due` and the moment of the next turn, or `due none`.
+//! A panel that opens a door for two cards, called by lines (`osdp_example_lines`). The door is the device at address 5. A turn is answered by
+//! `send` and the bytes that go out, where there are some, by what the panel reports, and last by `due` and the moment of the next turn, or `due none`.
 #![tactic(auto)]
 
 use osdp_example_lines::{Line, read_line, send, tell_due};
@@ -63,13 +63,12 @@ fn decide(panel: &mut Panel, report: &Report, now: u64) -> Option<u64> {
 /// Takes a turn, and tells what comes of it. The moment at which the door's session is to begin again, if it has ended.
 fn turn(rt: &HostRuntime, panel: &mut Panel, bytes: &[u8], now: u64) -> io::Result<Option<u64>> {
     let (mut turn, mut begins) = (Turn::new(), None);
-    panel.turn(bytes, now, &mut turn);
+    if let Some(unsent) = panel.turn(bytes, now, &mut turn) {
+        send(rt, unsent.bytes(&turn))?;
+    }
     for (_, report) in [&turn.heard, &turn.ticked].into_iter().flatten() {
         begins = decide(panel, report, now).or(begins);
         println!(rt; "report {report:?}")?;
-    }
-    if let Some(burst) = &turn.burst {
-        send(rt, burst.as_slice())?;
     }
     Ok(begins)
 }

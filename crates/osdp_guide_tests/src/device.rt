@@ -3,7 +3,7 @@
 use arrayvec::ArrayVec;
 use osdp_device::{
     Address, Capability, Command, Device, Event, Keypad, MAX_DATA, Order, OutputRecord, PdCap,
-    PdId, ProgramAnswers, Raw, Reader, ReaderConfig, Response, Turn, order_of, ordered,
+    PdId, ProgramAnswers, Raw, Reader, ReaderConfig, Response, Turn, Unsent, order_of, ordered,
 };
 use std::alloc::Global;
 
@@ -137,22 +137,23 @@ fn pass(device: &mut Device<ProgramAnswers>, relays: &mut Relays, now: u64) {
     }
 }
 
-/// The device's loop, once: it reads, answers, and acts. What it writes is the response of the turn.
+/// The device's loop, once: it reads, answers, and acts. What it sends is told as unsent.
 pub fn device_turn(
     device: &mut Device<ProgramAnswers>,
     relays: &mut Relays,
     bytes: &[u8],
     now: u64,
     turn: &mut Turn,
-) {
+) -> Option<Unsent> {
     pass(device, relays, now);
     device.tick(now);
-    device.turn(bytes, now, turn);
-    if turn.pending.is_some() {
+    let unsent = match device.turn(bytes, now, turn) {
         // nothing else is set for the command, so the status answers it
-        device.turn(&[], now, turn);
-    }
+        None if turn.pending.is_some() => device.turn(&[], now, turn),
+        unsent => unsent,
+    };
     if let Some(response) = &turn.response {
         act(relays, response, now);
     }
+    unsent
 }

@@ -2,9 +2,16 @@
 
 use crate::device::{Relays, card_was_read, device_turn, new_device};
 use crate::panel::{new_panel, panel_turn};
+use arrayvec::ArrayVec;
 use osdp_device::{Device, ProgramAnswers};
 use osdp_panel::{Address, Entry, Panel};
 use std::process::Abort;
+
+/// What stands on the line, in place of what stood there.
+fn carry(line: &mut ArrayVec<u8, 1440>, bytes: &[u8]) {
+    line.clear();
+    let _ = line.try_extend_from_slice(bytes);
+}
 
 /// The line from a moment on, in steps of ten milliseconds, up to another.
 fn run(
@@ -17,18 +24,17 @@ fn run(
 ) {
     let mut asked = osdp_panel::Turn::new();
     let mut told = osdp_device::Turn::new();
+    let (mut there, mut back) = (ArrayVec::new(), ArrayVec::new());
     for step in from / 10..until / 10 {
         let now = step * 10;
-        let back = match &told.response {
-            Some(response) => response.bytes(),
-            None => &[],
-        };
-        panel_turn(panel, door, back, now, &mut asked);
-        let bytes = match &asked.burst {
-            Some(burst) => burst.as_slice(),
-            None => &[],
-        };
-        device_turn(device, relays, bytes, now, &mut told);
+        match panel_turn(panel, door, back.as_slice(), now, &mut asked) {
+            Some(unsent) => carry(&mut there, unsent.bytes(&asked)),
+            None => there.clear(),
+        }
+        match device_turn(device, relays, there.as_slice(), now, &mut told) {
+            Some(unsent) => carry(&mut back, unsent.bytes(&told)),
+            None => back.clear(),
+        }
     }
 }
 

@@ -2,7 +2,7 @@
 
 use osdp_panel::{
     Address, BusConfig, BusFault, CheckKind, Command, Entry, Event, OutputRecord, Outputs, Panel,
-    Raw, Report, Turn,
+    Raw, Report, Turn, Unsent,
 };
 use std::alloc::Global;
 
@@ -55,10 +55,17 @@ pub fn decide(panel: &mut Panel, door: Entry, report: &Report, now: u64) {
     }
 }
 
-/// The panel's loop, once: it reads, takes its turn, and decides. What it writes is the burst of the turn.
-pub fn panel_turn(panel: &mut Panel, door: Entry, bytes: &[u8], now: u64, turn: &mut Turn) {
-    panel.turn(bytes, now, turn);
+/// The panel's loop, once: it reads, takes its turn, and decides. What it sends is told as unsent.
+pub fn panel_turn(
+    panel: &mut Panel,
+    door: Entry,
+    bytes: &[u8],
+    now: u64,
+    turn: &mut Turn,
+) -> Option<Unsent> {
+    let unsent = panel.turn(bytes, now, turn);
     for (_, report) in [&turn.heard, &turn.ticked].into_iter().flatten() {
         decide(panel, door, report, now);
     }
+    unsent
 }

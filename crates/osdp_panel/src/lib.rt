@@ -11,8 +11,9 @@
 //! loop {
 //!     // waits for bytes, at most until the moment that the last turn gave; a read that timed out gave none
 //!     let count = port.read(&mut buffer).unwrap_or(0);
-//!     panel.turn(&buffer[..count], clock.now(), &mut turn);
-//!     if let Some(burst) = &turn.burst { .. write it all, and flush .. }
+//!     if let Some(unsent) = panel.turn(&buffer[..count], clock.now(), &mut turn) {
+//!         .. unsent.bytes(&turn) is written, all of it, and flushed ..
+//!     }
 //!     for (entry, report) in [&turn.heard, &turn.ticked].into_iter().flatten() { .. the panel's own code .. }
 //! }
 //! ```
@@ -24,6 +25,7 @@
 
 pub mod laws;
 mod panel;
+mod unsent;
 
 ghost use Rattle.std.specs.Prelude.{◌≡◌, None};
 ghost use Rattle.osdp_bus.specs.Deadlines.{IsDeadline};
@@ -38,6 +40,7 @@ pub use osdp_msg::{
     MakerMessage, MsgFault, NakReason, OutputRecord, Outputs, PdCap, PdId, Raw, Reply, Text,
 };
 pub use panel::Panel;
+pub use unsent::Unsent;
 
 /// What a turn of the loop came to.
 #[derive(Debug, Drop)]

@@ -1,6 +1,6 @@
 //! A panel, whose turns write into what its program has.
 
-ghost use Rattle.std.specs.Prelude.{◌≡◌, IfErr, None, OnOk, Some, length, option_map};
+ghost use Rattle.std.specs.Prelude.{◌≡◌, ◌↔◌, IfErr, IsSome, None, OnOk, Some, length, option_map};
 ghost use Rattle.osdp_bus.specs.Buses.{device_of};
 ghost use Rattle.osdp_bus.specs.Deadlines.{IsDeadline};
 ghost use Rattle.osdp_bus.specs.Devices.{address_of};
@@ -10,6 +10,7 @@ ghost use Rattle.osdp_controller.specs.States.{is_closed};
 ghost use Rattle.osdp_panel.specs.Turns.{after_turn, heard_in, ticked_in};
 
 use crate::Turn;
+use crate::unsent::Unsent;
 use osdp_bus::{Bus, BusConfig, BusFault, Entry};
 use osdp_frame::Address;
 use osdp_msg::Command;
@@ -90,8 +91,9 @@ impl Panel {
     }
 
     /// One turn of the loop: hears what a read of the port gave, ticks at the moment after the read, and puts what is to be done into `turn`, in
-    /// place of what stands there. Its burst goes out before the next turn.
-    pub fn turn(&mut self, bytes: &[u8], now: u64, turn: &mut Turn)
+    /// place of what stands there. Where that is a burst, it is told as unsent: it goes out before the next turn.
+    pub fn turn(&mut self, bytes: &[u8], now: u64, turn: &mut Turn) -> Option<Unsent>
+        ensures unsent { IsSome result ↔ IsSome turn.new.burst }
         ensures panel { self.new ≡ after_turn bytes.now now self.old }
         ensures heard { turn.new.heard ≡ (heard_in bytes.now now self.old).devices.report }
         ensures sent { IsSentAs (ticked_in bytes.now now self.old).sent turn.new.burst }
@@ -103,6 +105,7 @@ impl Panel {
         turn.burst = self.bus.tick(now);
         turn.ticked = self.bus.next_report();
         turn.sleep_until = self.bus.next_deadline();
+        Unsent::of(turn)
     }
 
     /// The moment of the next turn, if no bytes come before: as `Turn::sleep_until`, but after what the panel's own code has called since the turn.

@@ -1,14 +1,12 @@
 -- The moments that a device has seen, and when an ended run is read.
-use Rattle.std.proofs.Common.{◌≡◌, ◌∙◌, ap, ℕ, ◌≤◌, Bool, true, false, cond, max, List, [], ◌∷◌, ◌++◌, refl}
-use Rattle.osdp_frame.specs.Items.{items}
+use Rattle.std.proofs.Common.{◌≡◌, ap, ℕ, Bool, true, false, cond, max, List, [], ◌∷◌, refl}
 use Rattle.osdp_msg.specs.declared.command.Command.{Command}
 use Rattle.osdp_reader.specs.declared.handler.Answer.{Answer}
 use Rattle.osdp_reader.specs.State.{ReaderState}
 use Rattle.osdp_device.specs.Hearing.{hears_bytes, reads_all, then_reads}
-use Rattle.osdp_device.specs.Receiving.{IsReceived, Received, after_tick, ends_run, ends_silent, is_silent, seen}
-use Rattle.osdp_device.specs.Saying.{Said}
+use Rattle.osdp_device.specs.Receiving.{IsReceived, Received, ends_run, ends_silent, is_silent, seen}
 use Rattle.osdp_device.proofs.Silences.{silences_end_runs}
-use Rattle.osdp_device_laws.specs.Moments.{MomentsAreSeen, RunsAreReadAtTheirEnd}
+use Rattle.osdp_device.specs.Moments.{MomentsAreSeen, RunsAreReadAtTheirEnd}
 
 greatest_silent : (l : Received) → (ends_silent l).greatest ≡ l.greatest
 greatest_silent l = by_test (is_silent l)

@@ -1,5 +1,5 @@
 -- Which moment is the greatest that a device has seen of its line after each call, and by which call an ended run is read. Moments are in milliseconds.
-use Rattle.std.specs.Prelude.{◌≡◌, ◌+◌, ◌≤◌, ◌<◌, ℕ, true, false, max, List, ◌∷◌, ◌++◌}
+use Rattle.std.specs.Prelude.{◌≡◌, ◌+◌, ◌≤◌, ◌<◌, ℕ, false, max, List, ◌∷◌, ◌++◌}
 use Rattle.osdp_frame.specs.Items.{items}
 use Rattle.osdp_frame.specs.Held.{after_gap}
 use Rattle.osdp_msg.specs.declared.command.Command.{Command}

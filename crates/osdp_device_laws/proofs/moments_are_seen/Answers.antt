@@ -1,5 +1,0 @@
-use Rattle.osdp_device_laws.proofs.Moments.{moments_are_seen}
-use Rattle.osdp_device_laws.proofs.moments_are_seen.Goals as goal
-
-pub returns : goal.returns
-returns g c = λ r l. moments_are_seen g.H.Handler.answer_of g.H.Handler.after r l
