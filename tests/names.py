@@ -38,7 +38,7 @@ NUMBERED = (
     ("/osdp_msg/specs/Limits", r"^(?P<name>most_data) = (?P<number>\d+)$", "OSDP_"),
     ("/osdp_frame/specs/Packet", r"^(?P<name>largest) = (?P<number>\d+)$", "OSDP_"),
     ("/osdp_bus/specs/Machine", r"^(?P<name>most_devices) = (?P<number>\d+)$", "OSDP_"),
-    ("/osdp_msg_texts/src/pieces.rt", r"^pub const (?P<name>MAX_TEXT): usize = (?P<number>\d+);$", "OSDP_"),
+    ("/osdp_c_values/src/pieces.rt", r"^pub const (?P<name>MAX_TEXT): usize = (?P<number>\d+);$", "OSDP_"),
 )
 # What the standard calls otherwise than the definitions do
 TERMS = {

@@ -16,9 +16,9 @@ use Rattle.osdp_bus.specs.Hearing.{after_bytes, after_silence}
 use Rattle.osdp_bus.specs.Machine.{AddEnds, NewEnds, after_begin_at, after_next_report, after_retarget_at, after_submit_at, after_withdraw_at, begin_refusal_at, changed_unless, retarget_refusal_at, submit_refusal_at, withdrawal_at}
 use Rattle.osdp_bus.specs.Ticking.{bus_ticks}
 use Rattle.osdp_controller.specs.States.{is_closed}
-use Rattle.osdp_c_handle.specs.Clocks.{accepts, new_clock, sees}
-use Rattle.osdp_c_handle.specs.declared.clock.Clock.{Clock}
-use Rattle.osdp_c_handle.specs.declared.machine.PanelMachine.{PanelMachine}
+use Rattle.osdp_c_values.specs.Clocks.{accepts, new_clock, sees}
+use Rattle.osdp_c_values.specs.declared.clock.Clock.{Clock}
+use Rattle.osdp_c_values.specs.declared.machine.PanelMachine.{PanelMachine}
 use Rattle.osdp_c_values.specs.declared.arrays.BurstStruct.{BurstStruct}
 use Rattle.osdp_c_values.specs.declared.message.MessageStruct.{MessageStruct}
 use Rattle.osdp_c_values.specs.declared.moment.MomentStruct.{MomentStruct}

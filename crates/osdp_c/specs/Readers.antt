@@ -28,8 +28,8 @@ use Rattle.osdp_reader.specs.declared.handler.Answer.{Answer}
 use Rattle.osdp_reader.specs.declared.handler.Answer.TheVariants as answer
 use Rattle.osdp_reader.specs.declared.fault.ReaderFault.TheVariants.{NoMemory, OutOfRange}
 use Rattle.osdp_reader.specs.State.{ReaderState, after_set_busy, after_set_handler, after_submit, new_reader}
-use Rattle.osdp_c_handle.specs.declared.machine.ReaderMachine.{ReaderMachine}
-use Rattle.osdp_c_handle.specs.Clocks.{accepts, new_clock, sees}
+use Rattle.osdp_c_values.specs.declared.machine.ReaderMachine.{ReaderMachine}
+use Rattle.osdp_c_values.specs.Clocks.{accepts, new_clock, sees}
 use Rattle.osdp_c_values.specs.declared.answer.AnswerStruct.{AnswerStruct}
 use Rattle.osdp_c_values.specs.declared.settings.ReaderSettings.{ReaderSettings}
 use Rattle.osdp_c_values.specs.declared.status.Status.{Status}

@@ -6,8 +6,7 @@ ghost use Rattle.osdp_c.specs.Readers.{answers_done, answers_list, answers_local
 
 use crate::held::on_held;
 use crate::reader_calls;
-use osdp_c_handle::ReaderHandle;
-use osdp_c_values::{MessageStruct, Status};
+use osdp_c_values::{MessageStruct, ReaderHandle, Status};
 use osdp_msg::NakReason;
 use osdp_reader::Answer;
 use std::alloc::Global;

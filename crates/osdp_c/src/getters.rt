@@ -7,8 +7,7 @@ ghost use Rattle.osdp_c.specs.Panels.{closed_number, does, looks_at, of_bus, on_
 
 use crate::held::on_held;
 use osdp_bus::{Bus, BusFault, Entry};
-use osdp_c_handle::PanelHandle;
-use osdp_c_values::Status;
+use osdp_c_values::{PanelHandle, Status};
 use std::alloc::Global;
 
 /// Writes the address of a device.

@@ -6,7 +6,7 @@ ghost use Rattle.osdp_msg.specs.declared.command.Command.{Command as Ordered};
 ghost use Rattle.osdp_bus.specs.Settings.{default_config};
 ghost use Rattle.osdp_frame.specs.declared.check_kind.CheckKind.TheVariants.{Crc};
 ghost use Rattle.osdp_c_values.specs.Settings.{bus_config_of, day, limit_of};
-ghost use Rattle.osdp_c_handle.specs.Clocks.{new_clock};
+ghost use Rattle.osdp_c_values.specs.Clocks.{new_clock};
 ghost use Rattle.osdp_c.specs.Addresses.{device_address};
 ghost use Rattle.osdp_c.specs.Calls.{IsDone, calls, frees, writes};
 ghost use Rattle.osdp_c.specs.CommandTexts.{IsReadCommand};
@@ -16,9 +16,9 @@ use crate::held::on_held;
 use crate::panel_calls;
 use crate::read::read_command;
 use osdp_bus::{Bus, BusFault, Entry};
-use osdp_c_handle::{Clock, PanelHandle, PanelMachine};
 use osdp_c_values::{
-    BurstStruct, MessageStruct, MomentStruct, PanelSettings, ReportStruct, Status,
+    BurstStruct, Clock, MessageStruct, MomentStruct, PanelHandle, PanelMachine, PanelSettings,
+    ReportStruct, Status,
 };
 use std::alloc::Global;
 

@@ -4,12 +4,11 @@ ghost use Rattle.std.specs.Prelude.{◌≡◌};
 ghost use Rattle.osdp_bus.specs.Machine.{AddEnds};
 ghost use Rattle.osdp_c.specs.Addresses.{device_address};
 ghost use Rattle.osdp_bus.specs.Ticking.{bus_ticks};
-ghost use Rattle.osdp_c_handle.specs.Clocks.{accepts};
+ghost use Rattle.osdp_c_values.specs.Clocks.{accepts};
 ghost use Rattle.osdp_c.specs.Panels.{IsSentIf, at_moment, begins, done_status, falls_silent, hears, retargets, sets_moment, submits, submits_data, submits_text, ticks, withdraws, writes_withdrawn};
 
 use osdp_bus::{Bus, BusFault, Entry};
-use osdp_c_handle::PanelMachine;
-use osdp_c_values::{BurstStruct, MessageStruct, Status};
+use osdp_c_values::{BurstStruct, MessageStruct, PanelMachine, Status};
 use osdp_frame::Address;
 use osdp_msg::Command;
 

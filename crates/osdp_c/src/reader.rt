@@ -12,8 +12,7 @@ use crate::held::on_held;
 use crate::read::read_event;
 use crate::reader_calls;
 use crate::reader_calls::StateList;
-use osdp_c_handle::ReaderHandle;
-use osdp_c_values::{AnswerStruct, ReaderSettings, Status};
+use osdp_c_values::{AnswerStruct, ReaderHandle, ReaderSettings, Status};
 use std::alloc::Global;
 
 /// A reader to which nothing has come.

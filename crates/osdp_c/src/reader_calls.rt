@@ -6,8 +6,9 @@ ghost use Rattle.osdp_msg.specs.ReplyTable.{reply_of};
 ghost use Rattle.osdp_c.specs.Readers.{AreSettings, IsEventRead, MadeAs, MadeWith, answers, answers_if, at_moment, caps_of, falls_silent, is_closed, list_answer, looks, maker_answer, reads_next, refuses, sets_local, sets_moment, sets_states, states_of, steps, submits, submits_read, submits_text, ticks, writes_at, writes_next, writes_pending, writes_silence, writes_step, writes_taken, writes_tick};
 
 use arrayvec::ArrayVec;
-use osdp_c_handle::{Clock, ReaderMachine};
-use osdp_c_values::{AnswerStruct, MessageStruct, ReaderSettings, Status};
+use osdp_c_values::{
+    AnswerStruct, Clock, MessageStruct, ReaderMachine, ReaderSettings, Status,
+};
 use osdp_device::{Device, ProgramAnswers, Turn};
 use osdp_frame::{Address, CheckKind, FrameView, Seq};
 use osdp_msg::{Event, MAX_DATA, MsgFault, PdCap, Reply};

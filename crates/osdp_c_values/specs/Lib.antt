@@ -5,5 +5,8 @@ pub mod Answers
 pub mod Settings
 pub mod Texts
 pub mod Moments
+pub mod Owning
+pub mod Pieces
+pub mod Clocks
 pub mod Fields
 pub mod Making

@@ -1,4 +1,8 @@
-//! What crosses to C and back: statuses, and structs of plain fields with arrays inside.
+//! What crosses to C and back: handles of machines, statuses, texts, and structs of plain fields with arrays inside.
+//!
+//! A handle is a machine on the heap at a pointer without a type, which C owns. All zeros is none. `take` moves the machine out of a
+//! handle, and `put` moves one in. A text is put together in a room that holds the longest of them, so that it never fails, where a
+//! `fmt` may.
 //!
 //! A struct is written whole but for its arrays: of an array as many bytes as its length says are written, and the others stay as they
 //! were. `include/osdp.h` has the same structs for C.
@@ -6,10 +10,19 @@
 
 mod answer;
 mod arrays;
+mod clock;
+mod command_texts;
 mod fields;
+mod loose;
+mod machine;
 mod making;
 mod message;
 mod moment;
+mod panel_handle;
+mod pieces;
+mod reader_handle;
+mod records;
+mod reply_texts;
 mod report;
 mod settings;
 mod status;
@@ -17,10 +30,17 @@ mod text;
 
 pub use answer::AnswerStruct;
 pub use arrays::BurstStruct;
+pub use clock::Clock;
+pub use command_texts::read_command_text;
 pub use fields::{KeypadStruct, NakStruct, OutputStruct, PdIdStruct, RawStruct, StatesStruct};
+pub use machine::{PanelMachine, ReaderMachine};
 pub use making::{BuzzerStruct, LedStruct, TextStruct};
 pub use message::MessageStruct;
 pub use moment::MomentStruct;
+pub use panel_handle::PanelHandle;
+pub use pieces::MAX_TEXT;
+pub use reader_handle::ReaderHandle;
+pub use reply_texts::read_reply_text;
 pub use report::ReportStruct;
 pub use settings::{PanelSettings, ReaderSettings};
 pub use status::Status;

@@ -5,8 +5,9 @@ ghost use Rattle.osdp_c_values.specs.Structs.{filled};
 ghost use Rattle.osdp_c_values.specs.Texts.{CommandTextEnds, IsTold, ReplyTextEnds, ended_text};
 
 use crate::arrays::fill;
+use crate::command_texts::read_command_text;
+use crate::reply_texts::read_reply_text;
 use crate::status::Status;
-use osdp_msg_texts::{read_command_text, read_reply_text};
 
 /// Writes a text, and a zero after it where there is room for one.
 fn fill_text(text: &[u8], out: &mut [u8])

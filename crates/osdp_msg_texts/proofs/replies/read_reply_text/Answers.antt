@@ -1,7 +1,0 @@
-use Rattle.std.proofs.Common.{ap, arith, length}
-use Rattle.osdp_msg_laws.proofs.LongestTexts.{longest_reply}
-use Rattle.osdp_msg_texts.proofs.replies.read_reply_text.Goals as goal
-
--- the longest text has room
-pub unreachable-requires : goal.unreachable-requires
-unreachable-requires c = omega (arith, c.in-Err.ensures, ap length c.new-room.ensures, longest_reply.within c.in_ok-reply.reply c.in_ok-reply.ensures.value.fits)
