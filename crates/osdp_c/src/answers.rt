@@ -1,8 +1,8 @@
 //! What a device's program decides, for C.
 
-ghost use Rattle.osdp_c.specs.Calls.{IsDone, calls, writes};
+ghost use Rattle.osdp_c_values.specs.Calls.{IsDone, calls, writes};
 ghost use Rattle.std.specs.Prelude.{◌≡◌};
-ghost use Rattle.osdp_c.specs.Readers.{answers_done, answers_list, answers_local, answers_maker, answers_refused, looks, writes_pending};
+ghost use Rattle.osdp_c_values.specs.Readers.{answers_done, answers_list, answers_local, answers_maker, answers_refused, looks, writes_pending};
 
 use crate::held::on_held;
 use crate::reader_calls;

@@ -2,8 +2,8 @@
 
 ghost use Rattle.std.specs.Prelude.{◌≡◌, option_map};
 ghost use Rattle.osdp_bus.specs.Buses.{device_of};
-ghost use Rattle.osdp_c.specs.Calls.{IsDone, calls, writes};
-ghost use Rattle.osdp_c.specs.Panels.{closed_number, does, looks_at, of_bus, on_bus, told_or, writes_address, writes_closed, writes_entries, writes_waiting};
+ghost use Rattle.osdp_c_values.specs.Calls.{IsDone, calls, writes};
+ghost use Rattle.osdp_c_values.specs.Panels.{closed_number, does, looks_at, of_bus, on_bus, told_or, writes_address, writes_closed, writes_entries, writes_waiting};
 
 use crate::held::on_held;
 use osdp_bus::{Bus, BusFault, Entry};

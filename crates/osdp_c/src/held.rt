@@ -15,4 +15,20 @@ macro_rules! on_held {
     };
 }
 
+/// Does a call on a machine at a moment, which is seen where the call is done. One that lies too far after the greatest one seen is
+/// refused.
+macro_rules! at_moment {
+    ($machine:ident, $now:ident, $call:expr) => {{
+        if !$machine.clock.accepts($now) {
+            return Status::MomentTooFar;
+        }
+        let status = $call;
+        if let Status::Done = status {
+            $machine.clock.see($now);
+        }
+        status
+    }};
+}
+
+pub(crate) use at_moment;
 pub(crate) use on_held;

@@ -7,10 +7,10 @@ ghost use Rattle.osdp_bus.specs.Settings.{default_config};
 ghost use Rattle.osdp_frame.specs.declared.check_kind.CheckKind.TheVariants.{Crc};
 ghost use Rattle.osdp_c_values.specs.Settings.{bus_config_of, day, limit_of};
 ghost use Rattle.osdp_c_values.specs.Clocks.{new_clock};
-ghost use Rattle.osdp_c.specs.Addresses.{device_address};
-ghost use Rattle.osdp_c.specs.Calls.{IsDone, calls, frees, writes};
+ghost use Rattle.osdp_c_values.specs.Addresses.{device_address};
+ghost use Rattle.osdp_c_values.specs.Calls.{IsDone, calls, frees, writes};
 ghost use Rattle.osdp_c.specs.CommandTexts.{IsReadCommand};
-ghost use Rattle.osdp_c.specs.Panels.{AddsTo, IsBurstIn, IsDueIn, MadeAs, NewPanelEnds, at_moment, begins, does, falls_silent, hears, of_bus, on_bus, reports, retargets, sets_moment, submits_data, submits_text, ticks, withdraws, writes_report, writes_withdrawn};
+ghost use Rattle.osdp_c_values.specs.Panels.{AddsTo, IsBurstIn, IsDueIn, MadeAs, NewPanelEnds, at_moment, begins, does, falls_silent, hears, of_bus, on_bus, reports, retargets, sets_moment, submits_data, submits_text, ticks, withdraws, writes_report, writes_withdrawn};
 
 use crate::held::on_held;
 use crate::panel_calls;

@@ -2,11 +2,12 @@
 
 ghost use Rattle.std.specs.Prelude.{◌≡◌};
 ghost use Rattle.osdp_bus.specs.Machine.{AddEnds};
-ghost use Rattle.osdp_c.specs.Addresses.{device_address};
+ghost use Rattle.osdp_c_values.specs.Addresses.{device_address};
 ghost use Rattle.osdp_bus.specs.Ticking.{bus_ticks};
 ghost use Rattle.osdp_c_values.specs.Clocks.{accepts};
-ghost use Rattle.osdp_c.specs.Panels.{IsSentIf, at_moment, begins, done_status, falls_silent, hears, retargets, sets_moment, submits, submits_data, submits_text, ticks, withdraws, writes_withdrawn};
+ghost use Rattle.osdp_c_values.specs.Panels.{IsSentIf, at_moment, begins, done_status, falls_silent, hears, retargets, sets_moment, submits, submits_data, submits_text, ticks, withdraws, writes_withdrawn};
 
+use crate::held::at_moment;
 use osdp_bus::{Bus, BusFault, Entry};
 use osdp_c_values::{BurstStruct, MessageStruct, PanelMachine, Status};
 use osdp_frame::Address;
@@ -42,16 +43,7 @@ pub(crate) fn begin(machine: &mut PanelMachine, entry: Entry, now: u64) -> Statu
     ensures status { result ≡ (at_moment now (begins entry now) machine.old).status }
     ensures machine { machine.new ≡ (at_moment now (begins entry now) machine.old).machine }
 {
-    if !machine.clock.accepts(now) {
-        return Status::MomentTooFar;
-    }
-    match machine.bus.begin(entry, now) {
-        Ok(()) => {
-            machine.clock.see(now);
-            Status::Done
-        }
-        Err(fault) => Status::Panel(fault),
-    }
+    at_moment!(machine, now, done_status(machine.bus.begin(entry, now)))
 }
 
 /// Bytes have come from the line.
@@ -59,12 +51,14 @@ pub(crate) fn hear(machine: &mut PanelMachine, bytes: &[u8], now: u64) -> Status
     ensures status { result ≡ (at_moment now (hears bytes.now now) machine.old).status }
     ensures machine { machine.new ≡ (at_moment now (hears bytes.now now) machine.old).machine }
 {
-    if !machine.clock.accepts(now) {
-        return Status::MomentTooFar;
-    }
-    machine.clock.see(now);
-    machine.bus.on_bytes(bytes, now);
-    Status::Done
+    at_moment!(
+        machine,
+        now,
+        {
+            machine.bus.on_bytes(bytes, now);
+            Status::Done
+        }
+    )
 }
 
 /// The line was seen silent.
@@ -72,12 +66,14 @@ pub(crate) fn fall_silent(machine: &mut PanelMachine, now: u64) -> Status
     ensures status { result ≡ (at_moment now (falls_silent now) machine.old).status }
     ensures machine { machine.new ≡ (at_moment now (falls_silent now) machine.old).machine }
 {
-    if !machine.clock.accepts(now) {
-        return Status::MomentTooFar;
-    }
-    machine.clock.see(now);
-    machine.bus.on_silence(now);
-    Status::Done
+    at_moment!(
+        machine,
+        now,
+        {
+            machine.bus.on_silence(now);
+            Status::Done
+        }
+    )
 }
 
 /// What is due at a moment, and writes the burst to send.
@@ -86,12 +82,14 @@ pub(crate) fn tick(machine: &mut PanelMachine, now: u64, burst: &mut BurstStruct
     ensures machine { machine.new ≡ (at_moment now (ticks now) machine.old).machine }
     ensures written { IsSentIf (accepts now machine.old.clock) (bus_ticks now machine.old.bus).sent burst.old burst.new }
 {
-    if !machine.clock.accepts(now) {
-        return Status::MomentTooFar;
-    }
-    machine.clock.see(now);
-    burst.set_sent(machine.bus.tick(now));
-    Status::Done
+    at_moment!(
+        machine,
+        now,
+        {
+            burst.set_sent(machine.bus.tick(now));
+            Status::Done
+        }
+    )
 }
 
 /// A moment is seen, however far it lies after the greatest one.

@@ -4,15 +4,14 @@ ghost use Rattle.std.specs.Prelude.{◌≡◌, Option, Result};
 ghost use Rattle.osdp_msg.specs.declared.event.Event.{Event as Happened};
 ghost use Rattle.osdp_msg.specs.ReplyTable.{reply_of};
 ghost use Rattle.osdp_c_values.specs.declared.status.Status.{Status as Answered};
-ghost use Rattle.osdp_c.specs.Calls.{IsDone, calls, frees, writes};
+ghost use Rattle.osdp_c_values.specs.Calls.{IsDone, calls, frees, writes};
 ghost use Rattle.osdp_c.specs.CommandTexts.{IsReadEvent};
-ghost use Rattle.osdp_c.specs.Readers.{IsEventRead, NewReaderEnds, at_moment, does, falls_silent, sets_busy, sets_inputs, sets_local, sets_moment, sets_outputs, sets_readers, steps, submits_read, submits_text, ticks, writes_at, writes_silence, writes_step, writes_address, writes_closed, writes_taken, writes_tick, writes_waiting};
+ghost use Rattle.osdp_c_values.specs.Readers.{IsEventRead, NewReaderEnds, at_moment, does, falls_silent, sets_busy, sets_inputs, sets_local, sets_moment, sets_outputs, sets_readers, steps, submits_read, submits_text, ticks, writes_at, writes_silence, writes_step, writes_address, writes_closed, writes_taken, writes_tick, writes_waiting};
 
 use crate::held::on_held;
 use crate::read::read_event;
 use crate::reader_calls;
-use crate::reader_calls::StateList;
-use osdp_c_values::{AnswerStruct, ReaderHandle, ReaderSettings, Status};
+use osdp_c_values::{AnswerStruct, ReaderHandle, ReaderSettings, StateList, Status};
 use std::alloc::Global;
 
 /// A reader to which nothing has come.

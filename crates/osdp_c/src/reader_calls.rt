@@ -3,11 +3,12 @@
 ghost use Rattle.std.specs.Prelude.{◌≡◌, ◌↔◌, IsTrue};
 ghost use Rattle.std.specs.Result.{result_map_both};
 ghost use Rattle.osdp_msg.specs.ReplyTable.{reply_of};
-ghost use Rattle.osdp_c.specs.Readers.{AreSettings, IsEventRead, MadeAs, MadeWith, answers, answers_if, at_moment, caps_of, falls_silent, is_closed, list_answer, looks, maker_answer, reads_next, refuses, sets_local, sets_moment, sets_states, states_of, steps, submits, submits_read, submits_text, ticks, writes_at, writes_next, writes_pending, writes_silence, writes_step, writes_taken, writes_tick};
+ghost use Rattle.osdp_c_values.specs.Readers.{AreSettings, IsEventRead, MadeAs, MadeWith, answers, answers_if, at_moment, caps_of, falls_silent, is_closed, list_answer, looks, maker_answer, reads_next, refuses, sets_local, sets_moment, sets_states, states_of, steps, submits, submits_read, submits_text, ticks, writes_at, writes_next, writes_pending, writes_silence, writes_step, writes_taken, writes_tick};
 
+use crate::held::at_moment;
 use arrayvec::ArrayVec;
 use osdp_c_values::{
-    AnswerStruct, Clock, MessageStruct, ReaderMachine, ReaderSettings, Status,
+    AnswerStruct, Clock, MessageStruct, ReaderMachine, ReaderSettings, StateList, Status,
 };
 use osdp_device::{Device, ProgramAnswers, Turn};
 use osdp_frame::{Address, CheckKind, FrameView, Seq};
@@ -97,14 +98,6 @@ fn read_states(states: &[u8]) -> Option<ArrayVec<u8, MAX_DATA>>
         Ok(()) => Some(list),
         Err(_) => None,
     }
-}
-
-/// The lists of states that a device tells.
-#[derive(Drop)]
-pub(crate) enum StateList {
-    Inputs,
-    Outputs,
-    Readers,
 }
 
 /// Sets the state of each input, output or reader.
@@ -204,13 +197,15 @@ pub(crate) fn step(
     ensures taken { taken.new ≡ writes_at now (writes_taken bytes.now now) machine.old taken.old }
     ensures written { answer.new ≡ writes_at now (writes_step bytes.now now) machine.old answer.old }
 {
-    if !machine.clock.accepts(now) {
-        return Status::MomentTooFar;
-    }
-    machine.clock.see(now);
-    *taken = machine.device.take(bytes, now);
-    answer_next(machine, answer);
-    Status::Done
+    at_moment!(
+        machine,
+        now,
+        {
+            *taken = machine.device.take(bytes, now);
+            answer_next(machine, answer);
+            Status::Done
+        }
+    )
 }
 
 /// No bytes have come up to a moment: writes what is said.
@@ -219,13 +214,15 @@ pub(crate) fn tick(machine: &mut ReaderMachine, now: u64, answer: &mut AnswerStr
     ensures machine { machine.new ≡ (at_moment now (ticks now) machine.old).machine }
     ensures written { answer.new ≡ writes_at now (writes_tick now) machine.old answer.old }
 {
-    if !machine.clock.accepts(now) {
-        return Status::MomentTooFar;
-    }
-    machine.clock.see(now);
-    machine.device.tick(now);
-    answer_next(machine, answer);
-    Status::Done
+    at_moment!(
+        machine,
+        now,
+        {
+            machine.device.tick(now);
+            answer_next(machine, answer);
+            Status::Done
+        }
+    )
 }
 
 /// The line was seen silent: writes what is said.
@@ -234,13 +231,15 @@ pub(crate) fn silence(machine: &mut ReaderMachine, now: u64, answer: &mut Answer
     ensures machine { machine.new ≡ (at_moment now (falls_silent now) machine.old).machine }
     ensures written { answer.new ≡ writes_at now (writes_silence now) machine.old answer.old }
 {
-    if !machine.clock.accepts(now) {
-        return Status::MomentTooFar;
-    }
-    machine.clock.see(now);
-    machine.device.silence(now);
-    answer_next(machine, answer);
-    Status::Done
+    at_moment!(
+        machine,
+        now,
+        {
+            machine.device.silence(now);
+            answer_next(machine, answer);
+            Status::Done
+        }
+    )
 }
 
 /// A moment is seen, however far it lies after the greatest one.

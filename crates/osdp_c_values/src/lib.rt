@@ -25,6 +25,7 @@ mod records;
 mod reply_texts;
 mod report;
 mod settings;
+mod states;
 mod status;
 mod text;
 
@@ -43,5 +44,6 @@ pub use reader_handle::ReaderHandle;
 pub use reply_texts::read_reply_text;
 pub use report::ReportStruct;
 pub use settings::{PanelSettings, ReaderSettings};
+pub use states::StateList;
 pub use status::Status;
 pub use text::{write_command_text, write_reply_text};

@@ -39,9 +39,9 @@ use Rattle.osdp_c_values.specs.Answers.{turn_struct}
 use Rattle.osdp_c_values.specs.Structs.{command_struct}
 use Rattle.osdp_c_values.specs.Settings.{id_of, limit_of}
 use Rattle.osdp_c_values.specs.Statuses.{number}
-use Rattle.osdp_c.specs.Calls.{Done}
-use Rattle.osdp_c.specs.declared.reader_calls.StateList.{StateList}
-use Rattle.osdp_c.specs.declared.reader_calls.StateList.TheVariants.{Inputs, Outputs, Readers}
+use Rattle.osdp_c_values.specs.Calls.{Done}
+use Rattle.osdp_c_values.specs.declared.states.StateList.{StateList}
+use Rattle.osdp_c_values.specs.declared.states.StateList.TheVariants.{Inputs, Outputs, Readers}
 
 -- what a reader answers to CAP, by the data of that reply
 abbrev pub caps_in : Result Reply MsgFault → Result PdCap MsgFault

@@ -31,7 +31,7 @@ use Rattle.osdp_c_values.specs.Reports.{report_struct}
 use Rattle.osdp_c_values.specs.Settings.{bus_config_of, limit_of}
 use Rattle.osdp_c_values.specs.Statuses.{number}
 use Rattle.osdp_c_values.specs.Structs.{burst_of, command_struct}
-use Rattle.osdp_c.specs.Calls.{Done}
+use Rattle.osdp_c_values.specs.Calls.{Done}
 
 -- the bus is another, and nothing was refused
 abbrev pub does : BusState → Done BusState
