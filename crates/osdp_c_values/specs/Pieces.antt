@@ -20,8 +20,8 @@ abbrev pub IsPut : ℕ → ArrayString → Result (Unit {0}) NoRoom → ArrayStr
 IsPut room old result new piece =
     MatchResult result (λ _. new.bytes ≡ old.bytes ++ piece) (λ _. room < length old.bytes + length piece)
 
--- the text of a message that was read, or why it was not
-abbrev pub HasTextOf : {M : Type 0} → (M → List ℕ) → Result M MsgFault → Result ArrayString MsgFault → Type 0
-HasTextOf text_of (Ok m) (Ok shown) = shown.bytes ≡ text_of m
-HasTextOf text_of (Err fault) (Err told) = told ≡ fault
-HasTextOf _ _ _ = ⊥
+-- a room has the text of the message that was read, or it is told why none was
+abbrev pub HasTextOf : {M : Type 0} → (M → List ℕ) → Result M MsgFault → Result (Unit {0}) MsgFault → ArrayString → Type 0
+HasTextOf text_of (Ok m) (Ok nothing) room = room.bytes ≡ text_of m
+HasTextOf text_of (Err fault) (Err told) room = told ≡ fault
+HasTextOf _ _ _ _ = ⊥

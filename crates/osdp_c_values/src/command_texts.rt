@@ -1,6 +1,6 @@
 //! Texts of commands.
 
-ghost use Rattle.std.specs.Prelude.{◌≡◌, ◌∷◌, codes};
+ghost use Rattle.std.specs.Prelude.{◌≡◌, [], ◌∷◌, codes};
 ghost use Rattle.osdp_words.specs.Word.{plain, text_of};
 ghost use Rattle.osdp_msg.specs.CommandFields.{buzzer_words, communication_words, maker_words, text_words};
 ghost use Rattle.osdp_msg.specs.CommandTable.{command_of};
@@ -83,14 +83,18 @@ fn put_command(room: &mut Room, command: &Command) -> Result<(), NoRoom>
     }
 }
 
-/// The text of the command that a code and data stand for, or why there is none.
-pub fn read_command_text(code: u8, body: &[u8]) -> Result<ArrayString<MAX_TEXT>, MsgFault>
-    ensures { HasTextOf command_text (command_of code body.now) result }
+/// Puts the text of the command that a code and data stand for into a room that is empty, or tells why there is none.
+pub fn read_command_text(
+    code: u8,
+    body: &[u8],
+    room: &mut ArrayString<MAX_TEXT>,
+) -> Result<(), MsgFault>
+    requires { room.old.bytes ≡ [] }
+    ensures { HasTextOf command_text (command_of code body.now) result room.new }
 {
     let command = Command::read(code, body)?;
-    let mut room = ArrayString::new();
-    match put_command(&mut room, &command) {
-        Ok(()) => Ok(room),
+    match put_command(room, &command) {
+        Ok(()) => Ok(()),
         Err(NoRoom) => unreachable!(),
     }
 }

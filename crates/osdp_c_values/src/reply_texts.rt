@@ -1,6 +1,6 @@
 //! Texts of replies.
 
-ghost use Rattle.std.specs.Prelude.{◌≡◌, ◌∷◌, codes};
+ghost use Rattle.std.specs.Prelude.{◌≡◌, [], ◌∷◌, codes};
 ghost use Rattle.osdp_words.specs.Word.{plain, text_of};
 ghost use Rattle.osdp_msg.specs.ReplyFields.{formatted_words, keypad_words, local_state_words, nak_words, pd_id_words, raw_words};
 ghost use Rattle.osdp_msg.specs.ReplyTable.{reply_of};
@@ -107,14 +107,18 @@ fn put_reply(room: &mut Room, reply: &Reply) -> Result<(), NoRoom>
     }
 }
 
-/// The text of the reply that a code and data stand for, or why there is none.
-pub fn read_reply_text(code: u8, body: &[u8]) -> Result<ArrayString<MAX_TEXT>, MsgFault>
-    ensures { HasTextOf reply_text (reply_of code body.now) result }
+/// Puts the text of the reply that a code and data stand for into a room that is empty, or tells why there is none.
+pub fn read_reply_text(
+    code: u8,
+    body: &[u8],
+    room: &mut ArrayString<MAX_TEXT>,
+) -> Result<(), MsgFault>
+    requires { room.old.bytes ≡ [] }
+    ensures { HasTextOf reply_text (reply_of code body.now) result room.new }
 {
     let reply = Reply::read(code, body)?;
-    let mut room = ArrayString::new();
-    match put_reply(&mut room, &reply) {
-        Ok(()) => Ok(room),
+    match put_reply(room, &reply) {
+        Ok(()) => Ok(()),
         Err(NoRoom) => unreachable!(),
     }
 }

@@ -8,6 +8,7 @@ use crate::arrays::fill;
 use crate::command_texts::read_command_text;
 use crate::reply_texts::read_reply_text;
 use crate::status::Status;
+use arrayvec::ArrayString;
 
 /// Writes a text, and a zero after it where there is room for one.
 fn fill_text(text: &[u8], out: &mut [u8])
@@ -36,8 +37,9 @@ fn tell_text(text: &str, out: &mut [u8], count: &mut usize) -> Status
 pub fn write_command_text(code: u8, body: &[u8], out: &mut [u8], count: &mut usize) -> Status
     ensures { CommandTextEnds code body.now result out.old out.new count.old count.new }
 {
-    match read_command_text(code, body) {
-        Ok(text) => tell_text(text.as_str(), out, count),
+    let mut room = ArrayString::new();
+    match read_command_text(code, body, &mut room) {
+        Ok(()) => tell_text(room.as_str(), out, count),
         Err(fault) => Status::Message(fault),
     }
 }
@@ -46,8 +48,9 @@ pub fn write_command_text(code: u8, body: &[u8], out: &mut [u8], count: &mut usi
 pub fn write_reply_text(code: u8, body: &[u8], out: &mut [u8], count: &mut usize) -> Status
     ensures { ReplyTextEnds code body.now result out.old out.new count.old count.new }
 {
-    match read_reply_text(code, body) {
-        Ok(text) => tell_text(text.as_str(), out, count),
+    let mut room = ArrayString::new();
+    match read_reply_text(code, body, &mut room) {
+        Ok(()) => tell_text(room.as_str(), out, count),
         Err(fault) => Status::Message(fault),
     }
 }
