@@ -267,7 +267,7 @@ pub extern "C" fn osdp_panel_next_report(
     ensures written { report.new ≡ writes (of_bus writes_report) panel.old.slot.machine report.old }
 {
     on_held!(panel, alloc, |machine| {
-        report.set(machine.bus.next_report());
+        report.set(&machine.bus.next_report());
         Status::Done
     })
 }

@@ -1,6 +1,5 @@
 -- Structs of plain fields, as they are written.
 use Rattle.std.specs.Prelude.{ℕ, List, [], ◌∷◌, ◌++◌, length, drop, Option, None, Some}
-use Rattle.arrayvec.specs.ArrayVec.{ArrayVec}
 use Rattle.osdp_msg.specs.declared.command.Command.{Command}
 use Rattle.osdp_msg.specs.declared.reply.Reply.{Reply}
 use Rattle.osdp_msg.specs.CommandTable.{command_code, command_data}
@@ -14,11 +13,6 @@ filled bytes room = bytes ++ drop (length bytes) room
 
 abbrev pub burst_of : List ℕ → BurstStruct → BurstStruct
 burst_of bytes b = record { length = length bytes; bytes = filled bytes b.bytes }
-
--- the bytes of a burst, where there is one
-abbrev pub sent_items : Option (ArrayVec ℕ) → List ℕ
-sent_items None = []
-sent_items (Some burst) = burst.items
 
 -- a message is there, or none
 abbrev pub message_of : ℕ → List ℕ → MessageStruct → MessageStruct

@@ -1,9 +1,9 @@
 //! Arrays with room for a list of bytes.
 
 ghost use Rattle.std.specs.Prelude.{◌≡◌, ◌≤◌, length};
-ghost use Rattle.osdp_c_values.specs.Structs.{burst_of, filled, sent_items};
+ghost use Rattle.osdp_c_values.specs.Structs.{burst_of, filled};
 
-use osdp_frame::{Burst, MAX_PACKET};
+use osdp_frame::MAX_PACKET;
 
 /// Writes bytes to the front of an array; the others stay as they were.
 pub(crate) fn fill(room: &mut [u8], bytes: &[u8])
@@ -31,15 +31,5 @@ impl BurstStruct {
     {
         self.length = bytes.len() as u32;
         fill(&mut self.bytes, bytes);
-    }
-
-    /// Writes the burst that goes out, or that none does.
-    pub fn set_sent(&mut self, burst: Option<Burst>)
-        ensures { self.new ≡ burst_of (sent_items burst) self.old }
-    {
-        match burst {
-            Some(burst) => self.set(burst.as_slice()),
-            None => self.set(&[]),
-        }
     }
 }

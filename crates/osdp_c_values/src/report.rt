@@ -48,33 +48,33 @@ impl ReportStruct {
     }
 
     /// Tells a report.
-    fn tell_report(&mut self, report: Report)
-        ensures { self.new ≡ report_of report self.old }
+    fn tell_report(&mut self, report: &Report)
+        ensures { self.new ≡ report_of report.now self.old }
     {
         match report {
-            Report::Opened(id) => self.tell(1, 0, None, Some(&Reply::PdId(id))),
-            Report::Settled(command, reply) => self.tell(2, 0, Some(&command), Some(&reply)),
+            Report::Opened(id) => self.tell(1, 0, None, Some(&Reply::PdId(*id))),
+            Report::Settled(command, reply) => self.tell(2, 0, Some(command), Some(reply)),
             Report::Moved(command, answered) => {
-                self.tell(3, 0, Some(&command), Some(&Reply::Com(answered)));
+                self.tell(3, 0, Some(command), Some(&Reply::Com(*answered)));
             }
             Report::Event(event) => self.tell(4, 0, None, Some(&event.to_reply())),
-            Report::PollAnswered(reply) => self.tell(5, 0, None, Some(&reply)),
+            Report::PollAnswered(reply) => self.tell(5, 0, None, Some(reply)),
             Report::Unread(command, code) => {
-                self.tell(6, u32::from(code), command.as_ref(), None);
+                self.tell(6, u32::from(*code), command.as_ref(), None);
             }
             Report::Lost(cause, command) => {
-                self.tell(7, cause_number(cause), command.as_ref(), None);
+                self.tell(7, cause_number(*cause), command.as_ref(), None);
             }
         }
     }
 
     /// Writes the report that was taken, or that there is none.
-    pub fn set(&mut self, report: Option<(Entry, Report)>)
-        ensures { self.new ≡ report_struct report self.old }
+    pub fn set(&mut self, report: &Option<(Entry, Report)>)
+        ensures { self.new ≡ report_struct report.now self.old }
     {
         match report {
             Some((entry, report)) => {
-                self.entry = entry;
+                self.entry = *entry;
                 self.tell_report(report);
             }
             None => {
