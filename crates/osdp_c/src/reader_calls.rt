@@ -38,13 +38,13 @@ fn are_in_range(settings: &ReaderSettings) -> bool
         && settings.gap <= 3_600_000
 }
 
-/// A reader to which nothing has come.
+/// A reader to which nothing has come, on the heap. It is put there in one function with its making, which takes less stack.
 fn new_machine(
     alloc: Global,
     settings: &ReaderSettings,
     caps: PdCap,
-) -> Result<ReaderMachine, ReaderFault>
-    ensures { MadeWith settings.now caps result }
+) -> Result<Box<ReaderMachine>, ReaderFault>
+    ensures { MadeWith settings.now caps (result_map_both (λ b. b.value) (λ fault. fault) result) }
 {
     if !are_in_range(settings) {
         return Err(ReaderFault::OutOfRange);
@@ -59,16 +59,17 @@ fn new_machine(
     };
     let capacity = settings.capacity as usize;
     let reader = Reader::new(alloc, config, ProgramAnswers::new(), capacity)?;
-    match Device::new(reader, settings.gap) {
-        Some(device) => Ok(ReaderMachine {
-            device,
-            clock: Clock::new(settings.clock_limit()),
-        }),
-        None => Err(ReaderFault::OutOfRange),
+    let Some(device) = Device::new(reader, settings.gap) else {
+        return Err(ReaderFault::OutOfRange);
+    };
+    let clock = Clock::new(settings.clock_limit());
+    match Box::new(alloc, ReaderMachine { device, clock }) {
+        Ok(machine) => Ok(machine),
+        Err(_) => Err(ReaderFault::NoMemory),
     }
 }
 
-/// The same on the heap, with what it can do by the data of the reply to CAP.
+/// The same with what it can do by the data of the reply to CAP.
 pub(crate) fn new_box(
     alloc: Global,
     settings: &ReaderSettings,
@@ -81,10 +82,7 @@ pub(crate) fn new_box(
         Err(fault) => return Err(Status::Message(fault)),
     };
     match new_machine(alloc, settings, caps) {
-        Ok(machine) => match Box::new(alloc, machine) {
-            Ok(machine) => Ok(machine),
-            Err(_) => Err(Status::Reader(ReaderFault::NoMemory)),
-        },
+        Ok(machine) => Ok(machine),
         Err(fault) => Err(Status::Reader(fault)),
     }
 }
