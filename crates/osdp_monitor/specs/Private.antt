@@ -1,7 +1,10 @@
 -- What the parts of a monitor keep, for its own crate.
-use Rattle.std.specs.Prelude.{◌≡◌, ℕ, Bool, true, false, List, [], slice_index_or, Option, None, Some, Box}
-use Rattle.osdp_monitor.specs.Known.{Known, nothing_known}
-use Rattle.osdp_frame.specs.Packet.{Packet, IsPacket}
+use Rattle.std.specs.Prelude.{◌≡◌, ◌==◌, ℕ, Bool, true, false, List, [], slice_index_or, Option, None, Some, Ok, Box}
+use Rattle.osdp_msg.specs.declared.command.Command.TheVariants.{Poll}
+use Rattle.osdp_monitor.specs.Known.{Known, nothing_known, same_check}
+use Rattle.osdp_monitor.specs.Saying.{asked}
+use Rattle.osdp_frame.specs.declared.check_kind.CheckKind.{CheckKind}
+use Rattle.osdp_frame.specs.Packet.{Packet, IsPacket, next_sequence}
 use Rattle.osdp_frame.specs.Spelling.{Spells}
 
 -- a packet in a place of its own, where it is kept
@@ -22,6 +25,28 @@ IsKept false p = Unit {0}
 abbrev pub IsSpelledIf : Option Packet → List ℕ → Type 0
 IsSpelledIf None bytes = bytes ≡ []
 IsSpelledIf (Some p) bytes = Spells p bytes
+
+-- the number is the next after a known one
+abbrev pub is_next : Option ℕ → ℕ → Bool
+is_next None number = false
+is_next (Some taken) number = next_sequence taken == number
+
+-- a packet is the next one after one that was answered
+pub record IsNext (k : Known) (p : Packet) : Type 0 where
+  pub next : is_next (number_of k.last) p.sequence ≡ true
+  pub replied : k.replied ≡ true
+  pub answered : k.answered ≡ true
+
+-- it is known, and a POLL with this number and this check
+abbrev pub IsPollTo : Option Packet → ℕ → CheckKind → Type 0
+IsPollTo None number check = ⊥
+IsPollTo (Some p) number check = (asked p ≡ Ok Poll) × (p.sequence ≡ number) × (same_check check p.check ≡ true)
+
+-- a reply is the first to the last packet, a POLL, which has the number after the one taken last; and it has the number and the check of that packet
+pub record AnswersPoll (k : Known) (r : Packet) : Type 0 where
+  pub last : IsPollTo k.last r.sequence r.check
+  pub first : k.replied ≡ false
+  pub next : is_next k.taken r.sequence ≡ true
 
 -- ---- the blocks of a line, one for each address that was seen
 

@@ -1,18 +1,19 @@
 //! What is known of one address.
 
-ghost use Rattle.std.specs.Prelude.{◌≡◌, [], is_some};
+ghost use Rattle.std.specs.Prelude.{◌≡◌, [], is_some, None, Ok, true, false};
+ghost use Rattle.osdp_msg.specs.declared.reply.Reply.TheVariants.{Ack};
 ghost use Rattle.osdp_monitor.specs.Known.{nothing_known};
-ghost use Rattle.osdp_monitor.specs.Line.{after_reply_if, expected_if, found_in_reply, found_in_sent, is_last, moves_to, reply_notice};
+ghost use Rattle.osdp_monitor.specs.Line.{after_reply_if, expected_if, found_in_reply, found_in_sent, is_last, moves_to, nothing_found, reply_notice};
 ghost use Rattle.osdp_monitor.specs.Panel.{after_another, after_sent};
 ghost use Rattle.osdp_frame.specs.Packet.{Packet};
-ghost use Rattle.osdp_monitor.specs.Private.{IsSpelledIf};
+ghost use Rattle.osdp_monitor.specs.Private.{AnswersPoll, IsNext, IsSpelledIf};
 ghost use Rattle.osdp_monitor.specs.Reader.{after_answer, reader_accused, repeat_reply};
 ghost use Rattle.osdp_monitor.specs.Saying.{reply_told, said};
 
 use crate::accusation::Accusation;
 use crate::found::{Found, NOTHING, Notice};
 use crate::kept::KeptPacket;
-use crate::panel::{is_number, sent_after};
+use crate::panel::{is_after, is_number, sent_after};
 use crate::reader::{answer_accused, busy_accused, refusal_accused};
 use crate::said::{Said, is_nak, moved_by, read_command, said_in};
 use osdp_frame::{Address, Burst, FrameView, Seq};
@@ -88,6 +89,30 @@ impl Device {
         ensures { result ≡ is_last self.now.last packet.now }
     {
         self.last.is(packet)
+    }
+
+    /// Whether a packet to it is the next one after one that was answered.
+    fn is_next(&self, packet: &FrameView<'_>) -> bool
+        ensures { result ≡ true → IsNext self.now packet.now }
+    {
+        self.replied && self.answered && is_after(self.last.number(), packet.seq())
+    }
+
+    /// Takes a packet after one that was answered, in which nothing is found. False of any other one, and then nothing is known anew.
+    #[tactic(auto, using(crate::proofs::Turns::none_found_in_next, crate::proofs::Turns::is_sent))]
+    pub fn take_next(&mut self, packet: &FrameView<'_>) -> bool
+        ensures found { result ≡ true → found_in_sent self.old packet.now ≡ nothing_found }
+        ensures sent { result ≡ true → self.new ≡ after_sent self.old.last self.old packet.now }
+        ensures kept { result ≡ false → self.new ≡ self.old }
+    {
+        if !self.is_next(packet) {
+            return false;
+        }
+        self.last.keep(packet);
+        self.replied = false;
+        self.answered = false;
+        self.missed = false;
+        true
     }
 
     /// A packet was sent to it.
@@ -230,6 +255,34 @@ impl Device {
             }
             Said::Answer => self.answer(number, is_repeat, reply),
         }
+    }
+
+    /// Whether a reply is the first to its last packet, a POLL, which has the number after the one taken last, and has the number and the check
+    /// of it.
+    fn answers_poll(&self, reply: &FrameView<'_>) -> bool
+        ensures { result ≡ true → AnswersPoll self.now reply.now }
+    {
+        let number = reply.seq();
+        !self.replied && is_after(self.taken, number) && self.last.is_poll_to(number, reply)
+    }
+
+    /// Takes an ACK that answers a POLL in turn, in which nothing is found. False of any other one, and then nothing is known anew.
+    #[tactic(auto, using(crate::proofs::Turns::none_found, crate::proofs::Turns::goes_nowhere, crate::proofs::Turns::is_taken))]
+    pub fn take_ack(&mut self, reply: &FrameView<'_>) -> bool
+        requires { reply_told reply.now ≡ Ok Ack }
+        ensures found { result ≡ true → found_in_reply self.old.last self.old reply.now ≡ nothing_found }
+        ensures stays { result ≡ true → moves_to self.old.last reply.now ≡ None }
+        ensures taken { result ≡ true → self.new ≡ after_reply_if self.old.last self.old reply.now }
+        ensures kept { result ≡ false → self.new ≡ self.old }
+    {
+        if !self.answers_poll(reply) {
+            return false;
+        }
+        self.replied = true;
+        self.answered = true;
+        self.taken = Some(reply.seq());
+        self.stored.keep(reply);
+        true
     }
 
     /// It has answered its last packet, which has this number.

@@ -1,9 +1,11 @@
 //! A packet that is kept in a place of its own.
 
-ghost use Rattle.std.specs.Prelude.{◌≡◌, None, Some};
+ghost use Rattle.std.specs.Prelude.{◌≡◌, ◌<◌, ◌≤◌, None, Ok, Some, drop, length, slice_index, true};
 ghost use Rattle.osdp_monitor.specs.Known.{same_check};
 ghost use Rattle.osdp_monitor.specs.Line.{is_last};
-ghost use Rattle.osdp_monitor.specs.Private.{number_of};
+ghost use Rattle.osdp_monitor.specs.Private.{IsPollTo, number_of};
+ghost use Rattle.osdp_msg.specs.CommandTable.{command_of};
+ghost use Rattle.osdp_msg.specs.declared.command.Command.TheVariants.{Poll};
 
 use arrayvec::ArrayVec;
 use osdp_frame::{Address, CheckKind, FrameView, MAX_BODY, Seq};
@@ -63,13 +65,7 @@ impl KeptPacket {
         self.check = packet.check();
         self.block = packet.has_block();
         self.reserved = packet.reserved();
-        let body = packet.body();
-        if self.body.len() == body.len() {
-            self.body.as_mut_slice().copy_from_slice(body);
-        } else {
-            self.body.clear();
-            let _ = self.body.try_extend_from_slice(body);
-        }
+        keep_body(&mut self.body, packet.body());
     }
 
     /// Keeps none any more.
@@ -84,6 +80,16 @@ impl KeptPacket {
         ensures { result ≡ number_of self.now }
     {
         if self.is_kept { Some(self.seq) } else { None }
+    }
+
+    /// Whether a POLL is kept that has this number, and the same check as this packet.
+    pub fn is_poll_to(&self, number: Seq, packet: &FrameView<'_>) -> bool
+        ensures { result ≡ true → IsPollTo self.now number packet.now.check }
+    {
+        self.is_kept
+            && self.seq.get() == number.get()
+            && same_check(packet.check(), self.check)
+            && is_poll_body(self.body.as_slice())
     }
 
     /// Whether a packet is kept, and it has the bytes of this one. They are compared where they lie.
@@ -118,6 +124,36 @@ impl KeptPacket {
             body,
         )
     }
+}
+
+/// Puts a body in place of the one that is kept. Most have one byte, and as many as the one before.
+fn keep_body(kept: &mut ArrayVec<u8, MAX_BODY>, body: &[u8])
+    requires { length body.now ≤ 1434 }
+    ensures { kept.new.items ≡ body.now }
+{
+    match body {
+        [code] if kept.len() == 1 => kept.as_mut_slice()[0] = *code,
+        _ => {
+            kept.clear();
+            let _ = kept.try_extend_from_slice(body);
+        }
+    }
+}
+
+/// The first byte of a body.
+fn first_byte(body: &[u8]) -> u8
+    requires { 0 < length body.now }
+    ensures { result ≡ slice_index body.now 0 }
+{
+    body[0]
+}
+
+/// Whether a body is that of a POLL.
+#[tactic(auto, using(crate::proofs::Bare::poll_body))]
+fn is_poll_body(body: &[u8]) -> bool
+    ensures { result ≡ true → command_of (slice_index body.now 0) (drop 1 body.now) ≡ Ok Poll }
+{
+    body.len() == 1 && first_byte(body) == 0x60
 }
 
 /// Whether two packets have the same check.

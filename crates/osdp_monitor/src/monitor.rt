@@ -4,7 +4,7 @@ ghost use Rattle.std.specs.Prelude.{◌≡◌, ◌<◌, Ok, true, false, [], IfO
 ghost use Rattle.osdp_msg.specs.declared.reply.Reply.TheVariants.{Ack};
 ghost use Rattle.osdp_monitor.specs.Line.{after_packet, after_skipped, copies_last, expected_in, found_in, no_knowledge};
 ghost use Rattle.osdp_monitor.specs.Private.{IsSpelledIf};
-ghost use Rattle.osdp_monitor.specs.Saying.{is_foreign};
+ghost use Rattle.osdp_monitor.specs.Saying.{is_foreign, reply_told};
 
 use crate::devices::Devices;
 use crate::found::{Found, NOTHING};
@@ -104,11 +104,43 @@ impl Monitor {
         ensures after { knowledge_of self.new ≡ after_packet (knowledge_of self.old) packet.now }
     {
         if is_ack(packet) {
-            let found = self.devices.reply(packet, &self.ack, expected);
-            self.skipped = 0;
-            return found;
+            return self.hear_ack(packet, expected);
         }
         self.hear_other(packet, expected)
+    }
+
+    /// Takes an ACK. Most answer a POLL in turn.
+    fn hear_ack(&mut self, packet: &FrameView<'_>, expected: &mut Burst) -> Found
+        requires device { packet.now.address < 127 }
+        requires reply { packet.now.reply ≡ true }
+        requires open { packet.now.block ≡ false }
+        requires ack { reply_told packet.now ≡ Ok Ack }
+        requires none { expected.old.items ≡ [] }
+        ensures found { result ≡ found_in (knowledge_of self.old) packet.now }
+        ensures expected { IsSpelledIf (expected_in (knowledge_of self.old) packet.now) expected.new.items }
+        ensures after { knowledge_of self.new ≡ after_packet (knowledge_of self.old) packet.now }
+    {
+        if self.devices.take_ack(packet) {
+            self.skipped = 0;
+            return NOTHING;
+        }
+        self.hear_any_ack(packet, expected)
+    }
+
+    /// Takes any ACK.
+    fn hear_any_ack(&mut self, packet: &FrameView<'_>, expected: &mut Burst) -> Found
+        requires device { packet.now.address < 127 }
+        requires reply { packet.now.reply ≡ true }
+        requires open { packet.now.block ≡ false }
+        requires ack { reply_told packet.now ≡ Ok Ack }
+        requires none { expected.old.items ≡ [] }
+        ensures found { result ≡ found_in (knowledge_of self.old) packet.now }
+        ensures expected { IsSpelledIf (expected_in (knowledge_of self.old) packet.now) expected.new.items }
+        ensures after { knowledge_of self.new ≡ after_packet (knowledge_of self.old) packet.now }
+    {
+        let found = self.devices.reply(packet, &self.ack, expected);
+        self.skipped = 0;
+        found
     }
 
     /// Takes a reply that is read.
@@ -133,7 +165,7 @@ impl Monitor {
         found
     }
 
-    /// Takes a packet to a device.
+    /// Takes a packet to a device. Most are the next one after one that was answered.
     fn hear_sent(
         &mut self,
         packet: &FrameView<'_>,
@@ -152,6 +184,28 @@ impl Monitor {
             self.pass(packet);
             return Ok(NOTHING);
         }
+        if self.devices.take_next(packet) {
+            self.skipped = 0;
+            return Ok(NOTHING);
+        }
+        self.hear_any(packet, expected)
+    }
+
+    /// Takes any packet to a device whose code the tables have.
+    fn hear_any(
+        &mut self,
+        packet: &FrameView<'_>,
+        expected: &mut Burst,
+    ) -> Result<Found, AllocError>
+        requires device { packet.now.address < 127 }
+        requires sent { packet.now.reply ≡ false }
+        requires own { is_foreign packet.now ≡ false }
+        requires none { expected.old.items ≡ [] }
+        ensures found { IfOk result (λ found. found ≡ found_in (knowledge_of self.old) packet.now) }
+        ensures expected { OnOk result (IsSpelledIf (expected_in (knowledge_of self.old) packet.now) expected.new.items) }
+        ensures after { OnOk result (knowledge_of self.new ≡ after_packet (knowledge_of self.old) packet.now) }
+        ensures kept { OnErr result (knowledge_of self.new ≡ knowledge_of self.old) }
+    {
         let found = match self.devices.get(packet.address()) {
             Some(device) => device.judge_sent(packet, expected),
             None => NOTHING,

@@ -4,6 +4,7 @@ ghost use Rattle.std.specs.Prelude.{◌≡◌, Some};
 ghost use Rattle.osdp_frame.specs.Packet.{Packet};
 ghost use Rattle.osdp_monitor.specs.Known.{is_number};
 ghost use Rattle.osdp_monitor.specs.Panel.{sent_after};
+ghost use Rattle.osdp_monitor.specs.Private.{is_next, number_of};
 
 use crate::accusation::Accusation;
 use crate::kept::KeptPacket;
@@ -16,7 +17,8 @@ pub(crate) fn sent_after(
     answered: bool,
     packet: &FrameView<'_>,
 ) -> Option<Accusation>
-    ensures { (p : Packet) → last.now ≡ Some p → last_number ≡ p.sequence → result ≡ sent_after p answered packet.now }
+    requires { number_of last.now ≡ Some last_number }
+    ensures { (p : Packet) → last.now ≡ Some p → result ≡ sent_after p answered packet.now }
 {
     let number = packet.seq().get();
     if number == 0 {
@@ -45,5 +47,15 @@ pub(crate) fn is_number(known: Option<Seq>, number: Seq) -> bool
     match known {
         None => false,
         Some(taken) => taken.get() == number.get(),
+    }
+}
+
+/// Whether the number is known, and this is the next.
+pub(crate) fn is_after(known: Option<Seq>, number: Seq) -> bool
+    ensures { is_next known number ≡ result }
+{
+    match known {
+        None => false,
+        Some(taken) => taken.next().get() == number.get(),
     }
 }

@@ -1,0 +1,118 @@
+-- A packet after one that was answered, and an ACK that answers a POLL in turn: nothing is found in them.
+use Rattle.std.proofs.Common.{◌≡◌, ◌≢◌, ◌==◌, ◌||◌, ℕ, Bool, true, false, Option, Some, None, Result, Ok, Err, refl, subst, arith}
+use Rattle.osdp_frame.specs.Packet.{Packet, next_sequence}
+use Rattle.osdp_msg.specs.declared.command.Command.{Command}
+use Rattle.osdp_msg.specs.declared.command.Command.TheVariants.{Comset, Poll}
+use Rattle.osdp_msg.specs.declared.fault.MsgFault.{MsgFault}
+use Rattle.osdp_msg.specs.declared.reply.Reply.TheVariants.{Ack}
+use Rattle.osdp_monitor.specs.Known.{Known, same_check, same_packet}
+use Rattle.osdp_monitor.specs.Line.{Knowledge, after_reply_if, found_in_reply, found_in_sent, moves_to, nothing_found}
+use Rattle.osdp_monitor.specs.Panel.{after_sent}
+use Rattle.osdp_monitor.specs.Private.{AnswersPoll, IsNext, IsPollTo, is_next, number_of}
+use Rattle.osdp_monitor.specs.Reader.{after_reply}
+use Rattle.osdp_monitor.specs.Saying.{asked, moved_by, reply_told}
+
+-- the number is not the one taken last
+other_number : (t n : ℕ) → (next_sequence t == n) ≡ true → (t == n) ≡ false
+other_number t n is = grind arith
+
+other_way : (t n : ℕ) → (next_sequence t == n) ≡ true → (n == t) ≡ false
+other_way t n is = grind arith
+
+next_way : (t n : ℕ) → (next_sequence t == n) ≡ true → (n == next_sequence t) ≡ true
+next_way t n is = grind arith
+
+not_zero : (n : ℕ) → n ≢ 0 → (n == 0) ≡ false
+not_zero n other = grind arith
+
+begun : (t n : ℕ) → (next_sequence t == n) ≡ true → n ≢ 0
+begun t n is = grind arith
+
+self_is : (n : ℕ) → (n == n) ≡ true
+self_is n = grind arith
+
+or_true : (b : Bool) → (b || true) ≡ true
+or_true true = refl
+or_true false = refl
+
+by_taken : (taken : Option ℕ) (k : Known) (p r : Packet) → k.taken ≡ taken → k.replied ≡ false → asked p ≡ Ok Poll → reply_told r ≡ Ok Ack
+    → p.sequence ≡ r.sequence → same_check r.check p.check ≡ true → is_next taken r.sequence ≡ true
+    → found_in_reply (Some p) k r ≡ nothing_found
+by_taken None k p r is first poll ack number check next = absurd cc
+by_taken (Some t) k p r is first poll ack number check next =
+    simp (is, first, poll, ack, number, not_zero r.sequence (begun t r.sequence next), check, other_number t r.sequence next, next_way t r.sequence next, self_is r.sequence) refl
+
+pub none_found : (k : Known) (r : Packet) → AnswersPoll k r → reply_told r ≡ Ok Ack → found_in_reply k.last k r ≡ nothing_found
+none_found k r a ack = by_last k.last a.last
+  where
+    by_last : (last : Option Packet) → IsPollTo last r.sequence r.check → found_in_reply last k r ≡ nothing_found
+    by_last None poll = absurd poll
+    by_last (Some p) (poll, number, check) = by_taken k.taken k p r refl a.first poll ack number check a.next
+
+nowhere : (c : Result Command MsgFault) (at : ℕ) → moved_by c (Ok Ack) at ≡ None
+nowhere (Ok (Comset wanted)) at = refl
+nowhere (Ok command) at = refl
+nowhere (Err fault) at = refl
+
+pub goes_nowhere : (k : Known) (r : Packet) → reply_told r ≡ Ok Ack → moves_to k.last r ≡ None
+goes_nowhere k r ack = by_last k.last
+  where
+    by_last : (last : Option Packet) → moves_to last r ≡ None
+    by_last None = refl
+    by_last (Some p) = rw ack (nowhere (asked p) r.address)
+
+after_taken : (taken : Option ℕ) (k : Known) (p r : Packet) → k.taken ≡ taken → p.sequence ≡ r.sequence
+    → is_next taken r.sequence ≡ true → reply_told r ≡ Ok Ack
+    → after_reply k p r ≡ record k { replied = true; answered = true; taken = Some r.sequence; stored = Some r }
+after_taken None k p r is number next ack = absurd cc
+after_taken (Some t) k p r is number next ack =
+    simp (is, ack, number, not_zero r.sequence (begun t r.sequence next), other_number t r.sequence next, self_is r.sequence, or_true k.answered) refl
+
+pub is_taken : (k : Known) (r : Packet) → AnswersPoll k r → reply_told r ≡ Ok Ack
+    → after_reply_if k.last k r ≡ record k { replied = true; answered = true; taken = Some r.sequence; stored = Some r }
+is_taken k r a ack = by_last k.last a.last
+  where
+    by_last : (last : Option Packet) → IsPollTo last r.sequence r.check
+        → after_reply_if last k r ≡ record k { replied = true; answered = true; taken = Some r.sequence; stored = Some r }
+    by_last None poll = absurd poll
+    by_last (Some p) (poll, number, check) = after_taken k.taken k p r refl number a.next ack
+
+-- ---- a packet after one that was answered
+
+other_packet : (last p : Packet) → (last.sequence == p.sequence) ≡ false → same_packet last p ≡ false
+other_packet last p other = grind arith
+
+next_found : (last : Option Packet) (k : Known) (p : Packet) → k.last ≡ last → is_next (number_of last) p.sequence ≡ true → k.replied ≡ true → k.answered ≡ true
+    → found_in_sent k p ≡ nothing_found
+next_found None k p is next replied answered = absurd cc
+next_found (Some last) k p is next replied answered =
+    simp (
+      is,
+      replied,
+      answered,
+      other_way last.sequence p.sequence next,
+      next_way last.sequence p.sequence next,
+      not_zero p.sequence (begun last.sequence p.sequence next),
+    ) refl
+
+pub none_found_in_next : (k : Known) (p : Packet) → IsNext k p → found_in_sent k p ≡ nothing_found
+none_found_in_next k p n = next_found k.last k p refl n.next n.replied n.answered
+
+next_sent : (last : Option Packet) (k : Known) (p : Packet) → k.last ≡ last → is_next (number_of last) p.sequence ≡ true → k.replied ≡ true
+    → after_sent last k p ≡ record k { last = Some p; replied = false; answered = false; missed = false }
+next_sent None k p is next replied = absurd cc
+next_sent (Some last) k p is next replied =
+    simp (other_packet last p (other_number last.sequence p.sequence next), replied, not_zero p.sequence (begun last.sequence p.sequence next)) refl
+
+pub is_sent : (k : Known) (p : Packet) → IsNext k p
+    → after_sent k.last k p ≡ record k { last = Some p; replied = false; answered = false; missed = false }
+is_sent k p n = next_sent k.last k p refl n.next n.replied
+
+-- ---- where nothing is known anew
+
+abbrev line_of : (ℕ → Known) → ℕ → Knowledge
+line_of devices skipped = record { devices = devices; skipped = skipped }
+
+-- what holds of what is known holds still
+pub on_same : (P : Knowledge → Type 0) (devices others : ℕ → Known) (skipped : ℕ) → devices ≡ others → P (line_of devices skipped) → P (line_of others skipped)
+on_same P devices others skipped same holds = subst (λ d. P (line_of d skipped)) same holds
