@@ -6,7 +6,7 @@ use osdp_line_calls::{
     run_lines,
 };
 use osdp_tool::{Choice, Job, VERSION, arguments, choose, help_text, job, lent, make};
-use osdp_tool_listen::{Moments, monitor, monitor_mode};
+use osdp_tool_monitor::{Moments, monitor, monitor_mode};
 use osdp_tool_show::{check, show};
 use osdp_tool_sim::sim;
 use osdp_tool_streams::{ToolFault, Watched, flush_out, write_out};

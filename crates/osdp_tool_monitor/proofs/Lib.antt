@@ -4,3 +4,9 @@ pub mod Rows
 pub mod Items
 pub mod OpenRuns
 pub mod Printing
+pub mod Sessions
+pub mod Writing
+pub mod Pieces
+pub mod Closing
+pub mod Words
+pub mod Weights

@@ -1,7 +1,7 @@
 -- Open lines: items that are taken off one by one, and pieces of a run one after the other.
-use Rattle.std.proofs.Common.{◌≡◌, ℕ, ◌+◌, ◌-◌, ◌*◌, ◌<◌, ◌≤◌, ◌==◌, ◌&&◌, not, Bool, true, false, List, [], ◌∷◌, ◌++◌, length, take, drop, Some, None, Result, Ok, Err, IfErr, IsErrAnd, OnOk, refl, sym, subst, ap, ◌∙◌, arith, append_assoc, append-nil, length-append, length-drop}
+use Rattle.std.proofs.Common.{◌≡◌, ◌≢◌, cond, ℕ, ◌+◌, ◌-◌, ◌*◌, ◌<◌, ◌≤◌, ◌==◌, ◌&&◌, not, Bool, true, false, List, [], ◌∷◌, ◌++◌, length, take, drop, Some, None, Result, Ok, Err, IfErr, OnOk, refl, sym, subst, ap, ◌∙◌, arith, append_assoc, append-nil, length-append, length-drop}
 use Rattle.std.proofs.Math.Seq.{drop-drop, take-add}
-use Rattle.std.proofs.lemmas.Bool.{ne_eqb}
+use Rattle.std.proofs.lemmas.Bool.{eqb-false, ne_eqb}
 use Rattle.std.proofs.lemmas.List.{drop_all, take-take, length-take}
 use Rattle.osdp_frame.specs.Bytes.{AreBytes}
 use Rattle.osdp_frame.specs.Held.{Held, decided, after_advance, after_first, after_push, later, taken_count}
@@ -12,16 +12,13 @@ use Rattle.osdp_frame.proofs.Decided.{undecided_none, undecided_ended}
 use Rattle.osdp_frame_laws.proofs.LawsOfSpellings.{AreBytes-append}
 use Rattle.osdp_frame_laws.proofs.LeftOver.{left_is, left_over-append, reading_split, total_size-append}
 use Rattle.osdp_frame_laws.proofs.Readings.{decided_nothing, is_reading, item_size-positive, item_size-decided, items-append, items_decided, items_undecided, sizes_reading}
-use Rattle.osdp_tool_show.specs.Tally.{counted}
+use Rattle.osdp_tool_show.specs.Tally.{after_run, counted}
+use Rattle.osdp_tool_show.specs.declared.tally.Tally.{Tally}
 use Rattle.osdp_tool_show.proofs.Lines.{counted-tally_after}
 use Rattle.osdp_tool_monitor.specs.declared.listener.Listener.{Listener}
 use Rattle.osdp_tool_monitor.specs.declared.open_line.OpenLine.{OpenLine}
 use Rattle.osdp_tool_monitor.specs.Hearing.{Come, Drained, Hearing, Hears, HearsItems, IsOpen, LineEvent, RunEnds, TableDue, after_event, after_events, event_report, events_report, hearing_of, load, prints_all}
 use Rattle.osdp_tool_monitor.specs.Listening.{HearsItem, Listening, ended, heard_item, heard_items, item_report, items_report, listening_of, table, tells_all}
-
-pub on_ok : {T E : Type 0} {A B : Type 0} (r : Result T E) → (A → B) → OnOk r A → OnOk r B
-on_ok (Ok x) f a = f a
-on_ok (Err e) f a = tt
 
 pub on_both : {T E : Type 0} {A B C : Type 0} (r : Result T E) → (A → B → C) → OnOk r A → OnOk r B → OnOk r C
 on_both (Ok x) f a b = f a b
@@ -30,10 +27,6 @@ on_both (Err e) f a b = tt
 pub on_each_err : {T E : Type 0} {P Q : E → Type 0} (r : Result T E) → ((e : E) → P e → Q e) → IfErr r P → IfErr r Q
 on_each_err (Ok x) f p = tt
 on_each_err (Err e) f p = f e p
-
-pub on_err : {T E : Type 0} (Q : Result T E → Type 0) (r : Result T E) (e : E) → IsErrAnd r (λ x. x ≡ e) → Q (Err e) → Q r
-on_err Q (Ok x) e is q = absurd is
-on_err Q (Err x) e is q = subst (λ y. Q (Err y)) (sym is) q
 
 -- ---- items, one after the other
 
@@ -408,3 +401,27 @@ load_gapped old gapped now mid before after is_open is d =
     let all : total_size (items gapped.ended gapped.bytes) ≡ length held =
     ap (λ (h : Held). total_size (items h.ended h.bytes)) is ∙ ap total_size (gap_items held) ∙ sizes_reading held (items true held) (is_reading held is_open.bytes) in
     omega (arith, counted_items (listening_of old.listener) (items gapped.ended gapped.bytes))
+
+counted_run : (tally : Tally) → counted (after_run tally) ≤ counted tally
+counted_run tally = by_place (tally.place == 0) refl
+  where
+    by_place : (none : Bool) → (tally.place == 0) ≡ none → counted (cond none tally (record tally { runs = tally.runs + 1; place = 0 })) ≤ counted tally
+    by_place true e = omega arith
+    by_place false e = let some : tally.place ≢ 0 = eqb-false tally.place 0 e in omega arith
+
+load_end : (h : Hearing) (bytes : List ℕ) → AreBytes (h.held ++ bytes) → load (after_event h (RunEnds bytes)) ≤ load h + 5 * length bytes
+load_end h bytes fits =
+    let parts = items true (h.held ++ bytes) in
+    omega (
+      arith,
+      counted_run (heard_items h.heard parts).tally,
+      counted_items h.heard parts,
+      sizes_reading (h.held ++ bytes) parts (is_reading (h.held ++ bytes) fits),
+      length-append h.held bytes,
+    )
+
+pub load_ended : (bytes : List ℕ) (old new : OpenLine) (before after : List ℕ) → AreBytes bytes → IsOpen old → Hears (RunEnds bytes ∷ []) old new before after
+    → load (hearing_of new) ≤ load (hearing_of old) + 5 * length bytes
+load_ended bytes old new before after fits is_open h =
+    let is : load (hearing_of new) ≡ load (after_event (hearing_of old) (RunEnds bytes)) = ap load (h.heard ∙ one_heard (hearing_of old) (RunEnds bytes)) in
+    omega (arith, load_end (hearing_of old) bytes (AreBytes-append old.framer.bytes bytes is_open.bytes fits))

@@ -1,18 +1,42 @@
 -- What stands in print of whoever is accused.
-use Rattle.std.specs.Prelude.{◌≡◌, ◌+◌, Bool, List, ℕ, ◌∷◌, ◌++◌, Some}
+use Rattle.std.specs.Prelude.{◌≡◌, ℕ, ◌+◌, Bool, true, false, List, [], ◌∷◌, ◌++◌, codes, Option, None, Some}
+use Rattle.std.specs.Fmt.{decimal}
 use Rattle.osdp_frame.specs.Packet.{Packet}
 use Rattle.osdp_frame.specs.Reading.{PacketItem, RunItem}
+use Rattle.osdp_frame.specs.Spelling.{spelling}
+use Rattle.osdp_words.specs.Word.{bytes, printed}
 use Rattle.osdp_monitor.specs.declared.accusation.Accusation.{Accusation}
-use Rattle.osdp_monitor.specs.Line.{after_items, found_in}
-use Rattle.osdp_tool_monitor.specs.Listening.{Listening, heard_items, items_report}
-use Rattle.osdp_tool_monitor.specs.Text.{accusation_text, accused_text, address_line}
+use Rattle.osdp_monitor.specs.Line.{after_items, expected_in, found_in}
+use Rattle.osdp_tool_show.specs.ToldItems.{shown_line}
+use Rattle.osdp_tool_monitor.specs.Listening.{Listening, heard_item, heard_items, items_report}
+use Rattle.osdp_tool_monitor.specs.Text.{accusation_text, notice_line}
 
--- whoever is accused in a packet, after whatever items and before whatever others, is named in what is printed of them, with the run and the place of
--- the packet and its address
+-- who broke a rule: the reader of a reply, and else the panel
+abbrev pub culprit : Bool → List ℕ
+culprit true = codes " reader "
+culprit false = codes " panel to "
+
+-- a line that names a packet's run, from 1, its place in the run, who broke a rule, the address, and the rule
+abbrev pub naming_line : ℕ → ℕ → Packet → Accusation → List ℕ
+naming_line runs place p accusation =
+    decimal (runs + 1) ++ (codes ":" ++ (decimal place ++ (culprit p.reply ++ (decimal p.address ++ (codes ": " ++ (accusation_text accusation ++ codes "\n"))))))
+
+-- the packet that had to come in place of this one, and this one, where only one might come
+abbrev pub both_packets : Option Packet → Packet → List ℕ
+both_packets None p = []
+both_packets (Some expected) p =
+    codes "     expected " ++ (printed (bytes (spelling expected)) ++ (codes "\n     seen     " ++ (printed (bytes (spelling p)) ++ codes "\n")))
+
+-- Whoever is accused in a packet is named in what is printed of any items about it. Before that line stands what is printed of the items before the packet,
+-- the packet's own line and what is worth a look in it. After it stand the two packets, and what is printed of the items after the packet.
 abbrev pub PrintsAccusations : Type 0
 PrintsAccusations = (packets : Bool) (l : Listening) (front rest : List RunItem) (p : Packet) (accusation : Accusation)
     → (found_in (after_items l.knowledge front) p).accusation ≡ Some accusation
-    → let tally = (heard_items l front).tally in
-    (before : List ℕ) × (after : List ℕ)
-    × (items_report packets l (front ++ PacketItem p ∷ rest)
-    ≡ before ++ (address_line (tally.runs + 1) tally.place (accused_text p.reply) p.address (accusation_text accusation) ++ after))
+    → let now = heard_items l front in
+    items_report packets l (front ++ PacketItem p ∷ rest)
+    ≡ items_report packets l front
+    ++ (shown_line packets now.tally (PacketItem p)
+    ++ (notice_line (now.tally.runs + 1) now.tally.place p.address (found_in now.knowledge p).notice
+    ++ (naming_line now.tally.runs now.tally.place p accusation
+    ++ (both_packets (expected_in now.knowledge p) p
+    ++ items_report packets (heard_item now (PacketItem p)) rest))))

@@ -3,3 +3,8 @@ pub mod Counts
 pub mod Listening
 pub mod Hearing
 pub mod Laws
+pub mod Events
+pub mod Ending
+pub mod Session
+pub mod Reading
+pub mod Options

@@ -1,6 +1,7 @@
 //! What is counted of an address.
 
-ghost use Rattle.std.specs.Prelude.{◌≡◌};
+ghost use Rattle.std.specs.Prelude.{◌≡◌, true};
+ghost use Rattle.osdp_monitor.specs.Line.{nothing_found};
 ghost use Rattle.osdp_monitor.specs.Saying.{asked, reply_told};
 ghost use Rattle.osdp_tool_monitor.specs.Counts.{is_poll, kind_of_reply, more_if};
 
@@ -93,6 +94,17 @@ fn by_reading(read: &Result<Reply, MsgFault>) -> ReplyKind
     }
 }
 
+/// Whether nothing is counted of a reply but an answer.
+fn is_answer_alone(kind: ReplyKind, found: &Found) -> bool
+    ensures kind { result ≡ true → kind ≡ ReplyKind.Other }
+    ensures found { result ≡ true → found.now ≡ nothing_found }
+{
+    matches!(
+        (kind, found.accusation, found.notice),
+        (ReplyKind::Other, None, None)
+    )
+}
+
 impl Counts {
     ghost use Rattle.osdp_tool_monitor.specs.Counts.{after_packet, after_reply, after_sent, is_silent, no_counts};
 
@@ -128,18 +140,33 @@ impl Counts {
         }
     }
 
-    /// A packet to a device came.
+    /// A packet to a device came. In most nothing is found, and they are no copies.
     fn count_sent(&mut self, packet: &FrameView<'_>, copy: bool, found: &Found)
         ensures { self.new ≡ after_sent packet.now copy found.now self.old }
     {
         self.asked = more_if(true, self.asked);
         self.polls = more_if(is_poll(packet), self.polls);
+        if !copy && found.accusation.is_none() {
+            return;
+        }
         self.repeats = more_if(copy, self.repeats);
         self.accused = more_if(found.accusation.is_some(), self.accused);
     }
 
-    /// A reply came.
+    /// A reply came. In most nothing is found, and they are an answer.
     fn count_reply(&mut self, kind: ReplyKind, found: &Found)
+        ensures { self.new ≡ after_reply kind found.now self.old }
+    {
+        if is_answer_alone(kind, found) {
+            self.answered = more_if(true, self.answered);
+            return;
+        }
+        self.count_any(kind, found);
+    }
+
+    /// The same of any reply.
+    #[inline(never)]
+    fn count_any(&mut self, kind: ReplyKind, found: &Found)
         ensures { self.new ≡ after_reply kind found.now self.old }
     {
         let is_busy = matches!(kind, ReplyKind::Busy);

@@ -176,7 +176,7 @@ impl Listener {
         ensures heard { OnOk result (listening_of self.new ≡ ended (listening_of self.old)) }
         ensures fault { IfErr result (IsLineFault (counted self.old.tally)) }
     {
-        if !has_room(&self.tally) {
+        if self.tally.runs >= MOST {
             return Err(ToolFault::TooLong);
         }
         self.tally.end_run();

@@ -66,6 +66,7 @@ impl OpenLine {
     pub fn come(&mut self, bytes: &[u8], text: &mut String) -> Result<(), ToolFault>
         requires { IsOpen self.old }
         ensures hears { OnOk result (Hears (Come bytes.now ∷ []) self.old self.new (string_bytes text.old) (string_bytes text.new)) }
+        ensures load { OnOk result (load (hearing_of self.new) ≤ load (hearing_of self.old) + 5 * length bytes.now) }
         ensures fault { IfErr result (IsLineFault (load (hearing_of self.old) + 5 * length bytes.now)) }
     {
         let mut at = 0;
@@ -81,6 +82,7 @@ impl OpenLine {
     pub fn end_run(&mut self, text: &mut String) -> Result<(), ToolFault>
         requires { IsOpen self.old }
         ensures hears { OnOk result (Hears (RunEnds [] ∷ []) self.old self.new (string_bytes text.old) (string_bytes text.new)) }
+        ensures load { OnOk result (load (hearing_of self.new) ≤ load (hearing_of self.old)) }
         ensures fault { IfErr result (IsLineFault (load (hearing_of self.old))) }
     {
         self.framer.gap();
@@ -95,6 +97,7 @@ impl OpenLine {
         requires is_open { IsOpen self.old }
         requires none { self.old.framer.bytes ≡ [] }
         ensures hears { OnOk result (Hears (RunEnds run.now ∷ []) self.old self.new (string_bytes text.old) (string_bytes text.new)) }
+        ensures load { OnOk result (load (hearing_of self.new) ≤ load (hearing_of self.old) + 5 * length run.now) }
         ensures fault { IfErr result (IsLineFault (load (hearing_of self.old) + 5 * length run.now)) }
     {
         self.listener.hear_run(run, text)

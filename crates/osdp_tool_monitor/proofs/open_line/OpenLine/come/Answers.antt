@@ -1,8 +1,11 @@
-use Rattle.std.proofs.Common.{◌+◌, ◌*◌, length, arith, IfErr}
+use Rattle.std.proofs.Common.{◌+◌, ◌*◌, length, take, arith, IfErr}
+use Rattle.std.proofs.lemmas.List.{length-take}
+use Rattle.osdp_frame.proofs.Head.{AreBytes-take}
 use Rattle.osdp_tool_monitor.specs.Hearing.{hearing_of, load}
 use Rattle.osdp_tool_monitor.specs.Listening.{IsLineFault}
 use Rattle.osdp_tool_monitor.proofs.Items.{fault_more}
-use Rattle.osdp_tool_monitor.proofs.OpenRuns.{come_after, come_none, load_more, on_err}
+use Rattle.osdp_tool_monitor.proofs.OpenRuns.{come_after, come_none, load_came, load_more}
+use Rattle.osdp_tool_streams.proofs.Answered.{on_err}
 use Rattle.osdp_tool_monitor.proofs.open_line.OpenLine.come.Goals as goal
 
 pub pieces-init : goal.pieces-init
@@ -26,3 +29,12 @@ returns-in_err-at-clause-fault c =
     (load_more c.args.bytes.now c.pieces.at c.args.self.now c.pieces.self _ _ c.pieces.invariant.within (λ k. omega (arith, c.type_inv.bytes k))
     (record { bytes = c.requires.bytes; goes_on = c.requires.goes_on; none = c.requires.none }) c.pieces.invariant.hears)
     c.in_err-at.ensures.fault)
+
+pub returns-clause-load : goal.returns-clause-load
+returns-clause-load c =
+    omega (
+      arith,
+      load_came (take c.pieces.at c.args.bytes.now) c.args.self.now c.pieces.self _ _ (AreBytes-take c.pieces.at c.args.bytes.now (λ k. omega (arith, c.type_inv.bytes k)))
+          (record { bytes = c.requires.bytes; goes_on = c.requires.goes_on; none = c.requires.none }) c.pieces.invariant.hears,
+      length-take c.pieces.at c.args.bytes.now,
+    )

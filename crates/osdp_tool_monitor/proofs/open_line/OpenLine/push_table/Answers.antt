@@ -1,4 +1,5 @@
-use Rattle.osdp_tool_monitor.proofs.OpenRuns.{on_ok, table_told}
+use Rattle.osdp_tool_monitor.proofs.OpenRuns.{table_told}
+use Rattle.osdp_tool_streams.proofs.Answered.{on_ok}
 use Rattle.osdp_tool_monitor.proofs.open_line.OpenLine.push_table.Goals as goal
 
 pub returns-clause-hears : goal.returns-clause-hears

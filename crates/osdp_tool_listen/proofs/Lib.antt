@@ -1,5 +1,0 @@
-pub mod Sessions
-pub mod Writing
-pub mod Pieces
-pub mod Closing
-pub mod Words

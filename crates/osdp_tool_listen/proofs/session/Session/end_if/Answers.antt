@@ -1,9 +1,0 @@
-use Rattle.osdp_tool_monitor.proofs.OpenRuns.{on_ok}
-use Rattle.osdp_tool_listen.proofs.Sessions.{gap_ends, gap_none}
-use Rattle.osdp_tool_listen.proofs.session.Session.end_if.Goals as goal
-
-pub returns-then-not-over : goal.returns-then-not-over
-returns-then-not-over c = gap_none c.args.over c.args.self.now _ c.if-not-over.true c.requires.ready
-
-pub returns : goal.returns
-returns c = on_ok c.end_run.result (gap_ends c.args.over c.args.self.now _ _ _ c.if-not-over.false c.requires.ready c.requires.form) c.end_run.ensures.hears

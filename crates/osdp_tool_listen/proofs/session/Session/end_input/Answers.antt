@@ -1,5 +1,0 @@
-use Rattle.osdp_tool_listen.proofs.Sessions.{ended_bytes}
-use Rattle.osdp_tool_listen.proofs.session.Session.end_input.Goals as goal
-
-pub returns : goal.returns
-returns c = ended_bytes c.args.self.now c.end_run.new.self _ _ c.if-self.false c.in_ok-end_run.ensures.hears

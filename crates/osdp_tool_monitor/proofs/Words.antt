@@ -1,0 +1,210 @@
+-- Options that are read one after the other.
+use Rattle.std.proofs.Common.{◌≡◌, ◌↔◌, ℕ, List, [], ◌∷◌, ◌++◌, Option, Some, None, refl, sym, subst, ap, ◌∙◌}
+use Rattle.std.specs.Prelude.{flat_map}
+use Rattle.std.specs.Fmt.{decimal}
+use Rattle.osdp_tool_monitor.specs.declared.mode.MonitorMode.{MonitorMode}
+use Rattle.osdp_tool_monitor.specs.declared.mode.MonitorOption.{MonitorOption}
+use Rattle.osdp_tool_monitor.specs.declared.mode.MonitorOption.TheVariants.{Hex, Packets, Gap, Every}
+use Rattle.osdp_tool_monitor.specs.declared.mode.OptionName.{OptionName}
+use Rattle.osdp_tool_monitor.specs.declared.mode.OptionName.TheVariants as name
+use Rattle.osdp_tool_monitor.specs.Options.{AreOptions, IsWait, OptionFits, ReadsMode, TakesNumber, TakesOption, Words, default_mode, name_text, numbered, option_words, with_option, with_options}
+
+-- what was read of the words, and what is left of them: options of what is left are the last of all
+pub record Left (given left : Words) (mode : MonitorMode) : Type 0 where
+  pub all : (rest : List MonitorOption) → AreOptions left rest
+      → (options : List MonitorOption) × AreOptions given options × (with_options options default_mode ≡ with_options rest mode)
+  pub last : (options : List MonitorOption) → AreOptions given options
+      → (rest : List MonitorOption) × AreOptions left rest × (with_options options default_mode ≡ with_options rest mode)
+
+pub left_first : (given : Words) → Left given given default_mode
+left_first given = record { all = λ rest g. (rest, g, refl); last = λ options g. (options, g, refl) }
+
+pub left_done : (given left : Words) (mode : MonitorMode) → left ≡ [] → Left given left mode → ReadsMode given (Some mode)
+left_done given left mode none so_far = record {
+  value = value_of (so_far.all [] (record { are = none; fit = tt }));
+  only = λ options g. by_rest options (so_far.last options g);
+}
+  where
+    value_of : (options : List MonitorOption) × AreOptions given options × (with_options options default_mode ≡ mode)
+        → (options : List MonitorOption) × AreOptions given options × (mode ≡ with_options options default_mode)
+    value_of (options, g, e) = (options, g, sym e)
+
+    no_words : (o : MonitorOption) (rest : List MonitorOption) → [] ≡ option_words o ++ flat_map option_words rest → ⊥
+    no_words Hex rest e = cc
+    no_words Packets rest e = cc
+    no_words (Gap n) rest e = cc
+    no_words (Every n) rest e = cc
+
+    by_rest : (options : List MonitorOption) → (rest : List MonitorOption) × AreOptions left rest × (with_options options default_mode ≡ with_options rest mode)
+        → Some mode ≡ Some (with_options options default_mode)
+    by_rest options ([], g, e) = ap Some (sym e)
+    by_rest options (o ∷ rest, g, e) = absurd (no_words o rest (sym none ∙ g.are))
+
+name_of : MonitorOption → OptionName
+name_of Hex = name.Hex
+name_of Packets = name.Packets
+name_of (Gap n) = name.Gap
+name_of (Every n) = name.Every
+
+-- the first word names the first option
+first_name : (word : List ℕ) (left : Words) (o : MonitorOption) (rest : List MonitorOption) → word ∷ left ≡ option_words o ++ flat_map option_words rest
+    → word ≡ name_text (name_of o)
+unfolding name_of
+first_name word left Hex rest e = cc
+first_name word left Packets rest e = cc
+first_name word left (Gap n) rest e = cc
+first_name word left (Every n) rest e = cc
+
+module _ (word : List ℕ) (left : Words) (found : Option OptionName) (is : (n : OptionName) → (found ≡ Some n) ↔ (word ≡ name_text n)) where
+  found_is : (o : MonitorOption) (rest : List MonitorOption) → word ∷ left ≡ option_words o ++ flat_map option_words rest → found ≡ Some (name_of o)
+  found_is o rest e = (is (name_of o)).1 (first_name word left o rest e)
+
+  -- the word names no option
+  pub no_name : (given : Words) (mode : MonitorMode) → Left given (word ∷ left) mode → found ≡ None → ReadsMode given None
+  no_name given mode so_far none = record { value = tt; only = λ options g. absurd (never (so_far.last options g)) }
+    where
+      other : (n : OptionName) → found ≡ Some n → ⊥
+      other n e = cc
+
+      never : {E : List MonitorOption → Type 0} → (rest : List MonitorOption) × AreOptions (word ∷ left) rest × E rest → ⊥
+      never ([], g, e) = empty g.are
+        where
+          empty : word ∷ left ≡ [] → ⊥
+          empty h = cc
+      never (o ∷ rest, g, e) = other (name_of o) (found_is o rest g.are)
+
+  -- the option of the name is taken off
+  module _ (n : OptionName) (named : found ≡ Some n) (next : Words) where
+    same_name : (o : MonitorOption) (rest : List MonitorOption) → word ∷ left ≡ option_words o ++ flat_map option_words rest → n ≡ name_of o
+    same_name o rest e = same (found_is o rest e)
+      where
+        same : found ≡ Some (name_of o) → n ≡ name_of o
+        same f = cc
+
+    word_is : word ≡ name_text n
+    word_is = (is n).0 named
+
+    -- words that begin with it
+    with_it : (m : OptionName) (o : MonitorOption) (rest : List MonitorOption) → n ≡ m → TakesOption m left next (Some o) → AreOptions next rest
+        → AreOptions (word ∷ left) (o ∷ rest)
+    with_it name.Hex o rest e (took, same) g =
+        let o_is : o ≡ Hex = cc in
+        record { are = rw o_is (ap (λ w. w ∷ left) (word_is ∙ ap name_text e) ∙ ap (λ l. name_text name.Hex ∷ l) (sym same ∙ g.are)); fit = rw o_is (tt, g.fit) }
+    with_it name.Packets o rest e (took, same) g =
+        let o_is : o ≡ Packets = cc in
+        record { are = rw o_is (ap (λ w. w ∷ left) (word_is ∙ ap name_text e) ∙ ap (λ l. name_text name.Packets ∷ l) (sym same ∙ g.are)); fit = rw o_is (tt, g.fit) }
+    with_it name.Gap o rest e (None, takes, took) g = absurd cc
+    with_it name.Gap o rest e (Some k, takes, took) g =
+        let o_is : o ≡ Gap k = cc in
+        record {
+          are = rw o_is (ap (λ w. w ∷ left) (word_is ∙ ap name_text e) ∙ ap (λ l. name_text name.Gap ∷ l) (takes.value.1 ∙ ap (λ l. decimal k ∷ l) g.are));
+          fit = rw o_is (takes.value.0, g.fit);
+        }
+    with_it name.Every o rest e (None, takes, took) g = absurd cc
+    with_it name.Every o rest e (Some k, takes, took) g =
+        let o_is : o ≡ Every k = cc in
+        record {
+          are = rw o_is (ap (λ w. w ∷ left) (word_is ∙ ap name_text e) ∙ ap (λ l. name_text name.Every ∷ l) (takes.value.1 ∙ ap (λ l. decimal k ∷ l) g.are));
+          fit = rw o_is (takes.value.0, g.fit);
+        }
+
+    -- what is left after it
+    after_it : (m : OptionName) (o p : MonitorOption) (others : List MonitorOption) → n ≡ m → TakesOption m left next (Some o)
+        → word ∷ left ≡ option_words p ++ flat_map option_words others → OptionFits p → m ≡ name_of p → (o ≡ p) × (next ≡ flat_map option_words others)
+    unfolding name_of
+    after_it name.Hex o Hex others e (took, same) h fit clash =
+        let rest : left ≡ flat_map option_words others = cc in
+        (cc, same ∙ rest)
+    after_it name.Hex o Packets others e took h fit clash = absurd cc
+    after_it name.Hex o (Gap k) others e took h fit clash = absurd cc
+    after_it name.Hex o (Every k) others e took h fit clash = absurd cc
+    after_it name.Packets o Hex others e took h fit clash = absurd cc
+    after_it name.Packets o Packets others e (took, same) h fit clash =
+        let rest : left ≡ flat_map option_words others = cc in
+        (cc, same ∙ rest)
+    after_it name.Packets o (Gap k) others e took h fit clash = absurd cc
+    after_it name.Packets o (Every k) others e took h fit clash = absurd cc
+    after_it name.Gap o Hex others e took h fit clash = absurd cc
+    after_it name.Gap o Packets others e took h fit clash = absurd cc
+    after_it name.Gap o (Gap k) others e (None, takes, took) h fit clash =
+        let rest : left ≡ decimal k ∷ flat_map option_words others = cc in
+        let none = takes.only k (flat_map option_words others) fit rest in
+        absurd cc
+    after_it name.Gap o (Gap k) others e (Some j, takes, took) h fit clash =
+        let rest : left ≡ decimal k ∷ flat_map option_words others = cc in
+        let some = takes.only k (flat_map option_words others) fit rest in
+        let front = takes.value.1 in
+        let one : o ≡ Gap k = cc in
+        let two : next ≡ flat_map option_words others = cc in
+        (one, two)
+    after_it name.Gap o (Every k) others e took h fit clash = absurd cc
+    after_it name.Every o Hex others e took h fit clash = absurd cc
+    after_it name.Every o Packets others e took h fit clash = absurd cc
+    after_it name.Every o (Gap k) others e took h fit clash = absurd cc
+    after_it name.Every o (Every k) others e (None, takes, took) h fit clash =
+        let rest : left ≡ decimal k ∷ flat_map option_words others = cc in
+        let none = takes.only k (flat_map option_words others) fit rest in
+        absurd cc
+    after_it name.Every o (Every k) others e (Some j, takes, took) h fit clash =
+        let rest : left ≡ decimal k ∷ flat_map option_words others = cc in
+        let some = takes.only k (flat_map option_words others) fit rest in
+        let front = takes.value.1 in
+        let one : o ≡ Every k = cc in
+        let two : next ≡ flat_map option_words others = cc in
+        (one, two)
+
+    none_after : (m : OptionName) (p : MonitorOption) (others : List MonitorOption) → TakesOption m left next None → word ∷ left ≡ option_words p ++ flat_map option_words others
+        → OptionFits p → m ≡ name_of p → ⊥
+    unfolding name_of
+    none_after name.Hex Hex others (took, same) h fit clash = cc
+    none_after name.Hex Packets others (took, same) h fit clash = cc
+    none_after name.Hex (Gap k) others (took, same) h fit clash = cc
+    none_after name.Hex (Every k) others (took, same) h fit clash = cc
+    none_after name.Packets Hex others (took, same) h fit clash = cc
+    none_after name.Packets Packets others (took, same) h fit clash = cc
+    none_after name.Packets (Gap k) others (took, same) h fit clash = cc
+    none_after name.Packets (Every k) others (took, same) h fit clash = cc
+    none_after name.Gap Hex others took h fit clash = cc
+    none_after name.Gap Packets others took h fit clash = cc
+    none_after name.Gap (Gap k) others (None, takes, took) h fit clash =
+        let rest : left ≡ decimal k ∷ flat_map option_words others = cc in
+        let some = takes.only k (flat_map option_words others) fit rest in
+        cc
+    none_after name.Gap (Gap k) others (Some j, takes, took) h fit clash = cc
+    none_after name.Gap (Every k) others took h fit clash = cc
+    none_after name.Every Hex others took h fit clash = cc
+    none_after name.Every Packets others took h fit clash = cc
+    none_after name.Every (Gap k) others took h fit clash = cc
+    none_after name.Every (Every k) others (None, takes, took) h fit clash =
+        let rest : left ≡ decimal k ∷ flat_map option_words others = cc in
+        let some = takes.only k (flat_map option_words others) fit rest in
+        cc
+    none_after name.Every (Every k) others (Some j, takes, took) h fit clash = cc
+
+    pub left_more : (given : Words) (mode : MonitorMode) (o : MonitorOption) → Left given (word ∷ left) mode → TakesOption n left next (Some o)
+        → Left given next (with_option o mode)
+    left_more given mode o so_far took = record {
+      all = λ rest g. so_far.all (o ∷ rest) (with_it n o rest refl took g);
+      last = λ options g. of_last options (so_far.last options g);
+    }
+      where
+        of_last : (options : List MonitorOption) → (rest : List MonitorOption) × AreOptions (word ∷ left) rest × (with_options options default_mode ≡ with_options rest mode)
+            → (rest : List MonitorOption) × AreOptions next rest × (with_options options default_mode ≡ with_options rest (with_option o mode))
+        of_last options ([], g, e) = absurd (empty g.are)
+          where
+            empty : word ∷ left ≡ [] → ⊥
+            empty h = cc
+        of_last options (p ∷ others, g, e) =
+            let a = after_it n o p others refl took g.are g.fit.0 (same_name p others g.are) in
+            (others, record { are = a.1; fit = g.fit.1 }, e ∙ ap (λ q. with_options others (with_option q mode)) (sym a.0))
+
+    -- there is no number where it has one
+    pub no_number : (given : Words) (mode : MonitorMode) → Left given (word ∷ left) mode → TakesOption n left next None → ReadsMode given None
+    no_number given mode so_far took = record { value = tt; only = λ options g. absurd (never options (so_far.last options g)) }
+      where
+        never : (options : List MonitorOption) → (rest : List MonitorOption) × AreOptions (word ∷ left) rest × (with_options options default_mode ≡ with_options rest mode) → ⊥
+        never options ([], g, e) = empty g.are
+          where
+            empty : word ∷ left ≡ [] → ⊥
+            empty h = cc
+        never options (p ∷ others, g, e) = none_after n p others took g.are g.fit.0 (same_name p others g.are)

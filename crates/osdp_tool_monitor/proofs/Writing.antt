@@ -1,0 +1,70 @@
+-- Texts that are written, in whole or in part.
+use Rattle.std.proofs.Common.{◌≡◌, ℕ, ◌+◌, ◌*◌, ◌||◌, Bool, true, false, cond, is_err, List, [], ◌∷◌, length, take, Option, Some, None, Result, Ok, Err, IfErr, IsErrAnd, refl, sym, subst, ap, ◌∙◌, arith}
+use Rattle.std.proofs.KnownBytes.{Appends-kept, Keeps-refl}
+use Rattle.std.proofs.lemmas.List.{take_all}
+use Rattle.std.specs.Io.KnownBytes.{Appends, Keeps}
+use Rattle.std.specs.Prelude.{IsOkUnless, OnErr}
+use Rattle.osdp_tool_streams.specs.declared.fault.ToolFault.{ToolFault}
+use Rattle.osdp_tool_streams.specs.declared.fault.ToolFault.TheVariants.{TooLong, ReadFailed, WriteFailed, NoMemory}
+use Rattle.osdp_tool_streams.specs.Watched.{AppendsPart}
+use Rattle.osdp_tool_monitor.specs.declared.open_line.OpenLine.{OpenLine}
+use Rattle.osdp_tool_monitor.specs.Hearing.{Hears, LineEvent}
+use Rattle.osdp_tool_monitor.specs.Listening.{IsLineFault}
+use Rattle.osdp_tool_monitor.specs.declared.session.Session.{Session}
+use Rattle.osdp_tool_monitor.specs.Events.{Piece, end_events}
+use Rattle.osdp_tool_monitor.specs.Reading.{TellsEvents, TellsPiece, Wrote}
+use Rattle.osdp_tool_monitor.specs.Session.{EndsAll, TakesPiece, cut_of, weight}
+
+-- a write that failed
+pub wrote_part : (text : List ℕ) (before after : Option (List ℕ)) (was failed : Bool) (fault : ToolFault) → fault ≡ WriteFailed
+    → AppendsPart before after text → failed ≡ (was || true) → Wrote text before after failed (Err fault)
+wrote_part text before after was failed fault is (count, below, appends) ill =
+    subst (λ f. Wrote text before after failed (Err f)) (sym is) (count, appends, ill ∙ or_true was)
+  where
+    or_true : (b : Bool) → (b || true) ≡ true
+    or_true true = refl
+    or_true false = refl
+
+-- a flush after a write
+pub wrote_flushed : (text : List ℕ) (before mid after : Option (List ℕ)) (was failed : Bool) (r : Result (Unit {0}) ToolFault) → Appends before mid text → Keeps mid after
+    → IsOkUnless r WriteFailed → failed ≡ (was || is_err r) → was ≡ false → Wrote text before after failed r
+wrote_flushed text before mid after was failed (Ok done) appends kept is ill well =
+    (Appends-kept before mid after text appends kept, ill ∙ ap (λ (b : Bool). b || false) well)
+wrote_flushed text before mid after was failed (Err fault) appends kept is ill well =
+    subst (λ f. Wrote text before after failed (Err f)) (sym is) (
+      length text,
+      subst (λ l. Appends before after l) (sym (take_all (length text) text (omega arith))) (Appends-kept before mid after text appends kept),
+      ill ∙ ap (λ (b : Bool). b || true) well,
+    )
+
+-- ---- one piece
+
+pub piece_stops : (piece : Piece) (old new : Session) (now : Option (List ℕ)) (failed : Bool) (fault : ToolFault)
+    → IsLineFault (weight old + 5 * length piece.bytes) fault → failed ≡ false → TellsPiece piece old new now now failed (Err fault)
+piece_stops piece old new now failed NoMemory is well = (Keeps-refl now, well)
+piece_stops piece old new now failed TooLong is well = (Keeps-refl now, well, is)
+piece_stops piece old new now failed fault is well = absurd is
+
+pub piece_part : (piece : Piece) (old new : Session) (good : Bool) (text : List ℕ) (before after : Option (List ℕ)) (failed : Bool) (fault : ToolFault)
+    → TakesPiece good piece old new [] text → Wrote text before after failed (Err fault) → TellsPiece piece old new before after failed (Err fault)
+piece_part piece old new good text before after failed WriteFailed takes (count, appends, ill) = (good, new, text, count, takes, appends, ill)
+piece_part piece old new good text before after failed fault takes wrote = absurd wrote
+
+-- ---- events that end it
+
+pub events_wrote : (events : List LineEvent) (old new : Session) (text : List ℕ) (before after : Option (List ℕ)) (failed : Bool) (r : Result (Unit {0}) ToolFault)
+    → Hears events old.line new.line [] text → Wrote text before after failed r → TellsEvents events old new before after failed r
+events_wrote events old new text before after failed (Ok done) hears (appends, well) = (text, hears, appends, well)
+events_wrote events old new text before after failed (Err WriteFailed) hears (count, appends, ill) = (new.line, text, count, hears, appends, ill)
+events_wrote events old new text before after failed (Err fault) hears wrote = absurd wrote
+
+pub events_part : (T : Type 0) (events : List LineEvent) (old new other : Session) (text : List ℕ) (before after : Option (List ℕ)) (failed : Bool) (fault : ToolFault)
+    → Hears events old.line new.line [] text → Wrote text before after failed (Err fault) → TellsEvents {T = T} events old other before after failed (Err fault)
+events_part T events old new other text before after failed WriteFailed hears (count, appends, ill) = (new.line, text, count, hears, appends, ill)
+events_part T events old new other text before after failed fault hears wrote = absurd wrote
+
+pub events_stop : (T : Type 0) (events : List LineEvent) (old new : Session) (now : Option (List ℕ)) (failed : Bool) (fault : ToolFault)
+    → IsLineFault (weight old + 5) fault → failed ≡ false → TellsEvents {T = T} events old new now now failed (Err fault)
+events_stop T events old new now failed NoMemory is well = (Keeps-refl now, well)
+events_stop T events old new now failed TooLong is well = (Keeps-refl now, well, is)
+events_stop T events old new now failed fault is well = absurd is

@@ -1,0 +1,125 @@
+//! How a line is listened to, and the words that say so.
+
+ghost use Rattle.std.specs.Prelude.{◌≡◌, ◌↔◌, Option};
+ghost use Rattle.osdp_tool_monitor.specs.Options.{IsWait, ReadsMode, TakesNumber, TakesOption, name_text, with_option};
+ghost use Rattle.osdp_words.specs.Reading.{Reads};
+ghost use Rattle.osdp_words.specs.Word.{number, texts};
+
+use osdp_words::{Fields, number_u32};
+
+/// After so many milliseconds of silence a run is over, where no option says another number.
+const GAP: u32 = 20;
+
+/// The greatest number of an option.
+const MOST: u32 = 3_600_000;
+
+/// How the input is read, and what is printed of it.
+#[derive(Clone, Copy, Debug, PartialEq, Eq)]
+pub struct MonitorMode {
+    /// The input is a capture in lines of hexadecimal digits, each of which is a run; else it is bytes as they come.
+    pub hex: bool,
+    /// Each packet, skipped byte and refused byte has a line.
+    pub packets: bool,
+    /// After how long a silence a run of bytes is over, in milliseconds, 1 to 3,600,000.
+    pub gap: u32,
+    /// After how many seconds the table is printed again, 1 to 3,600,000, where it is.
+    pub every: Option<u32>,
+}
+
+/// A word of the command `monitor`, with its number.
+#[derive(Clone, Copy, Debug, PartialEq, Eq)]
+pub enum MonitorOption {
+    /// `--hex`
+    Hex,
+    /// `--packets`
+    Packets,
+    /// `--gap` and the milliseconds.
+    Gap(u32),
+    /// `--every` and the seconds.
+    Every(u32),
+}
+
+/// Which option a word names.
+#[derive(Clone, Copy, Debug, PartialEq, Eq)]
+pub(crate) enum OptionName {
+    Hex,
+    Packets,
+    Gap,
+    Every,
+}
+
+/// The option of this name.
+fn option_name(word: &str) -> Option<OptionName>
+    ensures { (name : OptionName) → (result ≡ Option.Some name) ↔ (word.now ≡ name_text name) }
+{
+    match word {
+        "--hex" => Some(OptionName::Hex),
+        "--packets" => Some(OptionName::Packets),
+        "--gap" => Some(OptionName::Gap),
+        "--every" => Some(OptionName::Every),
+        _ => None,
+    }
+}
+
+/// A number from 1 to 3,600,000.
+fn wait(word: &str) -> Option<u32>
+    ensures { Reads number IsWait word.now result }
+{
+    let wait = number_u32(word)?;
+    if wait < 1 || wait > MOST {
+        return None;
+    }
+    Some(wait)
+}
+
+/// The number at the head of the words, which it takes off.
+fn take_wait(words: &mut Fields<'_>) -> Option<u32>
+    ensures { TakesNumber words.old words.new result }
+{
+    wait(words.word()?)
+}
+
+impl MonitorOption {
+    /// The option of this name, and of the number at the head of the words, which it takes off, where it has one.
+    fn take(name: OptionName, words: &mut Fields<'_>) -> Option<MonitorOption>
+        ensures { TakesOption name words.old words.new result }
+    {
+        match name {
+            OptionName::Hex => Some(MonitorOption::Hex),
+            OptionName::Packets => Some(MonitorOption::Packets),
+            OptionName::Gap => Some(MonitorOption::Gap(take_wait(words)?)),
+            OptionName::Every => Some(MonitorOption::Every(take_wait(words)?)),
+        }
+    }
+
+    /// Sets it.
+    fn set(self, mode: &mut MonitorMode)
+        ensures { mode.new ≡ with_option self mode.old }
+    {
+        match self {
+            MonitorOption::Hex => mode.hex = true,
+            MonitorOption::Packets => mode.packets = true,
+            MonitorOption::Gap(gap) => mode.gap = gap,
+            MonitorOption::Every(seconds) => mode.every = Some(seconds),
+        }
+    }
+}
+
+/// How the words after `monitor` ask to listen: options in any order, of which a later one of a kind holds. Without options the input is bytes, only
+/// what is found is printed, a run is over after 20 milliseconds, and the table comes at the end alone. None where the words are no options.
+pub fn monitor_mode(words: &[&str]) -> Option<MonitorMode>
+    ensures { ReadsMode (texts words.now) result }
+{
+    let mut mode = MonitorMode {
+        hex: false,
+        packets: false,
+        gap: GAP,
+        every: None,
+    };
+    let mut fields = Fields::new(words);
+    'options: while let Some(word) = fields.word() {
+        let option = MonitorOption::take(option_name(word)?, &mut fields)?;
+        option.set(&mut mode);
+    }
+    Some(mode)
+}
