@@ -1,5 +1,5 @@
 -- Between rounds of a bus: each reader has its round, its controller is idle after it, and each round of it but the first brings one more.
-use Rattle.std.proofs.Common.{◌≡◌, ◌≤◌, ◌<◌, ◌+◌, ◌-◌, ◌++◌, ℕ, zero, suc, true, cond, All, List, [], ◌∷◌, length, Some, inl, inr, refl, sym, subst, ap, ◌∙◌, arith, append_assoc}
+use Rattle.std.proofs.Common.{◌≡◌, ◌≤◌, ◌<◌, ◌+◌, ◌-◌, ◌++◌, ℕ, suc, true, cond, All, List, [], ◌∷◌, length, Some, inl, inr, refl, sym, subst, ap, ◌∙◌, arith, append_assoc}
 use Rattle.std.specs.Prelude.{min, slice_get}
 use Rattle.osdp_msg.specs.declared.command.Command.{Command}
 use Rattle.osdp_controller.specs.Machine.{is_due}
@@ -18,7 +18,7 @@ use Rattle.osdp_link_laws.proofs.Numbers.{is_true}
 use Rattle.osdp_link_laws.proofs.Ordinary.{moves_so}
 use Rattle.osdp_link_laws.proofs.OrdinaryRuns.{begins_so, steady_ordinary}
 use Rattle.osdp_shared_line.specs.Addresses.{NetMovesFit}
-use Rattle.osdp_shared_line.specs.Line.{Net, run, site_at}
+use Rattle.osdp_shared_line.specs.Line.{Net, run}
 use Rattle.osdp_shared_line.specs.Runs as runs
 use Rattle.osdp_shared_line.specs.Runs.{EachHasSessionsInARow, EachIsALink}
 use Rattle.osdp_shared_line.specs.Views.{view}
@@ -40,7 +40,7 @@ use Rattle.osdp_sim_bus_laws.proofs.Beginning.{first_net, first_site}
 use Rattle.osdp_sim_bus_laws.proofs.OneSession.{none_earlier}
 use Rattle.osdp_sim_bus_laws.proofs.Sites.{get_site}
 use Rattle.osdp_bus_progress.specs.Progress.{IsRun}
-use Rattle.osdp_bus_progress.specs.Resting.{AreRounds, EachHasItsRound, EachIsIdle, EachRoundBringsOneMore, HasNotEnded, IsIdle, IsItsRound, after_rounds}
+use Rattle.osdp_bus_progress.specs.Resting.{AreRounds, EachHasItsRound, EachIsIdle, EachRoundBringsOneMore, HasNotEnded, IsItsRound, after_rounds}
 use Rattle.osdp_bus_progress.proofs.Coming as coming
 use Rattle.osdp_bus_progress.proofs.Coming.{as_long, get_within, split_rounds, unmapped}
 use Rattle.osdp_bus_progress.proofs.Ends.{NoEnd, lasts_there, none_before_rounds}

@@ -1,5 +1,5 @@
 -- Whose round each is, and what it brings: the laws of rounds over a bus, at these numbers.
-use Rattle.std.proofs.Common.{◌≡◌, ◌<◌, ap, suc, length, refl, arith}
+use Rattle.std.proofs.Common.{ap, suc, length, arith}
 use Rattle.osdp_bus_progress.specs.Resting.{EachHasItsRound, EachIsIdle, EachRoundBringsOneMore}
 use Rattle.osdp_script.specs.Handler.{handler_after, handler_answer}
 use Rattle.osdp_bus_progress.specs.RowsAfterLosses.{bus, readers}
