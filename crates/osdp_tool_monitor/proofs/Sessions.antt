@@ -1,8 +1,7 @@
 -- Sessions: what stays in them, and what goes on.
-use Rattle.std.proofs.Common.{◌≡◌, ℕ, ◌+◌, ◌-◌, ◌<◌, ◌≤◌, Bool, true, false, cond, not, is_some, List, [], ◌∷◌, ◌++◌, length, map, take, drop, get_or, Option, Some, None, Result, Ok, Err, OnOk, MatchOption, refl, sym, subst, ap, ◌∙◌, arith, append_assoc, append-nil, length-append, length-drop, take-append-drop}
+use Rattle.std.proofs.Common.{◌≡◌, ℕ, ◌+◌, ◌-◌, ◌<◌, ◌≤◌, Bool, true, false, cond, not, is_some, List, [], ◌∷◌, ◌++◌, length, map, take, drop, get_or, Option, Some, None, MatchOption, refl, sym, subst, ap, ◌∙◌, arith, append_assoc, append-nil, length-append, length-drop, take-append-drop}
 use Rattle.std.proofs.Math.Seq.{drop-drop}
 use Rattle.std.proofs.lemmas.List.{drop_more, map-append, take_rest}
-use Rattle.std.specs.List.{AllByRecursion}
 use Rattle.osdp_tool_streams.specs.Cut.{IsLine, ended_after, line_feed, unended_after}
 use Rattle.osdp_tool_streams.specs.Line.{is_blank, kept, line_bytes, said}
 use Rattle.osdp_tool_streams.specs.Runs.{bad_line, good_front}
@@ -14,7 +13,7 @@ use Rattle.osdp_tool_monitor.specs.Hearing.{Come, Hearing, Hears, IsOpen, LineEv
 use Rattle.osdp_tool_monitor.proofs.OpenRuns.{hears_nothing, hears_then}
 use Rattle.osdp_tool_monitor.specs.declared.mode.MonitorMode.{MonitorMode}
 use Rattle.osdp_tool_monitor.specs.declared.session.Session.{Session}
-use Rattle.osdp_tool_monitor.specs.Events.{Cut, Piece, after_bytes, after_piece, bad_at_end, bad_in, byte_events, bytes_events, closing_events, end_events, gap_events, is_due, lines_in, piece_events, run_events, table_events, tabled_after}
+use Rattle.osdp_tool_monitor.specs.Events.{Cut, Piece, after_piece, byte_events, bytes_events, closing_events, gap_events, is_due, lines_in, piece_events, run_events, table_events, tabled_after}
 use Rattle.osdp_tool_monitor.specs.Session.{Breaks, EndsAll, EndsInput, Goes, GoesOrBreaks, IsReady, TakesBytes, TakesPiece, cut_of}
 
 pub goes_none : (s : Session) (text : List ℕ) → IsReady s → Goes [] (cut_of s) s s text text

@@ -1,5 +1,5 @@
 -- Options that are read one after the other.
-use Rattle.std.proofs.Common.{◌≡◌, ◌↔◌, ℕ, List, [], ◌∷◌, ◌++◌, Option, Some, None, refl, sym, subst, ap, ◌∙◌}
+use Rattle.std.proofs.Common.{◌≡◌, ◌↔◌, ℕ, List, [], ◌∷◌, ◌++◌, Option, Some, None, refl, sym, ap, ◌∙◌}
 use Rattle.std.specs.Prelude.{flat_map}
 use Rattle.std.specs.Fmt.{decimal}
 use Rattle.osdp_tool_monitor.specs.declared.mode.MonitorMode.{MonitorMode}
@@ -7,7 +7,7 @@ use Rattle.osdp_tool_monitor.specs.declared.mode.MonitorOption.{MonitorOption}
 use Rattle.osdp_tool_monitor.specs.declared.mode.MonitorOption.TheVariants.{Hex, Packets, Gap, Every}
 use Rattle.osdp_tool_monitor.specs.declared.mode.OptionName.{OptionName}
 use Rattle.osdp_tool_monitor.specs.declared.mode.OptionName.TheVariants as name
-use Rattle.osdp_tool_monitor.specs.Options.{AreOptions, IsWait, OptionFits, ReadsMode, TakesNumber, TakesOption, Words, default_mode, name_text, numbered, option_words, with_option, with_options}
+use Rattle.osdp_tool_monitor.specs.Options.{AreOptions, OptionFits, ReadsMode, TakesOption, Words, default_mode, name_text, option_words, with_option, with_options}
 
 -- what was read of the words, and what is left of them: options of what is left are the last of all
 pub record Left (given left : Words) (mode : MonitorMode) : Type 0 where

@@ -1,19 +1,18 @@
 -- Texts that are written, in whole or in part.
-use Rattle.std.proofs.Common.{◌≡◌, ℕ, ◌+◌, ◌*◌, ◌||◌, Bool, true, false, cond, is_err, List, [], ◌∷◌, length, take, Option, Some, None, Result, Ok, Err, IfErr, IsErrAnd, refl, sym, subst, ap, ◌∙◌, arith}
+use Rattle.std.proofs.Common.{◌≡◌, ℕ, ◌+◌, ◌*◌, ◌||◌, Bool, true, false, is_err, List, [], length, Option, Result, Ok, Err, refl, sym, subst, ap, ◌∙◌, arith}
 use Rattle.std.proofs.KnownBytes.{Appends-kept, Keeps-refl}
 use Rattle.std.proofs.lemmas.List.{take_all}
 use Rattle.std.specs.Io.KnownBytes.{Appends, Keeps}
-use Rattle.std.specs.Prelude.{IsOkUnless, OnErr}
+use Rattle.std.specs.Prelude.{IsOkUnless}
 use Rattle.osdp_tool_streams.specs.declared.fault.ToolFault.{ToolFault}
-use Rattle.osdp_tool_streams.specs.declared.fault.ToolFault.TheVariants.{TooLong, ReadFailed, WriteFailed, NoMemory}
+use Rattle.osdp_tool_streams.specs.declared.fault.ToolFault.TheVariants.{TooLong, WriteFailed, NoMemory}
 use Rattle.osdp_tool_streams.specs.Watched.{AppendsPart}
-use Rattle.osdp_tool_monitor.specs.declared.open_line.OpenLine.{OpenLine}
 use Rattle.osdp_tool_monitor.specs.Hearing.{Hears, LineEvent}
 use Rattle.osdp_tool_monitor.specs.Listening.{IsLineFault}
 use Rattle.osdp_tool_monitor.specs.declared.session.Session.{Session}
-use Rattle.osdp_tool_monitor.specs.Events.{Piece, end_events}
+use Rattle.osdp_tool_monitor.specs.Events.{Piece}
 use Rattle.osdp_tool_monitor.specs.Reading.{TellsEvents, TellsPiece, Wrote}
-use Rattle.osdp_tool_monitor.specs.Session.{EndsAll, TakesPiece, cut_of, weight}
+use Rattle.osdp_tool_monitor.specs.Session.{TakesPiece, weight}
 
 -- a write that failed
 pub wrote_part : (text : List ℕ) (before after : Option (List ℕ)) (was failed : Bool) (fault : ToolFault) → fault ≡ WriteFailed

@@ -1,14 +1,14 @@
 -- What is printed of an input, and how the command ends.
-use Rattle.std.specs.Prelude.{◌≡◌, ◌⊎◌, ℕ, ◌+◌, ◌-◌, ◌^◌, ◌≤◌, Bool, true, false, List, [], ◌∷◌, ◌++◌, length, take, Option, None, Some, Result, Ok, Err}
+use Rattle.std.specs.Prelude.{◌≡◌, ◌⊎◌, ℕ, ◌^◌, ◌≤◌, Bool, true, false, List, [], ◌∷◌, ◌++◌, length, take, Option, None, Some, Result, Ok, Err}
 use Rattle.std.specs.Io.KnownBytes.{Appends, Consumes, IsAtEnd}
 use Rattle.osdp_tool_streams.specs.declared.fault.ToolFault.{ToolFault}
 use Rattle.osdp_tool_streams.specs.declared.fault.ToolFault.TheVariants.{NotHex, TooLong, BadWords, BadStep}
 use Rattle.osdp_tool_streams.specs.declared.fault.ToolFault.TheVariants.{HoldsPacket, NotQuiet, ReadFailed}
 use Rattle.osdp_tool_streams.specs.declared.fault.ToolFault.TheVariants.{WriteFailed, NoMemory}
-use Rattle.osdp_tool_monitor.specs.Hearing.{LineEvent, after_events, events_report, nothing_yet}
+use Rattle.osdp_tool_monitor.specs.Hearing.{after_events, events_report, nothing_yet}
 use Rattle.osdp_tool_monitor.specs.Listening.{is_wrong}
 use Rattle.osdp_tool_monitor.specs.declared.mode.MonitorMode.{MonitorMode}
-use Rattle.osdp_tool_monitor.specs.Events.{Broken, Cut, End, Following, More, Piece, after_pieces, are_good, bad_at_end, bad_in, bytes_of, input_events, moments_of, nothing_cut}
+use Rattle.osdp_tool_monitor.specs.Events.{Broken, End, Following, More, Piece, after_pieces, are_good, bad_at_end, bad_in, bytes_of, input_events, moments_of, nothing_cut}
 
 -- a source told these moments, one after the other
 abbrev pub Told : {M : Type 0} → (M → ℕ → M → Type 0) → M → List ℕ → M → Type 0

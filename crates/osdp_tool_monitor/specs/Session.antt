@@ -1,5 +1,5 @@
 -- A session of listening: what stands in it, and what each piece of the input makes of it.
-use Rattle.std.specs.Prelude.{◌≡◌, ◌+◌, ◌*◌, ℕ, length, Bool, true, false, if◌then◌else◌, List, [], ◌∷◌, Option, None, Some}
+use Rattle.std.specs.Prelude.{◌≡◌, ◌+◌, ◌*◌, ℕ, length, Bool, true, false, if◌then◌else◌, List, [], Option, None, Some}
 use Rattle.osdp_tool_streams.specs.Line.{kept}
 use Rattle.osdp_tool_monitor.specs.Hearing.{Hears, IsOpen, LineEvent, hearing_of, load, nothing_yet, prints_all}
 use Rattle.osdp_tool_monitor.specs.declared.session.Session.{Session}

@@ -1,4 +1,4 @@
-use Rattle.std.proofs.Common.{Bool, Err, Ok, Result, sym, subst}
+use Rattle.std.proofs.Common.{Err, sym, subst}
 use Rattle.osdp_tool_streams.specs.Watched.{inner_of, has_failed}
 use Rattle.osdp_tool_streams.proofs.Answered.{on_err}
 use Rattle.osdp_tool_monitor.specs.Ending.{Ends}

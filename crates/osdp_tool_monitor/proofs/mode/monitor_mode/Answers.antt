@@ -1,6 +1,5 @@
 use Rattle.std.proofs.Common.{Some, None, refl, subst}
 use Rattle.osdp_words.specs.Word.{texts}
-use Rattle.osdp_tool_monitor.specs.Options.{ReadsMode}
 use Rattle.osdp_tool_monitor.proofs.Words.{Left, left_done, left_more, no_name, no_number}
 use Rattle.osdp_tool_monitor.proofs.mode.monitor_mode.Goals as goal
 

@@ -1,4 +1,4 @@
-use Rattle.std.proofs.Common.{subst, [], Err, List, ℕ, string_bytes}
+use Rattle.std.proofs.Common.{subst, Err, List, ℕ, string_bytes}
 use Rattle.osdp_tool_streams.specs.Watched.{inner_of, has_failed}
 use Rattle.osdp_tool_streams.proofs.Answered.{on_err}
 use Rattle.osdp_tool_monitor.specs.Events.{Piece}
