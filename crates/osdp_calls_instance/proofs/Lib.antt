@@ -1,3 +1,11 @@
 mod Keeping
 mod TwoCalls
 mod RuleKept
+mod OwnCalls
+mod LinePrograms
+mod CPrograms
+mod SimulatedEnds
+mod SimulatedBus
+mod SimSetUp
+mod SimulatedReports
+mod SimulatedAccounts

@@ -1,3 +1,8 @@
 pub mod Instance
 pub mod TwoEntries
 pub mod Rule
+pub mod OwnCalls
+pub mod LinePrograms
+pub mod CPrograms
+pub mod SimulatedBus
+pub mod SimulatedReports

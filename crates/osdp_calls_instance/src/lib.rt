@@ -1,11 +1,20 @@
-//! Lists of calls of a bus and its devices that keep the premises of `osdp_calls`, so that these are not empty. The functions do nothing: their
-//! contracts are laws.
+//! Lists of calls that keep the premises of `osdp_calls`, and those that programs make in C, by lines and over a simulated line.
+//!
+//! So the premises are not empty, and the theorem of any calls names what such programs call. The functions do nothing: their contracts are laws.
 #![tactic(auto)]
 
+ghost use Rattle.osdp_calls_instance.specs.CPrograms.{MakesAnew, PanelCallsAreCalls, c_device, c_panel};
 ghost use Rattle.osdp_calls_instance.specs.Instance.{SomeCallsKeep};
+ghost use Rattle.osdp_calls_instance.specs.LinePrograms.{LinesAreThese, PanelLinesAreCalls, line_device, line_panel};
+ghost use Rattle.osdp_calls_instance.specs.OwnCalls.{CallTheLine, ProgramsHoldOnce};
 ghost use Rattle.osdp_calls_instance.specs.Rule.{TwoCallsKeepRule};
+ghost use Rattle.osdp_calls_instance.specs.SimulatedBus.{RunIsCalls, RunsFromASetUp};
+ghost use Rattle.osdp_calls_instance.specs.SimulatedReports.{RunTellsTheSame};
 ghost use Rattle.osdp_calls_instance.specs.TwoEntries.{TwoCallsKeep};
+ghost use Rattle.osdp_device.specs.Program.{program_after, program_answer};
+ghost use Rattle.osdp_device.specs.Status.{status_after, status_answer};
 
+use osdp_device::{DeviceStatus, ProgramAnswers};
 use osdp_reader::Handler;
 
 /// A session is begun, and its opening ID comes to the device in two pieces. The PDID comes back in two pieces, and the report is taken. A COMSET
@@ -25,3 +34,62 @@ pub fn premises_are_met_by_two<H: Handler>()
 pub fn rule_is_kept_by_two<H: Handler>()
     ensures { (handler : H) → TwoCallsKeepRule H.answer_of H.after handler }
 {}
+
+/// Whatever a panel's program in C and its devices' programs in C call, power losses among it, is a list of calls of a line in use: each call of a handle
+/// is the calls that `panel_calls` and `device_calls` name, and brings the bus and the devices to where these bring them. So the promises hold of
+/// them where these calls keep the premises. A panel whose handle is freed, made and given its devices, each call done, is one made anew.
+pub fn calls_for_c_are_calls()
+    ensures anew { MakesAnew }
+    ensures line { CallTheLine c_panel c_device program_answer program_after }
+    ensures hold { ProgramsHoldOnce c_panel c_device program_answer program_after }
+{
+    osdp_calls::adds_make_the_bus();
+    osdp_calls::ends_go_by_their_own_calls::<ProgramAnswers>();
+    osdp_calls::calls_hold_once::<ProgramAnswers>();
+}
+
+/// What a run of lines to `osdp panel` and to `osdp reader` leaves is what the calls leave that these lines say. And whatever a panel and its devices
+/// are called by lines, power losses among it, is a list of calls of a line in use, which brings the bus and the devices to the same. So the promises
+/// hold of them where these calls keep the premises.
+pub fn lines_are_calls()
+    ensures lines { LinesAreThese }
+    ensures line { CallTheLine line_panel line_device status_answer status_after }
+    ensures hold { ProgramsHoldOnce line_panel line_device status_answer status_after }
+{
+    osdp_calls::adds_make_the_bus();
+    osdp_calls::ends_go_by_their_own_calls::<DeviceStatus>();
+    osdp_calls::calls_hold_once::<DeviceStatus>();
+    osdp_line_laws::a_panels_run_is_its_calls();
+    osdp_line_laws::a_devices_run_is_its_calls();
+}
+
+/// A panel in C or by lines may stand on a line with any devices: what it calls are calls of the panel, which do to its bus what they do.
+pub fn panels_stand_beside_any_devices<H: Handler>()
+    ensures c { PanelCallsAreCalls H }
+    ensures lines { PanelLinesAreCalls H }
+{
+    osdp_calls::adds_make_the_bus();
+}
+
+/// The run of a schedule over a bus, as `run_bus` runs it, is a list of calls of a line in use, as to what it makes of the bus and of the readers: a
+/// session of each is begun, and then each step is the calls that `step_calls` names. A burst that comes to the readers is handed to a device for each,
+/// one after the other, and then the line falls silent. After all of them the bus and the readers are those of the run. The line that they begin on is
+/// set up, where the settings are in their ranges.
+pub fn run_is_calls<H: Handler>()
+    ensures set_up { RunsFromASetUp H }
+    ensures calls { RunIsCalls H.answer_of H.after }
+{
+    osdp_calls::ends_go_by_their_own_calls::<H>();
+}
+
+/// After such a run, over a bus to which its entries can be added, the account of each reader and the sessions of its entry have the same reports: the
+/// commands that are settled, each with its answer, those that are told unsettled, and the events that are reported.
+pub fn run_tells_the_same<H: Handler>()
+    ensures { RunTellsTheSame H.answer_of H.after }
+{
+    osdp_calls::adds_make_the_bus();
+    osdp_calls::ends_go_by_their_own_calls::<H>();
+    osdp_bus_laws::reports_are_told_once();
+    osdp_sim_bus::laws::tells_at_once::<H>();
+    osdp_sim_bus::laws::has_an_account_each::<H>();
+}

@@ -1,0 +1,368 @@
+-- Calls for C are calls of a line in use.
+use Rattle.std.proofs.Common.{◌≡◌, ℕ, Bool, true, false, cond, List, [], ◌∷◌, map, Option, Some, None, Result, Ok, Err, refl, sym, subst, ap, ◌∙◌, arith}
+use Rattle.osdp_msg.specs.CommandTable.{command_of}
+use Rattle.osdp_msg.specs.NakReasons.{reason_of}
+use Rattle.osdp_msg.specs.declared.command.Command.{Command}
+use Rattle.osdp_msg.specs.declared.event.Event.{Event}
+use Rattle.osdp_msg.specs.declared.fault.MsgFault.{MsgFault}
+use Rattle.osdp_msg.specs.declared.reply_fields.PdCap.{PdCap}
+use Rattle.osdp_bus.specs.Buses.{BusState, new_bus}
+use Rattle.osdp_bus.specs.Machine.{AddEnds, add_refusal, after_add, changed_unless}
+use Rattle.osdp_bus.specs.declared.config.BusConfig.{BusConfig}
+use Rattle.osdp_bus.specs.declared.fault.BusFault.{BusFault}
+use Rattle.osdp_bus.specs.declared.fault.BusFault.TheVariants as fault
+use Rattle.osdp_bus_laws.specs.Calls as bus
+use Rattle.osdp_device.specs.Deciding.{is_asked, pending_of, turned_by, with_question}
+use Rattle.osdp_device.specs.Program.{new_program, program_after, program_answer}
+use Rattle.osdp_device.specs.Receiving.{Received, after_silence, after_take, after_tick, new_line}
+use Rattle.osdp_device.specs.declared.program.ProgramAnswers.{ProgramAnswers}
+use Rattle.osdp_device.specs.declared.program.Question.{Question}
+use Rattle.osdp_device.specs.declared.program.Question.TheVariants.{Answered, Asked, NotAsked}
+use Rattle.osdp_link_laws.proofs.Lines.{each_all}
+use Rattle.osdp_link_laws.proofs.Stages.{Each}
+use Rattle.osdp_reader.specs.State.{ReaderState, after_submit, new_reader}
+use Rattle.osdp_reader.specs.declared.handler.Answer.{Answer}
+use Rattle.osdp_reader.specs.declared.handler.Answer.TheVariants as answer
+use Rattle.osdp_c_values.specs.Addresses.{device_address}
+use Rattle.osdp_c_values.specs.Calls.{Done}
+use Rattle.osdp_c_values.specs.Clocks.{accepts, new_clock, sees}
+use Rattle.osdp_c_values.specs.Panels as panel
+use Rattle.osdp_c_values.specs.Readers as reader
+use Rattle.osdp_c_values.specs.Settings.{bus_config_of, limit_of}
+use Rattle.osdp_c_values.specs.Statuses.{number}
+use Rattle.osdp_c_values.specs.declared.machine.PanelMachine.{PanelMachine}
+use Rattle.osdp_c_values.specs.declared.machine.ReaderMachine.{ReaderMachine}
+use Rattle.osdp_c_values.specs.declared.settings.PanelSettings.{PanelSettings}
+use Rattle.osdp_c_values.specs.declared.settings.ReaderSettings.{ReaderSettings}
+use Rattle.osdp_c_values.specs.declared.states.StateList.{StateList}
+use Rattle.osdp_c_values.specs.declared.status.Status.{Status}
+use Rattle.osdp_c_values.specs.declared.status.Status.TheVariants as status
+use Rattle.arrayvec.specs.ArrayVec.{ArrayVec}
+use Rattle.osdp_calls.specs.Calls.{Call, OfPanel, SetHandler, Take, TickDevice, Silence}
+use Rattle.osdp_calls.specs.Ends.{Held, takes_event}
+use Rattle.osdp_calls.specs.Sayings.{AddsMakeTheBus, NoneRefused}
+use Rattle.osdp_calls_instance.proofs.LinePrograms.{own_device}
+use Rattle.osdp_calls_instance.specs.CPrograms as c
+use Rattle.osdp_calls_instance.specs.CPrograms.{AddsEach, DeviceCall, DeviceCallFits, MakesAnew, PanelCall, answer_calls, c_device, c_panel, device_call, device_calls, event_calls, event_read, if_read, panel_call, panel_calls, settle_calls, settles_by, submitted, told_states}
+use Rattle.osdp_calls_instance.specs.OwnCalls.{AreDeviceCalls, ArePanelCalls, IsOfDevice, IsOfPanel, bus_after_each, device_after_each}
+
+-- ---- a panel
+
+one_accepted : (H : Type 0) (ok : Bool) (call : bus.Call) → Each (IsOfPanel {H = H}) (cond ok (OfPanel call ∷ []) [])
+one_accepted H true call = (tt, tt)
+one_accepted H false call = tt
+
+one_submitted : (H : Type 0) (entry : ℕ) (o : Option Command) → Each (IsOfPanel {H = H}) (submitted entry o)
+one_submitted H entry None = tt
+one_submitted H entry (Some command) = (tt, tt)
+
+panel_end : (H : Type 0) (call : PanelCall) (m : PanelMachine) → Each (IsOfPanel {H = H}) (panel_calls call m)
+panel_end H (c.Begin entry now) m = one_accepted H (accepts now m.clock) (bus.Begin entry now)
+panel_end H (c.Submit entry code body) m = one_submitted H entry (if_read (command_of code body))
+panel_end H (c.SubmitText entry read) m = one_submitted H entry read
+panel_end H (c.Withdraw entry) m = (tt, tt)
+panel_end H (c.Retarget entry address) m = (tt, tt)
+panel_end H (c.Bytes bytes now) m = one_accepted H (accepts now m.clock) (bus.OnBytes bytes now)
+panel_end H (c.PanelSilence now) m = one_accepted H (accepts now m.clock) (bus.OnSilence now)
+panel_end H (c.PanelTick now) m = one_accepted H (accepts now m.clock) (bus.Tick now)
+panel_end H c.NextReport m = (tt, tt)
+panel_end H (c.SetPanelMoment now) m = (tt, tt)
+panel_end H (c.LooksAt entry) m = tt
+panel_end H c.Looks m = tt
+panel_end H (c.PanelAnew config limit addresses) m = (tt, tt)
+
+-- a call at a moment
+at_moment : (H : Type 0) (ok : Bool) (call : bus.Call) (after : BusState) (m : PanelMachine) → bus.after_call call m.bus ≡ after
+    → cond ok after m.bus ≡ bus_after_each {H = H} (cond ok (OfPanel call ∷ []) []) m.bus
+at_moment H true call after m is = sym is
+at_moment H false call after m is = refl
+
+abbrev if_moment : Bool → ℕ → (BusState → Done BusState) → PanelMachine → Done PanelMachine
+if_moment ok now call m =
+    cond ok (record {
+      status = (call m.bus).status;
+      machine = record { bus = (call m.bus).machine; clock = panel.sees_if_done now (call m.bus).status m.clock };
+    }) (record { status = status.MomentTooFar; machine = m })
+
+moment_bus : (ok : Bool) (now : ℕ) (call : BusState → Done BusState) (m : PanelMachine)
+    → (if_moment ok now call m).machine.bus ≡ cond ok (call m.bus).machine m.bus
+moment_bus true now call m = refl
+moment_bus false now call m = refl
+
+submits_so : (H : Type 0) (entry : ℕ) (o : Option Command) (m : PanelMachine)
+    → (panel.submits_text entry o m.bus).machine ≡ bus_after_each {H = H} (submitted entry o) m.bus
+submits_so H entry None m = refl
+submits_so H entry (Some command) m = refl
+
+reads_so : (H : Type 0) (entry : ℕ) (r : Result Command MsgFault) (m : PanelMachine)
+    → (panel.submits_read entry r m.bus).machine ≡ bus_after_each {H = H} (submitted entry (if_read r)) m.bus
+reads_so H entry (Ok command) m = refl
+reads_so H entry (Err fault) m = refl
+
+panel_is : (H : Type 0) (call : PanelCall) (m : PanelMachine) → (panel_call call m).machine.bus ≡ bus_after_each {H = H} (panel_calls call m) m.bus
+panel_is H (c.Begin entry now) m =
+    moment_bus (accepts now m.clock) now (panel.begins entry now) m
+    ∙ at_moment H (accepts now m.clock) (bus.Begin entry now) (panel.begins entry now m.bus).machine m refl
+panel_is H (c.Submit entry code body) m = reads_so H entry (command_of code body) m
+panel_is H (c.SubmitText entry read) m = submits_so H entry read m
+panel_is H (c.Withdraw entry) m = refl
+panel_is H (c.Retarget entry address) m = refl
+panel_is H (c.Bytes bytes now) m =
+    moment_bus (accepts now m.clock) now (panel.hears bytes now) m
+    ∙ at_moment H (accepts now m.clock) (bus.OnBytes bytes now) (panel.hears bytes now m.bus).machine m refl
+panel_is H (c.PanelSilence now) m =
+    moment_bus (accepts now m.clock) now (panel.falls_silent now) m
+    ∙ at_moment H (accepts now m.clock) (bus.OnSilence now) (panel.falls_silent now m.bus).machine m refl
+panel_is H (c.PanelTick now) m =
+    moment_bus (accepts now m.clock) now (panel.ticks now) m
+    ∙ at_moment H (accepts now m.clock) (bus.Tick now) (panel.ticks now m.bus).machine m refl
+panel_is H c.NextReport m = refl
+panel_is H (c.SetPanelMoment now) m = refl
+panel_is H (c.LooksAt entry) m = refl
+panel_is H c.Looks m = refl
+panel_is H (c.PanelAnew config limit addresses) m = refl
+
+pub panels_are : {H : Type 0} → ArePanelCalls (c_panel {H = H})
+panels_are {H} = record {
+  end = λ call m. each_all (IsOfPanel {H = H}) (panel_calls call m) (panel_end H call m);
+  bus = λ call m fits. panel_is H call m;
+}
+
+-- ---- a panel made anew
+
+record Added (address : ℕ) (m : PanelMachine) (next : Option PanelMachine) : Type 0 where
+  fine : add_refusal (device_address address) m.bus ≡ None
+  is : next ≡ Some (record m { bus = after_add (device_address address) m.bus })
+
+added : (address : ℕ) (m : PanelMachine) (next : Option PanelMachine) (out out' : ℕ) (r : Result ℕ BusFault) (b' : BusState)
+    → AddEnds (device_address address) m.bus b' r → number status.Done ≡ number (panel.added_status r) → next ≡ Some (record m { bus = b' })
+    → Added address m next
+added address m next out out' (Ok entry) b' ends done is =
+    record { fine = ends.0; is = is ∙ ap (λ b. Some (record m { bus = b })) ends.2 }
+added address m next out out' (Err fault.NoMemory) b' ends done is = absurd (let e : 0 ≡ 21 = done in omega (arith, e))
+added address m next out out' (Err fault.TooMany) b' ends done is = absurd (let e : 0 ≡ 22 = done in omega (arith, e))
+added address m next out out' (Err fault.AddressTaken) b' ends done is = absurd (let e : 0 ≡ 23 = done in omega (arith, e))
+added address m next out out' (Err fault.NoEntry) b' ends done is = absurd (let e : 0 ≡ 24 = done in omega (arith, e))
+added address m next out out' (Err fault.OutOfRange) b' ends done is = absurd (let e : 0 ≡ 25 = done in omega (arith, e))
+added address m next out out' (Err fault.Full) b' ends done is = absurd (let e : 0 ≡ 33 = done in omega (arith, e))
+added address m next out out' (Err fault.PollSubmitted) b' ends done is = absurd (let e : 0 ≡ 34 = done in omega (arith, e))
+added address m next out out' (Err fault.NotClosed) b' ends done is = absurd (let e : 0 ≡ 35 = done in omega (arith, e))
+
+record AllAdded (addresses : List ℕ) (m : PanelMachine) (last : Option PanelMachine) : Type 0 where
+  none : NoneRefused (map device_address addresses) m.bus
+  is : last ≡ Some (record m { bus = bus.after_calls (map bus.Add (map device_address addresses)) m.bus })
+
+add_done : (o : Option BusFault) (address : ℕ) (b : BusState) → o ≡ None → changed_unless o b (after_add address b) ≡ after_add address b
+add_done o address b none = ap (λ x. changed_unless x b (after_add address b)) none
+
+all_added : (addresses : List ℕ) (m : PanelMachine) (last : Option PanelMachine) → AddsEach addresses (Some m) last → AllAdded addresses m last
+all_added [] m last adds = record { none = tt; is = adds }
+all_added (address ∷ addresses) m last (next, out, out', (r, b', ends, done, is, written), more) =
+    let a = added address m next out out' r b' ends done is in
+    let next_m : PanelMachine = record m { bus = after_add (device_address address) m.bus } in
+    let rest = all_added addresses next_m last (subst (λ o. AddsEach addresses o last) a.is more) in
+    record {
+      none = (a.fine, rest.none);
+      is = rest.is ∙ ap (λ b. Some (record m { bus = bus.after_calls (map bus.Add (map device_address addresses)) b }))
+          (sym (add_done (add_refusal (device_address address) m.bus) (device_address address) m.bus a.fine));
+    }
+
+record NewMade (settings : PanelSettings) (made : Option PanelMachine) : Type 0 where
+  config : BusConfig
+  settings_are : bus_config_of settings ≡ Some config
+  is : made ≡ Some (record { bus = new_bus config; clock = new_clock (limit_of settings.clock_limit) })
+
+new_made : (settings : PanelSettings) (made : Option PanelMachine) (config : Option BusConfig) (r : Result BusState BusFault)
+    → bus_config_of settings ≡ config → panel.MadeAs config r → number status.Done ≡ number (panel.made_status r)
+    → made ≡ panel.made_in (limit_of settings.clock_limit) r → NewMade settings made
+new_made settings made None r are makes done is =
+    absurd (let e : 0 ≡ 25 = done ∙ ap (λ x. number (panel.made_status x)) makes in omega (arith, e))
+new_made settings made (Some config) (Ok b) are makes done is = record {
+  config = config;
+  settings_are = are;
+  is = is ∙ ap (λ x. Some (record { bus = x; clock = new_clock (limit_of settings.clock_limit) })) makes.1;
+}
+new_made settings made (Some config) (Err fault.NoMemory) are makes done is = absurd (let e : 0 ≡ 21 = done in omega (arith, e))
+new_made settings made (Some config) (Err fault.TooMany) are makes done is = absurd (let e : 0 ≡ 22 = done in omega (arith, e))
+new_made settings made (Some config) (Err fault.AddressTaken) are makes done is = absurd (let e : 0 ≡ 23 = done in omega (arith, e))
+new_made settings made (Some config) (Err fault.NoEntry) are makes done is = absurd (let e : 0 ≡ 24 = done in omega (arith, e))
+new_made settings made (Some config) (Err fault.OutOfRange) are makes done is = absurd (let e : 0 ≡ 25 = done in omega (arith, e))
+new_made settings made (Some config) (Err fault.Full) are makes done is = absurd (let e : 0 ≡ 33 = done in omega (arith, e))
+new_made settings made (Some config) (Err fault.PollSubmitted) are makes done is = absurd (let e : 0 ≡ 34 = done in omega (arith, e))
+new_made settings made (Some config) (Err fault.NotClosed) are makes done is = absurd (let e : 0 ≡ 35 = done in omega (arith, e))
+
+pub makes_anew : AddsMakeTheBus → MakesAnew
+makes_anew adds settings m freed made last addresses frees news each =
+    let new = subst (λ o. panel.NewPanelEnds settings o (number status.Done) made) frees.machine news in
+    let n = new_made settings made (bus_config_of settings) new.0 refl new.1 new.2 new.3 in
+    let first : PanelMachine = record { bus = new_bus n.config; clock = new_clock (limit_of settings.clock_limit) } in
+    let all = all_added addresses first last (subst (λ o. AddsEach addresses o last) n.is each) in (
+      n.config,
+      n.settings_are,
+      all.is ∙ ap (λ b. Some (record first { bus = b })) (adds n.config (map device_address addresses) all.none),
+    )
+
+-- ---- a device
+
+abbrev held_in : ReaderMachine → Held ProgramAnswers
+held_in m = record { reader = m.device.reader; line = m.device.line }
+
+abbrev after_these : List (Call ProgramAnswers) → Held ProgramAnswers → Held ProgramAnswers
+after_these calls d = device_after_each program_answer program_after calls d
+
+states_so : (k : ℕ) (which : StateList) (o : Option (ArrayVec ℕ)) (m : ReaderMachine)
+    → held_in (reader.tells_states which o m).machine ≡ after_these (told_states k which o m) (held_in m)
+states_so k which None m = refl
+states_so k which (Some states) m = refl
+
+abbrev full_answer : ReaderMachine → Done ReaderMachine
+full_answer m = record { status = status.EventsFull; machine = m }
+
+abbrev unasked : ReaderMachine → Done ReaderMachine
+unasked m = record { status = status.NotAsked; machine = m }
+
+abbrev too_far : ReaderMachine → Done ReaderMachine
+too_far m = record { status = status.MomentTooFar; machine = m }
+
+event_so : (full : Bool) (k : ℕ) (event : Event) (m : ReaderMachine)
+    → held_in (cond full (full_answer m)
+    (reader.does (reader.sets (after_submit event m.device.reader) m))).machine ≡ takes_event full event (held_in m)
+event_so true k event m = refl
+event_so false k event m = refl
+
+text_so : (k : ℕ) (o : Option Event) (m : ReaderMachine) → held_in (reader.submits_text o m).machine ≡ after_these (event_calls k o) (held_in m)
+text_so k None m = refl
+text_so k (Some event) m = event_so (reader.is_full m.device.reader) k event m
+
+read_so : (k : ℕ) (r : Result Event Status) (m : ReaderMachine)
+    → held_in (reader.submits_read r m).machine ≡ after_these (event_calls k (event_read r)) (held_in m)
+read_so k (Ok event) m = event_so (reader.is_full m.device.reader) k event m
+read_so k (Err refused) m = refl
+
+asked_so : (asked : Bool) (k : ℕ) (a : Answer) (m : ReaderMachine)
+    → held_in (cond asked (reader.does (reader.sets (with_question (Answered a) m.device.reader) m))
+    (unasked m)).machine
+    ≡ after_these (cond asked (SetHandler k (record m.device.reader.handler { question = Answered a }) ∷ []) []) (held_in m)
+asked_so true k a m = refl
+asked_so false k a m = refl
+
+answer_so : (k : ℕ) (o : Option Answer) (m : ReaderMachine) → held_in (reader.answers_if o m).machine ≡ after_these (answer_calls k o m) (held_in m)
+answer_so k None m = refl
+answer_so k (Some a) m = asked_so (is_asked m.device.reader.handler.question) k a m
+
+settled_so : (k : ℕ) (question : Question) (pending : Option Command) (r : ReaderState ProgramAnswers) (l : Received)
+    → ◌≡◌ {A = Held ProgramAnswers} (record { reader = (turned_by question pending r l.held).reader; line = record l { held = (turned_by question pending r l.held).held } })
+    (after_these (settles_by k question pending r l) (record { reader = r; line = l }))
+settled_so k NotAsked (Some command) r l = refl
+settled_so k NotAsked None r l = refl
+settled_so k Asked pending r l = refl
+settled_so k (Answered a) pending r l = refl
+
+settle_so : (k : ℕ) (m : ReaderMachine) (l : Received)
+    → held_in (reader.reads_next m l).machine ≡ after_these (settle_calls k m l) (record { reader = m.device.reader; line = l })
+settle_so k m l = settled_so k m.device.reader.handler.question (pending_of m.device.reader l.held) m.device.reader l
+
+seen_so : (ok : Bool) (now : ℕ) (call : ReaderMachine → Done ReaderMachine) (calls : List (Call ProgramAnswers)) (m : ReaderMachine)
+    → held_in (call (record m { clock = sees now m.clock })).machine ≡ after_these calls (held_in m)
+    → held_in (cond ok (call (record m { clock = sees now m.clock })) (too_far m)).machine
+    ≡ after_these (cond ok calls []) (held_in m)
+seen_so true now call calls m is = is
+seen_so false now call calls m is = refl
+
+same_model : (settings : ReaderSettings) (caps : PdCap) (m : ReaderMachine) → DeviceCallFits (c.DeviceMade settings caps) m
+    → held_in (reader.new_machine settings caps) ≡ after_these (device_calls 0 (c.DeviceMade settings caps) m) (held_in m)
+same_model settings caps m fits =
+    (λ i. record {
+      reader = new_reader (record { address = settings.address; id = fits.0 i; caps = fits.1 i })
+          new_program settings.capacity;
+      line = new_line settings.gap;
+    })
+
+device_is : (k : ℕ) (call : DeviceCall) (m : ReaderMachine) → DeviceCallFits call m
+    → held_in (device_call call m).machine ≡ after_these (device_calls k call m) (held_in m)
+device_is k (c.SetStates which states) m fits = states_so k which (reader.states_of states) m
+device_is k (c.SetLocal tamper power) m fits = refl
+device_is k (c.SetBusyTo busy) m fits = refl
+device_is k (c.Happens read) m fits = read_so k read m
+device_is k (c.HappensText read) m fits = text_so k read m
+device_is k (c.TakesBytes bytes now) m fits =
+    seen_so (accepts now m.clock) now (reader.steps bytes now) (Take k bytes now ∷ settle_calls k m (after_take bytes now m.device.line)) m
+    (settle_so k (record m { clock = sees now m.clock }) (after_take bytes now m.device.line))
+device_is k (c.DeviceTick now) m fits =
+    seen_so (accepts now m.clock) now (reader.ticks now) (TickDevice k now ∷ settle_calls k m (after_tick now m.device.line)) m
+    (settle_so k (record m { clock = sees now m.clock }) (after_tick now m.device.line))
+device_is k (c.DeviceSilence now) m fits =
+    seen_so (accepts now m.clock) now (reader.falls_silent now) (Silence k now ∷ settle_calls k m (after_silence now m.device.line)) m
+    (settle_so k (record m { clock = sees now m.clock }) (after_silence now m.device.line))
+device_is k (c.SetDeviceMoment now) m fits = refl
+device_is k c.LooksAhead m fits = refl
+device_is k c.AnswerDone m fits = answer_so k (Some answer.Done) m
+device_is k (c.AnswerLocal tamper power) m fits = answer_so k (Some (answer.Local tamper power)) m
+device_is k (c.AnswerList states) m fits = answer_so k (reader.list_answer states) m
+device_is k (c.AnswerRefused reason) m fits =
+    answer_so k (Some (answer.Refuse (reason_of reason))) m
+device_is k (c.AnswerMaker vendor bytes) m fits = answer_so k (reader.maker_answer vendor bytes) m
+device_is k c.LooksIn m fits = refl
+device_is k (c.DeviceMade settings caps) m fits = same_model settings caps m fits
+
+-- whose calls these are
+one_own : (k : ℕ) (ok : Bool) (call : Call ProgramAnswers) → IsOfDevice k call → Each (IsOfDevice k) (cond ok (call ∷ []) [])
+one_own k true call is = (is, tt)
+one_own k false call is = tt
+
+states_own : (k : ℕ) (which : StateList) (o : Option (ArrayVec ℕ)) (m : ReaderMachine) → Each (IsOfDevice k) (told_states k which o m)
+states_own k which None m = tt
+states_own k which (Some states) m = (own_device k, tt)
+
+event_own : (k : ℕ) (o : Option Event) → Each (IsOfDevice k) (event_calls k o)
+event_own k None = tt
+event_own k (Some event) = (own_device k, tt)
+
+answer_own : (k : ℕ) (o : Option Answer) (m : ReaderMachine) → Each (IsOfDevice k) (answer_calls k o m)
+answer_own k None m = tt
+answer_own k (Some a) m =
+    one_own k (is_asked m.device.reader.handler.question) (SetHandler k (record m.device.reader.handler { question = Answered a })) (own_device k)
+
+settle_own : (k : ℕ) (question : Question) (pending : Option Command) (r : ReaderState ProgramAnswers) (l : Received)
+    → Each (IsOfDevice k) (settles_by k question pending r l)
+settle_own k NotAsked (Some command) r l = (own_device k, (own_device k, tt))
+settle_own k NotAsked None r l = (own_device k, (own_device k, tt))
+settle_own k Asked pending r l = (own_device k, (own_device k, tt))
+settle_own k (Answered a) pending r l = (own_device k, (own_device k, tt))
+
+seen_own : (k : ℕ) (ok : Bool) (calls : List (Call ProgramAnswers)) → Each (IsOfDevice k) calls → Each (IsOfDevice k) (cond ok calls [])
+seen_own k true calls are = are
+seen_own k false calls are = tt
+
+turn_own : (k : ℕ) (m : ReaderMachine) (l : Received) → Each (IsOfDevice k) (settle_calls k m l)
+turn_own k m l = settle_own k m.device.reader.handler.question (pending_of m.device.reader l.held) m.device.reader l
+
+device_end : (k : ℕ) (call : DeviceCall) (m : ReaderMachine) → Each (IsOfDevice k) (device_calls k call m)
+device_end k (c.SetStates which states) m = states_own k which (reader.states_of states) m
+device_end k (c.SetLocal tamper power) m = (own_device k, tt)
+device_end k (c.SetBusyTo busy) m = (own_device k, tt)
+device_end k (c.Happens read) m = event_own k (event_read read)
+device_end k (c.HappensText read) m = event_own k read
+device_end k (c.TakesBytes bytes now) m =
+    seen_own k (accepts now m.clock) (Take k bytes now ∷ settle_calls k m (after_take bytes now m.device.line)) (own_device k, turn_own k m (after_take bytes now m.device.line))
+device_end k (c.DeviceTick now) m =
+    seen_own k (accepts now m.clock) (TickDevice k now ∷ settle_calls k m (after_tick now m.device.line)) (own_device k, turn_own k m (after_tick now m.device.line))
+device_end k (c.DeviceSilence now) m =
+    seen_own k (accepts now m.clock) (Silence k now ∷ settle_calls k m (after_silence now m.device.line)) (own_device k, turn_own k m (after_silence now m.device.line))
+device_end k (c.SetDeviceMoment now) m = (own_device k, tt)
+device_end k c.LooksAhead m = (own_device k, tt)
+device_end k c.AnswerDone m = answer_own k (Some answer.Done) m
+device_end k (c.AnswerLocal tamper power) m = answer_own k (Some (answer.Local tamper power)) m
+device_end k (c.AnswerList states) m = answer_own k (reader.list_answer states) m
+device_end k (c.AnswerRefused reason) m =
+    answer_own k (Some (answer.Refuse (reason_of reason))) m
+device_end k (c.AnswerMaker vendor bytes) m = answer_own k (reader.maker_answer vendor bytes) m
+device_end k c.LooksIn m = tt
+device_end k (c.DeviceMade settings caps) m = (own_device k, tt)
+
+pub devices_are : AreDeviceCalls program_answer program_after c_device
+devices_are = record {
+  end = λ k call m. each_all (IsOfDevice k) (device_calls k call m) (device_end k call m);
+  device = λ k call m fits sound. device_is k call m fits;
+  sound = λ call m fits sound. tt;
+}

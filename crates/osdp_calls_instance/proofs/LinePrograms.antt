@@ -1,0 +1,427 @@
+-- Lines are calls of a line in use.
+use Rattle.std.proofs.Common.{◌≡◌, ℕ, zero, suc, ◌<◌, ◌≤◌, Bool, true, false, cond, List, [], ◌∷◌, ◌++◌, drop, length, length-drop, map, Option, Some, None, refl, sym, subst, ap, ◌∙◌, arith, inl, inr}
+use Rattle.std.specs.Prelude.{◌==◌}
+use Rattle.std.proofs.lemmas.Bool.Decides.{eqb_tells}
+use Rattle.osdp_msg.specs.declared.command.Command.{Command}
+use Rattle.osdp_msg.specs.declared.event.Event.{Event}
+use Rattle.osdp_frame.proofs.Head.{AreBytes-drop}
+use Rattle.osdp_frame.specs.Bytes.{AreBytes}
+use Rattle.osdp_frame.specs.Held as frame
+use Rattle.osdp_frame_laws.proofs.Readings.{decided_nothing}
+use Rattle.osdp_frame.specs.Reading.{RunItem, item_size}
+use Rattle.osdp_bus.specs.Buses.{BusState}
+use Rattle.osdp_bus.specs.Machine.{add_refusal, after_add, changed_unless}
+use Rattle.osdp_bus.specs.declared.fault.BusFault.{BusFault}
+use Rattle.osdp_bus_laws.specs.Calls as bus
+use Rattle.osdp_device.proofs.Pieces.{all_read, all_read_after, fewer_turns, last_turn, seen_in_turn, takes_in_turn}
+use Rattle.osdp_device.proofs.Receipt.{received_new, received_pushed, received_silence, received_tick}
+use Rattle.osdp_device.proofs.Turning.{tells_in_turn}
+use Rattle.osdp_device.specs.Hearing.{Heard, IsAllRead, hears_bytes, reads_all, then_hears, turns_left}
+use Rattle.osdp_device.specs.Receiving.{IsReceived, Received, after_silence, after_take, after_tick, count_taken, seen}
+use Rattle.osdp_device.specs.Saying.{Said}
+use Rattle.osdp_device.specs.Status.{status_after, status_answer}
+use Rattle.osdp_device.specs.Telling.{after_all, after_items, items_of, listed, next_told, said_to_all}
+use Rattle.osdp_device.specs.declared.status.DeviceStatus.{DeviceStatus}
+use Rattle.osdp_line_calls.specs.PanelSessions as panel
+use Rattle.osdp_line_calls.specs.ReaderCalls.{CallFits}
+use Rattle.osdp_line_calls.specs.ReaderSessions as device
+use Rattle.osdp_line_calls.specs.declared.panel_call.PanelCall.{PanelCall}
+use Rattle.osdp_line_calls.specs.declared.panel_call.PanelCall.TheVariants.{Add}
+use Rattle.osdp_line_calls.specs.declared.reader_call.ReaderCall.{ReaderCall}
+use Rattle.osdp_line_calls.specs.declared.reader_call.ReaderCall.TheVariants as line
+use Rattle.osdp_line_laws.proofs.OfReaders.{call_steps}
+use Rattle.osdp_line_laws.specs.PanelRuns as panel_runs
+use Rattle.osdp_line_laws.specs.ReaderRuns as device_runs
+use Rattle.osdp_link_laws.proofs.Lines.{each_all}
+use Rattle.osdp_link_laws.proofs.Stages.{Each}
+use Rattle.osdp_reader.specs.State.{ReaderState, after_submit}
+use Rattle.osdp_reader.specs.declared.handler.Answer.{Answer}
+use Rattle.osdp_calls.specs.Calls.{Call, OfPanel, Take}
+use Rattle.osdp_calls.specs.Ends.{Held, device_after, takes_event}
+use Rattle.osdp_calls.specs.Sayings.{AddsMakeTheBus}
+use Rattle.osdp_calls_instance.specs.LinePrograms.{DeviceAnew, DeviceLine, LinesAreThese, PanelAnew, PanelLine, SaysToDevice, SaysToPanel, after_adds, after_device_line, after_device_lines, after_panel_line, after_panel_lines, calls_of_line, device_line_calls, handing, line_device, line_panel, nexts, reading, unless_done}
+use Rattle.osdp_calls_instance.specs.OwnCalls.{AreDeviceCalls, ArePanelCalls, IsOfDevice, IsOfPanel, bus_after_each, device_after_each}
+
+pub own_device : (k : ℕ) → (k == k) ≡ true
+own_device k = elim (eqb_tells k k) [
+  | inl same ↦ same.0
+  | inr differs ↦ absurd (differs.1 refl)
+]
+
+pub nexts_own : (H : Type 0) (k n : ℕ) → Each (IsOfDevice {H = H} k) (nexts k n)
+nexts_own H k zero = (own_device k, tt)
+nexts_own H k (suc n) = (own_device k, nexts_own H k n)
+
+module _ {H : Type 0} where
+  abbrev pub holding : ReaderState H → Received → Held H
+  holding r l = record { reader = r; line = l }
+
+  same_device : (r q : ReaderState H) (l m : Received) → r ≡ q → l ≡ m → holding r l ≡ holding q m
+  same_device r q l m a b = (λ i. record { reader = a i; line = b i })
+
+  module _ (answer_of : H → Command → Answer) (after : H → Command → H) where
+    pub more_calls : (xs ys : List (Call H)) (d : Held H)
+        → device_after_each answer_of after (xs ++ ys) d ≡ device_after_each answer_of after ys (device_after_each answer_of after xs d)
+    more_calls [] ys d = refl
+    more_calls (x ∷ xs) ys d = more_calls xs ys (device_after answer_of after x d)
+
+    -- ---- what is held is read
+
+    abbrev pub read_out : ReaderState H → Received → Held H
+    read_out r l = holding (reads_all answer_of after r l).reader (reads_all answer_of after r l).line
+
+    abbrev Reads : ℕ → ℕ → ReaderState H → Received → Type 0
+    Reads k n r l = length (said_to_all answer_of after (items_of l.held) r) ≡ n
+        → device_after_each answer_of after (nexts k n) (holding r l) ≡ read_out r l
+
+    abbrev line_told : ReaderState H → Received → Received
+    line_told r l = record l { held = (next_told answer_of after r l.held).held }
+
+    with_held : (l : Received) (h g : frame.Held) → h ≡ g → ◌≡◌ {A = Received} (record l { held = h }) (record l { held = g })
+    with_held l h g is = ap (λ (x : frame.Held). record l { held = x }) is
+
+    first_said : (r : ReaderState H) (l : Received) (o : Option Said) → (next_told answer_of after r l.held).said ≡ o
+        → said_to_all answer_of after (items_of l.held) r
+        ≡ listed o ++ said_to_all answer_of after (items_of (next_told answer_of after r l.held).held) (next_told answer_of after r l.held).reader
+    first_said r l o is =
+        let t = next_told answer_of after r l.held in
+        (tells_in_turn answer_of after r l.held).said ∙ ap (λ x. listed x ++ said_to_all answer_of after (items_of t.held) t.reader) is
+
+    -- nothing is said, and nothing is left
+    reads_none : (k : ℕ) (r : ReaderState H) (l : Received) → (next_told answer_of after r l.held).said ≡ None
+        → device_after_each answer_of after (nexts k 0) (holding r l) ≡ read_out r l
+    reads_none k r l none =
+        let t = next_told answer_of after r l.held in
+        let tell = tells_in_turn answer_of after r l.held in
+        same_device t.reader (reads_all answer_of after r l).reader (line_told r l) (reads_all answer_of after r l).line
+        (sym (tell.reader ∙ ap (λ parts. after_items answer_of after parts t.reader) (tell.all none)))
+        (with_held l t.held (after_all l.held (items_of l.held)) (sym (tell.left ∙ ap (λ parts. after_all t.held parts) (tell.all none))))
+
+    -- something is said, and then the rest is read
+    reads_some : (k n : ℕ) (r : ReaderState H) (l : Received) (said : Said) → (next_told answer_of after r l.held).said ≡ Some said
+        → ((q : ReaderState H) (m : Received) → Reads k n q m)
+        → length (said_to_all answer_of after (items_of l.held) r) ≡ suc n
+        → device_after_each answer_of after (nexts k (suc n)) (holding r l) ≡ read_out r l
+    reads_some k n r l said some more count =
+        let t = next_told answer_of after r l.held in
+        let tell = tells_in_turn answer_of after r l.held in
+        let one_more : suc (length (said_to_all answer_of after (items_of t.held) t.reader)) ≡ suc n =
+        sym (ap length (first_said r l (Some said) some)) ∙ count in
+        let rest : length (said_to_all answer_of after (items_of t.held) t.reader) ≡ n = omega (arith, one_more) in
+        more t.reader (line_told r l) rest
+        ∙ same_device (after_items answer_of after (items_of t.held) t.reader) (reads_all answer_of after r l).reader
+        (record l { held = after_all t.held (items_of t.held) }) (reads_all answer_of after r l).line
+        (sym tell.reader) (with_held l (after_all t.held (items_of t.held)) (after_all l.held (items_of l.held)) (sym tell.left))
+
+    none_counted : (r : ReaderState H) (l : Received) → (next_told answer_of after r l.held).said ≡ None
+        → length (said_to_all answer_of after (items_of l.held) r) ≡ 0
+    none_counted r l none =
+        let t = next_told answer_of after r l.held in
+        ap length (first_said r l None none ∙ ap (λ parts. said_to_all answer_of after parts t.reader) ((tells_in_turn answer_of after r l.held).all none))
+
+    some_counted : (r : ReaderState H) (l : Received) (said : Said) → (next_told answer_of after r l.held).said ≡ Some said
+        → 1 ≤ length (said_to_all answer_of after (items_of l.held) r)
+    some_counted r l said some =
+        let rest = said_to_all answer_of after (items_of (next_told answer_of after r l.held).held) (next_told answer_of after r l.held).reader in
+        let count : length (said_to_all answer_of after (items_of l.held) r) ≡ suc (length rest) = ap length (first_said r l (Some said) some) in
+        omega (arith, count)
+
+    reads_at_0 : (k : ℕ) (r : ReaderState H) (l : Received) (o : Option Said) → (next_told answer_of after r l.held).said ≡ o → Reads k 0 r l
+    reads_at_0 k r l None none count = reads_none k r l none
+    reads_at_0 k r l (Some said) some count = absurd (let one = some_counted r l said some in omega (arith, one, count))
+
+    reads_at : (k n : ℕ) (r : ReaderState H) (l : Received) (o : Option Said) → (next_told answer_of after r l.held).said ≡ o
+        → ((q : ReaderState H) (m : Received) → Reads k n q m) → Reads k (suc n) r l
+    reads_at k n r l None none more count = absurd (let none_is = none_counted r l none in omega (arith, none_is, count))
+    reads_at k n r l (Some said) some more count = reads_some k n r l said some more count
+
+    reads_so : (k n : ℕ) (r : ReaderState H) (l : Received) → Reads k n r l
+    reads_so k zero r l = reads_at_0 k r l (next_told answer_of after r l.held).said refl
+    reads_so k (suc n) r l = reads_at k n r l (next_told answer_of after r l.held).said refl (λ q m. reads_so k n q m)
+
+    pub reading_is : (k : ℕ) (r : ReaderState H) (l : Received)
+        → device_after_each answer_of after (reading answer_of after k r l) (holding r l) ≡ read_out r l
+    reading_is k r l = reads_so k (length (said_to_all answer_of after (items_of l.held) r)) r l refl
+
+    -- ---- what holds at all times of what has come
+
+    bytes_later : (parts : List RunItem) (held : frame.Held) → AreBytes held.bytes → AreBytes (after_all held parts).bytes
+    bytes_later [] held fits = fits
+    bytes_later (part ∷ parts) held fits = bytes_later parts (frame.later held part) (AreBytes-drop (item_size part) held.bytes fits)
+
+    received_read : (r : ReaderState H) (l : Received) → IsReceived l → IsReceived (reads_all answer_of after r l).line
+    received_read r l is =
+        let all = all_read answer_of after r l is in
+        record {
+          gap = is.gap;
+          bytes = bytes_later (items_of l.held) l.held is.bytes;
+          some = λ e. absurd (let f = sym all.goes_on ∙ e in cc);
+          last = is.last;
+        }
+
+    pub received_take : (bytes : List ℕ) (now : ℕ) (l : Received) → IsReceived l → AreBytes bytes → IsReceived (after_take bytes now l)
+    received_take [] now l is fits = record { gap = is.gap; bytes = is.bytes; some = is.some; last = omega (arith, is.last) }
+    received_take (b ∷ bytes) now l is fits = received_pushed (after_tick now l) (b ∷ bytes) (received_tick now l is) fits
+
+    -- ---- bytes are handed over
+
+    abbrev pub heard_of : List ℕ → ℕ → ReaderState H → Received → Heard H
+    heard_of bytes now r l = hears_bytes answer_of after bytes now r l
+
+    -- one turn: bytes are taken and read, and then the others
+    abbrev turn_on : ℕ → ℕ → List ℕ → ℕ → ReaderState H → Received → List ℕ → List (Call H)
+    turn_on turns k bytes now r l left =
+        let h = reads_all answer_of after r (after_take bytes now l) in
+        Take k bytes now ∷ (reading answer_of after k r (after_take bytes now l) ++ unless_done left (handing answer_of after turns k left now h.reader h.line))
+
+    pub record Hands (turns k : ℕ) (bytes : List ℕ) (now : ℕ) (r : ReaderState H) (l : Received) : Type 0 where
+      pub is : device_after_each answer_of after (handing answer_of after turns k bytes now r l) (holding r l)
+          ≡ holding (heard_of bytes now r l).reader (heard_of bytes now r l).line
+      pub received : IsReceived (heard_of bytes now r l).line
+
+    abbrev Handed : ℕ → ℕ → ℕ → Type 0
+    Handed turns k now = (bytes : List ℕ) (r : ReaderState H) (l : Received) → turns_left bytes now l < turns
+        → IsReceived l → IsAllRead l → AreBytes bytes → Hands turns k bytes now r l
+
+    first_turn : (turns k : ℕ) (bytes left : List ℕ) (now : ℕ) (r : ReaderState H) (l : Received) → let h = reads_all answer_of after r (after_take bytes now l) in
+        device_after_each answer_of after (turn_on turns k bytes now r l left) (holding r l)
+        ≡ device_after_each answer_of after (unless_done left (handing answer_of after turns k left now h.reader h.line)) (holding h.reader h.line)
+    first_turn turns k bytes left now r l =
+        let taken = after_take bytes now l in
+        let h = reads_all answer_of after r taken in
+        let more = unless_done left (handing answer_of after turns k left now h.reader h.line) in
+        more_calls (reading answer_of after k r taken) more (holding r taken) ∙ ap (device_after_each answer_of after more) (reading_is k r taken)
+
+    -- the bytes that were not taken, if there are any
+    by_rest : (turns k : ℕ) (bytes left : List ℕ) (now : ℕ) (r : ReaderState H) (l : Received) → turns_left bytes now l < suc turns
+        → IsReceived l → IsAllRead l → AreBytes bytes → Handed turns k now → drop (count_taken bytes now l) bytes ≡ left
+        → Hands (suc turns) k bytes now r l
+    by_rest turns k bytes [] now r l fewer is all fits more none =
+        let taken = after_take bytes now l in
+        let h = reads_all answer_of after r taken in
+        let taken_so = received_take bytes now l is fits in
+        let done : h ≡ heard_of bytes now r l =
+        sym (last_turn answer_of after now h (all_read answer_of after r taken taken_so) (seen_in_turn answer_of after bytes now r l))
+        ∙ ap (λ left. then_hears answer_of after left now h) (sym none) ∙ takes_in_turn answer_of after bytes now r l is all fits in
+        record {
+          is = ap (λ left. device_after_each answer_of after (turn_on turns k bytes now r l left) (holding r l)) none
+              ∙ first_turn turns k bytes [] now r l ∙ ap (λ (x : Heard H). holding x.reader x.line) done;
+          received = subst (λ (x : Heard H). IsReceived x.line) done (received_read r taken taken_so);
+        }
+    by_rest turns k bytes (b ∷ left) now r l fewer is all fits more some =
+        let taken = after_take bytes now l in
+        let h = reads_all answer_of after r taken in
+        let taken_so = received_take bytes now l is fits in
+        let count = count_taken bytes now l in
+        let length_is : length (drop count bytes) ≡ suc (length left) = ap length some in
+        let any : 0 < length bytes = omega (arith, length-drop count bytes, length_is) in
+        let less : turns_left (b ∷ left) now h.line < turns_left bytes now l =
+        subst (λ x. turns_left x now h.line < turns_left bytes now l) some (fewer_turns answer_of after bytes now r l is all fits any) in
+        let on = more (b ∷ left) h.reader h.line (omega (arith, fewer, less)) (received_read r taken taken_so)
+        (all_read answer_of after r taken taken_so) (subst AreBytes some (AreBytes-drop count bytes fits)) in
+        let all_heard : then_hears answer_of after (b ∷ left) now h ≡ heard_of bytes now r l =
+        ap (λ x. then_hears answer_of after x now h) (sym some) ∙ takes_in_turn answer_of after bytes now r l is all fits in
+        record {
+          is = ap (λ x. device_after_each answer_of after (turn_on turns k bytes now r l x) (holding r l)) some
+              ∙ first_turn turns k bytes (b ∷ left) now r l ∙ on.is ∙ ap (λ (x : Heard H). holding x.reader x.line) all_heard;
+          received = subst (λ (x : Heard H). IsReceived x.line) all_heard on.received;
+        }
+
+    pub hands : (turns k : ℕ) (bytes : List ℕ) (now : ℕ) (r : ReaderState H) (l : Received) → turns_left bytes now l < turns
+        → IsReceived l → IsAllRead l → AreBytes bytes → Hands turns k bytes now r l
+    hands zero k bytes now r l fewer is all fits = absurd (omega (arith, fewer))
+    hands (suc turns) k bytes now r l fewer is all fits =
+        by_rest turns k bytes (drop (count_taken bytes now l) bytes) now r l fewer is all fits
+        (λ bs q m less sound read are. hands turns k bs now q m less sound read are) refl
+
+  -- ---- whose calls these are
+
+  pub both_own : (k : ℕ) (xs ys : List (Call H)) → Each (IsOfDevice k) xs → Each (IsOfDevice k) ys → Each (IsOfDevice k) (xs ++ ys)
+  both_own k [] ys a b = b
+  both_own k (x ∷ xs) ys a b = (a.0, both_own k xs ys a.1 b)
+
+  done_own : (k : ℕ) (rest : List ℕ) (calls : List (Call H)) → Each (IsOfDevice k) calls → Each (IsOfDevice k) (unless_done rest calls)
+  done_own k [] calls are = tt
+  done_own k (b ∷ rest) calls are = are
+
+  pub handing_own : (answer_of : H → Command → Answer) (after : H → Command → H) (turns k : ℕ) (bytes : List ℕ) (now : ℕ) (r : ReaderState H) (l : Received)
+      → Each (IsOfDevice k) (handing answer_of after turns k bytes now r l)
+  handing_own answer_of after zero k bytes now r l = tt
+  handing_own answer_of after (suc turns) k bytes now r l =
+      let rest = drop (count_taken bytes now l) bytes in
+      let h = reads_all answer_of after r (after_take bytes now l) in (
+        own_device k,
+        both_own k (reading answer_of after k r (after_take bytes now l)) _
+            (nexts_own H k (length (said_to_all answer_of after (items_of (after_take bytes now l).held) r)))
+            (done_own k rest _ (handing_own answer_of after turns k rest now h.reader h.line)),
+      )
+
+-- ---- a panel's lines
+
+pub panels_own : (H : Type 0) (calls : List bus.Call) → Each (IsOfPanel {H = H}) (map OfPanel calls)
+panels_own H [] = tt
+panels_own H (call ∷ calls) = (tt, panels_own H calls)
+
+pub bus_same : (H : Type 0) (calls : List bus.Call) (b : BusState) → bus.after_calls calls b ≡ bus_after_each {H = H} (map OfPanel calls) b
+bus_same H [] b = refl
+bus_same H (call ∷ calls) b = bus_same H calls (bus.after_call call b)
+
+line_end : (H : Type 0) (own : PanelLine) (s : panel.Session) → Each (IsOfPanel {H = H}) ((line_panel {H = H}).calls own s)
+line_end H (SaysToPanel None) s = tt
+line_end H (SaysToPanel (Some call)) s = panels_own H (panel_runs.calls_of call s.now)
+line_end H (PanelAnew config addresses) s = (tt, tt)
+
+-- a bus on which no report waits stays so while devices are added
+no_report : (b : BusState) → b.devices.report ≡ None → (record b { devices = record b.devices { report = None } }) ≡ b
+no_report b none = (λ i. record b { devices = record b.devices { report = sym none i } })
+
+adds_nothing : (o : Option BusFault) (address : ℕ) (b : BusState) → b.devices.report ≡ None
+    → (changed_unless o b (after_add address b)).devices.report ≡ None
+adds_nothing None address b none = none
+adds_nothing (Some fault) address b none = none
+
+adds_so : (addresses : List ℕ) (s : panel.Session) → s.bus.devices.report ≡ None
+    → (after_adds addresses s).bus ≡ bus.after_calls (map bus.Add addresses) s.bus
+adds_so [] s none = refl
+adds_so (address ∷ addresses) s none =
+    let b : BusState = changed_unless (add_refusal address s.bus) s.bus (after_add address s.bus) in
+    let stays = adds_nothing (add_refusal address s.bus) address s.bus none in
+    adds_so addresses (panel_runs.after_said (Some (Add address)) s) refl
+    ∙ ap (bus.after_calls (map bus.Add addresses)) (no_report b stays)
+
+pub panel_lines_are : {H : Type 0} → AddsMakeTheBus → ArePanelCalls (line_panel {H = H})
+panel_lines_are {H} adds = record {
+  end = λ own s. each_all (IsOfPanel {H = H}) ((line_panel {H = H}).calls own s) (line_end H own s);
+  bus = of_bus;
+}
+  where
+    of_bus : (own : PanelLine) (s : panel.Session) → (line_panel {H = H}).Fits own s
+        → (after_panel_line own s).bus ≡ bus_after_each {H = H} ((line_panel {H = H}).calls own s) s.bus
+    of_bus (SaysToPanel None) s fits = refl
+    of_bus (SaysToPanel (Some call)) s fits = bus_same H (panel_runs.calls_of call s.now) s.bus
+    of_bus (PanelAnew config addresses) s fits = adds_so addresses (panel.new_session config) refl ∙ adds config addresses fits
+
+-- ---- a device's lines
+
+abbrev with_line : device.Session → Held DeviceStatus
+with_line s = record { reader = s.reader; line = s.line }
+
+-- what the whole device is after a line is what the call does
+hears_line : (bytes : List ℕ) (now : ℕ) (r : ReaderState DeviceStatus) (l : Received)
+    → (hears_bytes status_answer status_after bytes now r l).line ≡ device_runs.with_bytes bytes (seen now l)
+hears_line [] now r l = refl
+hears_line (b ∷ bytes) now r l = refl
+
+line_is : (call : ReaderCall) (s : device.Session) → (device.does call s).session.line ≡ device_runs.line_after call s.now s.line
+line_is (line.At later) s = refl
+line_is (line.Bytes list) s = hears_line list.items s.now s.reader s.line
+line_is line.Silence s = refl
+line_is line.Tick s = refl
+line_is (line.Event event) s = refl
+line_is (line.Busy busy) s = refl
+line_is (line.Inputs list) s = refl
+line_is (line.Outputs list) s = refl
+line_is (line.Readers list) s = refl
+line_is (line.Local tamper power) s = refl
+
+done_is : (call : ReaderCall) (s : device.Session) → with_line (device_runs.after_said (Some call) s) ≡ with_line (device.does call s).session
+done_is call s = same_device _ _ _ _ (sym (call_steps call s).reader) (sym (line_is call s))
+
+event_is : (full : Bool) (event : Event) (d : Held DeviceStatus)
+    → takes_event full event d ≡ record d { reader = cond full d.reader (after_submit event d.reader) }
+event_is true event d = refl
+event_is false event d = refl
+
+call_is : (k : ℕ) (call : ReaderCall) (s : device.Session) → CallFits call → IsAllRead s.line × IsReceived s.line
+    → with_line (device.does call s).session ≡ device_after_each status_answer status_after (calls_of_line k call s) (with_line s)
+call_is k (line.At later) s fits is = refl
+call_is k (line.Bytes list) s fits is =
+    sym (hands status_answer status_after (suc (turns_left list.items s.now s.line)) k list.items s.now s.reader s.line (omega arith) is.1 is.0
+    (λ place. omega (arith, fits.1 place))).is
+call_is k line.Silence s fits is = sym (reading_is status_answer status_after k s.reader (after_silence s.now s.line))
+call_is k line.Tick s fits is = sym (reading_is status_answer status_after k s.reader (after_tick s.now s.line))
+call_is k (line.Event event) s fits is = sym (event_is (device.is_full s.reader) event (with_line s))
+call_is k (line.Busy busy) s fits is = refl
+call_is k (line.Inputs list) s fits is = refl
+call_is k (line.Outputs list) s fits is = refl
+call_is k (line.Readers list) s fits is = refl
+call_is k (line.Local tamper power) s fits is = refl
+
+abbrev IsSound : device.Session → Type 0
+IsSound s = IsAllRead s.line × IsReceived s.line
+
+call_sound : (call : ReaderCall) (s : device.Session) → CallFits call → IsSound s → IsSound (device.does call s).session
+call_sound (line.At later) s fits is = is
+call_sound (line.Bytes list) s fits is = (
+  all_read_after status_answer status_after list.items s.now s.reader s.line is.1 is.0 (λ place. omega (arith, fits.1 place)),
+  (hands status_answer status_after (suc (turns_left list.items s.now s.line)) 0 list.items s.now s.reader s.line (omega arith) is.1 is.0
+      (λ place. omega (arith, fits.1 place))).received,
+)
+call_sound line.Silence s fits is =
+    let silent = received_silence s.now s.line is.1 in
+    (all_read status_answer status_after s.reader (after_silence s.now s.line) silent, received_read status_answer status_after s.reader (after_silence s.now s.line) silent)
+call_sound line.Tick s fits is =
+    let quiet = received_tick s.now s.line is.1 in
+    (all_read status_answer status_after s.reader (after_tick s.now s.line) quiet, received_read status_answer status_after s.reader (after_tick s.now s.line) quiet)
+call_sound (line.Event event) s fits is = is
+call_sound (line.Busy busy) s fits is = is
+call_sound (line.Inputs list) s fits is = is
+call_sound (line.Outputs list) s fits is = is
+call_sound (line.Readers list) s fits is = is
+call_sound (line.Local tamper power) s fits is = is
+
+line_own : (k : ℕ) (call : ReaderCall) (s : device.Session) → Each (IsOfDevice k) (calls_of_line k call s)
+line_own k (line.At later) s = tt
+line_own k (line.Bytes list) s = handing_own status_answer status_after (suc (turns_left list.items s.now s.line)) k list.items s.now s.reader s.line
+line_own k line.Silence s = (own_device k, nexts_own DeviceStatus k (length (said_to_all status_answer status_after (items_of (after_silence s.now s.line).held) s.reader)))
+line_own k line.Tick s = (own_device k, nexts_own DeviceStatus k (length (said_to_all status_answer status_after (items_of (after_tick s.now s.line).held) s.reader)))
+line_own k (line.Event event) s = (own_device k, tt)
+line_own k (line.Busy busy) s = (own_device k, tt)
+line_own k (line.Inputs list) s = (own_device k, tt)
+line_own k (line.Outputs list) s = (own_device k, tt)
+line_own k (line.Readers list) s = (own_device k, tt)
+line_own k (line.Local tamper power) s = (own_device k, tt)
+
+device_own : (k : ℕ) (own : DeviceLine) (s : device.Session) → Each (IsOfDevice k) (device_line_calls k own s)
+device_own k (SaysToDevice None) s = tt
+device_own k (SaysToDevice (Some call)) s = line_own k call s
+device_own k (DeviceAnew address room gap) s = (own_device k, tt)
+
+of_device : (k : ℕ) (own : DeviceLine) (s : device.Session) → line_device.Fits own s → IsSound s
+    → with_line (after_device_line own s) ≡ device_after_each status_answer status_after (device_line_calls k own s) (with_line s)
+of_device k (SaysToDevice None) s fits is = refl
+of_device k (SaysToDevice (Some call)) s fits is = done_is call s ∙ call_is k call s fits is
+of_device k (DeviceAnew address room gap) s fits is = refl
+
+stays_sound : (own : DeviceLine) (s : device.Session) → line_device.Fits own s → IsSound s → IsSound (after_device_line own s)
+stays_sound (SaysToDevice None) s fits is = is
+stays_sound (SaysToDevice (Some call)) s fits is =
+    subst (λ (d : Held DeviceStatus). IsAllRead d.line × IsReceived d.line) (sym (done_is call s)) (call_sound call s fits is)
+stays_sound (DeviceAnew address room gap) s fits is =
+    (record { goes_on = refl; undecided = decided_nothing false }, received_new gap fits)
+
+pub device_lines_are : AreDeviceCalls status_answer status_after line_device
+device_lines_are = record {
+  end = λ k own s. each_all (IsOfDevice k) (device_line_calls k own s) (device_own k own s);
+  device = of_device;
+  sound = stays_sound;
+}
+
+-- ---- lines as they are written
+
+panel_tells : (said : List (Option PanelCall)) (first last : panel.Session) (text : List ℕ) → panel_runs.Tells said first text last
+    → last ≡ after_panel_lines said first
+panel_tells [] first last text told = told.1
+panel_tells (one ∷ more) first last text (due, rest, is_due, tells, joined) = panel_tells more (panel_runs.after_said one first) last rest tells
+
+device_tells : (said : List (Option ReaderCall)) (first : device.Session) → device_runs.after_all_said said first ≡ after_device_lines said first
+device_tells [] first = refl
+device_tells (one ∷ more) first = device_tells more (device_runs.after_said one first)
+
+pub lines_are_these : panel_runs.RunsAreCalls → device_runs.RunsAreCalls → LinesAreThese
+lines_are_these panels devices = record {
+  panel = λ first last lines text speaks.
+      let run = panels first lines text last speaks in (run.0, run.1, panel_tells run.0 first last text run.2);
+  device = λ first last lines text speaks.
+      let run = devices first lines text last speaks in (run.0, run.1, run.3 ∙ device_tells run.0 first);
+}

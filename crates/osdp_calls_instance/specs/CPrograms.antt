@@ -1,0 +1,246 @@
+-- Programs in C: their calls, each by the definition that its contract in `osdp_c` cites, and which calls of a line in use they are.
+use Rattle.std.specs.Prelude.{◌≡◌, ℕ, not, ◌==◌, if◌then◌else◌, List, [], ◌∷◌, map, Option, Some, None, Result, Ok, Err}
+use Rattle.arrayvec.specs.ArrayVec.{ArrayVec}
+use Rattle.osdp_msg.specs.CommandTable.{command_of}
+use Rattle.osdp_msg.specs.NakReasons.{reason_of}
+use Rattle.osdp_msg.specs.declared.command.Command.{Command}
+use Rattle.osdp_msg.specs.declared.event.Event.{Event}
+use Rattle.osdp_msg.specs.declared.fault.MsgFault.{MsgFault}
+use Rattle.osdp_msg.specs.declared.reply_fields.PdCap.{PdCap}
+use Rattle.osdp_bus.specs.declared.config.BusConfig.{BusConfig}
+use Rattle.osdp_bus_laws.specs.Calls as bus
+use Rattle.osdp_device.specs.Deciding.{is_asked, pending_of}
+use Rattle.osdp_device.specs.Program.{new_program, program_after, program_answer}
+use Rattle.osdp_device.specs.Receiving.{Received, after_silence, after_take, after_tick}
+use Rattle.osdp_device.specs.Telling.{next_told}
+use Rattle.osdp_device.specs.declared.program.ProgramAnswers.{ProgramAnswers}
+use Rattle.osdp_device.specs.declared.program.Question.{Question}
+use Rattle.osdp_device.specs.declared.program.Question.TheVariants.{Answered, Asked, NotAsked}
+use Rattle.osdp_device.specs.declared.status.DeviceStatus.{DeviceStatus}
+use Rattle.osdp_reader.specs.State.{ReaderState}
+use Rattle.osdp_reader.specs.declared.handler.Answer.{Answer}
+use Rattle.osdp_reader.specs.declared.handler.Answer.TheVariants as answer
+use Rattle.osdp_c_values.specs.Clocks.{accepts, new_clock}
+use Rattle.osdp_c_values.specs.declared.machine.PanelMachine.{PanelMachine}
+use Rattle.osdp_c_values.specs.declared.machine.ReaderMachine.{ReaderMachine}
+use Rattle.osdp_c_values.specs.declared.settings.ReaderSettings.{ReaderSettings}
+use Rattle.osdp_c_values.specs.declared.states.StateList.{StateList}
+use Rattle.osdp_c_values.specs.declared.settings.PanelSettings.{PanelSettings}
+use Rattle.osdp_c_values.specs.declared.status.Status.{Status}
+use Rattle.osdp_c_values.specs.declared.status.Status.TheVariants as status
+use Rattle.osdp_c_values.specs.Statuses.{number}
+use Rattle.osdp_c_values.specs.Settings.{bus_config_of, id_of, limit_of}
+use Rattle.osdp_c_values.specs.Addresses.{device_address}
+use Rattle.osdp_c_values.specs.Calls.{Done, IsDone, frees}
+use Rattle.osdp_c_values.specs.Panels as panel
+use Rattle.osdp_c_values.specs.Readers as reader
+use Rattle.osdp_calls.specs.Calls.{Call, NewDevice, NewPanel, Next, OfPanel, Pending, SetBusy, SetHandler, Silence, SubmitEvent, Take, TickDevice}
+use Rattle.osdp_calls.specs.Lines.{bus_with}
+use Rattle.osdp_calls_instance.specs.OwnCalls.{ArePanelCalls, DeviceKind, PanelKind}
+
+-- ---- a panel
+
+-- the calls of a panel's handle: of a text what was read of it, and `Looks` for each call that only tells something. Made anew: freed, made with
+-- these settings and this limit of its clock, and its devices added, all done.
+pub data PanelCall : Type 0 where
+  Begin : ℕ → ℕ → PanelCall
+  Submit : ℕ → ℕ → List ℕ → PanelCall
+  SubmitText : ℕ → Option Command → PanelCall
+  Withdraw : ℕ → PanelCall
+  Retarget : ℕ → ℕ → PanelCall
+  Bytes : List ℕ → ℕ → PanelCall
+  PanelSilence : ℕ → PanelCall
+  PanelTick : ℕ → PanelCall
+  NextReport : PanelCall
+  SetPanelMoment : ℕ → PanelCall
+  LooksAt : ℕ → PanelCall
+  Looks : PanelCall
+  PanelAnew : BusConfig → ℕ → List ℕ → PanelCall
+
+abbrev pub panel_made : BusConfig → ℕ → List ℕ → PanelMachine
+panel_made config limit addresses = record { bus = bus_with config addresses; clock = new_clock limit }
+
+-- each by its definition
+abbrev pub panel_call : PanelCall → PanelMachine → Done PanelMachine
+panel_call (Begin entry now) m = panel.at_moment now (panel.begins entry now) m
+panel_call (Submit entry code body) m = panel.on_bus (panel.submits_data entry code body) m
+panel_call (SubmitText entry read) m = panel.on_bus (panel.submits_text entry read) m
+panel_call (Withdraw entry) m = panel.on_bus (panel.withdraws entry) m
+panel_call (Retarget entry address) m = panel.on_bus (panel.retargets entry (device_address address)) m
+panel_call (Bytes bytes now) m = panel.at_moment now (panel.hears bytes now) m
+panel_call (PanelSilence now) m = panel.at_moment now (panel.falls_silent now) m
+panel_call (PanelTick now) m = panel.at_moment now (panel.ticks now) m
+panel_call NextReport m = panel.on_bus panel.reports m
+panel_call (SetPanelMoment now) m = panel.sets_moment now m
+panel_call (LooksAt entry) m = panel.on_bus (panel.looks_at entry) m
+panel_call Looks m = panel.on_bus panel.does m
+panel_call (PanelAnew config limit addresses) m = record { status = status.Done; machine = panel_made config limit addresses }
+
+-- a call at a moment that is not accepted is none
+abbrev pub if_accepted : {H : Type 0} → ℕ → PanelMachine → bus.Call → List (Call H)
+if_accepted now m call = if accepts now m.clock then OfPanel call ∷ [] else []
+
+abbrev pub submitted : {H : Type 0} → ℕ → Option Command → List (Call H)
+submitted entry None = []
+submitted entry (Some command) = OfPanel (bus.Submit entry command) ∷ []
+
+abbrev pub if_read : Result Command MsgFault → Option Command
+if_read (Ok command) = Some command
+if_read (Err fault) = None
+
+-- which calls that is: a moment that is set is a read of no bytes
+abbrev pub panel_calls : {H : Type 0} → PanelCall → PanelMachine → List (Call H)
+panel_calls (Begin entry now) m = if_accepted now m (bus.Begin entry now)
+panel_calls (Submit entry code body) m = submitted entry (if_read (command_of code body))
+panel_calls (SubmitText entry read) m = submitted entry read
+panel_calls (Withdraw entry) m = OfPanel (bus.Withdraw entry) ∷ []
+panel_calls (Retarget entry address) m = OfPanel (bus.Retarget entry (device_address address)) ∷ []
+panel_calls (Bytes bytes now) m = if_accepted now m (bus.OnBytes bytes now)
+panel_calls (PanelSilence now) m = if_accepted now m (bus.OnSilence now)
+panel_calls (PanelTick now) m = if_accepted now m (bus.Tick now)
+panel_calls NextReport m = OfPanel bus.NextReport ∷ []
+panel_calls (SetPanelMoment now) m = OfPanel (bus.OnBytes [] now) ∷ []
+panel_calls (LooksAt entry) m = []
+panel_calls Looks m = []
+panel_calls (PanelAnew config limit addresses) m = NewPanel config addresses ∷ []
+
+abbrev pub c_panel : {H : Type 0} → PanelKind H
+c_panel = record {
+  Program = PanelMachine;
+  bus = λ m. m.bus;
+  Own = PanelCall;
+  after = λ call m. (panel_call call m).machine;
+  Fits = λ call m. Unit {0};
+  calls = panel_calls;
+}
+
+-- what leads to a panel that is made anew: its handle is freed, and the contracts of `osdp_panel_new` and of an `osdp_panel_add` for each of these
+-- numbers are met, each with the answer that it is done
+abbrev pub AddsEach : List ℕ → Option PanelMachine → Option PanelMachine → Type 0
+AddsEach [] m last = last ≡ m
+AddsEach (address ∷ addresses) m last =
+    (next : Option PanelMachine) × (out : ℕ) × (out' : ℕ)
+    × panel.AddsTo (device_address address) m (number status.Done) next out out' × AddsEach addresses next last
+
+abbrev pub MakesAnew : Type 0
+MakesAnew = (settings : PanelSettings) (m : PanelMachine) (freed made last : Option PanelMachine) (addresses : List ℕ)
+    → IsDone (frees (Some m)) (number status.Done) freed → panel.NewPanelEnds settings freed (number status.Done) made → AddsEach addresses made last
+    → (config : BusConfig) × (bus_config_of settings ≡ Some config)
+    × (last ≡ Some (panel_made config (limit_of settings.clock_limit) (map device_address addresses)))
+
+-- ---- a device
+
+-- the calls of a device's handle: of a text, or of a code and data, what was read of it, and `LooksIn` for each call that only tells something. Made
+-- anew: freed, and made with these settings, and with what it could do before.
+pub data DeviceCall : Type 0 where
+  SetStates : StateList → List ℕ → DeviceCall
+  SetLocal : ℕ → ℕ → DeviceCall
+  SetBusyTo : ℕ → DeviceCall
+  Happens : Result Event Status → DeviceCall
+  HappensText : Option Event → DeviceCall
+  TakesBytes : List ℕ → ℕ → DeviceCall
+  DeviceTick : ℕ → DeviceCall
+  DeviceSilence : ℕ → DeviceCall
+  SetDeviceMoment : ℕ → DeviceCall
+  LooksAhead : DeviceCall
+  AnswerDone : DeviceCall
+  AnswerLocal : ℕ → ℕ → DeviceCall
+  AnswerList : List ℕ → DeviceCall
+  AnswerRefused : ℕ → DeviceCall
+  AnswerMaker : List ℕ → List ℕ → DeviceCall
+  LooksIn : DeviceCall
+  DeviceMade : ReaderSettings → PdCap → DeviceCall
+
+-- each by its definition
+abbrev pub device_call : DeviceCall → ReaderMachine → Done ReaderMachine
+device_call (SetStates which states) m = reader.sets_states which states m
+device_call (SetLocal tamper power) m = reader.sets_local tamper power m
+device_call (SetBusyTo busy) m = reader.sets_busy busy m
+device_call (Happens read) m = reader.submits_read read m
+device_call (HappensText read) m = reader.submits_text read m
+device_call (TakesBytes bytes now) m = reader.at_moment now (reader.steps bytes now) m
+device_call (DeviceTick now) m = reader.at_moment now (reader.ticks now) m
+device_call (DeviceSilence now) m = reader.at_moment now (reader.falls_silent now) m
+device_call (SetDeviceMoment now) m = reader.sets_moment now m
+device_call LooksAhead m = reader.looks m
+device_call AnswerDone m = reader.answers_done m
+device_call (AnswerLocal tamper power) m = reader.answers_local tamper power m
+device_call (AnswerList states) m = reader.answers_list states m
+device_call (AnswerRefused reason) m = reader.answers_refused reason m
+device_call (AnswerMaker vendor bytes) m = reader.answers_maker vendor bytes m
+device_call LooksIn m = reader.does m
+device_call (DeviceMade settings caps) m = reader.does (reader.new_machine settings caps)
+
+-- the handler is another
+abbrev pub told_status : ℕ → DeviceStatus → ReaderMachine → List (Call ProgramAnswers)
+told_status k told m = SetHandler k (record m.device.reader.handler { status = told }) ∷ []
+
+abbrev pub told_states : ℕ → StateList → Option (ArrayVec ℕ) → ReaderMachine → List (Call ProgramAnswers)
+told_states k which None m = []
+told_states k which (Some states) m = told_status k (reader.with_states which states m.device.reader.handler.status) m
+
+abbrev pub event_read : Result Event Status → Option Event
+event_read (Ok event) = Some event
+event_read (Err refused) = None
+
+abbrev pub event_calls : ℕ → Option Event → List (Call ProgramAnswers)
+event_calls k None = []
+event_calls k (Some event) = SubmitEvent k event ∷ []
+
+-- what is said to the command that the program was asked about
+abbrev pub answer_calls : ℕ → Option Answer → ReaderMachine → List (Call ProgramAnswers)
+answer_calls k None m = []
+answer_calls k (Some answer) m =
+    if is_asked m.device.reader.handler.question then SetHandler k (record m.device.reader.handler { question = Answered answer }) ∷ [] else []
+
+-- what is held of a line is read up to the first packet that is answered, or to a command about which the program has not been asked yet
+abbrev pub settles_by : ℕ → Question → Option Command → ReaderState ProgramAnswers → Received → List (Call ProgramAnswers)
+settles_by k NotAsked (Some command) r l = Pending k ∷ SetHandler k (record r.handler { question = Asked }) ∷ []
+settles_by k _ _ r l = Next k ∷ SetHandler k (record (next_told program_answer program_after r l.held).reader.handler { question = NotAsked }) ∷ []
+
+abbrev pub settle_calls : ℕ → ReaderMachine → Received → List (Call ProgramAnswers)
+settle_calls k m l = settles_by k m.device.reader.handler.question (pending_of m.device.reader l.held) m.device.reader l
+
+-- a call at a moment that is not accepted is none
+abbrev pub if_seen : ℕ → ReaderMachine → List (Call ProgramAnswers) → List (Call ProgramAnswers)
+if_seen now m calls = if accepts now m.clock then calls else []
+
+-- which calls that is
+abbrev pub device_calls : ℕ → DeviceCall → ReaderMachine → List (Call ProgramAnswers)
+device_calls k (SetStates which states) m = told_states k which (reader.states_of states) m
+device_calls k (SetLocal tamper power) m = told_status k (record m.device.reader.handler.status { tamper = tamper; power = power }) m
+device_calls k (SetBusyTo busy) m = SetBusy k (not (busy == 0)) ∷ []
+device_calls k (Happens read) m = event_calls k (event_read read)
+device_calls k (HappensText read) m = event_calls k read
+device_calls k (TakesBytes bytes now) m = if_seen now m (Take k bytes now ∷ settle_calls k m (after_take bytes now m.device.line))
+device_calls k (DeviceTick now) m = if_seen now m (TickDevice k now ∷ settle_calls k m (after_tick now m.device.line))
+device_calls k (DeviceSilence now) m = if_seen now m (Silence k now ∷ settle_calls k m (after_silence now m.device.line))
+device_calls k (SetDeviceMoment now) m = Take k [] now ∷ []
+device_calls k LooksAhead m = Pending k ∷ []
+device_calls k AnswerDone m = answer_calls k (Some answer.Done) m
+device_calls k (AnswerLocal tamper power) m = answer_calls k (Some (answer.Local tamper power)) m
+device_calls k (AnswerList states) m = answer_calls k (reader.list_answer states) m
+device_calls k (AnswerRefused reason) m = answer_calls k (Some (answer.Refuse (reason_of reason))) m
+device_calls k (AnswerMaker vendor bytes) m = answer_calls k (reader.maker_answer vendor bytes) m
+device_calls k LooksIn m = []
+device_calls k (DeviceMade settings caps) m = NewDevice k settings.address new_program settings.capacity settings.gap ∷ []
+
+-- a device that is made anew is the same model, and can do the same
+abbrev pub DeviceCallFits : DeviceCall → ReaderMachine → Type 0
+DeviceCallFits (DeviceMade settings caps) m = (id_of settings ≡ m.device.reader.config.id) × (caps ≡ m.device.reader.config.caps)
+DeviceCallFits _ m = Unit {0}
+
+abbrev pub c_device : DeviceKind ProgramAnswers
+c_device = record {
+  Program = ReaderMachine;
+  held = λ m. record { reader = m.device.reader; line = m.device.line };
+  Sound = λ m. Unit {0};
+  Own = DeviceCall;
+  after = λ call m. (device_call call m).machine;
+  Fits = DeviceCallFits;
+  calls = device_calls;
+}
+
+-- what calls for C are to a panel, beside any devices
+abbrev pub PanelCallsAreCalls : Type 0 → Type 0
+PanelCallsAreCalls H = ArePanelCalls (c_panel {H = H})

@@ -1,0 +1,155 @@
+-- Programs by lines: a panel that `osdp panel` runs and devices that `osdp reader` runs, and which calls of a line in use their lines are.
+use Rattle.std.specs.Prelude.{◌≡◌, ℕ, suc, zero, ◌≤◌, List, [], ◌∷◌, ◌++◌, drop, length, map, Option, Some, None}
+use Rattle.osdp_msg.specs.declared.command.Command.{Command}
+use Rattle.osdp_bus.specs.Buses.{new_bus}
+use Rattle.osdp_bus.specs.declared.config.BusConfig.{BusConfig}
+use Rattle.osdp_device.specs.Hearing.{IsAllRead, reads_all, turns_left}
+use Rattle.osdp_device.specs.Receiving.{IsReceived, Received, after_silence, after_take, after_tick, count_taken}
+use Rattle.osdp_device.specs.Status.{new_status, status_after, status_answer}
+use Rattle.osdp_device.specs.Telling.{items_of, said_to_all}
+use Rattle.osdp_device.specs.declared.status.DeviceStatus.{DeviceStatus}
+use Rattle.osdp_line_calls.specs.Answers.{Speaks}
+use Rattle.osdp_line_calls.specs.PanelLines as panel_lines
+use Rattle.osdp_line_calls.specs.PanelSessions as panel
+use Rattle.osdp_line_calls.specs.ReaderCalls.{CallFits}
+use Rattle.osdp_line_calls.specs.ReaderLines as device_lines
+use Rattle.osdp_line_calls.specs.ReaderSessions as device
+use Rattle.osdp_line_calls.specs.declared.panel_call.PanelCall.{PanelCall}
+use Rattle.osdp_line_calls.specs.declared.panel_call.PanelCall.TheVariants.{Add}
+use Rattle.osdp_line_calls.specs.declared.reader_call.ReaderCall.{ReaderCall}
+use Rattle.osdp_line_calls.specs.declared.reader_call.ReaderCall.TheVariants as line
+use Rattle.osdp_line_laws.specs.PanelRuns as panel_runs
+use Rattle.osdp_line_laws.specs.ReaderRuns as device_runs
+use Rattle.osdp_reader.specs.State.{ReaderState}
+use Rattle.osdp_reader.specs.declared.handler.Answer.{Answer}
+use Rattle.osdp_calls.specs.Calls.{Call, NewDevice, NewPanel, Next, OfPanel, SetBusy, SetHandler, Silence, SubmitEvent, Take, TickDevice}
+use Rattle.osdp_calls.specs.Sayings.{NoneRefused}
+use Rattle.osdp_calls_instance.specs.OwnCalls.{ArePanelCalls, DeviceKind, PanelKind}
+
+-- ---- a panel
+
+-- a line, as the call that it says, or none; or the panel is run anew with these settings, and its first lines add devices at these addresses
+pub data PanelLine : Type 0 where
+  SaysToPanel : Option PanelCall → PanelLine
+  PanelAnew : BusConfig → List ℕ → PanelLine
+
+abbrev pub after_adds : List ℕ → panel.Session → panel.Session
+after_adds [] s = s
+after_adds (address ∷ addresses) s = after_adds addresses (panel_runs.after_said (Some (Add address)) s)
+
+abbrev pub after_panel_line : PanelLine → panel.Session → panel.Session
+after_panel_line (SaysToPanel said) s = panel_runs.after_said said s
+after_panel_line (PanelAnew config addresses) s = after_adds addresses (panel.new_session config)
+
+abbrev pub PanelLineFits : PanelLine → panel.Session → Type 0
+PanelLineFits (SaysToPanel said) s = Unit {0}
+PanelLineFits (PanelAnew config addresses) s = NoneRefused addresses (new_bus config)
+
+-- which calls that is: a line that says a call is that one, and then the report that waits is taken
+abbrev pub calls_said : {H : Type 0} → Option PanelCall → panel.Session → List (Call H)
+calls_said None s = []
+calls_said (Some call) s = map OfPanel (panel_runs.calls_of call s.now)
+
+abbrev pub panel_line_calls : {H : Type 0} → PanelLine → panel.Session → List (Call H)
+panel_line_calls (SaysToPanel said) s = calls_said said s
+panel_line_calls (PanelAnew config addresses) s = NewPanel config addresses ∷ []
+
+abbrev pub line_panel : {H : Type 0} → PanelKind H
+line_panel = record {
+  Program = panel.Session;
+  bus = λ s. s.bus;
+  Own = PanelLine;
+  after = after_panel_line;
+  Fits = PanelLineFits;
+  calls = panel_line_calls;
+}
+
+-- ---- a device
+
+-- a line, as the call that it says, or none; or the device is run anew at this address, with this room for events and this gap
+pub data DeviceLine : Type 0 where
+  SaysToDevice : Option ReaderCall → DeviceLine
+  DeviceAnew : ℕ → ℕ → ℕ → DeviceLine
+
+abbrev pub after_device_line : DeviceLine → device.Session → device.Session
+after_device_line (SaysToDevice said) s = device_runs.after_said said s
+after_device_line (DeviceAnew address room gap) s = device.new_session (record s.reader.config { address = address }) room gap
+
+abbrev pub DeviceLineFits : DeviceLine → device.Session → Type 0
+DeviceLineFits (SaysToDevice None) s = Unit {0}
+DeviceLineFits (SaysToDevice (Some call)) s = CallFits call
+DeviceLineFits (DeviceAnew address room gap) s = 1 ≤ gap
+
+module _ {H : Type 0} where
+  -- `next` is called until nothing is said
+  abbrev pub nexts : ℕ → ℕ → List (Call H)
+  nexts k zero = Next k ∷ []
+  nexts k (suc more) = Next k ∷ nexts k more
+
+  abbrev pub unless_done : List ℕ → List (Call H) → List (Call H)
+  unless_done [] calls = []
+  unless_done (byte ∷ bytes) calls = calls
+
+  module _ (answer_of : H → Command → Answer) (after : H → Command → H) where
+    abbrev pub reading : ℕ → ReaderState H → Received → List (Call H)
+    reading k r l = nexts k (length (said_to_all answer_of after (items_of l.held) r))
+
+    -- As many bytes are taken as there is room for, and what is held is read. So it goes on with the bytes that were not taken, in so many turns
+    -- at most.
+    abbrev pub handing : ℕ → ℕ → List ℕ → ℕ → ReaderState H → Received → List (Call H)
+    handing zero k bytes now r l = []
+    handing (suc turns) k bytes now r l =
+        let rest = drop (count_taken bytes now l) bytes in
+        let read = reads_all answer_of after r (after_take bytes now l) in
+        Take k bytes now ∷ (reading k r (after_take bytes now l) ++ unless_done rest (handing turns k rest now read.reader read.line))
+
+-- which calls that is
+abbrev pub calls_of_line : ℕ → ReaderCall → device.Session → List (Call DeviceStatus)
+calls_of_line k (line.At later) s = []
+calls_of_line k (line.Bytes list) s =
+    handing status_answer status_after (suc (turns_left list.items s.now s.line)) k list.items s.now s.reader s.line
+calls_of_line k line.Silence s = Silence k s.now ∷ reading status_answer status_after k s.reader (after_silence s.now s.line)
+calls_of_line k line.Tick s = TickDevice k s.now ∷ reading status_answer status_after k s.reader (after_tick s.now s.line)
+calls_of_line k (line.Event event) s = SubmitEvent k event ∷ []
+calls_of_line k (line.Busy busy) s = SetBusy k busy ∷ []
+calls_of_line k (line.Inputs list) s = SetHandler k (record s.reader.handler { inputs = list }) ∷ []
+calls_of_line k (line.Outputs list) s = SetHandler k (record s.reader.handler { outputs = list }) ∷ []
+calls_of_line k (line.Readers list) s = SetHandler k (record s.reader.handler { readers = list }) ∷ []
+calls_of_line k (line.Local tamper power) s = SetHandler k (record s.reader.handler { tamper = tamper; power = power }) ∷ []
+
+abbrev pub device_line_calls : ℕ → DeviceLine → device.Session → List (Call DeviceStatus)
+device_line_calls k (SaysToDevice None) s = []
+device_line_calls k (SaysToDevice (Some call)) s = calls_of_line k call s
+device_line_calls k (DeviceAnew address room gap) s = NewDevice k address new_status room gap ∷ []
+
+abbrev pub line_device : DeviceKind DeviceStatus
+line_device = record {
+  Program = device.Session;
+  held = λ s. record { reader = s.reader; line = s.line };
+  Sound = λ s. IsAllRead s.line × IsReceived s.line;
+  Own = DeviceLine;
+  after = after_device_line;
+  Fits = DeviceLineFits;
+  calls = device_line_calls;
+}
+
+-- ---- lines as they are written
+
+-- What a run of lines leaves, from a panel or a device that is there on, is what the calls leave that these lines say.
+abbrev pub after_panel_lines : List (Option PanelCall) → panel.Session → panel.Session
+after_panel_lines [] s = s
+after_panel_lines (said ∷ more) s = after_panel_lines more (after_panel_line (SaysToPanel said) s)
+
+abbrev pub after_device_lines : List (Option ReaderCall) → device.Session → device.Session
+after_device_lines [] s = s
+after_device_lines (said ∷ more) s = after_device_lines more (after_device_line (SaysToDevice said) s)
+
+pub record LinesAreThese : Type 0 where
+  pub panel : (first last : panel.Session) (lines : List (List ℕ)) (text : List ℕ) → Speaks panel_lines.Answers first lines text last
+      → (said : List (Option PanelCall)) × panel_runs.AreSaid lines said × (last ≡ after_panel_lines said first)
+  pub device : (first last : device.Session) (lines : List (List ℕ)) (text : List ℕ) → Speaks device_lines.Answers first lines text last
+      → (said : List (Option ReaderCall)) × device_runs.AreSaid lines said × (last ≡ after_device_lines said first)
+
+-- what lines are to a panel beside any devices, and to a device
+abbrev pub PanelLinesAreCalls : Type 0 → Type 0
+PanelLinesAreCalls H = ArePanelCalls (line_panel {H = H})
