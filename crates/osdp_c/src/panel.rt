@@ -31,7 +31,7 @@ pub extern "C" fn osdp_panel_defaults(settings: &mut PanelSettings)
     settings.set_defaults();
 }
 
-/// A bus on the heap, which has seen no moment.
+/// A bus on the heap, which has seen no moment. It is put there without `?`, which would copy it on the stack.
 fn new_machine(alloc: Global, settings: &PanelSettings) -> Result<Box<PanelMachine>, BusFault>
     ensures bus { MadeAs (bus_config_of settings.now) (result_map_both (λ m. m.value.bus) (λ fault. fault) result) }
     ensures clock { IfOk result (λ m. m.value.clock ≡ new_clock (limit_of settings.now.clock_limit)) }
@@ -39,13 +39,13 @@ fn new_machine(alloc: Global, settings: &PanelSettings) -> Result<Box<PanelMachi
     let Some(config) = settings.to_config() else {
         return Err(BusFault::OutOfRange);
     };
-    let machine = PanelMachine {
-        bus: Bus::new(alloc, config)?,
-        clock: Clock::new(settings.clock_limit()),
-    };
-    match Box::new(alloc, machine) {
-        Ok(machine) => Ok(machine),
-        Err(_) => Err(BusFault::NoMemory),
+    let clock = Clock::new(settings.clock_limit());
+    match Bus::new(alloc, config) {
+        Ok(bus) => match Box::new(alloc, PanelMachine { bus, clock }) {
+            Ok(machine) => Ok(machine),
+            Err(_) => Err(BusFault::NoMemory),
+        },
+        Err(fault) => Err(fault),
     }
 }
 
