@@ -9,3 +9,6 @@ mod SimulatedBus
 mod SimSetUp
 mod SimulatedReports
 mod SimulatedAccounts
+mod SimulatedTakes
+mod SimulatedTaking
+mod SimulatedTaken

@@ -56,7 +56,7 @@ module _ {H : Type 0} where
   abbrev pub holding : ReaderState H → Received → Held H
   holding r l = record { reader = r; line = l }
 
-  same_device : (r q : ReaderState H) (l m : Received) → r ≡ q → l ≡ m → holding r l ≡ holding q m
+  pub same_device : (r q : ReaderState H) (l m : Received) → r ≡ q → l ≡ m → holding r l ≡ holding q m
   same_device r q l m a b = (λ i. record { reader = a i; line = b i })
 
   module _ (answer_of : H → Command → Answer) (after : H → Command → H) where
@@ -74,13 +74,13 @@ module _ {H : Type 0} where
     Reads k n r l = length (said_to_all answer_of after (items_of l.held) r) ≡ n
         → device_after_each answer_of after (nexts k n) (holding r l) ≡ read_out r l
 
-    abbrev line_told : ReaderState H → Received → Received
+    abbrev pub line_told : ReaderState H → Received → Received
     line_told r l = record l { held = (next_told answer_of after r l.held).held }
 
     with_held : (l : Received) (h g : frame.Held) → h ≡ g → ◌≡◌ {A = Received} (record l { held = h }) (record l { held = g })
     with_held l h g is = ap (λ (x : frame.Held). record l { held = x }) is
 
-    first_said : (r : ReaderState H) (l : Received) (o : Option Said) → (next_told answer_of after r l.held).said ≡ o
+    pub first_said : (r : ReaderState H) (l : Received) (o : Option Said) → (next_told answer_of after r l.held).said ≡ o
         → said_to_all answer_of after (items_of l.held) r
         ≡ listed o ++ said_to_all answer_of after (items_of (next_told answer_of after r l.held).held) (next_told answer_of after r l.held).reader
     first_said r l o is =
@@ -149,7 +149,7 @@ module _ {H : Type 0} where
     bytes_later [] held fits = fits
     bytes_later (part ∷ parts) held fits = bytes_later parts (frame.later held part) (AreBytes-drop (item_size part) held.bytes fits)
 
-    received_read : (r : ReaderState H) (l : Received) → IsReceived l → IsReceived (reads_all answer_of after r l).line
+    pub received_read : (r : ReaderState H) (l : Received) → IsReceived l → IsReceived (reads_all answer_of after r l).line
     received_read r l is =
         let all = all_read answer_of after r l is in
         record {

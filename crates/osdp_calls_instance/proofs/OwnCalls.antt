@@ -136,10 +136,10 @@ module _ {H : Type 0} where
   no_panels k [] b are = refl
   no_panels k (call ∷ calls) b are = ap (bus_after_each calls) (no_panel k call b are.0) ∙ no_panels k calls b are.1
 
-  abbrev IsOther : ℕ → Call H → Type 0
+  abbrev pub IsOther : ℕ → Call H → Type 0
   IsOther k call = is_of_device k call ≡ false
 
-  others : (k j : ℕ) (calls : List (Call H)) → j ≢ k → Each (IsOfDevice k) calls → Each (IsOther j) calls
+  pub others : (k j : ℕ) (calls : List (Call H)) → j ≢ k → Each (IsOfDevice k) calls → Each (IsOther j) calls
   others k j [] differ are = tt
   others k j (call ∷ calls) differ are = (other_device k j call differ are.0, others k j calls differ are.1)
 

@@ -9,10 +9,9 @@ use Rattle.osdp_frame.specs.Items.{packets_in}
 use Rattle.osdp_frame.specs.Packet.{Packet}
 use Rattle.osdp_controller.specs.declared.report.Report.{Report}
 use Rattle.osdp_controller.specs.declared.report.Report.TheVariants as report
-use Rattle.osdp_bus.specs.Buses.{BusState, has_report, new_bus}
+use Rattle.osdp_bus.specs.Buses.{BusState, new_bus}
 use Rattle.osdp_bus.specs.Machine.{after_next_report, submit_refusal_at}
 use Rattle.osdp_bus.specs.Ticking.{bus_ticks}
-use Rattle.osdp_bus.specs.declared.config.BusConfig.{BusConfig}
 use Rattle.osdp_bus.specs.declared.fault.BusFault.{BusFault}
 use Rattle.osdp_bus_laws.specs.Calls as bus
 use Rattle.osdp_bus_laws.specs.Reports.{TellsEachOnce, taken_along, taken_in, told_along}
@@ -28,17 +27,17 @@ use Rattle.osdp_sim.specs.declared.step.SimStep.{SimStep}
 use Rattle.osdp_sim.specs.declared.step.SimStep.TheVariants.{Busy, Issue, Queue, Reopen, ToController, ToReader, Wait}
 use Rattle.osdp_sim_bus.specs.Laws.{HasAnAccountEach, TellsAtOnce}
 use Rattle.osdp_sim_bus.specs.Runs.{is_well, run}
-use Rattle.osdp_sim_bus.specs.State.{Given, LineState, ReaderSite, accounts, address_of, new_site, set_up}
+use Rattle.osdp_sim_bus.specs.State.{Given, LineState, ReaderSite, address_of, new_site, set_up}
 use Rattle.osdp_sim_bus.specs.Steps.{after_step, all_hear_each, changed_site, changes_site, fault_of, hears_run, is_there, issued, reopened, report_told, site_begins, site_hears, site_is_busy, site_is_told, site_issues, site_queues, site_queues_unless, takes_report, waited}
-use Rattle.osdp_calls.specs.Calls.{Call, NewDevice, NewPanel, Next, OfPanel, Pending, SetBusy, SetHandler, Silence, Step, SubmitEvent, Take, TickDevice, after_call, after_calls}
+use Rattle.osdp_calls.specs.Calls.{Call, NewDevice, NewPanel, Next, OfPanel, Pending, SetBusy, SetHandler, Silence, Step, SubmitEvent, Take, TickDevice, after_call}
 use Rattle.osdp_calls.specs.Ends.{GoByTheirOwn, KeepsPanel, one_panel_call, panel_calls}
-use Rattle.osdp_calls.specs.Lines.{InUse, Station, bus_with}
-use Rattle.osdp_calls.specs.Sayings.{AddsMakeTheBus, NoneRefused}
-use Rattle.osdp_calls_instance.proofs.SimulatedBus.{Follows, Goes, Here, all_follow, begins_so, goes, joined, step_follows, well_first}
+use Rattle.osdp_calls.specs.Lines.{InUse}
+use Rattle.osdp_calls.specs.Sayings.{AddsMakeTheBus}
+use Rattle.osdp_calls_instance.proofs.SimulatedBus.{Follows, Here, all_follow, begins_so, goes, joined, step_follows, well_first}
 use Rattle.osdp_calls_instance.proofs.SimulatedEnds.{sim_devices_are}
 use Rattle.osdp_calls_instance.proofs.SimulatedReports.{IsTold, all_told, both_same, more_reports, with_one, with_those}
 use Rattle.osdp_calls_instance.specs.OwnCalls.{AtDevice, AtPanel, IsOfDevice, all_calls, calls_at}
-use Rattle.osdp_calls_instance.specs.SimulatedBus.{Begins, DeviceStep, HandsBytes, HearsBurst, HearsRun, IsBusy, PanelStep, Queues, SimCall, Submits, Waits, all_hear, begin_calls, line_at_first, new_station, panel_step_calls, programs_at_first, run_calls, schedule_calls, sim_device, sim_panel, step_calls}
+use Rattle.osdp_calls_instance.specs.SimulatedBus.{Begins, DeviceStep, HandsBytes, HearsRun, IsBusy, Queues, SimCall, Submits, Waits, all_hear, begin_calls, line_at_first, new_station, panel_step_calls, programs_at_first, schedule_calls, sim_device, sim_panel, step_calls}
 use Rattle.osdp_calls_instance.specs.SimulatedReports.{RunTellsTheSame, Told, told_in_run, told_to}
 
 -- nothing is told
@@ -79,19 +78,19 @@ module _ {H : Type 0} where
   abbrev IsSite : ℕ → Told → List (ReaderSite H) → Type 0
   IsSite k y us = (u : ReaderSite H) × (slice_get us k ≡ Some u) × (told_in_run u ≡ y)
 
-  get_set : (k : ℕ) (x y : ReaderSite H) (xs : List (ReaderSite H)) → slice_get xs k ≡ Some x → slice_get (slice_set xs k y) k ≡ Some y
+  pub get_set : (k : ℕ) (x y : ReaderSite H) (xs : List (ReaderSite H)) → slice_get xs k ≡ Some x → slice_get (slice_set xs k y) k ≡ Some y
   get_set k x y [] at = absurd (let e = at in cc)
   get_set zero x y (z ∷ xs) at = refl
   get_set (suc k) x y (z ∷ xs) at = get_set k x y xs at
 
-  get_other : (k i : ℕ) (y : ReaderSite H) (xs : List (ReaderSite H)) → k ≢ i → slice_get (slice_set xs i y) k ≡ slice_get xs k
+  pub get_other : (k i : ℕ) (y : ReaderSite H) (xs : List (ReaderSite H)) → k ≢ i → slice_get (slice_set xs i y) k ≡ slice_get xs k
   get_other k i y [] other = refl
   get_other zero zero y (z ∷ xs) other = absurd (other refl)
   get_other zero (suc i) y (z ∷ xs) other = refl
   get_other (suc k) zero y (z ∷ xs) other = refl
   get_other (suc k) (suc i) y (z ∷ xs) other = get_other k i y xs (λ e. other (ap suc e))
 
-  abbrev changed_by : ℕ → (ReaderSite H → ReaderSite H) → Option (ReaderSite H) → List (ReaderSite H) → List (ReaderSite H)
+  abbrev pub changed_by : ℕ → (ReaderSite H → ReaderSite H) → Option (ReaderSite H) → List (ReaderSite H) → List (ReaderSite H)
   changed_by i change o us = option_map_or (λ u. slice_set us i (change u)) o us
 
   change_site : (k i : ℕ) (change : ReaderSite H → ReaderSite H) (f : Told → Told) (y : Told) (us : List (ReaderSite H))
@@ -146,12 +145,12 @@ module _ {H : Type 0} where
   issue_site k (Some fault) place command y s is = is
   issue_site k None place command y s is = keep_site k place (site_issues command) y s.sites (λ u. refl) is
 
-  first_within : (k : ℕ) (u : ReaderSite H) (us : List (ReaderSite H)) → slice_get us k ≡ Some u → k < length us
+  pub first_within : (k : ℕ) (u : ReaderSite H) (us : List (ReaderSite H)) → slice_get us k ≡ Some u → k < length us
   first_within k u [] at = absurd (let e = at in cc)
   first_within zero u (v ∷ us) at = omega arith
   first_within (suc k) u (v ∷ us) at = omega (arith, first_within k u us at)
 
-  account_count : (us : List (ReaderSite H)) → length (map (λ (u : ReaderSite H). u.account) us) ≡ length us
+  pub account_count : (us : List (ReaderSite H)) → length (map (λ (u : ReaderSite H). u.account) us) ≡ length us
   account_count [] = refl
   account_count (u ∷ us) = ap suc (account_count us)
 
@@ -197,7 +196,7 @@ module _ {H : Type 0} where
   bus_of_device k (call ∷ calls) rest are =
       ap (λ l. l ++ bus_of (calls ++ rest)) (no_bus k call are.0) ∙ bus_of_device k calls rest are.1
 
-  abbrev Keeps : Call H → Type 0
+  abbrev pub Keeps : Call H → Type 0
   Keeps call = KeepsPanel call
 
   keeps_own : (k : ℕ) (call : Call H) → IsOfDevice k call → KeepsPanel call
@@ -221,7 +220,7 @@ module _ {H : Type 0} where
   keep_devices k [] rest are keep = keep
   keep_devices k (call ∷ calls) rest are keep = (keeps_own k call are.0, keep_devices k calls rest are.1 keep)
 
-  keep_steps : (steps : List (Step H)) → Each Keeps (map (λ (step : Step H). step.call) steps) → Each (λ (step : Step H). KeepsPanel step.call) steps
+  pub keep_steps : (steps : List (Step H)) → Each Keeps (map (λ (step : Step H). step.call) steps) → Each (λ (step : Step H). KeepsPanel step.call) steps
   keep_steps [] keep = tt
   keep_steps (step ∷ steps) keep = (keep.0, keep_steps steps keep.1)
 
@@ -256,7 +255,7 @@ module _ {H : Type 0} where
         bus_of_device k (calls_at sim_panel (sim_device answer_of after) k own (site_at k w.devices)) (all_calls sim_panel (sim_device answer_of after) more next)
         (device_calls k own w) ∙ all_bus_part more next
 
-    all_keep_panel : (own : List (SimCall answer_of after)) (w : Here answer_of after) → Each Keeps (all_calls sim_panel (sim_device answer_of after) own w)
+    pub all_keep_panel : (own : List (SimCall answer_of after)) (w : Here answer_of after) → Each Keeps (all_calls sim_panel (sim_device answer_of after) own w)
     all_keep_panel [] w = tt
     all_keep_panel (AtPanel step ∷ more) w =
         let next = goes answer_of after (AtPanel step ∷ []) w in

@@ -345,7 +345,7 @@ module _ {H : Type 0} (answer_of : H → Command → Answer) (after : H → Comm
   more_own [] ys w = refl
   more_own (x ∷ xs) ys w = more_own xs ys (after_own sim_panel (sim_device answer_of after) x w)
 
-  more_fit : (xs ys : List (SimCall answer_of after)) (w : Here) → fits_all xs w → fits_all ys (goes xs w) → fits_all (xs ++ ys) w
+  pub more_fit : (xs ys : List (SimCall answer_of after)) (w : Here) → fits_all xs w → fits_all ys (goes xs w) → fits_all (xs ++ ys) w
   more_fit [] ys w a b = b
   more_fit (x ∷ xs) ys w a b = (a.0, more_fit xs ys (after_own sim_panel (sim_device answer_of after) x w) a.1 b)
 
@@ -439,7 +439,7 @@ module _ {H : Type 0} (answer_of : H → Command → Answer) (after : H → Comm
       (subst (IsSound answer_of after) is (refl, received_new gap some), new_station gap given, refl, is)
   stations_are gap some (given ∷ readers) (suc k) d at = stations_are gap some readers k d at
 
-  at_both : (k : ℕ) (u : ReaderSite H) (ds : List (Held H)) (us : List (ReaderSite H)) → held_readers ds ≡ site_readers us → slice_get us k ≡ Some u
+  pub at_both : (k : ℕ) (u : ReaderSite H) (ds : List (Held H)) (us : List (ReaderSite H)) → held_readers ds ≡ site_readers us → slice_get us k ≡ Some u
       → (d : Held H) × (site_at k ds ≡ Some d) × (d.reader ≡ u.reader)
   at_both k u ds [] are at = absurd (let e = at in cc)
   at_both k u [] (v ∷ us) are at = absurd (let e = are in cc)

@@ -48,14 +48,14 @@ after_ended (part ∷ parts) (b ∷ bytes) fits are =
     ∙ after_ended parts rest (AreBytes-drop (item_size part) (b ∷ bytes) fits) others
 
 -- a line of which nothing is held
-abbrev quiet : Received → Received
+abbrev pub quiet : Received → Received
 quiet l = record { gap = l.gap; held = new_run; last = l.last; greatest = l.greatest }
 
 max_once : (a b : ℕ) → max (max a b) b ≡ max a b
 max_once a b = omega arith
 
 module _ {H : Type 0} (answer_of : H → Command → Answer) (after : H → Command → H) where
-  more_items : (xs ys : List RunItem) (r : ReaderState H) → after_items answer_of after (xs ++ ys) r ≡ after_items answer_of after ys (after_items answer_of after xs r)
+  pub more_items : (xs ys : List RunItem) (r : ReaderState H) → after_items answer_of after (xs ++ ys) r ≡ after_items answer_of after ys (after_items answer_of after xs r)
   more_items [] ys r = refl
   more_items (x ∷ xs) ys r = more_items xs ys (Rattle.osdp_device.specs.Saying.after_item answer_of after x r)
 
@@ -74,7 +74,7 @@ module _ {H : Type 0} (answer_of : H → Command → Answer) (after : H → Comm
       by_test true = refl
       by_test false = refl
 
-  first_read : (now : ℕ) (r : ReaderState H) (l : Received)
+  pub first_read : (now : ℕ) (r : ReaderState H) (l : Received)
       → reads_all answer_of after r (ends_silent (seen now (quiet l))) ≡ record { said = []; reader = r; line = seen now (quiet l) }
   first_read now r l =
       ap (reads_all answer_of after r) (silent_same now l)
@@ -109,10 +109,10 @@ module _ {H : Type 0} (answer_of : H → Command → Answer) (after : H → Comm
       ap (λ h. silent_after now (then_reads answer_of after all h)) (first_read now r l) ∙ read
       ∙ ap (λ n. holding (after_hearing answer_of after (packets_in all) r) (record line { held = new_run; greatest = n })) (max_once l.greatest now)
 
-  quiet_is : (l : Received) → l.held ≡ new_run → l ≡ quiet l
+  pub quiet_is : (l : Received) → l.held ≡ new_run → l ≡ quiet l
   quiet_is l is = ap (λ (h : frame.Held). record l { held = h }) is
 
-  all_read_of : (l : Received) → l.held ≡ new_run → IsAllRead l
+  pub all_read_of : (l : Received) → l.held ≡ new_run → IsAllRead l
   all_read_of l is = record {
     goes_on = ap (λ (h : frame.Held). h.ended) is;
     undecided = ap (λ (h : frame.Held). Rattle.osdp_frame.specs.Held.decided false h.bytes) is ∙ decided_nothing false;

@@ -1,38 +1,34 @@
 -- What a run tells of each reader is what its calls tell of the reader's entry.
-use Rattle.std.proofs.Common.{◌≡◌, ◌≢◌, ℕ, zero, suc, max, Bool, true, false, cond, List, [], ◌∷◌, ◌++◌, length, map, Option, Some, None, refl, sym, subst, ap, ◌∙◌, append_assoc, append-nil, inl, inr}
+use Rattle.std.proofs.Common.{◌≡◌, ◌≢◌, ℕ, max, Bool, true, false, cond, List, [], ◌∷◌, ◌++◌, length, Option, Some, None, refl, sym, subst, ap, ◌∙◌, append_assoc, append-nil, inl, inr}
 use Rattle.std.proofs.lemmas.Bool.Decides.{eqb_tells}
-use Rattle.std.specs.Prelude.{◌==◌, ◌-◌, option_to_list, slice_get, slice_set}
-use Rattle.std.specs.Option.{option_map_or}
+use Rattle.std.specs.Prelude.{◌==◌, option_to_list}
 use Rattle.osdp_msg.specs.declared.command.Command.{Command}
 use Rattle.osdp_msg.specs.declared.command.Command.TheVariants.{Poll}
 use Rattle.osdp_msg.specs.declared.event.Event.{Event}
 use Rattle.osdp_msg.specs.declared.reply.Reply.{Reply}
 use Rattle.osdp_msg.specs.declared.reply.Reply.TheVariants as reply
-use Rattle.osdp_frame.specs.Items.{packets_in}
 use Rattle.osdp_frame.specs.Packet.{Packet}
 use Rattle.osdp_controller.specs.declared.report.Report.{Report}
 use Rattle.osdp_controller.specs.declared.report.Report.TheVariants as report
-use Rattle.osdp_bus.specs.Buses.{BusState, device_of, new_bus}
+use Rattle.osdp_bus.specs.Buses.{BusState, device_of}
 use Rattle.osdp_bus.specs.Machine.{begin_refusal_at, changed_unless, submit_refusal_at, withdrawal_at}
 use Rattle.osdp_bus.specs.Ticking.{bus_ticks}
-use Rattle.osdp_bus.specs.declared.config.BusConfig.{BusConfig}
 use Rattle.osdp_bus.specs.declared.fault.BusFault.{BusFault}
 use Rattle.osdp_bus_laws.specs.Calls as bus
-use Rattle.osdp_bus_laws.specs.Reports.{TellsEachOnce, taken_along, taken_in, told_along, told_in}
-use Rattle.osdp_link_laws.specs.Link as link
+use Rattle.osdp_bus_laws.specs.Reports.{told_along, told_in}
 use Rattle.osdp_link_laws.specs.Link.{front_of, taken, taken_command}
 use Rattle.osdp_link_laws.proofs.Stages.{Each}
 use Rattle.osdp_reader.specs.Table.{hears, kind_of}
 use Rattle.osdp_reader.specs.declared.handler.Answer.{Answer}
 use Rattle.osdp_reader.specs.declared.kind.Kind.{Kind}
 use Rattle.osdp_reader.specs.declared.kind.Kind.TheVariants as kind
-use Rattle.osdp_shared_line.specs.Line.{changed, site_at}
-use Rattle.osdp_shared_line.proofs.Sites.{at_changed, at_other, some_same}
-use Rattle.osdp_calls.specs.Calls.{Call, NewDevice, NewPanel, Next, OfPanel, Pending, SetBusy, SetHandler, Silence, Step, SubmitEvent, Take, TickDevice, after_call, after_calls, after_next, all_hear, answers, asked_at, begins_session, begins_with, begun_of, change_at, changes_at, first_answered, hears_of, is_to_begin, issues, last_of, nexts, noted, on_station, panel_says, queues, read_up_to, said_at, takes_back, waiting_of, withdrawn}
-use Rattle.osdp_calls.specs.Ends.{GoByTheirOwn, KeepsPanel, one_panel_call, panel_calls}
+use Rattle.osdp_shared_line.specs.Line.{site_at}
+use Rattle.osdp_shared_line.proofs.Sites.{at_changed, at_other}
+use Rattle.osdp_calls.specs.Calls.{Call, NewDevice, NewPanel, Next, OfPanel, Pending, SetBusy, SetHandler, Silence, Step, SubmitEvent, Take, TickDevice, after_call, after_calls, after_next, all_hear, answers, asked_at, begins_session, begins_with, begun_of, change_at, changes_at, first_answered, hears_of, is_to_begin, issues, last_of, nexts, noted, panel_says, queues, read_up_to, said_at, takes_back, waiting_of, withdrawn}
+use Rattle.osdp_calls.specs.Ends.{KeepsPanel, one_panel_call, panel_calls}
 use Rattle.osdp_calls.specs.Lines.{InUse, Station}
 use Rattle.osdp_device.specs.Telling.{items_of}
-use Rattle.osdp_calls_instance.specs.SimulatedReports.{Told, in_all, told_in_run, told_to}
+use Rattle.osdp_calls_instance.specs.SimulatedReports.{Told, in_all, told_to}
 
 -- ---- what reports add
 

@@ -55,3 +55,15 @@ module _ {H : Type 0} where
       → (k : ℕ) (u : ReaderSite H) (t : Station H) → slice_get (run answer_of after steps (set_up config readers)).sites k ≡ Some u
       → site_at k (after_calls answer_of after calls (line_at_first config gap readers)).stations ≡ Some t
       → told_to t ≡ told_in_run u
+
+  -- .. and the commands that its device has taken are those of the account
+  abbrev pub RunTakesTheSame : (H → Command → Answer) → (H → Command → H) → Type 0
+  RunTakesTheSame answer_of after = (config : BusConfig) (readers : List (Given H)) (steps : List SimStep) (gap : ℕ) (calls : List (Step H))
+      → 1 ≤ gap → is_well answer_of after steps (set_up config readers) ≡ true
+      → HoldsAlong (after_step answer_of after) HandsBytes steps (set_up config readers)
+      → map (λ (step : Step H). step.call) calls
+      ≡ all_calls sim_panel (sim_device answer_of after) (begin_calls answer_of after 0 readers ++ schedule_calls answer_of after steps (set_up config readers))
+      (programs_at_first answer_of after config gap readers)
+      → (k : ℕ) (u : ReaderSite H) (t : Station H) → slice_get (run answer_of after steps (set_up config readers)).sites k ≡ Some u
+      → site_at k (after_calls answer_of after calls (line_at_first config gap readers)).stations ≡ Some t
+      → in_all (λ a. a.taken) (t.account ∷ t.earlier) ≡ u.account.taken

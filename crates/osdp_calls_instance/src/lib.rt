@@ -9,7 +9,7 @@ ghost use Rattle.osdp_calls_instance.specs.LinePrograms.{LinesAreThese, PanelLin
 ghost use Rattle.osdp_calls_instance.specs.OwnCalls.{CallTheLine, ProgramsHoldOnce};
 ghost use Rattle.osdp_calls_instance.specs.Rule.{TwoCallsKeepRule};
 ghost use Rattle.osdp_calls_instance.specs.SimulatedBus.{RunIsCalls, RunsFromASetUp};
-ghost use Rattle.osdp_calls_instance.specs.SimulatedReports.{RunTellsTheSame};
+ghost use Rattle.osdp_calls_instance.specs.SimulatedReports.{RunTakesTheSame, RunTellsTheSame};
 ghost use Rattle.osdp_calls_instance.specs.TwoEntries.{TwoCallsKeep};
 ghost use Rattle.osdp_device.specs.Program.{program_after, program_answer};
 ghost use Rattle.osdp_device.specs.Status.{status_after, status_answer};
@@ -82,13 +82,16 @@ pub fn run_is_calls<H: Handler>()
     osdp_calls::ends_go_by_their_own_calls::<H>();
 }
 
-/// After such a run, over a bus to which its entries can be added, the account of each reader and the sessions of its entry have the same reports: the
-/// commands that are settled, each with its answer, those that are told unsettled, and the events that are reported.
+/// After such a run the account of each reader and the sessions of its entry say the same. Over a bus to which the entries can be added both have the same
+/// reports: the commands that are settled, each with its answer, those that are told unsettled, and the events that are reported. And the same commands
+/// are taken.
 pub fn run_tells_the_same<H: Handler>()
-    ensures { RunTellsTheSame H.answer_of H.after }
+    ensures reports { RunTellsTheSame H.answer_of H.after }
+    ensures takes { RunTakesTheSame H.answer_of H.after }
 {
     osdp_calls::adds_make_the_bus();
     osdp_calls::ends_go_by_their_own_calls::<H>();
+    osdp_calls::says_what_goes_out::<H>();
     osdp_bus_laws::reports_are_told_once();
     osdp_sim_bus::laws::tells_at_once::<H>();
     osdp_sim_bus::laws::has_an_account_each::<H>();

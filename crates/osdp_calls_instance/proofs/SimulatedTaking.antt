@@ -1,0 +1,206 @@
+-- What the readers of a run take is what the devices take by the calls that the run is.
+use Rattle.std.proofs.Common.{◌≡◌, ℕ, zero, suc, ◌<◌, true, false, List, [], ◌∷◌, ◌++◌, drop, length, length-drop, Option, Some, None, refl, sym, subst, ap, ◌∙◌, arith, append_assoc, append-nil}
+use Rattle.std.specs.Prelude.{not, ◌==◌, option_to_list}
+use Rattle.osdp_msg.specs.declared.command.Command.{Command}
+use Rattle.osdp_msg.specs.declared.command.Command.TheVariants.{Poll}
+use Rattle.osdp_frame.proofs.Head.{AreBytes-drop}
+use Rattle.osdp_frame.specs.Bytes.{AreBytes}
+use Rattle.osdp_frame.specs.Held.{new_run}
+use Rattle.osdp_frame.specs.Items.{items, left_over, packets_in, reading, whole_packets}
+use Rattle.osdp_frame.specs.Packet.{Packet}
+use Rattle.osdp_frame.specs.Reading.{RunItem, PacketItem, SkippedItem, RefusedItem}
+use Rattle.osdp_frame_laws.proofs.LeftOver.{gap_items, reading_split}
+use Rattle.osdp_device.proofs.Pieces.{all_read, fewer_turns, last_turn, seen_in_turn, takes_in_turn}
+use Rattle.osdp_device.specs.Hearing.{Heard, IsAllRead, hears_bytes, reads_all, then_hears, then_reads, turns_left}
+use Rattle.osdp_device.specs.Receiving as device
+use Rattle.osdp_device.specs.Receiving.{IsReceived, Received, after_take, count_taken}
+use Rattle.osdp_device.specs.Saying as saying
+use Rattle.osdp_device.specs.Saying.{Said, after_item, but_poll, said_of, said_to, unless_silent}
+use Rattle.osdp_device.specs.Telling.{after_items, items_of, listed, next_told, said_to_all}
+use Rattle.osdp_device.proofs.Turning.{tells_in_turn}
+use Rattle.osdp_reader.specs.State.{ReaderState}
+use Rattle.osdp_reader.specs.Table.{hears, kind_of}
+use Rattle.osdp_reader.specs.declared.handler.Answer.{Answer}
+use Rattle.osdp_reader.specs.declared.kind.Kind.{Kind}
+use Rattle.osdp_reader.specs.declared.kind.Kind.TheVariants as kind
+use Rattle.osdp_sim.specs.Account as sim
+use Rattle.osdp_calls.specs.Calls.{Silence}
+use Rattle.osdp_calls.specs.Ends.{Held}
+use Rattle.osdp_calls.specs.Sayings.{acted_on}
+use Rattle.osdp_calls_instance.proofs.LinePrograms.{first_said, hands, holding, line_told, reading_is, received_read, received_take}
+use Rattle.osdp_calls_instance.proofs.SimulatedEnds.{all_read_of, first_read, quiet_is}
+use Rattle.osdp_calls_instance.proofs.SimulatedTakes.{more_takes, takes_each}
+use Rattle.osdp_calls_instance.specs.LinePrograms.{handing, nexts, unless_done}
+use Rattle.osdp_calls_instance.specs.LinePrograms as lines
+use Rattle.osdp_calls_instance.specs.OwnCalls.{device_after_each}
+use Rattle.osdp_calls_instance.specs.SimulatedBus.{burst_calls}
+
+-- the commands on which a program acts by these
+abbrev pub acted_on_all : List Said → List Command
+acted_on_all [] = []
+acted_on_all (said ∷ more) = acted_on (Some said) ++ acted_on_all more
+
+more_acts : (xs ys : List Said) → acted_on_all (xs ++ ys) ≡ acted_on_all xs ++ acted_on_all ys
+more_acts [] ys = refl
+more_acts (x ∷ xs) ys = ap (λ l. acted_on (Some x) ++ l) (more_acts xs ys) ∙ sym (append_assoc (acted_on (Some x)) (acted_on_all xs) (acted_on_all ys))
+
+command_same : (c : Option Command) → option_to_list (but_poll c) ≡ sim.taken_command c
+command_same None = refl
+command_same (Some Poll) = refl
+command_same (Some _) = refl
+
+module _ {H : Type 0} (answer_of : H → Command → Answer) (after : H → Command → H) where
+  -- what a reader takes of packets, one after the other
+  abbrev pub packets_taken : List Packet → ReaderState H → List Command
+  packets_taken [] r = []
+  packets_taken (p ∷ ps) r =
+      sim.taken_by (kind_of r p) (hears answer_of after r p).command ++ packets_taken ps (hears answer_of after r p).reader
+
+  kind_takes : (x : Kind) (said : Said) → said.kind ≡ x → acted_on_all (listed (unless_silent x said)) ≡ sim.taken_by x said.command
+  kind_takes kind.Silent said is = refl
+  kind_takes kind.Taken said is =
+      append-nil (acted_on (Some said)) ∙ ap (λ y. option_to_list (saying.taken_by y said.command)) is ∙ command_same said.command
+  kind_takes kind.Secured said is = append-nil (acted_on (Some said)) ∙ ap (λ y. option_to_list (saying.taken_by y said.command)) is
+  kind_takes kind.Zero said is = append-nil (acted_on (Some said)) ∙ ap (λ y. option_to_list (saying.taken_by y said.command)) is
+  kind_takes kind.Repeat said is = append-nil (acted_on (Some said)) ∙ ap (λ y. option_to_list (saying.taken_by y said.command)) is
+  kind_takes kind.Busy said is = append-nil (acted_on (Some said)) ∙ ap (λ y. option_to_list (saying.taken_by y said.command)) is
+  kind_takes kind.Wrong said is = append-nil (acted_on (Some said)) ∙ ap (λ y. option_to_list (saying.taken_by y said.command)) is
+
+  parts_take : (parts : List RunItem) (r : ReaderState H) → acted_on_all (said_to_all answer_of after parts r) ≡ packets_taken (whole_packets parts) r
+  parts_take [] r = refl
+  parts_take (PacketItem p ∷ parts) r =
+      more_acts (listed (unless_silent (kind_of r p) (said_to answer_of after r p))) (said_to_all answer_of after parts (hears answer_of after r p).reader)
+      ∙ ap (λ l. l ++ acted_on_all (said_to_all answer_of after parts (hears answer_of after r p).reader)) (kind_takes (kind_of r p) (said_to answer_of after r p) refl)
+      ∙ ap (λ l. sim.taken_by (kind_of r p) (hears answer_of after r p).command ++ l) (parts_take parts (hears answer_of after r p).reader)
+  parts_take (SkippedItem byte ∷ parts) r = parts_take parts r
+  parts_take (RefusedItem fault ∷ parts) r = parts_take parts r
+
+  more_said : (xs ys : List RunItem) (r : ReaderState H)
+      → said_to_all answer_of after (xs ++ ys) r ≡ said_to_all answer_of after xs r ++ said_to_all answer_of after ys (after_items answer_of after xs r)
+  more_said [] ys r = refl
+  more_said (x ∷ xs) ys r =
+      let heard = after_item answer_of after x r in
+      ap (λ l. listed (said_of answer_of after x r) ++ l) (more_said xs ys heard)
+      ∙ sym (append_assoc (listed (said_of answer_of after x r)) (said_to_all answer_of after xs heard) (said_to_all answer_of after ys (after_items answer_of after xs heard)))
+
+  -- ---- what is held is read
+
+  abbrev Acts : ℕ → ℕ → ReaderState H → Received → Type 0
+  Acts k n r l = length (said_to_all answer_of after (items_of l.held) r) ≡ n
+      → takes_each answer_of after (nexts k n) (holding r l) ≡ acted_on_all (said_to_all answer_of after (items_of l.held) r)
+
+  acts_by : (k n : ℕ) (r : ReaderState H) (l : Received) (o : Option Said) → (next_told answer_of after r l.held).said ≡ o
+      → ((q : ReaderState H) (m : Received) → Acts k n q m) → Acts k (suc n) r l
+  acts_by k n r l None none more count =
+      let t = next_told answer_of after r l.held in
+      let nothing : said_to_all answer_of after (items_of l.held) r ≡ [] =
+      first_said answer_of after r l None none ∙ ap (λ parts. said_to_all answer_of after parts t.reader) ((tells_in_turn answer_of after r l.held).all none) in
+      absurd (let e : 0 ≡ suc n = sym (ap length nothing) ∙ count in omega (arith, e))
+  acts_by k n r l (Some said) some more count =
+      let t = next_told answer_of after r l.held in
+      let first = first_said answer_of after r l (Some said) some in
+      let one_more : suc (length (said_to_all answer_of after (items_of t.held) t.reader)) ≡ suc n = sym (ap length first) ∙ count in
+      ap (λ o. acted_on o ++ takes_each answer_of after (nexts k n) (holding t.reader (line_told answer_of after r l))) some
+      ∙ ap (λ x. acted_on (Some said) ++ x) (more t.reader (line_told answer_of after r l) (omega (arith, one_more)))
+      ∙ ap acted_on_all (sym first)
+
+  acts_last : (k : ℕ) (r : ReaderState H) (l : Received) (o : Option Said) → (next_told answer_of after r l.held).said ≡ o → Acts k 0 r l
+  acts_last k r l None none count =
+      let t = next_told answer_of after r l.held in
+      let nothing : said_to_all answer_of after (items_of l.held) r ≡ [] =
+      first_said answer_of after r l None none ∙ ap (λ parts. said_to_all answer_of after parts t.reader) ((tells_in_turn answer_of after r l.held).all none) in
+      ap (λ o. acted_on o ++ []) none ∙ sym (ap acted_on_all nothing)
+  acts_last k r l (Some said) some count =
+      let t = next_told answer_of after r l.held in
+      absurd (let e : suc (length (said_to_all answer_of after (items_of t.held) t.reader)) ≡ 0 = sym (ap length (first_said answer_of after r l (Some said) some)) ∙ count in
+      omega (arith, e))
+
+  acts_so : (k n : ℕ) (r : ReaderState H) (l : Received) → Acts k n r l
+  acts_so k zero r l = acts_last k r l (next_told answer_of after r l.held).said refl
+  acts_so k (suc n) r l = acts_by k n r l (next_told answer_of after r l.held).said refl (λ q m. acts_so k n q m)
+
+  reading_acts : (k : ℕ) (r : ReaderState H) (l : Received)
+      → takes_each answer_of after (lines.reading answer_of after k r l) (holding r l) ≡ acted_on_all (said_to_all answer_of after (items_of l.held) r)
+  reading_acts k r l = acts_so k (length (said_to_all answer_of after (items_of l.held) r)) r l refl
+
+  -- ---- bytes are handed over
+
+  abbrev HandedActs : ℕ → ℕ → ℕ → Type 0
+  HandedActs turns k now = (bytes : List ℕ) (r : ReaderState H) (l : Received) → turns_left bytes now l < turns
+      → IsReceived l → IsAllRead l → AreBytes bytes
+      → takes_each answer_of after (handing answer_of after turns k bytes now r l) (holding r l) ≡ acted_on_all (hears_bytes answer_of after bytes now r l).said
+
+  rest_acts : (turns k : ℕ) (bytes rest : List ℕ) (now : ℕ) (r : ReaderState H) (l : Received) → turns_left bytes now l < suc turns
+      → IsReceived l → IsAllRead l → AreBytes bytes → HandedActs turns k now → drop (count_taken bytes now l) bytes ≡ rest
+      → let h = reads_all answer_of after r (after_take bytes now l) in
+      acted_on_all h.said ++ takes_each answer_of after (unless_done rest (handing answer_of after turns k rest now h.reader h.line)) (holding h.reader h.line)
+      ≡ acted_on_all (hears_bytes answer_of after bytes now r l).said
+  rest_acts turns k bytes [] now r l fewer is all fits more none =
+      let taken = after_take bytes now l in
+      let h = reads_all answer_of after r taken in
+      let taken_so = received_take answer_of after bytes now l is fits in
+      let done : h ≡ hears_bytes answer_of after bytes now r l =
+      sym (last_turn answer_of after now h (all_read answer_of after r taken taken_so) (seen_in_turn answer_of after bytes now r l))
+      ∙ ap (λ x. then_hears answer_of after x now h) (sym none) ∙ takes_in_turn answer_of after bytes now r l is all fits in
+      append-nil (acted_on_all h.said) ∙ ap (λ (x : Heard H). acted_on_all x.said) done
+  rest_acts turns k bytes (b ∷ rest) now r l fewer is all fits more some =
+      let taken = after_take bytes now l in
+      let h = reads_all answer_of after r taken in
+      let taken_so = received_take answer_of after bytes now l is fits in
+      let count = count_taken bytes now l in
+      let length_is : length (drop count bytes) ≡ suc (length rest) = ap length some in
+      let any : 0 < length bytes = omega (arith, length-drop count bytes, length_is) in
+      let less : turns_left (b ∷ rest) now h.line < turns_left bytes now l =
+      subst (λ x. turns_left x now h.line < turns_left bytes now l) some (fewer_turns answer_of after bytes now r l is all fits any) in
+      let on = more (b ∷ rest) h.reader h.line (omega (arith, fewer, less)) (received_read answer_of after r taken taken_so)
+      (all_read answer_of after r taken taken_so) (subst AreBytes some (AreBytes-drop count bytes fits)) in
+      let whole : then_hears answer_of after (b ∷ rest) now h ≡ hears_bytes answer_of after bytes now r l =
+      ap (λ x. then_hears answer_of after x now h) (sym some) ∙ takes_in_turn answer_of after bytes now r l is all fits in
+      ap (λ x. acted_on_all h.said ++ x) on ∙ sym (more_acts h.said (hears_bytes answer_of after (b ∷ rest) now h.reader h.line).said)
+      ∙ ap (λ (x : Heard H). acted_on_all x.said) whole
+
+  handing_acts : (turns k : ℕ) (bytes : List ℕ) (now : ℕ) (r : ReaderState H) (l : Received) → turns_left bytes now l < turns
+      → IsReceived l → IsAllRead l → AreBytes bytes
+      → takes_each answer_of after (handing answer_of after turns k bytes now r l) (holding r l) ≡ acted_on_all (hears_bytes answer_of after bytes now r l).said
+  handing_acts zero k bytes now r l fewer is all fits = absurd (omega (arith, fewer))
+  handing_acts (suc turns) k bytes now r l fewer is all fits =
+      let taken = after_take bytes now l in
+      let h = reads_all answer_of after r taken in
+      let rest = drop (count_taken bytes now l) bytes in
+      let left = unless_done rest (handing answer_of after turns k rest now h.reader h.line) in
+      more_takes answer_of after (lines.reading answer_of after k r taken) left (holding r taken)
+      ∙ ap (λ x. x ++ takes_each answer_of after left (device_after_each answer_of after (lines.reading answer_of after k r taken) (holding r taken))) (reading_acts k r taken)
+      ∙ ap (λ d. acted_on_all h.said ++ takes_each answer_of after left d) (reading_is answer_of after k r taken)
+      ∙ rest_acts turns k bytes rest now r l fewer is all fits
+      (λ bs q m less sound read are. handing_acts turns k bs now q m less sound read are) refl
+
+  -- ---- a burst
+
+  pub burst_takes : (k b : ℕ) (bytes : List ℕ) (now : ℕ) (d : Held H) → AreBytes (b ∷ bytes) → d.line.held ≡ new_run → IsReceived d.line
+      → takes_each answer_of after (burst_calls answer_of after k (b ∷ bytes) now d) d ≡ packets_taken (packets_in (b ∷ bytes)) d.reader
+  burst_takes k b bytes now d fits none is =
+      let all = b ∷ bytes in
+      let h = hears_bytes answer_of after all now d.reader d.line in
+      let turns = suc (turns_left all now d.line) in
+      let given = handing answer_of after turns k all now d.reader d.line in
+      let read = lines.reading answer_of after k h.reader (device.after_silence now h.line) in
+      let handed = hands answer_of after turns k all now d.reader d.line (omega arith) is (all_read_of answer_of after d.line none) fits in
+      let both : Heard H → List Command =
+      λ x. acted_on_all x.said ++ acted_on_all (said_to_all answer_of after (items_of (device.after_silence now x.line).held) x.reader) in
+      let lo = left_over all in
+      let ended = not (length lo == 0) in
+      let r = d.reader in
+      let split : acted_on_all (said_to_all answer_of after (items false all) r) ++ acted_on_all (said_to_all answer_of after (items ended lo) (after_items answer_of after (items false all) r))
+      ≡ packets_taken (packets_in all) r =
+      ap (λ parts. acted_on_all (said_to_all answer_of after (items false all) r) ++ acted_on_all (said_to_all answer_of after parts (after_items answer_of after (items false all) r))) (gap_items lo)
+      ∙ sym (more_acts (said_to_all answer_of after (items false all) r) (said_to_all answer_of after (items true lo) (after_items answer_of after (items false all) r)))
+      ∙ ap acted_on_all (sym (more_said (items false all) (items true lo) r))
+      ∙ ap (λ parts. acted_on_all (said_to_all answer_of after parts r)) (sym (reading_split all fits)) ∙ parts_take (reading all) r in
+      more_takes answer_of after given (Silence k now ∷ read) d
+      ∙ ap (λ x. x ++ takes_each answer_of after (Silence k now ∷ read) (device_after_each answer_of after given d))
+      (handing_acts turns k all now d.reader d.line (omega arith) is (all_read_of answer_of after d.line none) fits)
+      ∙ ap (λ x. acted_on_all h.said ++ takes_each answer_of after (Silence k now ∷ read) x) handed.is
+      ∙ ap (λ x. acted_on_all h.said ++ x) (reading_acts k h.reader (device.after_silence now h.line))
+      ∙ ap (λ l. both (hears_bytes answer_of after all now r l)) (quiet_is answer_of after d.line none)
+      ∙ ap (λ x. both (then_reads answer_of after all x)) (first_read answer_of after now r d.line)
+      ∙ split
