@@ -5,8 +5,9 @@
 #![tactic(auto)]
 
 ghost use Rattle.std.specs.Prelude.{[], ◌∷◌, IfOk};
-ghost use Rattle.osdp_words.specs.Word.{words_in};
-ghost use Rattle.osdp_example_lines.specs.Lines.{IsTold};
+ghost use Rattle.osdp_words.specs.Reading.{ReadsWords};
+ghost use Rattle.osdp_words.specs.Word.{texts, words_in};
+ghost use Rattle.osdp_example_lines.specs.Lines.{IsCard, IsTold, IsTurn, card_words, turn_words};
 
 use arrayvec::ArrayVec;
 use osdp_words::{ByteList, all_words_in, byte_list, number_u64};
@@ -24,19 +25,48 @@ pub enum Line {
     Other,
 }
 
-/// What two words say.
-fn line_of(first: &str, second: &str) -> Line
-    ensures { IsTold (first.now ∷ second.now ∷ []) result }
+/// Two words, and no others: a moment, and the bytes that have come up to it.
+fn moment_and_bytes(words: &[&str]) -> Option<(u64, ArrayVec<u8, 4096>)>
+    ensures { ReadsWords turn_words IsTurn (texts words.now) result }
 {
-    if first == "card" {
-        return match byte_list(second) {
+    let [moment, list] = words else {
+        return None;
+    };
+    Some((number_u64(moment)?, byte_list(list)?))
+}
+
+/// The bytes of a card, whose name and bytes these are.
+#[tactic(auto, using(crate::proofs::Telling::card_read))]
+fn card_in(name: &str, list: &str) -> Option<ArrayVec<u8, 4>>
+    ensures { ReadsWords card_words IsCard (name.now ∷ list.now ∷ []) result }
+{
+    if name == "card" {
+        byte_list(list)
+    } else {
+        None
+    }
+}
+
+/// Two words, and no others: `card`, and its bytes.
+fn card_bytes(words: &[&str]) -> Option<ArrayVec<u8, 4>>
+    ensures { ReadsWords card_words IsCard (texts words.now) result }
+{
+    let [name, list] = words else {
+        return None;
+    };
+    card_in(name, list)
+}
+
+/// What these words say.
+fn line_of(words: &[&str]) -> Line
+    ensures { IsTold (texts words.now) result }
+{
+    match moment_and_bytes(words) {
+        Some((now, bytes)) => Line::Turn(now, bytes),
+        None => match card_bytes(words) {
             Some(bytes) => Line::Card(bytes),
             None => Line::Other,
-        };
-    }
-    match (number_u64(first), byte_list(second)) {
-        (Some(now), Some(bytes)) => Line::Turn(now, bytes),
-        _ => Line::Other,
+        },
     }
 }
 
@@ -45,10 +75,7 @@ pub fn read_line(alloc: Global, line: &str) -> Result<Line, AllocError>
     ensures { IfOk result (IsTold (words_in line.now)) }
 {
     let words = all_words_in(alloc, line)?;
-    let [first, second] = words.as_slice() else {
-        return Ok(Line::Other);
-    };
-    Ok(line_of(first, second))
+    Ok(line_of(words.as_slice()))
 }
 
 /// Bytes go out to the line.
