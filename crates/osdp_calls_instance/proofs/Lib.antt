@@ -12,3 +12,6 @@ mod SimulatedAccounts
 mod SimulatedTakes
 mod SimulatedTaking
 mod SimulatedTaken
+mod SimulatedAddresses
+mod SimulatedRanges
+mod SimulatedKeeping

@@ -19,14 +19,14 @@ use Rattle.osdp_calls_instance.specs.OwnCalls.{AreDeviceCalls, ArePanelCalls, At
 
 -- ---- lists of steps
 
-record Splits {A B : Type 0} (f : A → B) (xs ys : List B) (steps : List A) : Type 0 where
-  first : List A
-  rest : List A
-  both : steps ≡ first ++ rest
-  firsts : map f first ≡ xs
-  rests : map f rest ≡ ys
+pub record Splits {A B : Type 0} (f : A → B) (xs ys : List B) (steps : List A) : Type 0 where
+  pub first : List A
+  pub rest : List A
+  pub both : steps ≡ first ++ rest
+  pub firsts : map f first ≡ xs
+  pub rests : map f rest ≡ ys
 
-splits : {A B : Type 0} (f : A → B) (xs ys : List B) (steps : List A) → map f steps ≡ xs ++ ys → Splits f xs ys steps
+pub splits : {A B : Type 0} (f : A → B) (xs ys : List B) (steps : List A) → map f steps ≡ xs ++ ys → Splits f xs ys steps
 splits f [] ys steps are = record { first = []; rest = steps; both = refl; firsts = refl; rests = are }
 splits f (x ∷ xs) ys [] are = absurd (let e = are in cc)
 splits f (x ∷ xs) ys (step ∷ steps) are =
@@ -55,7 +55,7 @@ module _ {H : Type 0} where
   call_of step = step.call
 
   module _ (answer_of : H → Command → Answer) (after : H → Command → H) where
-    more_steps : (first rest : List (Step H)) (l : InUse H)
+    pub more_steps : (first rest : List (Step H)) (l : InUse H)
         → after_calls answer_of after (first ++ rest) l ≡ after_calls answer_of after rest (after_calls answer_of after first l)
     more_steps [] rest l = refl
     more_steps (step ∷ first) rest l = more_steps first rest (after_call answer_of after step.call step.places l)
@@ -148,7 +148,7 @@ module _ {H : Type 0} where
   no_devices k (call ∷ calls) are = (no_device k call are.0, no_devices k calls are.1)
 
   module _ (answer_of : H → Command → Answer) (after : H → Command → H) where
-    of_device : (k : ℕ) (steps : List (Step H)) (d : Held H) → Each (IsOfDevice k) (map call_of steps)
+    pub of_device : (k : ℕ) (steps : List (Step H)) (d : Held H) → Each (IsOfDevice k) (map call_of steps)
         → device_after_all answer_of after k steps d ≡ device_after_each answer_of after (map call_of steps) d
     of_device k [] d are = refl
     of_device k (step ∷ steps) d are =

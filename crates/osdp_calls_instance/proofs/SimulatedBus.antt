@@ -431,7 +431,7 @@ module _ {H : Type 0} (answer_of : H → Command → Answer) (after : H → Comm
         fit = b.1;
       }
 
-  stations_are : (gap : ℕ) → 1 ≤ gap → (readers : List (Given H)) (k : ℕ) (d : Held H) → site_at k (map (new_held gap) readers) ≡ Some d
+  pub stations_are : (gap : ℕ) → 1 ≤ gap → (readers : List (Given H)) (k : ℕ) (d : Held H) → site_at k (map (new_held gap) readers) ≡ Some d
       → IsSound answer_of after d × (t : Station H) × (site_at k (map (new_station gap) readers) ≡ Some t) × (held_by t ≡ d)
   stations_are gap some [] k d at = absurd (let e = at in cc)
   stations_are gap some (given ∷ readers) zero d at =

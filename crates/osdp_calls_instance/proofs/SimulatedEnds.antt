@@ -67,7 +67,7 @@ module _ {H : Type 0} (answer_of : H → Command → Answer) (after : H → Comm
 
   -- ---- a burst
 
-  silent_same : (now : ℕ) (l : Received) → ends_silent (seen now (quiet l)) ≡ seen now (quiet l)
+  pub silent_same : (now : ℕ) (l : Received) → ends_silent (seen now (quiet l)) ≡ seen now (quiet l)
   silent_same now l = by_test (is_silent (seen now (quiet l)))
     where
       by_test : (t : Bool) → cond t (ends_run (seen now (quiet l))) (seen now (quiet l)) ≡ seen now (quiet l)

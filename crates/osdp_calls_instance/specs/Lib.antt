@@ -6,3 +6,4 @@ pub mod LinePrograms
 pub mod CPrograms
 pub mod SimulatedBus
 pub mod SimulatedReports
+pub mod SimulatedPremises

@@ -9,6 +9,7 @@ ghost use Rattle.osdp_calls_instance.specs.LinePrograms.{LinesAreThese, PanelLin
 ghost use Rattle.osdp_calls_instance.specs.OwnCalls.{CallTheLine, ProgramsHoldOnce};
 ghost use Rattle.osdp_calls_instance.specs.Rule.{TwoCallsKeepRule};
 ghost use Rattle.osdp_calls_instance.specs.SimulatedBus.{RunIsCalls, RunsFromASetUp};
+ghost use Rattle.osdp_calls_instance.specs.SimulatedPremises.{RunIsInRange, RunKeepsAddresses};
 ghost use Rattle.osdp_calls_instance.specs.SimulatedReports.{RunTakesTheSame, RunTellsTheSame};
 ghost use Rattle.osdp_calls_instance.specs.TwoEntries.{TwoCallsKeep};
 ghost use Rattle.osdp_device.specs.Program.{program_after, program_answer};
@@ -95,4 +96,13 @@ pub fn run_tells_the_same<H: Handler>()
     osdp_bus_laws::reports_are_told_once();
     osdp_sim_bus::laws::tells_at_once::<H>();
     osdp_sim_bus::laws::has_an_account_each::<H>();
+}
+
+/// The calls that such a run is keep values in their ranges, where what goes over the line has its fields in theirs. Where no COMSET is ordered they keep
+/// the premise on addresses. That they keep order and quiet openings is not said.
+pub fn run_keeps_ranges_and_addresses<H: Handler>()
+    ensures ranges { RunIsInRange H.answer_of H.after }
+    ensures addresses { RunKeepsAddresses H.answer_of H.after }
+{
+    osdp_calls::ends_go_by_their_own_calls::<H>();
 }
