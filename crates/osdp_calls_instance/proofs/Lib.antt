@@ -13,5 +13,17 @@ mod SimulatedTakes
 mod SimulatedTaking
 mod SimulatedTaken
 mod SimulatedAddresses
+mod SimulatedReads
 mod SimulatedRanges
 mod SimulatedKeeping
+mod SimulatedLists
+mod SimulatedReplies
+mod SimulatedPlaces
+mod SimulatedHeard
+mod SimulatedNet
+mod SimulatedLine
+mod SimulatedReaders
+mod SimulatedStepping
+mod SimulatedHearing
+mod SimulatedOrder
+mod SimulatedHolding

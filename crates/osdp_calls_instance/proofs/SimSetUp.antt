@@ -13,15 +13,15 @@ use Rattle.osdp_sim_bus.specs.State.{Given, address_of}
 use Rattle.osdp_calls.specs.Lines.{Station, bus_with}
 use Rattle.osdp_calls_instance.specs.SimulatedBus.{RunsFromASetUp, new_station}
 
-both : (a b : Bool) → (a && b) ≡ true → (a ≡ true) × (b ≡ true)
+pub both : (a b : Bool) → (a && b) ≡ true → (a ≡ true) × (b ≡ true)
 both true b is = (refl, is)
 both false b is = absurd (let e = is in cc)
 
-neither : (a b : Bool) → (a || b) ≡ false → (a ≡ false) × (b ≡ false)
+pub neither : (a b : Bool) → (a || b) ≡ false → (a ≡ false) × (b ≡ false)
 neither false b is = (refl, is)
 neither true b is = absurd (let e = is in cc)
 
-is_not : (a : Bool) → not a ≡ true → a ≡ false
+pub is_not : (a : Bool) → not a ≡ true → a ≡ false
 is_not false is = refl
 is_not true is = absurd (let e = is in cc)
 
@@ -35,7 +35,7 @@ none_is test k x [] none at = absurd (let e = at in cc)
 none_is test zero x (y ∷ xs) none at = ap test (sym (some_same y x at)) ∙ (neither (test y) (list_any test xs) none).0
 none_is test (suc k) x (y ∷ xs) none at = none_is test k x xs (neither (test y) (list_any test xs) none).1 at
 
-not_equal : (a b : ℕ) → (a == b) ≡ false → a ≢ b
+pub not_equal : (a b : ℕ) → (a == b) ≡ false → a ≢ b
 not_equal a b is same = elim (eqb_tells a b) [
   | inl equal ↦ (let e : true ≡ false = sym equal.0 ∙ is in cc)
   | inr differs ↦ differs.1 same

@@ -1,7 +1,6 @@
 -- The calls of a run keep values in their ranges.
-use Rattle.std.proofs.Common.{◌≡◌, ◌≢◌, ◌⊎◌, ℕ, zero, suc, ◌≤◌, Bool, true, false, cond, List, [], ◌∷◌, ◌++◌, length, map, Option, Some, None, refl, sym, subst, ap, ◌∙◌, arith, append_assoc, append-nil, inl, inr}
-use Rattle.std.proofs.lemmas.Bool.Decides.{eqb_tells}
-use Rattle.std.specs.Prelude.{◌==◌, ◌-◌, IfSome}
+use Rattle.std.proofs.Common.{◌≡◌, ℕ, zero, suc, ◌≤◌, Bool, true, false, cond, List, [], ◌∷◌, ◌++◌, length, map, Option, Some, None, refl, sym, subst, ap, ◌∙◌, arith, append_assoc, append-nil}
+use Rattle.std.specs.Prelude.{◌-◌, IfSome}
 use Rattle.osdp_msg.specs.CommandTable.{CommandFits}
 use Rattle.osdp_msg.specs.ReplyTable.{ReplyFits}
 use Rattle.osdp_msg.specs.declared.command.Command.{Command}
@@ -31,7 +30,9 @@ use Rattle.osdp_calls.specs.Premises.{InRange, NextInRange}
 use Rattle.osdp_calls_instance.proofs.OwnCalls.{call_the_line, of_device, splits}
 use Rattle.osdp_calls_instance.proofs.SimulatedBus.{Follows, Here, begins_so, fits_all, goes, held_readers, more_fit, site_readers, stations_are, step_follows, well_first, all_follow}
 use Rattle.osdp_calls_instance.proofs.SimulatedEnds.{sim_devices_are, sim_panels_are}
-use Rattle.osdp_calls_instance.proofs.SimulatedRanges.{CallFits, CallsFit, OwnFitsIn, own_fits, reads_fit}
+use Rattle.osdp_calls_instance.proofs.SimulatedLists.{at_first, changed_first, longer, same_number}
+use Rattle.osdp_calls_instance.proofs.SimulatedRanges.{AnswerFits, CallFits, CallsFit, OwnFitsIn, own_fits}
+use Rattle.osdp_calls_instance.proofs.SimulatedReads.{reads_good}
 use Rattle.osdp_calls_instance.specs.OwnCalls.{AtDevice, AtPanel, FitsAt, IsLineOf, IsOfDevice, after_own, all_calls, calls_at, calls_by, devices_after}
 use Rattle.osdp_calls_instance.specs.SimulatedBus.{Begins, DeviceStep, HandsBytes, HearsBurst, HearsRun, IsBusy, PanelStep, Queues, SimCall, Submits, Waits, all_hear, begin_calls, device_step_calls, hears_burst, line_at_first, panel_step_calls, programs_at_first, schedule_calls, sim_device, sim_panel, step_calls}
 use Rattle.osdp_calls_instance.specs.SimulatedPremises.{AllInRange, HandsShort, RunIsInRange}
@@ -77,14 +78,7 @@ module _ {H : Type 0} (answer_of : H → Command → Answer) (after : H → Comm
   next_range t d is fits =
       let mine = subst (λ (x : Held H). CallFits answer_of after (Next 0) x) (sym is) fits in
       each_all (λ p. IfSome (hears answer_of after t.reader p).said ReplyFits)
-      (read_up_to t.reader (items_of t.line.held)) (reads_fit answer_of after (items_of t.line.held) t.reader mine)
-
-  is_place : (i k : ℕ) → (i == k) ≡ true → i ≡ k
-  is_place i k is = by_test (eqb_tells i k)
-    where
-      by_test : (((i == k) ≡ true) × (i ≡ k)) ⊎ (((i == k) ≡ false) × (i ≢ k)) → i ≡ k
-      by_test (inl same) = same.1
-      by_test (inr differs) = absurd (let e : true ≡ false = sym is ∙ differs.0 in cc)
+      (read_up_to t.reader (items_of t.line.held)) (reads_good answer_of after (AnswerFits answer_of after) (items_of t.line.held) t.reader mine)
 
   device_range : (k : ℕ) (call : Call H) (t : Station H) (d : Held H) (l : InUse H) → IsOfDevice k call → site_at k l.stations ≡ Some t → held_by t ≡ d
       → CallFits answer_of after call d → InRange answer_of after call l
@@ -99,7 +93,7 @@ module _ {H : Type 0} (answer_of : H → Command → Answer) (after : H → Comm
   device_range k (Silence i now) t d l own at is fits = tt
   device_range k (Pending i) t d l own at is fits = tt
   device_range k (Next i) t d l own at is fits =
-      let there : site_at i l.stations ≡ Some t = ap (λ j. site_at j l.stations) (is_place i k own) ∙ at in
+      let there : site_at i l.stations ≡ Some t = ap (λ j. site_at j l.stations) (same_number i k own) ∙ at in
       subst (NextInRange answer_of after) (sym there) (next_range t d is fits)
 
   module _ (own : (l : InUse H) → GoByTheirOwn answer_of after l) where
@@ -193,18 +187,6 @@ module _ {H : Type 0} (answer_of : H → Command → Answer) (after : H → Comm
     any_device : (step : DeviceStep) (o : Option (Held H)) → ((d : Held H) → OwnFitsIn answer_of after step d) → DeviceFits step o
     any_device step None fits = tt
     any_device step (Some d) fits = fits d
-
-    at_first : (before : List (Held H)) (d : Held H) (ds : List (Held H)) → site_at (length before) (before ++ d ∷ ds) ≡ Some d
-    at_first [] d ds = refl
-    at_first (x ∷ before) d ds = at_first before d ds
-
-    changed_first : (before : List (Held H)) (d e : Held H) (ds : List (Held H)) → changed (length before) e (before ++ d ∷ ds) ≡ before ++ e ∷ ds
-    changed_first [] d e ds = refl
-    changed_first (x ∷ before) d e ds = ap (λ l. x ∷ l) (changed_first before d e ds)
-
-    longer : (before : List (Held H)) (e : Held H) → length (before ++ e ∷ []) ≡ suc (length before)
-    longer [] e = refl
-    longer (x ∷ before) e = ap suc (longer before e)
 
     hear_range : (bytes : List ℕ) (now : ℕ) → length bytes ≤ largest → (panel : BusState) (before ds : List (Held H)) (k n : ℕ) → k ≡ length before → n ≡ length ds
         → Each (λ (d : Held H). SaysFit answer_of after (packets_in bytes) d.reader) ds

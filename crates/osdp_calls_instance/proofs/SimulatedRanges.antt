@@ -1,189 +1,44 @@
 -- What a device reads of a burst has answers in their ranges.
-use Rattle.std.proofs.Common.{◌≡◌, ℕ, zero, suc, ◌-◌, ◌≤◌, Bool, true, false, cond, List, [], ◌∷◌, ◌++◌, drop, length, min, Option, Some, None, refl, sym, subst, ap, ◌∙◌, arith}
-use Rattle.std.proofs.lemmas.List.{drop_all, take_all}
-use Rattle.std.specs.Prelude.{not, ◌==◌, IfSome}
+use Rattle.std.proofs.Common.{◌≤◌, ◌≡◌, ℕ, List, [], ◌∷◌, length}
+use Rattle.std.specs.Prelude.{IfSome}
 use Rattle.osdp_msg.specs.ReplyTable.{ReplyFits}
 use Rattle.osdp_msg.specs.declared.command.Command.{Command}
-use Rattle.osdp_frame.specs.Bytes.{AreBytes}
-use Rattle.osdp_frame.specs.Held as frame
 use Rattle.osdp_frame.specs.Held.{new_run}
-use Rattle.osdp_frame.specs.Items.{items, left_over, packets_in, whole_packets}
+use Rattle.osdp_frame.specs.Items.{packets_in}
 use Rattle.osdp_frame.specs.Packet.{Packet, largest}
-use Rattle.osdp_frame.specs.Reading.{RunItem, PacketItem, SkippedItem, RefusedItem}
-use Rattle.osdp_frame_laws.proofs.LeftOver.{gap_items, reading_split}
-use Rattle.osdp_device.proofs.Turning.{splits}
-use Rattle.osdp_device.specs.Hearing.{Heard, hears_bytes, reads_all, then_reads, turns_left}
-use Rattle.osdp_device.specs.Receiving as device
-use Rattle.osdp_device.specs.Receiving.{IsReceived, Received, after_take, comes_in, count_taken, seen}
-use Rattle.osdp_device.specs.Saying.{Said, after_item, said_of, speaks}
-use Rattle.osdp_device.specs.Telling.{after_items, items_of, next_told, said_to_all, told_by, told_or}
-use Rattle.osdp_link_laws.proofs.Stages.{Each}
+use Rattle.osdp_device.specs.Receiving.{IsReceived}
 use Rattle.osdp_reader.specs.State.{ReaderState}
-use Rattle.osdp_reader.specs.Table.{hears, kind_of, outcome}
+use Rattle.osdp_reader.specs.Table.{hears}
 use Rattle.osdp_reader.specs.declared.handler.Answer.{Answer}
-use Rattle.osdp_reader.specs.declared.kind.Kind.{Kind}
-use Rattle.osdp_reader.specs.declared.kind.Kind.TheVariants as kind
 use Rattle.osdp_sim.specs.Steps.{SaysFit}
-use Rattle.osdp_calls.specs.Calls.{Call, NewDevice, NewPanel, Next, OfPanel, Silence, read_up_to}
-use Rattle.osdp_calls.specs.Ends.{Held, device_after}
-use Rattle.osdp_calls_instance.proofs.LinePrograms.{hands, holding}
-use Rattle.osdp_calls_instance.proofs.SimulatedEnds.{all_read_of, first_read, quiet, quiet_is, silent_same}
-use Rattle.osdp_calls_instance.specs.LinePrograms.{handing, nexts, unless_done}
-use Rattle.osdp_calls_instance.specs.LinePrograms as lines
-use Rattle.osdp_calls_instance.specs.OwnCalls.{device_after_each}
-use Rattle.osdp_calls_instance.specs.SimulatedBus.{DeviceStep, HearsBurst, IsBusy, Queues, burst_calls, device_step_calls}
+use Rattle.osdp_calls.specs.Calls.{Call}
+use Rattle.osdp_calls.specs.Ends.{Held}
+use Rattle.osdp_calls_instance.proofs.SimulatedReads.{AllGood, CallGood, CallsGood, burst_good}
+use Rattle.osdp_calls_instance.specs.SimulatedBus.{BurstFits, DeviceStep, HearsBurst, IsBusy, Queues, device_step_calls}
 
 module _ {H : Type 0} (answer_of : H → Command → Answer) (after : H → Command → H) where
-  -- silent packets leave the reader as it is
-  silent_stays : (r : ReaderState H) (p : Packet) (k : Kind) → speaks k ≡ false → (outcome answer_of after k r p).reader ≡ r
-  silent_stays r p kind.Silent is = refl
-  silent_stays r p kind.Secured is = absurd cc
-  silent_stays r p kind.Zero is = absurd cc
-  silent_stays r p kind.Repeat is = absurd cc
-  silent_stays r p kind.Taken is = absurd cc
-  silent_stays r p kind.Busy is = absurd cc
-  silent_stays r p kind.Wrong is = absurd cc
-
-  abbrev AnswerFits : ReaderState H → Packet → Type 0
+  abbrev pub AnswerFits : ReaderState H → Packet → Type 0
   AnswerFits r p = IfSome (hears answer_of after r p).said ReplyFits
-
-  abbrev PartsFit : List RunItem → ReaderState H → Type 0
-  PartsFit parts r = SaysFit answer_of after (whole_packets parts) r
-
-  -- what is read up to the first that is answered
-  pub reads_fit : (parts : List RunItem) (r : ReaderState H) → PartsFit parts r → Each (AnswerFits r) (read_up_to r parts)
-  reads_fit [] r fits = tt
-  reads_fit (SkippedItem byte ∷ parts) r fits = reads_fit parts r fits
-  reads_fit (RefusedItem fault ∷ parts) r fits = reads_fit parts r fits
-  reads_fit (PacketItem p ∷ parts) r fits = (fits.0, by_test (speaks (kind_of r p)) refl (λ fine. reads_fit parts r fine))
-    where
-      by_test : (x : Bool) → speaks (kind_of r p) ≡ x → (PartsFit parts r → Each (AnswerFits r) (read_up_to r parts))
-          → Each (AnswerFits r) (cond x [] (read_up_to r parts))
-      by_test true is rest = tt
-      by_test false is rest = rest (subst (PartsFit parts) (silent_stays r p (kind_of r p) is) fits.2)
-
-  rest_fits : (part : RunItem) (parts : List RunItem) (r : ReaderState H) → PartsFit (part ∷ parts) r → PartsFit parts (after_item answer_of after part r)
-  rest_fits (PacketItem p) parts r fits = fits.2
-  rest_fits (SkippedItem byte) parts r fits = fits
-  rest_fits (RefusedItem fault) parts r fits = fits
-
-  -- what is left after it
-  left_fits : (parts : List RunItem) (r : ReaderState H) (held : frame.Held) → items_of held ≡ parts → PartsFit parts r
-      → PartsFit (items_of (told_by answer_of after parts r held).held) (told_by answer_of after parts r held).reader
-  left_fits [] r held are fits = subst (λ ps. PartsFit ps r) (sym are) fits
-  left_fits (part ∷ parts) r held are fits =
-      by_said (said_of answer_of after part r)
-      (left_fits parts (after_item answer_of after part r) (frame.later held part) (splits held part parts are) (rest_fits part parts r fits))
-    where
-      by_said : (o : Option Said) → let q = after_item answer_of after part r in let next = frame.later held part in
-          PartsFit (items_of (told_by answer_of after parts q next).held) (told_by answer_of after parts q next).reader
-          → PartsFit (items_of (told_or answer_of after o q next (told_by answer_of after parts q next)).held) (told_or answer_of after o q next (told_by answer_of after parts q next)).reader
-      by_said None rest = rest
-      by_said (Some said) rest =
-          subst (λ ps. PartsFit ps (after_item answer_of after part r)) (sym (splits held part parts are)) (rest_fits part parts r fits)
-
-  -- ---- calls of a device, one after the other
 
   -- what the call reads has answers in their ranges
   abbrev pub CallFits : Call H → Held H → Type 0
-  CallFits (Next i) d = PartsFit (items_of d.line.held) d.reader
-  CallFits (NewDevice i address handler room gap) d = ⊥
-  CallFits (NewPanel config addresses) d = ⊥
-  CallFits (OfPanel call) d = ⊥
-  CallFits _ d = Unit {0}
+  CallFits call d = CallGood answer_of after AnswerFits call d
 
   abbrev pub CallsFit : List (Call H) → Held H → Type 0
-  CallsFit [] d = Unit {0}
-  CallsFit (call ∷ calls) d = CallFits call d × CallsFit calls (device_after answer_of after call d)
+  CallsFit calls d = CallsGood answer_of after AnswerFits calls d
 
-  more_fits : (xs ys : List (Call H)) (d : Held H) → CallsFit xs d → CallsFit ys (device_after_each answer_of after xs d) → CallsFit (xs ++ ys) d
-  more_fits [] ys d a b = b
-  more_fits (x ∷ xs) ys d a b = (a.0, more_fits xs ys (device_after answer_of after x d) a.1 b)
-
-  nexts_fit : (k n : ℕ) (r : ReaderState H) (l : Received) → PartsFit (items_of l.held) r → CallsFit (nexts k n) (holding r l)
-  nexts_fit k zero r l fits = (fits, tt)
-  nexts_fit k (suc n) r l fits =
-      let t = next_told answer_of after r l.held in
-      (fits, nexts_fit k n t.reader (record l { held = t.held }) (left_fits (items_of l.held) r l.held refl fits))
-
-  -- packets of a list and of the next one
-  both_fit : (xs ys : List RunItem) (r : ReaderState H) → PartsFit (xs ++ ys) r → PartsFit xs r × PartsFit ys (after_items answer_of after xs r)
-  both_fit [] ys r fits = (tt, fits)
-  both_fit (PacketItem p ∷ xs) ys r fits =
-      let rest = both_fit xs ys (hears answer_of after r p).reader fits.2 in ((fits.0, fits.1, rest.0), rest.1)
-  both_fit (SkippedItem byte ∷ xs) ys r fits = both_fit xs ys r fits
-  both_fit (RefusedItem fault ∷ xs) ys r fits = both_fit xs ys r fits
-
-  -- ---- a burst
-
-  room : (all : List ℕ) → length all ≤ largest → length all ≤ frame.taken_count new_run all
-  room all short =
-      let count : frame.taken_count new_run all ≡ min (length all) (1440 - 0) = refl in
-      let fits : length all ≤ 1440 = short in
-      omega (arith, count, fits)
-
-  taken_is : (b : ℕ) (bytes : List ℕ) (now : ℕ) (l : Received) → length (b ∷ bytes) ≤ largest → after_take (b ∷ bytes) now (quiet l)
-      ≡ record { gap = l.gap; held = record { bytes = b ∷ bytes; ended = false }; last = (seen now l).greatest; greatest = (seen now l).greatest }
-  taken_is b bytes now l short =
-      ap (comes_in (b ∷ bytes)) (silent_same answer_of after now l)
-      ∙ ap (λ (x : List ℕ). record { gap = l.gap; held = record { bytes = x; ended = false }; last = (seen now l).greatest; greatest = (seen now l).greatest })
-      (take_all (frame.taken_count new_run (b ∷ bytes)) (b ∷ bytes) (room (b ∷ bytes) short))
-
-  all_taken : (b : ℕ) (bytes : List ℕ) (now : ℕ) (l : Received) → length (b ∷ bytes) ≤ largest
-      → drop (count_taken (b ∷ bytes) now (quiet l)) (b ∷ bytes) ≡ []
-  all_taken b bytes now l short =
-      ap (λ (x : Received). drop (frame.taken_count x.held (b ∷ bytes)) (b ∷ bytes)) (silent_same answer_of after now l)
-      ∙ drop_all (frame.taken_count new_run (b ∷ bytes)) (b ∷ bytes) (room (b ∷ bytes) short)
-
-  handing_fits : (turns k b : ℕ) (bytes : List ℕ) (now : ℕ) (r : ReaderState H) (l : Received) → length (b ∷ bytes) ≤ largest
-      → PartsFit (items false (b ∷ bytes)) r → CallsFit (handing answer_of after (suc turns) k (b ∷ bytes) now r (quiet l)) (holding r (quiet l))
-  handing_fits turns k b bytes now r l short fits =
-      let all = b ∷ bytes in
-      let taken = after_take all now (quiet l) in
-      let h = reads_all answer_of after r taken in
-      let n = length (said_to_all answer_of after (items_of taken.held) r) in
-      let held_fits : PartsFit (items_of taken.held) r = subst (λ (x : Received). PartsFit (items_of x.held) r) (sym (taken_is b bytes now l short)) fits in (
-        tt,
-        more_fits (nexts k n) (unless_done (drop (count_taken all now (quiet l)) all)
-            (handing answer_of after turns k (drop (count_taken all now (quiet l)) all) now h.reader h.line)) (holding r taken) (nexts_fit k n r taken held_fits)
-            (subst (λ rest. CallsFit (unless_done rest (handing answer_of after turns k rest now h.reader h.line)) (device_after_each answer_of after (nexts k n) (holding r taken)))
-            (sym (all_taken b bytes now l short)) tt),
-      )
-
-  pub burst_fits : (k b : ℕ) (bytes : List ℕ) (now : ℕ) (d : Held H) → AreBytes (b ∷ bytes) → d.line.held ≡ new_run → IsReceived d.line
-      → length (b ∷ bytes) ≤ largest → SaysFit answer_of after (packets_in (b ∷ bytes)) d.reader → CallsFit (burst_calls answer_of after k (b ∷ bytes) now d) d
-  burst_fits k b bytes now d bytes_fit none is short fits =
-      let all = b ∷ bytes in
-      let r = d.reader in
-      let h = hears_bytes answer_of after all now r d.line in
-      let lo = left_over all in
-      let ended = not (length lo == 0) in
-      let parts : PartsFit (items false all ++ items true lo) r = subst (λ ps. PartsFit ps r) (reading_split all bytes_fit) fits in
-      let both = both_fit (items false all) (items true lo) r parts in
-      let given = handing answer_of after (suc (turns_left all now d.line)) k all now r d.line in
-      let read = lines.reading answer_of after k h.reader (device.after_silence now h.line) in
-      let first : CallsFit given d =
-      subst (λ (l : Received). CallsFit (handing answer_of after (suc (turns_left all now l)) k all now r l) (holding r l)) (sym (quiet_is answer_of after d.line none))
-      (handing_fits (turns_left all now (quiet d.line)) k b bytes now r d.line short both.0) in
-      let late : PartsFit (items ended lo) (after_items answer_of after (items false all) r) =
-      subst (λ ps. PartsFit ps (after_items answer_of after (items false all) r)) (sym (gap_items lo)) both.1 in
-      let silent : PartsFit (items_of (device.after_silence now h.line).held) h.reader =
-      subst (λ (l : Received). let x = hears_bytes answer_of after all now r l in PartsFit (items_of (device.after_silence now x.line).held) x.reader)
-      (sym (quiet_is answer_of after d.line none))
-      (subst (λ (x : Heard H). let y = then_reads answer_of after all x in PartsFit (items_of (device.after_silence now y.line).held) y.reader)
-      (sym (first_read answer_of after now r d.line)) late) in
-      let handed = hands answer_of after (suc (turns_left all now d.line)) k all now r d.line (omega arith) is (all_read_of answer_of after d.line none) bytes_fit in
-      more_fits given (Silence k now ∷ read) d first
-      (subst (CallsFit (Silence k now ∷ read)) (sym handed.is)
-      (tt, nexts_fit k (length (said_to_all answer_of after (items_of (device.after_silence now h.line).held) h.reader)) h.reader (device.after_silence now h.line) silent))
+  answers_fit : (ps : List Packet) (r : ReaderState H) → SaysFit answer_of after ps r → AllGood answer_of after AnswerFits ps r
+  answers_fit [] r fits = tt
+  answers_fit (p ∷ ps) r fits = (fits.0, answers_fit ps (hears answer_of after r p).reader fits.2)
 
   abbrev pub OwnFitsIn : DeviceStep → Held H → Type 0
   OwnFitsIn (HearsBurst bytes now) d = SaysFit answer_of after (packets_in bytes) d.reader × (length bytes ≤ largest)
   OwnFitsIn _ d = Unit {0}
 
-  pub own_fits : (k : ℕ) (own : DeviceStep) (d : Held H) → Rattle.osdp_calls_instance.specs.SimulatedBus.BurstFits own d → d.line.held ≡ new_run → IsReceived d.line
+  pub own_fits : (k : ℕ) (own : DeviceStep) (d : Held H) → BurstFits own d → d.line.held ≡ new_run → IsReceived d.line
       → OwnFitsIn own d → CallsFit (device_step_calls answer_of after k own d) d
   own_fits k (Queues event) d bytes_fit none is fits = (tt, tt)
   own_fits k (IsBusy busy) d bytes_fit none is fits = (tt, tt)
   own_fits k (HearsBurst [] now) d bytes_fit none is fits = tt
-  own_fits k (HearsBurst (b ∷ bytes) now) d bytes_fit none is fits = burst_fits k b bytes now d bytes_fit none is fits.1 fits.0
+  own_fits k (HearsBurst (b ∷ bytes) now) d bytes_fit none is fits =
+      burst_good answer_of after AnswerFits k b bytes now d bytes_fit none is fits.1 (answers_fit (packets_in (b ∷ bytes)) d.reader fits.0)

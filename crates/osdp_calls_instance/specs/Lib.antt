@@ -7,3 +7,4 @@ pub mod CPrograms
 pub mod SimulatedBus
 pub mod SimulatedReports
 pub mod SimulatedPremises
+pub mod SimulatedOrder

@@ -9,6 +9,7 @@ ghost use Rattle.osdp_calls_instance.specs.LinePrograms.{LinesAreThese, PanelLin
 ghost use Rattle.osdp_calls_instance.specs.OwnCalls.{CallTheLine, ProgramsHoldOnce};
 ghost use Rattle.osdp_calls_instance.specs.Rule.{TwoCallsKeepRule};
 ghost use Rattle.osdp_calls_instance.specs.SimulatedBus.{RunIsCalls, RunsFromASetUp};
+ghost use Rattle.osdp_calls_instance.specs.SimulatedOrder.{RunKeepsOrder, RunsHoldOnce};
 ghost use Rattle.osdp_calls_instance.specs.SimulatedPremises.{RunIsInRange, RunKeepsAddresses};
 ghost use Rattle.osdp_calls_instance.specs.SimulatedReports.{RunTakesTheSame, RunTellsTheSame};
 ghost use Rattle.osdp_calls_instance.specs.TwoEntries.{TwoCallsKeep};
@@ -99,10 +100,34 @@ pub fn run_tells_the_same<H: Handler>()
 }
 
 /// The calls that such a run is keep values in their ranges, where what goes over the line has its fields in theirs. Where no COMSET is ordered they keep
-/// the premise on addresses. That they keep order and quiet openings is not said.
+/// the premise on addresses.
 pub fn run_keeps_ranges_and_addresses<H: Handler>()
     ensures ranges { RunIsInRange H.answer_of H.after }
     ensures addresses { RunKeepsAddresses H.answer_of H.after }
 {
     osdp_calls::ends_go_by_their_own_calls::<H>();
+}
+
+/// Each packet that such a run reads is a copy of a burst that was said, and each burst has its place in what was said. With these places the calls that
+/// the run is keep order and quiet openings: a simulated line hands bursts over in order, damage spells no packet, and a session begins again on a quiet
+/// line alone. So they keep all premises where no step orders a COMSET, and where the programs keep to the rule that stands for the premise on addresses.
+pub fn run_keeps_order<H: Handler>()
+    ensures { RunKeepsOrder H.answer_of H.after }
+{
+    osdp_calls::calls_rule_suffices::<H>();
+    osdp_calls::ends_go_by_their_own_calls::<H>();
+    osdp_calls::hands_over_what_is_read();
+    osdp_link_laws::reads_what_is_asked();
+    osdp_sim_bus_laws::schedules_are_moves::<H>();
+}
+
+/// So the simulated line is an instance of any calls: of each reader of a run whose calls keep the premises the promises hold. They speak of its reader and
+/// its entry as the run leaves them, and of the commands with their answers, the unsettled commands, the reported events and the taken commands of its account.
+pub fn runs_hold_once<H: Handler>()
+    ensures { RunsHoldOnce H.answer_of H.after }
+{
+    osdp_calls::calls_hold_once::<H>();
+    osdp_sim_bus::laws::has_an_account_each::<H>();
+    run_is_calls::<H>();
+    run_tells_the_same::<H>();
 }

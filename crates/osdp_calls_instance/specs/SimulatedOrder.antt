@@ -1,0 +1,89 @@
+-- The places of what a run of a schedule over a bus reads: the calls that it is keep order and quiet openings, and so the promises hold of it.
+use Rattle.std.specs.Prelude.{◌≡◌, ℕ, ◌≤◌, true, All, List, [], ◌∷◌, ◌++◌, map, Some, slice_get}
+use Rattle.osdp_msg.specs.declared.command.Command.{Command}
+use Rattle.osdp_bus.specs.Buses.{device_of}
+use Rattle.osdp_bus.specs.declared.config.BusConfig.{BusConfig}
+use Rattle.osdp_reader.specs.declared.handler.Answer.{Answer}
+use Rattle.osdp_shared_line.specs.Line.{site_at}
+use Rattle.osdp_sim.specs.Schedules.{HoldsAlong}
+use Rattle.osdp_sim.specs.declared.step.SimStep.{SimStep}
+use Rattle.osdp_sim_bus.specs.Runs.{AreSettings, FitAlong, is_well, run}
+use Rattle.osdp_sim_bus.specs.State.{Given, ReaderSite, set_up}
+use Rattle.osdp_sim_bus.specs.Steps.{after_step}
+use Rattle.osdp_calls.specs.Accepted.{all_accepted, all_queued}
+use Rattle.osdp_calls.specs.Calls.{Step, after_call, after_calls}
+use Rattle.osdp_calls.specs.Lines.{InUse, Station}
+use Rattle.osdp_calls.specs.Premises.{AllKeep, InOrder, QuietOpening}
+use Rattle.osdp_calls.specs.Programs.{KeepsRule, first_notes, notes_after}
+use Rattle.osdp_calls.specs.Promises.{HoldsPromises}
+use Rattle.osdp_calls_instance.specs.OwnCalls.{all_calls}
+use Rattle.osdp_calls_instance.specs.SimulatedBus.{HandsBytes, begin_calls, line_at_first, programs_at_first, schedule_calls, sim_device, sim_panel}
+use Rattle.osdp_calls_instance.specs.SimulatedPremises.{HandsShort, OrdersNoComset}
+use Rattle.osdp_calls_instance.specs.SimulatedReports.{in_all, told_in_run, told_to}
+
+module _ {H : Type 0} where
+  -- what a call reads was said, in order, and nothing of it before an opening that it concerns
+  pub record IsOrdered (step : Step H) (l : InUse H) : Type 0 where
+    pub in_order : InOrder step.call step.places l
+    pub quiet_opening : QuietOpening step.call step.places l
+
+  module _ (answer_of : H → Command → Answer) (after : H → Command → H) where
+    abbrev pub AllOrdered : List (Step H) → InUse H → Type 0
+    AllOrdered [] l = Unit {0}
+    AllOrdered (step ∷ steps) l = IsOrdered step l × AllOrdered steps (after_call answer_of after step.call step.places l)
+
+    -- programs keep to the rule that stands for the premise on addresses
+    abbrev pub AllRuled : List (Step H) → InUse H → (ℕ → Rattle.osdp_shared_line.specs.Programs.Note) → Type 0
+    AllRuled [] l notes = Unit {0}
+    AllRuled (step ∷ steps) l notes =
+        KeepsRule step.call l notes × AllRuled steps (after_call answer_of after step.call step.places l) (notes_after step.call l notes)
+
+    -- a schedule as `run_bus` takes it: the settings are in their ranges, none of its steps is refused, and what goes over the line has its fields
+    -- in their ranges and is no longer than a packet may be
+    pub record IsTaken (config : BusConfig) (readers : List (Given H)) (steps : List SimStep) : Type 0 where
+      pub settings : AreSettings config readers
+      pub well : is_well answer_of after steps (set_up config readers) ≡ true
+      pub bytes : HoldsAlong (after_step answer_of after) HandsBytes steps (set_up config readers)
+      pub short : HoldsAlong (after_step answer_of after) HandsShort steps (set_up config readers)
+      pub fits : FitAlong answer_of after steps (set_up config readers)
+
+    -- the calls that such a schedule is, whichever places they have
+    abbrev pub AreItsCalls : BusConfig → List (Given H) → List SimStep → ℕ → List (Step H) → Type 0
+    AreItsCalls config readers steps gap calls =
+        map (λ (step : Step H). step.call) calls
+        ≡ all_calls sim_panel (sim_device answer_of after) (begin_calls answer_of after 0 readers ++ schedule_calls answer_of after steps (set_up config readers))
+        (programs_at_first answer_of after config gap readers)
+
+    -- Each packet that they read has a place in what was said. With these places the calls keep order and quiet openings; all premises, where no step
+    -- orders a COMSET; and so where programs keep to the rule.
+    pub record KeepsOrder (config : BusConfig) (readers : List (Given H)) (steps : List SimStep) (gap : ℕ) : Type 0 where
+      pub calls : List (Step H)
+      pub are : AreItsCalls config readers steps gap calls
+      pub ordered : AllOrdered calls (line_at_first config gap readers)
+      pub plain : All OrdersNoComset steps → AllKeep answer_of after calls (line_at_first config gap readers)
+      pub ruled : AllRuled calls (line_at_first config gap readers) (first_notes (line_at_first config gap readers))
+          → AllKeep answer_of after calls (line_at_first config gap readers)
+
+    abbrev pub RunKeepsOrder : Type 0
+    RunKeepsOrder = (config : BusConfig) (readers : List (Given H)) (steps : List SimStep) (gap : ℕ) → 1 ≤ gap → IsTaken config readers steps
+        → KeepsOrder config readers steps gap
+
+    -- Of each reader of a run whose calls keep the premises: a device at its entry with this reader, of which the promises hold. What its sessions have
+    -- as settled with answers, as told unsettled, as reported and as taken is what the account of the run has.
+    pub record HoldsOnceInRun (config : BusConfig) (readers : List (Given H)) (steps : List SimStep) (gap : ℕ) (calls : List (Step H)) (k : ℕ)
+        (u : ReaderSite H) : Type 0 where
+      pub station : Station H
+      pub there : site_at k (after_calls answer_of after calls (line_at_first config gap readers)).stations ≡ Some station
+      pub reader : station.reader ≡ u.reader
+      pub promises : HoldsPromises (all_accepted answer_of after k calls (line_at_first config gap readers))
+          (all_queued answer_of after k calls (line_at_first config gap readers))
+          (device_of k (run answer_of after steps (set_up config readers)).bus) station
+      pub told : told_to station ≡ told_in_run u
+      pub taken : in_all (λ a. a.taken) (station.account ∷ station.earlier) ≡ u.account.taken
+
+    abbrev pub RunsHoldOnce : Type 0
+    RunsHoldOnce = (config : BusConfig) (readers : List (Given H)) (steps : List SimStep) (gap : ℕ) (calls : List (Step H)) → 1 ≤ gap
+        → IsTaken config readers steps → AreItsCalls config readers steps gap calls
+        → AllKeep answer_of after calls (line_at_first config gap readers)
+        → (k : ℕ) (u : ReaderSite H) → slice_get (run answer_of after steps (set_up config readers)).sites k ≡ Some u
+        → HoldsOnceInRun config readers steps gap calls k u
