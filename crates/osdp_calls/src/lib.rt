@@ -18,19 +18,28 @@ ghost use Rattle.osdp_device.specs.declared.program.ProgramAnswers.{ProgramAnswe
 
 use osdp_reader::Handler;
 
-/// Of every list of these calls of a panel's program and its devices' programs, restarts of either among them, that keeps the premises, and of
-/// each entry: in each session commands are taken once and in order, settled with the answers that the device gave to them then, and events are
-/// reported once and in order, but those that a restart of the device threw away before they were offered. What a session leaves the next one
-/// begins with. Each command that `submit` accepted has one place: with the session in which it has ended, or among those of the last one; and so
-/// has each event that `submit_event` accepted. Over all sessions no command is taken twice, by its place. While the last session lasts it has
-/// told no command unsettled, and none is forgotten or removed; where it has ended it leaves what the next one begins with.
+/// What is promised of any calls of a panel's program and of its devices' programs, restarts of either among them, that keep the premises. Of each entry:
 ///
-/// The premises: what an end reads was said before, and nothing that it reads was said before what it has read already; once the opening ID of
-/// a session has gone out, nothing said before for or by its reader, or to or from its address, is read any more by its reader or by the
-/// panel; no accepted call and no restart gives an entry an address at which another's device is or may come, and a device that comes back
-/// elsewhere comes to no other entry's, and to none at which it may still read what was said for another; entries are set up at different
-/// addresses, each with its reader there and no reply stored. Values are in the ranges of their types, and no entry is added later. Nothing is
-/// asked of moments, of how bytes are cut, of when reports are taken, of who is busy, or of what the handlers answer.
+/// - In each session commands are taken once and in order. A settled command has the answer that the device gave to it then.
+/// - Events are reported once and in order, but for those that a restart of the device threw away before they were offered.
+/// - A session begins with what the one before it has left.
+/// - Each command that `submit` accepted has one place: with the session in which it has ended, or among those of the last one. So has each event that
+///   `submit_event` accepted.
+/// - Over all sessions no command is taken twice. A command counts by its place, so equal ones are told apart.
+/// - While the last session lasts it has told no command unsettled, and none is forgotten or removed. Where it has ended it leaves what the next one
+///   begins with.
+///
+/// The premises:
+///
+/// - In order: what an end reads was said before, and nothing that it reads was said before what it has read already.
+/// - Quiet opening: once the opening ID of a session has gone out, its reader and the panel read nothing more that was said before for or by this
+///   reader, or to or from its address.
+/// - Addresses: no accepted call and no restart gives an entry an address where another entry's device is or may come. A device that comes back
+///   elsewhere comes to no address of another entry, and to none at which it may still read what was said for another.
+/// - Set-up: entries stand at different addresses, each with its reader there and no reply stored.
+/// - Values are in the ranges of their types, and no entry is added later.
+///
+/// Nothing is asked of moments, of how bytes are cut, of when reports are taken, of who is busy, or of what the handlers answer.
 pub fn calls_hold_once<H: Handler>()
     ensures { CallsHoldOnce H.answer_of H.after }
 {
