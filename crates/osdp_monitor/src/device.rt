@@ -1,6 +1,6 @@
 //! What is known of one address.
 
-ghost use Rattle.std.specs.Prelude.{◌≡◌, [], is_some, None, Ok, true, false};
+ghost use Rattle.std.specs.Prelude.{◌≡◌, ◌↔◌, [], is_some, None, Ok, true, false};
 ghost use Rattle.osdp_msg.specs.declared.reply.Reply.TheVariants.{Ack};
 ghost use Rattle.osdp_monitor.specs.Known.{nothing_known};
 ghost use Rattle.osdp_monitor.specs.Line.{after_reply_if, expected_if, found_in_reply, found_in_sent, is_last, moves_to, nothing_found, reply_notice};
@@ -93,7 +93,7 @@ impl Device {
 
     /// Whether a packet to it is the next one after one that was answered.
     fn is_next(&self, packet: &FrameView<'_>) -> bool
-        ensures { result ≡ true → IsNext self.now packet.now }
+        ensures { (result ≡ true) ↔ IsNext self.now packet.now }
     {
         self.replied && self.answered && is_after(self.last.number(), packet.seq())
     }
@@ -101,6 +101,7 @@ impl Device {
     /// Takes a packet after one that was answered, in which nothing is found. False of any other one, and then nothing is known anew.
     #[tactic(auto, using(crate::proofs::Turns::none_found_in_next, crate::proofs::Turns::is_sent))]
     pub fn take_next(&mut self, packet: &FrameView<'_>) -> bool
+        ensures when { (result ≡ true) ↔ IsNext self.old packet.now }
         ensures found { result ≡ true → found_in_sent self.old packet.now ≡ nothing_found }
         ensures sent { result ≡ true → self.new ≡ after_sent self.old.last self.old packet.now }
         ensures kept { result ≡ false → self.new ≡ self.old }
@@ -260,7 +261,7 @@ impl Device {
     /// Whether a reply is the first to its last packet, a POLL, which has the number after the one taken last, and has the number and the check
     /// of it.
     fn answers_poll(&self, reply: &FrameView<'_>) -> bool
-        ensures { result ≡ true → AnswersPoll self.now reply.now }
+        ensures { (result ≡ true) ↔ AnswersPoll self.now reply.now }
     {
         let number = reply.seq();
         !self.replied && is_after(self.taken, number) && self.last.is_poll_to(number, reply)
@@ -270,6 +271,7 @@ impl Device {
     #[tactic(auto, using(crate::proofs::Turns::none_found, crate::proofs::Turns::goes_nowhere, crate::proofs::Turns::is_taken))]
     pub fn take_ack(&mut self, reply: &FrameView<'_>) -> bool
         requires { reply_told reply.now ≡ Ok Ack }
+        ensures when { (result ≡ true) ↔ AnswersPoll self.old reply.now }
         ensures found { result ≡ true → found_in_reply self.old.last self.old reply.now ≡ nothing_found }
         ensures stays { result ≡ true → moves_to self.old.last reply.now ≡ None }
         ensures taken { result ≡ true → self.new ≡ after_reply_if self.old.last self.old reply.now }

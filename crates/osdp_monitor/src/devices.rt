@@ -1,11 +1,11 @@
 //! What is known of each address of a line.
 
-ghost use Rattle.std.specs.Prelude.{◌≡◌, ◌<◌, [], length, true, false, None, Ok, IfNone, IfOk, IfSome, OnErr, OnOk};
+ghost use Rattle.std.specs.Prelude.{◌≡◌, ◌<◌, ◌↔◌, [], length, true, false, None, Ok, IfNone, IfOk, IfSome, OnErr, OnOk};
 ghost use Rattle.osdp_msg.specs.declared.reply.Reply.TheVariants.{Ack};
 ghost use Rattle.osdp_monitor.specs.Known.{nothing_known};
 ghost use Rattle.osdp_monitor.specs.Line.{after_reply_if, devices_after_reply, devices_after_sent, expected_if, found_in_reply, found_in_sent, known_at, moves_to, no_knowledge, nothing_found};
 ghost use Rattle.osdp_monitor.specs.Panel.{after_sent};
-ghost use Rattle.osdp_monitor.specs.Private.{IsSpelledIf, known_of};
+ghost use Rattle.osdp_monitor.specs.Private.{AnswersPoll, IsNext, IsSpelledIf, known_of};
 ghost use Rattle.osdp_monitor.specs.Saying.{reply_told};
 
 use crate::device::Device;
@@ -71,6 +71,7 @@ impl Devices {
 
     /// Takes a packet after one that was answered, in which nothing is found. False of any other one, and then nothing is known anew.
     pub fn take_next(&mut self, packet: &FrameView<'_>) -> bool
+        ensures when { (result ≡ true) ↔ IsNext (devices_in self.old packet.now.address) packet.now }
         ensures found { result ≡ true → found_in_sent (devices_in self.old packet.now.address) packet.now ≡ nothing_found }
         ensures sent { result ≡ true → devices_in self.new ≡ devices_after_sent packet.now (devices_in self.old) }
         ensures kept { result ≡ false → devices_in self.new ≡ devices_in self.old }
@@ -117,6 +118,7 @@ impl Devices {
     /// Takes an ACK that answers a POLL in turn, in which nothing is found. False of any other one, and then nothing is known anew.
     pub fn take_ack(&mut self, packet: &FrameView<'_>) -> bool
         requires { reply_told packet.now ≡ Ok Ack }
+        ensures when { (result ≡ true) ↔ AnswersPoll (devices_in self.old packet.now.address) packet.now }
         ensures found { result ≡ true → let k = devices_in self.old packet.now.address in found_in_reply k.last k packet.now ≡ nothing_found }
         ensures taken { result ≡ true → devices_in self.new ≡ devices_after_reply packet.now (devices_in self.old) }
         ensures kept { result ≡ false → devices_in self.new ≡ devices_in self.old }
@@ -195,6 +197,7 @@ fn reply(slot: &mut Slot, packet: &FrameView<'_>, read: &Result<Reply, MsgFault>
 
 /// A packet was sent to this address: whether it is the next one after one that was answered.
 fn take_next(slot: &mut Slot, packet: &FrameView<'_>) -> bool
+    ensures when { (result ≡ true) ↔ IsNext (known_of slot.old) packet.now }
     ensures found { result ≡ true → found_in_sent (known_of slot.old) packet.now ≡ nothing_found }
     ensures sent { result ≡ true → let k = known_of slot.old in known_of slot.new ≡ after_sent k.last k packet.now }
     ensures kept { result ≡ false → known_of slot.new ≡ known_of slot.old }
@@ -208,6 +211,7 @@ fn take_next(slot: &mut Slot, packet: &FrameView<'_>) -> bool
 /// The device at this address has said ACK: whether it answers a POLL in turn.
 fn take_ack(slot: &mut Slot, packet: &FrameView<'_>) -> bool
     requires { reply_told packet.now ≡ Ok Ack }
+    ensures when { (result ≡ true) ↔ AnswersPoll (known_of slot.old) packet.now }
     ensures found { result ≡ true → let k = known_of slot.old in found_in_reply k.last k packet.now ≡ nothing_found }
     ensures stays { result ≡ true → moves_to (known_of slot.old).last packet.now ≡ None }
     ensures taken { result ≡ true → let k = known_of slot.old in known_of slot.new ≡ after_reply_if k.last k packet.now }

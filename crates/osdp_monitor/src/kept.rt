@@ -1,6 +1,6 @@
 //! A packet that is kept in a place of its own.
 
-ghost use Rattle.std.specs.Prelude.{◌≡◌, ◌<◌, ◌≤◌, None, Ok, Some, drop, length, slice_index, true};
+ghost use Rattle.std.specs.Prelude.{◌≡◌, ◌<◌, ◌≤◌, ◌↔◌, None, Ok, Some, drop, length, slice_index, true};
 ghost use Rattle.osdp_monitor.specs.Known.{same_check};
 ghost use Rattle.osdp_monitor.specs.Line.{is_last};
 ghost use Rattle.osdp_monitor.specs.Private.{IsPollTo, number_of};
@@ -84,7 +84,7 @@ impl KeptPacket {
 
     /// Whether a POLL is kept that has this number, and the same check as this packet.
     pub fn is_poll_to(&self, number: Seq, packet: &FrameView<'_>) -> bool
-        ensures { result ≡ true → IsPollTo self.now number packet.now.check }
+        ensures { (result ≡ true) ↔ IsPollTo self.now number packet.now.check }
     {
         self.is_kept
             && self.seq.get() == number.get()
@@ -149,9 +149,9 @@ fn first_byte(body: &[u8]) -> u8
 }
 
 /// Whether a body is that of a POLL.
-#[tactic(auto, using(crate::proofs::Bare::poll_body))]
+#[tactic(auto, using(crate::proofs::Bare::body_then, crate::proofs::Bare::body_else))]
 fn is_poll_body(body: &[u8]) -> bool
-    ensures { result ≡ true → command_of (slice_index body.now 0) (drop 1 body.now) ≡ Ok Poll }
+    ensures { (result ≡ true) ↔ (command_of (slice_index body.now 0) (drop 1 body.now) ≡ Ok Poll) }
 {
     body.len() == 1 && first_byte(body) == 0x60
 }

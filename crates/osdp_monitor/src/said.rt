@@ -1,6 +1,6 @@
 //! What packets say to somebody who listens.
 
-ghost use Rattle.std.specs.Prelude.{◌≡◌, ℕ, Ok, true};
+ghost use Rattle.std.specs.Prelude.{◌≡◌, ◌↔◌, ℕ, Ok, true};
 ghost use Rattle.osdp_controller.specs.Answers.{meaning_by_reading, meaning_by_reason};
 ghost use Rattle.osdp_monitor.specs.Reader.{is_nak};
 ghost use Rattle.osdp_monitor.specs.Saying.{asked, is_foreign, is_unknown, moved_by, reply_told, said_by};
@@ -22,17 +22,17 @@ pub enum Said {
 }
 
 /// Whether a packet to a device is a POLL: its code and its length tell.
-#[tactic(auto, using(crate::proofs::Bare::poll_is))]
+#[tactic(auto, using(crate::proofs::Bare::poll_then, crate::proofs::Bare::poll_else))]
 pub(crate) fn is_poll(packet: &FrameView<'_>) -> bool
-    ensures { result ≡ true → asked packet.now ≡ Ok Command.Poll }
+    ensures { (result ≡ true) ↔ (asked packet.now ≡ Ok Command.Poll) }
 {
     packet.code() == 0x60 && packet.payload().len() == 0
 }
 
 /// Whether a packet from a device is an ACK.
-#[tactic(auto, using(crate::proofs::Bare::ack_is))]
+#[tactic(auto, using(crate::proofs::Bare::ack_then, crate::proofs::Bare::ack_else))]
 pub(crate) fn is_ack(packet: &FrameView<'_>) -> bool
-    ensures { result ≡ true → reply_told packet.now ≡ Ok Reply.Ack }
+    ensures { (result ≡ true) ↔ (reply_told packet.now ≡ Ok Reply.Ack) }
 {
     packet.code() == 0x40 && packet.payload().len() == 0
 }
