@@ -23,7 +23,7 @@ use Rattle.osdp_reader.specs.declared.handler.Answer.{Answer}
 use Rattle.osdp_shared_line.specs.Line.{site_at}
 use Rattle.osdp_shared_line.proofs.Sites.{changed_from}
 use Rattle.osdp_calls.specs.Calls.{OfPanel, after_calls, after_panel, all_hear, asked_at, asked_by_holder, change_at, changes_at, hears_of, issues, read_at_end, read_at_silence, read_at_tick, read_by, read_by_holder, read_of_bytes}
-use Rattle.osdp_calls.specs.Lines.{InUse, Station}
+use Rattle.osdp_calls.specs.Lines.{InUse, Station, is_past_for_panel}
 use Rattle.osdp_calls_instance.proofs.SimulatedLists.{place_then}
 use Rattle.osdp_calls_instance.proofs.SimulatedPlaces.{IsOneOf, Since, Source, at_place, last_place, panel_ordered, placed_all, since_next}
 use Rattle.osdp_calls_instance.specs.SimulatedBus.{run_calls}
@@ -177,7 +177,7 @@ module _ {H : Type 0} where
     burst = source.burst;
     at = ap (site_at i) said ∙ source.at;
     is = source.is;
-    fresh = ap (λ os. Rattle.osdp_calls.specs.Lines.is_past_for_panel os i source.burst) openings ∙ source.fresh;
+    fresh = ap (λ os. is_past_for_panel os i source.burst) openings ∙ source.fresh;
   }
 
   module _ (answer_of : H → Command → Answer) (after : H → Command → H) where

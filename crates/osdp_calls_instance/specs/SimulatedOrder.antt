@@ -5,6 +5,7 @@ use Rattle.osdp_bus.specs.Buses.{device_of}
 use Rattle.osdp_bus.specs.declared.config.BusConfig.{BusConfig}
 use Rattle.osdp_reader.specs.declared.handler.Answer.{Answer}
 use Rattle.osdp_shared_line.specs.Line.{site_at}
+use Rattle.osdp_shared_line.specs.Programs.{Note}
 use Rattle.osdp_sim.specs.Schedules.{HoldsAlong}
 use Rattle.osdp_sim.specs.declared.step.SimStep.{SimStep}
 use Rattle.osdp_sim_bus.specs.Runs.{AreSettings, FitAlong, is_well, run}
@@ -33,7 +34,7 @@ module _ {H : Type 0} where
     AllOrdered (step ∷ steps) l = IsOrdered step l × AllOrdered steps (after_call answer_of after step.call step.places l)
 
     -- programs keep to the rule that stands for the premise on addresses
-    abbrev pub AllRuled : List (Step H) → InUse H → (ℕ → Rattle.osdp_shared_line.specs.Programs.Note) → Type 0
+    abbrev pub AllRuled : List (Step H) → InUse H → (ℕ → Note) → Type 0
     AllRuled [] l notes = Unit {0}
     AllRuled (step ∷ steps) l notes =
         KeepsRule step.call l notes × AllRuled steps (after_call answer_of after step.call step.places l) (notes_after step.call l notes)
