@@ -3,7 +3,8 @@ use Rattle.std.specs.Prelude.{ℕ}
 use Rattle.osdp_frame.specs.declared.check_kind.CheckKind.{CheckKind}
 use Rattle.osdp_controller.specs.declared.config.ControllerConfig.{ControllerConfig}
 use Rattle.osdp_controller.specs.Machine.{AreSettings}
-use Rattle.osdp_controller.specs.Settings.{IsTime, default_config as default_of_controllers}
+use Rattle.osdp_controller.specs.Settings.{default_config as default_of_controllers}
+use Rattle.osdp_frame.specs.Times.{IsTime}
 use Rattle.osdp_bus.specs.declared.config.BusConfig.{BusConfig}
 
 -- the settings of the controller of a device at this address

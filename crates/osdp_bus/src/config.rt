@@ -4,7 +4,7 @@ ghost use Rattle.std.specs.Prelude.{◌≡◌, ◌↔◌, IsTrue};
 ghost use Rattle.osdp_bus.specs.Settings.{IsBusConfig, controller_config, default_config};
 
 use osdp_controller::ControllerConfig;
-use osdp_frame::{Address, CheckKind};
+use osdp_frame::{Address, CheckKind, is_time};
 
 /// The settings of a bus: those of each of its controllers, and of the line. Times are in milliseconds, 1 to 3,600,000.
 #[derive(Clone, Copy, Debug, PartialEq, Eq)]
@@ -70,7 +70,7 @@ impl BusConfig {
     {
         self.of_controller(first_address())
             .is_in_range(self.capacity)
-            && ControllerConfig::is_time(self.gap)
+            && is_time(self.gap)
     }
 }
 

@@ -11,7 +11,7 @@ ghost use Rattle.osdp_bus.specs.Ticking.{bus_ticks, is_due_at, is_held_and_due, 
 use crate::Entry;
 use crate::config::BusConfig;
 use crate::device_list::{DeviceList, first_holding, next_due};
-use osdp_frame::{Burst, Framer};
+use osdp_frame::{Burst, Framer, is_silent_for};
 
 /// The parts of a bus. Moments are in milliseconds.
 #[derive(Debug, Drop)]
@@ -84,7 +84,7 @@ impl Line {
         ensures line { state_of self.new ≡ ends_silent (state_of self.old) }
         ensures kept { IsLine self.new }
     {
-        if u64::from(self.config.gap) <= self.greatest - self.last {
+        if is_silent_for(self.config.gap, self.last, self.greatest) {
             self.end_run();
         }
     }

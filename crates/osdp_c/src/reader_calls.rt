@@ -11,8 +11,8 @@ use osdp_c_values::{
     AnswerStruct, Clock, MessageStruct, ReaderMachine, ReaderSettings, StateList, Status,
 };
 use osdp_device::{Device, ProgramAnswers, Turn};
-use osdp_frame::{Address, CheckKind, FrameView, Seq};
-use osdp_msg::{Event, MAX_DATA, MsgFault, PdCap, Reply};
+use osdp_frame::{Address, CheckKind, FrameView, NO_BLOCK, NO_RESERVED_BITS, Seq, is_time};
+use osdp_msg::{Event, MAX_DATA, MsgFault, PdCap, Reply, is_room};
 use osdp_reader::{Answer, Kind, Reader, ReaderConfig, ReaderFault};
 use std::alloc::Global;
 
@@ -32,10 +32,8 @@ fn are_in_range(settings: &ReaderSettings) -> bool
     ensures { IsTrue result ↔ AreSettings settings.now }
 {
     settings.address <= 126
-        && settings.capacity >= 1
-        && settings.capacity <= 1024
-        && settings.gap >= 1
-        && settings.gap <= 3_600_000
+        && is_room(settings.capacity)
+        && is_time(settings.gap)
 }
 
 /// A reader to which nothing has come, on the heap. It is put there in one function with its making, which takes less stack.
@@ -307,7 +305,15 @@ fn refuses(reader: &Reader<ProgramAnswers>, seq: Seq) -> bool
     let address = reader.address();
     // The calls bring in that both are in their ranges, without which the packet might be refused.
     let _ranges = (address.get(), seq.get());
-    let made = FrameView::new(false, address, seq, CheckKind::Sum, false, 0, &[0x60]);
+    let made = FrameView::new(
+        false,
+        address,
+        seq,
+        CheckKind::Sum,
+        NO_BLOCK,
+        NO_RESERVED_BITS,
+        &[0x60],
+    );
     match reader.kind(&made.unwrap()) {
         Kind::Wrong => true,
         _ => false,

@@ -1,7 +1,7 @@
 -- The calls of a reader.
 use Rattle.std.specs.Prelude.{◌≡◌, ℕ, ◌≤◌, not, ◌==◌, ◌&&◌, nat_le, Bool, true, false, List, [], ◌∷◌, length, if◌then◌else◌, Option, None, Some, option_map, Result, Ok, Err}
 use Rattle.arrayvec.specs.ArrayVec.{ArrayVec}
-use Rattle.osdp_device.specs.Receiving.{IsGap, Received, after_silence, after_take, after_tick, count_taken, new_line, seen}
+use Rattle.osdp_device.specs.Receiving.{Received, after_silence, after_take, after_tick, count_taken, new_line, seen}
 use Rattle.osdp_device.specs.Deciding.{Turned, is_asked, pending_of, passed, turned, with_question}
 use Rattle.osdp_device.specs.Program.{new_program}
 use Rattle.osdp_device.specs.declared.program.ProgramAnswers.{ProgramAnswers}
@@ -15,10 +15,11 @@ use Rattle.osdp_msg.specs.declared.reply.Reply.TheVariants as reply
 use Rattle.osdp_msg.specs.declared.reply_fields.PdCap.{PdCap}
 use Rattle.osdp_msg.specs.Events.{event_reply}
 use Rattle.osdp_msg.specs.ReplyTable.{reply_of}
-use Rattle.osdp_msg.specs.Limits.{most_data, most_maker_bytes}
+use Rattle.osdp_msg.specs.Limits.{most_data, most_maker_bytes, most_waiting}
 use Rattle.osdp_msg.specs.NakReasons.{reason_of}
 use Rattle.osdp_frame.specs.Packed.{packed}
 use Rattle.osdp_frame.specs.Packet.{Packet}
+use Rattle.osdp_frame.specs.Times.{IsTime}
 use Rattle.osdp_frame.specs.declared.check_kind.CheckKind.TheVariants.{Sum}
 use Rattle.osdp_reader.specs.Table.{kind_of}
 use Rattle.osdp_reader.specs.declared.kind.Kind.{Kind}
@@ -57,8 +58,8 @@ pub record AreSettings (s : ReaderSettings) : Type 0 where
   -- a device, and not the configuration address
   pub address : s.address ≤ 126
   pub room : 1 ≤ s.capacity
-  pub limit : s.capacity ≤ 1024
-  pub gap : IsGap s.gap
+  pub limit : s.capacity ≤ most_waiting
+  pub gap : IsTime s.gap
 
 abbrev pub new_machine : ReaderSettings → PdCap → ReaderMachine
 new_machine s caps = record {

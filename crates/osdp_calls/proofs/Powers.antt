@@ -2,6 +2,7 @@
 use Rattle.std.proofs.Common.{◌≡◌, ◌≢◌, ◌≤◌, ◌<◌, ◌⊎◌, ℕ, zero, suc, ◌+◌, List, [], ◌∷◌, ◌++◌, length, map, All, Option, Some, None, refl, sym, subst, ap, ◌∙◌, arith, inl, inr}
 use Rattle.std.specs.Prelude.{option_to_list}
 use Rattle.osdp_frame.specs.Packet.{Packet}
+use Rattle.osdp_msg.specs.Limits.{IsRoom}
 use Rattle.osdp_msg.specs.declared.command.Command.{Command}
 use Rattle.osdp_controller.specs.Machine.{AreSettings, Machine, new_machine}
 use Rattle.osdp_controller.specs.declared.config.ControllerConfig.{ControllerConfig}
@@ -97,7 +98,7 @@ module _ {H : Type 0} where
 
     pub new_device_fits : (k address : ℕ) (handler : H) (room : ℕ) (l : InUse H) (n : Net H) → IsNetOf l n
         → ((t : Station H) → site_at k l.stations ≡ Some t → (t.reader.config.address ≡ address) ⊎ IsFreeFor k address t l)
-        → (address < 127) × (1 ≤ room) × (room ≤ 1024) → addresses.NetMoveFits answer_of after (RestartReader k address handler room) n
+        → (address < 127) × IsRoom room → addresses.NetMoveFits answer_of after (RestartReader k address handler room) n
     new_device_fits k address handler room l n h free fits =
         λ s at. (fits, by_found s at (found (Sites l) k l.bus.devices.entries l.stations n.sites h.sites))
       where
@@ -124,7 +125,7 @@ module _ {H : Type 0} where
 
     pub device_anew : (k address : ℕ) (handler : H) (room gap : ℕ) (l : InUse H) (n : Net H) → IsNetOf l n
         → ((t : Station H) → site_at k l.stations ≡ Some t → (t.reader.config.address ≡ address) ⊎ IsFreeFor k address t l)
-        → (address < 127) × (1 ≤ room) × (room ≤ 1024) → StepsTo answer_of after (NewDevice k address handler room gap) l n (on_station k (made_anew address handler room gap) l)
+        → (address < 127) × IsRoom room → StepsTo answer_of after (NewDevice k address handler room gap) l n (on_station k (made_anew address handler room gap) l)
     device_anew k address handler room gap l n h free fits =
         by_own answer_of after (NewDevice k address handler room gap) (RestartReader k address handler room) l n (on_station k (made_anew address handler room gap) l)
         (λ j. refl) (λ j. refl) tt (gap, refl) refl (new_device_fits k address handler room l n h free fits) (new_device_is k address handler room gap l n h)

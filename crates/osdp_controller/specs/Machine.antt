@@ -1,6 +1,7 @@
 -- What a controller is to its callers.
 use Rattle.std.specs.Prelude.{◌≡◌, ◌≢◌, ℕ, ◌+◌, ◌*◌, ◌≤◌, Bool, true, false, nat_le, nat_lt, if◌then◌else◌, max, All, List, [], ◌∷◌, ◌++◌, drop, length, slice_get, Option, Some, None, is_some, IfSome, ◌||◌, Result, Ok, Err}
 use Rattle.osdp_frame.specs.Packet.{Packet}
+use Rattle.osdp_msg.specs.Limits.{most_waiting}
 use Rattle.osdp_msg.specs.declared.command.Command.{Command}
 use Rattle.osdp_msg.specs.declared.command.Command.TheVariants.{Poll}
 use Rattle.osdp_controller.specs.declared.config.ControllerConfig.{ControllerConfig}
@@ -29,7 +30,7 @@ pub record Machine : Type 0 where
 pub record AreSettings (config : ControllerConfig) (capacity : ℕ) : Type 0 where
   pub config_in_range : IsConfig config
   pub room : 1 ≤ capacity
-  pub limit : capacity ≤ 1024
+  pub limit : capacity ≤ most_waiting
 
 -- a new controller: closed, and nothing waits
 abbrev pub new_machine : ControllerConfig → ℕ → Machine
@@ -171,6 +172,6 @@ pub record IsSession (s : Session) : Type 0 where
 -- what holds of each controller at all times
 pub record IsMachine (m : Machine) : Type 0 where
   pub session : IsSession m.session
-  pub capacity : (1 ≤ m.capacity) × (m.capacity ≤ 1024)
+  pub capacity : (1 ≤ m.capacity) × (m.capacity ≤ most_waiting)
   pub waiting : All IsSubmitted m.waiting
   pub room : length m.waiting ≤ m.capacity

@@ -1,11 +1,8 @@
 -- The settings of a controller.
 use Rattle.std.specs.Prelude.{ℕ, ◌<◌, ◌≤◌}
 use Rattle.osdp_frame.specs.declared.check_kind.CheckKind.{CheckKind}
+use Rattle.osdp_frame.specs.Times.{IsTime}
 use Rattle.osdp_controller.specs.declared.config.ControllerConfig.{ControllerConfig}
-
--- a millisecond to an hour
-abbrev pub IsTime : ℕ → Type 0
-IsTime wait = (1 ≤ wait) × (wait ≤ 3600000)
 
 -- each setting is in its range
 pub record IsConfig (c : ControllerConfig) : Type 0 where

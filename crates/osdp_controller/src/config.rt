@@ -2,9 +2,11 @@
 
 ghost use Rattle.std.specs.Prelude.{◌≡◌, ◌↔◌, IsTrue};
 ghost use Rattle.osdp_controller.specs.Machine.{AreSettings};
-ghost use Rattle.osdp_controller.specs.Settings.{IsConfig, IsTime, default_config};
+ghost use Rattle.osdp_controller.specs.Settings.{IsConfig, default_config};
+ghost use Rattle.osdp_frame.specs.Times.{IsTime};
 
-use osdp_frame::{Address, CheckKind};
+use osdp_frame::{Address, CheckKind, LONGEST_TIME, is_time};
+use osdp_msg::is_room;
 
 /// The settings of a controller. Times are in milliseconds, 1 to 3,600,000.
 #[derive(Clone, Copy, Debug, PartialEq, Eq)]
@@ -29,7 +31,7 @@ pub struct ControllerConfig {
 
 impl ControllerConfig {
     /// The longest time of a setting, an hour.
-    pub const LONGEST: u32 = 3_600_000;
+    pub const LONGEST: u32 = LONGEST_TIME;
 
     /// The default times: an answer is waited for 200 ms and a frame sent three times; a POLL follows 50 ms
     /// after an answer, a send 50 ms after a BUSY, of which 20 are allowed; a session opens after 400 ms
@@ -53,7 +55,7 @@ impl ControllerConfig {
     pub fn is_time(wait: u32) -> bool
         ensures { IsTrue result ↔ IsTime wait }
     {
-        1 <= wait && wait <= ControllerConfig::LONGEST
+        is_time(wait)
     }
 
     /// Whether a controller may have these settings and room for so many waiting commands: each setting is in its range, and
@@ -61,7 +63,7 @@ impl ControllerConfig {
     pub fn is_in_range(&self, capacity: usize) -> bool
         ensures { IsTrue result ↔ AreSettings self.now capacity }
     {
-        self.is_set_in_range() && capacity >= 1 && capacity <= 1024
+        self.is_set_in_range() && is_room(capacity)
     }
 
     /// Whether each setting is in its range.
@@ -71,10 +73,10 @@ impl ControllerConfig {
         // Reading it brings in that a `u8` is at most 255, which `IsConfig` says of it.
         let _range = self.busy_limit;
         self.address.is_device()
-            && ControllerConfig::is_time(self.reply_wait)
-            && ControllerConfig::is_time(self.poll_interval)
-            && ControllerConfig::is_time(self.busy_wait)
-            && ControllerConfig::is_time(self.quiet_wait)
+            && is_time(self.reply_wait)
+            && is_time(self.poll_interval)
+            && is_time(self.busy_wait)
+            && is_time(self.quiet_wait)
             && self.sends >= 1
     }
 }

@@ -14,7 +14,7 @@ use crate::exchange::Asked;
 use crate::state::Held;
 use crate::ticking::first_number;
 use arrayvec::ArrayVec;
-use osdp_frame::{Burst, Frame, FrameView, Seq};
+use osdp_frame::{Burst, Frame, FrameView, NO_BLOCK, NO_RESERVED_BITS, Seq};
 use osdp_msg::{Command, MAX_MESSAGE};
 
 /// A session with one reader.
@@ -70,8 +70,8 @@ impl Session {
             self.config.address,
             self.number,
             self.config.check,
-            false,
-            0,
+            NO_BLOCK,
+            NO_RESERVED_BITS,
             body,
         );
         made.unwrap()

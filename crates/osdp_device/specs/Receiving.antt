@@ -14,10 +14,6 @@ pub record Received : Type 0 where
   -- the greatest moment seen
   pub greatest : ℕ
 
--- how long a gap may be
-abbrev pub IsGap : ℕ → Type 0
-IsGap gap = (1 ≤ gap) × (gap ≤ 3600000)
-
 -- nothing has come yet
 abbrev pub new_line : ℕ → Received
 new_line gap = record { gap = gap; held = new_run; last = 0; greatest = 0 }

@@ -6,17 +6,15 @@ ghost use Rattle.osdp_frame.specs.Held.{decided};
 ghost use Rattle.osdp_frame.specs.Reading.{PacketItem};
 ghost use Rattle.osdp_frame.specs.Shown.{item_of};
 ghost use Rattle.osdp_device.specs.Deciding.{passed, pending_of};
-ghost use Rattle.osdp_device.specs.Receiving.{IsGap, IsReceived, after_silence, after_take, after_tick, count_taken, new_line};
+ghost use Rattle.osdp_frame.specs.Times.{IsTime};
+ghost use Rattle.osdp_device.specs.Receiving.{IsReceived, after_silence, after_take, after_tick, count_taken, new_line};
 ghost use Rattle.osdp_device.specs.Saying.{after_item, again_in, answers_first, but_poll, is_answered, said_in, said_of, taken_in};
 ghost use Rattle.osdp_device.specs.Telling.{next_told};
 
 use crate::receiver::Receiver;
-use osdp_frame::{FrameView, Item};
+use osdp_frame::{FrameView, Item, is_time};
 use osdp_msg::Command;
 use osdp_reader::{Handler, Kind, Reader, Response};
-
-/// The longest gap, in milliseconds.
-const LONGEST: u32 = 3_600_000;
 
 /// A reader, and what has come on its line.
 ///
@@ -33,11 +31,11 @@ pub struct Device<H: Handler> {
 impl<H: Handler> Device<H> {
     /// A device to whose line nothing has come. None where the gap, in milliseconds, isn't one of 1 to 3,600,000.
     pub fn new(reader: Reader<H>, gap: u32) -> Option<Device<H>>
-        ensures range { IsSome result ↔ IsGap gap }
+        ensures range { IsSome result ↔ IsTime gap }
         ensures reader { IfSome result (λ d. d.reader ≡ reader) }
         ensures line { IfSome result (λ d. d.line ≡ new_line gap) }
     {
-        if gap < 1 || gap > LONGEST {
+        if !is_time(gap) {
             return None;
         }
         Some(Device {

@@ -6,7 +6,7 @@ ghost use Rattle.osdp_frame.specs.Held.{after_advance, decided, taken_count};
 ghost use Rattle.osdp_frame.specs.Shown.{item_of};
 ghost use Rattle.osdp_device.specs.Receiving.{IsReceived, after_silence, after_take, after_tick, comes_in, count_taken, ends_run, ends_silent, new_line, seen};
 
-use osdp_frame::{Framer, Item};
+use osdp_frame::{Framer, Item, is_silent_for};
 use std::marker::Model;
 
 /// The bytes of the line that aren't read yet, and the moments by which runs end. Moments are in milliseconds.
@@ -89,7 +89,7 @@ impl Receiver {
     fn end_silent(&mut self)
         ensures { self.new ≡ ends_silent self.old }
     {
-        if u64::from(self.gap) <= self.greatest - self.last {
+        if is_silent_for(self.gap, self.last, self.greatest) {
             self.end_run();
         }
     }

@@ -12,3 +12,4 @@ pub mod Running
 pub mod Buffered
 pub mod Framed
 pub mod Silence
+pub mod Times

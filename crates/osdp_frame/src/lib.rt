@@ -16,6 +16,8 @@ mod framer;
 mod item;
 mod read;
 mod seq;
+mod silence;
+mod times;
 mod view;
 
 pub use address::Address;
@@ -27,4 +29,6 @@ pub use framer::Framer;
 pub use item::Item;
 pub use read::{ReadItem, read_at, whole_item};
 pub use seq::Seq;
-pub use view::FrameView;
+pub use silence::is_silent_for;
+pub use times::{LONGEST_TIME, is_time};
+pub use view::{FrameView, NO_BLOCK, NO_RESERVED_BITS};

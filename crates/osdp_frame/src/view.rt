@@ -13,6 +13,12 @@ use crate::frame::Burst;
 use crate::{Address, CheckKind, Seq};
 use std::marker::Model;
 
+/// A packet has no security block.
+pub const NO_BLOCK: bool = false;
+
+/// The four high bits of the control byte are clear.
+pub const NO_RESERVED_BITS: u8 = 0;
+
 /// A packet whose body lies in somebody else's bytes.
 #[derive(Debug, Drop)]
 pub struct FrameView<'a> {

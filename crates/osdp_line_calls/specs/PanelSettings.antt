@@ -2,7 +2,8 @@
 use Rattle.std.specs.Prelude.{ℕ, ◌<◌, ◌^◌, List, codes, Option, Some}
 use Rattle.osdp_bus.specs.declared.config.BusConfig.{BusConfig}
 use Rattle.osdp_bus.specs.Settings.{default_config}
-use Rattle.osdp_controller.specs.Settings.{IsTime}
+use Rattle.osdp_frame.specs.Times.{IsTime}
+use Rattle.osdp_msg.specs.Limits.{IsRoom}
 use Rattle.osdp_frame.specs.declared.check_kind.CheckKind.TheVariants.{Crc}
 use Rattle.osdp_frame.specs.Check.{check_name}
 use Rattle.osdp_words.specs.Word.{plain, number}
@@ -10,7 +11,7 @@ use Rattle.osdp_line_calls.specs.declared.panel_command.PanelSetting.{PanelSetti
 use Rattle.osdp_line_calls.specs.declared.panel_command.PanelSetting.TheVariants.{Check, ReplyWait, PollInterval, Sends, BusyWait, BusyLimit, QuietWait, Gap, Capacity}
 use Rattle.osdp_line_calls.specs.declared.wrong.WrongSetting.{WrongSetting}
 use Rattle.osdp_line_calls.specs.Wrong.{IsWrong}
-use Rattle.osdp_line_calls.specs.Settings.{Entry, IsRoom, IsSends, Make, ReadsSettings, SettingFits, setting_words}
+use Rattle.osdp_line_calls.specs.Settings.{Entry, IsSends, Make, ReadsSettings, SettingFits, setting_words}
 
 -- the name of each, its value as a word, and the range that is asked of it
 abbrev pub entry : PanelSetting → Entry

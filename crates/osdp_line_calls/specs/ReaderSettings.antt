@@ -1,6 +1,7 @@
 -- The settings of a reader: their words, and what each sets.
 use Rattle.std.specs.Prelude.{ℕ, ◌<◌, ◌^◌, List, [], ◌∷◌, ◌++◌, codes, length, replicate, nat_lt, if◌then◌else◌, slice_index, Option, Some, None}
-use Rattle.osdp_controller.specs.Settings.{IsTime}
+use Rattle.osdp_frame.specs.Times.{IsTime}
+use Rattle.osdp_msg.specs.Limits.{IsRoom}
 use Rattle.osdp_msg.specs.declared.reply_fields.PdCap.{PdCap}
 use Rattle.osdp_msg.specs.declared.reply_fields.PdId.{PdId}
 use Rattle.osdp_msg.specs.ReplyFields.{capability_at, pd_id_at}
@@ -10,7 +11,7 @@ use Rattle.osdp_line_calls.specs.declared.reader_command.ReaderSetting.TheVarian
 use Rattle.osdp_line_calls.specs.declared.reader_command.ReaderSettings.{ReaderSettings}
 use Rattle.osdp_line_calls.specs.declared.wrong.WrongSetting.{WrongSetting}
 use Rattle.osdp_line_calls.specs.Wrong.{IsWrong}
-use Rattle.osdp_line_calls.specs.Settings.{Entry, IsRoom, IsTriple, IsVendor, Make, ReadsSettings, SettingFits, setting_words}
+use Rattle.osdp_line_calls.specs.Settings.{Entry, IsTriple, IsVendor, Make, ReadsSettings, SettingFits, setting_words}
 
 -- the name of each, its value as a word, and the range that is asked of it
 abbrev pub entry : ReaderSetting → Entry

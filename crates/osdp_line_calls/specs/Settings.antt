@@ -43,10 +43,6 @@ module _ {S C : Type 0} (words : S → List Word) (Fits : S → Type 0) (put : S
 abbrev pub IsSends : ℕ → Type 0
 IsSends n = (1 ≤ n) × (n ≤ 255)
 
--- how many may wait
-abbrev pub IsRoom : ℕ → Type 0
-IsRoom n = (1 ≤ n) × (n ≤ 1024)
-
 -- three numbers of a byte each
 abbrev pub IsTriple : List ℕ → Type 0
 IsTriple ns = AreWithin (255 ∷ 255 ∷ 255 ∷ []) ns

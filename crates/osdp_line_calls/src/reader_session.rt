@@ -2,7 +2,8 @@
 
 ghost use Rattle.std.specs.Prelude.{◌≡◌, ◌↔◌, ◌⊎◌, ◌<◌, ◌++◌, IfOk, IsErrOf, OnOk, length, string_bytes};
 ghost use Rattle.osdp_device.specs.Hearing.{IsAllRead, hears_bytes, hears_silence, hears_tick, reads_all};
-ghost use Rattle.osdp_device.specs.Receiving.{IsGap};
+ghost use Rattle.osdp_frame.specs.Times.{IsTime, longest_time};
+ghost use Rattle.osdp_msg.specs.Limits.{most_waiting};
 ghost use Rattle.osdp_device.specs.Status.{status_after, status_answer};
 ghost use Rattle.osdp_reader.specs.State.{after_set_busy, after_set_handler};
 ghost use Rattle.osdp_reader.specs.declared.fault.ReaderFault.TheVariants.{OutOfRange};
@@ -13,7 +14,8 @@ ghost use Rattle.osdp_line_calls.specs.ReaderTexts.{all_lines, waiting_line};
 use crate::reader_call::ReaderCall;
 use crate::reader_say::{push_response, push_waiting};
 use osdp_device::{Device, DeviceStatus};
-use osdp_msg::Event;
+use osdp_frame::is_time;
+use osdp_msg::{Event, is_room};
 use osdp_reader::{Reader, ReaderConfig, ReaderFault};
 use std::alloc::{AllocError, Global};
 use std::marker::Model;
@@ -96,12 +98,12 @@ impl LineDevice {
         ensures made { IfOk result (λ d. d ≡ new_session config capacity gap) }
         ensures read { IfOk result (λ d. IsAllRead d.line) }
         ensures range { IsErrOf result OutOfRange
-            ↔ ((126 < config.address) ⊎ (capacity < 1) ⊎ (1024 < capacity) ⊎ (gap < 1) ⊎ (3600000 < gap)) }
+            ↔ ((126 < config.address) ⊎ (capacity < 1) ⊎ (most_waiting < capacity) ⊎ (gap < 1) ⊎ (longest_time < gap)) }
     {
-        if !config.address.is_device() || capacity < 1 || capacity > 1024 {
+        if !config.address.is_device() || !is_room(capacity) {
             return Err(ReaderFault::OutOfRange);
         }
-        if gap < 1 || gap > 3_600_000 {
+        if !is_time(gap) {
             return Err(ReaderFault::OutOfRange);
         }
         let reader = Reader::new(alloc, config, DeviceStatus::new(), capacity)?;

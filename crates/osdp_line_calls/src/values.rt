@@ -1,12 +1,14 @@
 //! The values of settings.
 
 ghost use Rattle.std.specs.Prelude.{◌<◌};
-ghost use Rattle.osdp_controller.specs.Settings.{IsTime};
+ghost use Rattle.osdp_frame.specs.Times.{IsTime};
+ghost use Rattle.osdp_msg.specs.Limits.{IsRoom};
 ghost use Rattle.osdp_words.specs.Reading.{Reads};
 ghost use Rattle.osdp_words.specs.Word.{number, numbers};
-ghost use Rattle.osdp_line_calls.specs.Settings.{IsRoom, IsSends, IsTriple};
+ghost use Rattle.osdp_line_calls.specs.Settings.{IsSends, IsTriple};
 
-use osdp_frame::Address;
+use osdp_frame::{Address, is_time};
+use osdp_msg::is_room;
 use osdp_words::{number_u8, number_u32, record};
 
 /// Milliseconds, from one to an hour.
@@ -14,7 +16,7 @@ pub(crate) fn time(word: &str) -> Option<u32>
     ensures { Reads number IsTime word.now result }
 {
     let wait = number_u32(word)?;
-    if wait < 1 || wait > 3_600_000 {
+    if !is_time(wait) {
         return None;
     }
     Some(wait)
@@ -34,11 +36,11 @@ pub(crate) fn sends(word: &str) -> Option<u8>
 pub(crate) fn room(word: &str) -> Option<usize>
     ensures { Reads number IsRoom word.now result }
 {
-    let count = number_u32(word)?;
-    if count < 1 || count > 1024 {
+    let count = number_u32(word)? as usize;
+    if !is_room(count) {
         return None;
     }
-    Some(count as usize)
+    Some(count)
 }
 
 /// The address of a device, 0 to 126.

@@ -34,7 +34,9 @@ pub use event::Event;
 pub use fault::{BadWords, MsgFault};
 pub use fitting::fits;
 pub use leds::{LedRecord, Leds};
-pub use limits::{MAX_CARD_BYTES, MAX_DATA, MAX_DETAIL, MAX_MAKER_BYTES, MAX_MESSAGE};
+pub use limits::{
+    MAX_CARD_BYTES, MAX_DATA, MAX_DETAIL, MAX_MAKER_BYTES, MAX_MESSAGE, MAX_WAITING, is_room,
+};
 pub use nak::{NakReason, OtherReason};
 pub use outputs::{OutputRecord, Outputs};
 pub use raw::Raw;

@@ -3,6 +3,7 @@
 ghost use Rattle.std.specs.Prelude.{◌≡◌, true, ◌↔◌, ◌<◌, ◌≤◌, ◌⊎◌, length, IfOk, IfErr, IfSome, IsErr, IsErrOf, IsOk, IsSome, None, Ok, Err, OnOk, Some};
 ghost use Rattle.std.specs.Borrow.{Lends, sem};
 ghost use Rattle.osdp_reader.specs.contracts.reader.Reader.{the_row};
+ghost use Rattle.osdp_msg.specs.Limits.{most_waiting};
 ghost use Rattle.osdp_msg.specs.ReplyTable.{ReplyFits};
 ghost use Rattle.osdp_reader.specs.Spelled.{IsSpelled};
 ghost use Rattle.osdp_reader.specs.State.{after_set_busy, after_set_handler, after_submit, new_reader};
@@ -21,7 +22,7 @@ use crate::reply::{spell_answer, spell_busy, spell_event_or_answer, spell_nak, u
 use crate::response::Response;
 use crate::stored::StoredReply;
 use osdp_frame::{Address, Burst, FrameView, Seq};
-use osdp_msg::{Command, Event, MsgFault, NakReason};
+use osdp_msg::{Command, Event, MsgFault, NakReason, is_room};
 use std::alloc::Global;
 use std::marker::Model;
 use std::mem::replace;
@@ -55,9 +56,9 @@ impl<H: Handler> Reader<H> {
         capacity: usize,
     ) -> Result<Reader<H>, ReaderFault>
         ensures made { IfOk result (λ r. r ≡ new_reader config handler capacity) }
-        ensures range { IsErrOf result OutOfRange ↔ ((126 < config.address) ⊎ (capacity < 1) ⊎ (1024 < capacity)) }
+        ensures range { IsErrOf result OutOfRange ↔ ((126 < config.address) ⊎ (capacity < 1) ⊎ (most_waiting < capacity)) }
     {
-        if !config.address.is_device() || capacity < 1 || capacity > 1024 {
+        if !config.address.is_device() || !is_room(capacity) {
             return Err(ReaderFault::OutOfRange);
         }
         let Ok(queue) = EventQueue::new(alloc, capacity) else {

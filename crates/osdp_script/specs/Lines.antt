@@ -3,12 +3,14 @@ use Rattle.std.specs.Prelude.{◌≢◌, ℕ, ◌≤◌, Bool, true, false, List
 use Rattle.hex.specs.Hex.{IsBytes}
 use Rattle.osdp_frame.specs.Check.{check_name}
 use Rattle.osdp_frame.specs.Packet.{largest}
+use Rattle.osdp_frame.specs.Times.{longest_time}
 use Rattle.osdp_msg.specs.declared.command.Command.{Command}
 use Rattle.osdp_msg.specs.declared.command.Command.TheVariants.{Poll}
 use Rattle.osdp_msg.specs.declared.event.Event.{Event}
 use Rattle.osdp_msg.specs.CommandTable.{CommandFits}
 use Rattle.osdp_msg.specs.CommandText.{command_words}
 use Rattle.osdp_msg.specs.Events.{EventFits, event_words}
+use Rattle.osdp_msg.specs.Limits.{most_waiting}
 use Rattle.osdp_sim.specs.declared.step.Move.{Move}
 use Rattle.osdp_sim.specs.declared.step.Move.TheVariants.{Deliver, Drop, Repeat, Damage}
 use Rattle.osdp_sim.specs.declared.step.SimStep.{SimStep}
@@ -69,7 +71,7 @@ line_words line = plain (line_name line) ∷ line_fields line
 pub record IsSetting (address room : ℕ) : Type 0 where
   pub device : address ≤ 126
   pub some : 1 ≤ room
-  pub limit : room ≤ 1024
+  pub limit : room ≤ most_waiting
 
 -- one of so many readers, counted from 1; a script has sixteen at most
 pub record IsReader (readers reader : ℕ) : Type 0 where
@@ -99,7 +101,7 @@ abbrev pub StepFits : ℕ → SimStep → Type 0
 StepFits readers (Issue reader command) = IsOrder readers reader command
 StepFits readers (Queue reader event) = IsHappening readers reader event
 StepFits readers (Busy reader busy) = IsReader readers reader
-StepFits readers (Wait time) = time ≤ 3600000
+StepFits readers (Wait time) = time ≤ longest_time
 StepFits readers (ToReader move) = MoveFits move
 StepFits readers (ToController move) = MoveFits move
 StepFits readers (Reopen reader) = IsReader readers reader

@@ -9,8 +9,8 @@ ghost use Rattle.osdp_words.specs.Word.{number, plain, texts};
 ghost use Rattle.osdp_script.specs.Lines.{IsHappening, IsOrder, IsReader, IsSetting, LineFits, MoveFits, line_words, move_words, switch_word};
 
 use crate::script::ScriptLine;
-use osdp_frame::{Address, CheckKind, MAX_PACKET};
-use osdp_msg::{Command, Event};
+use osdp_frame::{Address, CheckKind, LONGEST_TIME, MAX_PACKET};
+use osdp_msg::{Command, Event, MAX_WAITING};
 use osdp_sim::{Move, SimStep};
 use osdp_words::{byte_list, number_u8, number_u32};
 
@@ -81,7 +81,7 @@ fn parse_reader(words: &[&str]) -> Option<(Address, usize)>
         return None;
     };
     let address = Address::device(number_u8(address)?)?;
-    let room = number_within(room, 1, 1024)?;
+    let room = number_within(room, 1, MAX_WAITING as u32)?;
     Some((address, room as usize))
 }
 
@@ -167,7 +167,7 @@ fn parse_row(name: &str, words: &[&str], readers: usize) -> Option<ScriptLine>
             Some(ScriptLine::Step(SimStep::Busy(reader, busy)))
         }
         "wait" => {
-            let time = parse_number(words, 3_600_000)?;
+            let time = parse_number(words, LONGEST_TIME)?;
             Some(ScriptLine::Step(SimStep::Wait(u64::from(time))))
         }
         "to-reader" => Some(ScriptLine::Step(SimStep::ToReader(parse_move(words)?))),

@@ -1,5 +1,6 @@
 -- The run of a schedule, and how it ends.
 use Rattle.std.specs.Prelude.{ℕ, ◌≤◌, Bool, List, Result}
+use Rattle.osdp_msg.specs.Limits.{most_waiting}
 use Rattle.osdp_msg.specs.declared.command.Command.{Command}
 use Rattle.osdp_controller.specs.Machine as controllers
 use Rattle.osdp_reader.specs.declared.handler.Answer.{Answer}
@@ -17,7 +18,7 @@ use Rattle.osdp_sim.specs.Steps.{StepFits, after_step, fault_of}
 pub record ReaderInRange (config : SimConfig) : Type 0 where
   pub address : config.reader.address ≤ 126
   pub some : 1 ≤ config.events
-  pub limit : config.events ≤ 1024
+  pub limit : config.events ≤ most_waiting
 
 -- .. and so are the controller's
 pub record AreSettings (config : SimConfig) : Type 0 where

@@ -19,7 +19,7 @@ use crate::step::{Move, SimStep};
 use crate::steps::StepTaker;
 use osdp_controller::{Controller, ControllerFault, Report};
 use osdp_frame::Burst;
-use osdp_msg::{Command, Event};
+use osdp_msg::{Command, Event, is_room};
 use osdp_reader::{Handler, Heard, Reader};
 use std::alloc::{AllocError, Global};
 use std::collections::VecDeque;
@@ -51,7 +51,7 @@ pub struct Simulation<H: Handler> {
 fn is_reader_in_range(config: &SimConfig) -> bool
     ensures { IsTrue result ↔ ReaderInRange config.now }
 {
-    config.reader.address.is_device() && config.events >= 1 && config.events <= 1024
+    config.reader.address.is_device() && is_room(config.events)
 }
 
 /// A controller whose first session has begun.

@@ -2,6 +2,7 @@
 use Rattle.std.specs.Prelude.{◌≡◌, ℕ, ◌==◌, nat_le, Bool, true, not, ◌&&◌, List, [], ◌∷◌, length, map, Result}
 use Rattle.std.specs.Global.{Vec}
 use Rattle.std.specs.List.{list_all, list_any}
+use Rattle.osdp_msg.specs.Limits.{most_waiting}
 use Rattle.osdp_msg.specs.declared.command.Command.{Command}
 use Rattle.osdp_reader.specs.declared.handler.Answer.{Answer}
 use Rattle.osdp_bus.specs.Machine.{most_devices}
@@ -26,7 +27,7 @@ IsBusCause cause config = schedules.IsSetUpCause cause (IsBusConfig config)
 
 module _ {H : Type 0} where
   abbrev pub is_reader_in_range : Given H → Bool
-  is_reader_in_range given = nat_le (address_of given) 126 && (nat_le 1 given.1 && nat_le given.1 1024)
+  is_reader_in_range given = nat_le (address_of given) 126 && (nat_le 1 given.1 && nat_le given.1 most_waiting)
 
   abbrev pub is_at : ℕ → Given H → Bool
   is_at address given = address_of given == address

@@ -4,6 +4,7 @@ ghost use Rattle.std.specs.Prelude.{◌≡◌};
 ghost use Rattle.std.specs.List.{list_all, list_any};
 ghost use Rattle.osdp_sim_bus.specs.Runs.{are_apart, are_readers, is_at, is_reader_in_range};
 
+use osdp_msg::is_room;
 use osdp_reader::ReaderConfig;
 
 /// How many readers there may be.
@@ -13,7 +14,7 @@ const MOST_READERS: usize = 16;
 fn is_in_range<H>(reader: &(ReaderConfig, usize, H)) -> bool
     ensures { result ≡ is_reader_in_range reader.now }
 {
-    reader.0.address.is_device() && reader.1 >= 1 && reader.1 <= 1024
+    reader.0.address.is_device() && is_room(reader.1)
 }
 
 /// Whether each reader is in its ranges.

@@ -7,15 +7,9 @@ ghost use Rattle.osdp_words.specs.Word.{texts};
 ghost use Rattle.osdp_tool.specs.PacketOrder.{MessageFits, OrderFits, message_body, message_is_reply, message_words, order_packet, order_words};
 
 use arrayvec::ArrayVec;
-use osdp_frame::{Address, CheckKind, Frame, MAX_BODY, Seq};
+use osdp_frame::{Address, CheckKind, Frame, MAX_BODY, NO_BLOCK, NO_RESERVED_BITS, Seq};
 use osdp_msg::{Command, MAX_MESSAGE, Reply};
 use osdp_words::number_u8;
-
-/// A packet by words has no security block.
-const NO_BLOCK: bool = false;
-
-/// Its reserved bits are clear.
-const NO_RESERVED_BITS: u8 = 0;
 
 /// What a packet carries.
 #[derive(Debug, Drop)]

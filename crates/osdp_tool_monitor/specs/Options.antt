@@ -2,6 +2,7 @@
 use Rattle.std.specs.Prelude.{◌≡◌, ℕ, ◌≤◌, true, false, List, [], ◌∷◌, codes, flat_map, Option, None, Some, IfSome}
 use Rattle.std.specs.Fmt.{decimal}
 use Rattle.std.specs.List.{AllByRecursion}
+use Rattle.osdp_frame.specs.Times.{IsTime}
 use Rattle.osdp_tool_monitor.specs.declared.mode.MonitorMode.{MonitorMode}
 use Rattle.osdp_tool_monitor.specs.declared.mode.MonitorOption.{MonitorOption}
 use Rattle.osdp_tool_monitor.specs.declared.mode.MonitorOption.TheVariants.{Hex, Packets, Gap, Every}
@@ -24,15 +25,12 @@ option_words Packets = name_text name.Packets ∷ []
 option_words (Gap n) = name_text name.Gap ∷ decimal n ∷ []
 option_words (Every n) = name_text name.Every ∷ decimal n ∷ []
 
--- from one to 3,600,000
-abbrev pub IsWait : ℕ → Type 0
-IsWait n = (1 ≤ n) × (n ≤ 3600000)
-
+-- milliseconds of a gap, or seconds between two tables: both have the range of a time of the link
 abbrev pub OptionFits : MonitorOption → Type 0
 OptionFits Hex = Unit {0}
 OptionFits Packets = Unit {0}
-OptionFits (Gap n) = IsWait n
-OptionFits (Every n) = IsWait n
+OptionFits (Gap n) = IsTime n
+OptionFits (Every n) = IsTime n
 
 abbrev pub with_option : MonitorOption → MonitorMode → MonitorMode
 with_option Hex mode = record mode { hex = true }
@@ -63,8 +61,8 @@ pub record ReadsMode (words : Words) (result : Option MonitorMode) : Type 0 wher
 
 -- the number of a wait at the head of the words, which it takes off
 pub record TakesNumber (old new : Words) (result : Option ℕ) : Type 0 where
-  pub value : IfSome result (λ n. IsWait n × (old ≡ decimal n ∷ new))
-  pub only : (n : ℕ) (rest : Words) → IsWait n → old ≡ decimal n ∷ rest → result ≡ Some n
+  pub value : IfSome result (λ n. IsTime n × (old ≡ decimal n ∷ new))
+  pub only : (n : ℕ) (rest : Words) → IsTime n → old ≡ decimal n ∷ rest → result ≡ Some n
 
 abbrev pub numbered : (ℕ → MonitorOption) → Option ℕ → Option MonitorOption
 numbered option None = None

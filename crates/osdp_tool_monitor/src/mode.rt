@@ -1,17 +1,16 @@
 //! How a line is listened to, and the words that say so.
 
 ghost use Rattle.std.specs.Prelude.{◌≡◌, ◌↔◌, Option};
-ghost use Rattle.osdp_tool_monitor.specs.Options.{IsWait, ReadsMode, TakesNumber, TakesOption, name_text, with_option};
+ghost use Rattle.osdp_frame.specs.Times.{IsTime};
+ghost use Rattle.osdp_tool_monitor.specs.Options.{ReadsMode, TakesNumber, TakesOption, name_text, with_option};
 ghost use Rattle.osdp_words.specs.Reading.{Reads};
 ghost use Rattle.osdp_words.specs.Word.{number, texts};
 
+use osdp_frame::is_time;
 use osdp_words::{Fields, number_u32};
 
 /// After so many milliseconds of silence a run is over, where no option says another number.
 const GAP: u32 = 20;
-
-/// The greatest number of an option.
-const MOST: u32 = 3_600_000;
 
 /// How the input is read, and what is printed of it.
 #[derive(Clone, Copy, Debug, PartialEq, Eq)]
@@ -63,10 +62,10 @@ fn option_name(word: &str) -> Option<OptionName>
 
 /// A number from 1 to 3,600,000.
 fn wait(word: &str) -> Option<u32>
-    ensures { Reads number IsWait word.now result }
+    ensures { Reads number IsTime word.now result }
 {
     let wait = number_u32(word)?;
-    if wait < 1 || wait > MOST {
+    if !is_time(wait) {
         return None;
     }
     Some(wait)
