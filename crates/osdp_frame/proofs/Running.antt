@@ -1,20 +1,20 @@
--- Running checks: of pieces, and what they say of the check of a piece.
-use Rattle.std.proofs.Common.{◌≡◌, ℕ, zero, suc, ◌+◌, ◌-◌, ◌<◌, ◌≤◌, List, [], ◌∷◌, ◌++◌, length, take, drop, get_or, slice_range, set, refl, sym, ap, ◌∙◌, arith, inl, inr}
-use Rattle.std.proofs.lemmas.Bool.{cases_lt}
-use Rattle.std.proofs.lemmas.List.{take-take, take_more, get_or-take, get_or-drop, get_or_append_left, get_or-append-add, get_or-set_other, get_or-set_same, take-set-le, length-take, length-drop, length-append, drop-take}
+-- Running checks: what a state is gone over, and what they say of the check of a piece.
+use Rattle.std.proofs.Common.{◌≡◌, ℕ, zero, suc, ◌+◌, ◌-◌, ◌*◌, ◌/◌, ◌%◌, ◌<◌, ◌≤◌, List, [], ◌∷◌, ◌++◌, All, length, take, drop, get_or, slice_range, refl, sym, ap, subst, ◌∙◌, arith}
+use Rattle.std.specs.List.{fold}
+use Rattle.std.proofs.Math.Seq.{take-add}
+use Rattle.std.proofs.lemmas.List.{take-take, get_or_default, get_or-take, get_or-drop, length-take, length-drop, drop-take, drop-drop}
 use Rattle.std.proofs.lemmas.List.Elements.{All-nil, All-cons}
-use Rattle.std.proofs.lemmas.List.Sums.{sum_by-append}
+use Rattle.std.proofs.lemmas.List.Sums.{fold-append, sum_by-append}
 use Rattle.osdp_check.specs.Checksum.{sum_from}
 use Rattle.osdp_check.specs.Crc.{crc_from}
 use Rattle.osdp_check.proofs.Pieces.{crc_from-append}
 use Rattle.osdp_frame.specs.Bytes.{AreBytes}
-use Rattle.osdp_frame.specs.Running.{IsRunning}
-use Rattle.osdp_frame.proofs.Head.{AreBytes-take}
+use Rattle.osdp_frame.specs.Running.{GoesBy, GoesOver, IsRunning}
 
 -- ---- pieces
 
-pub get_or-slice : (s : List ℕ) (i j k : ℕ) → k < j - i → get_or (slice_range s i j) k 0 ≡ get_or s (i + k) 0
-get_or-slice s i j k h = get_or-take (j - i) (drop i s) k 0 h ∙ get_or-drop i s k 0
+pub get_or-slice : {C : Type 0} (s : List C) (i j k : ℕ) (d : C) → k < j - i → get_or (slice_range s i j) k d ≡ get_or s (i + k) d
+get_or-slice s i j k d h = get_or-take (j - i) (drop i s) k d h ∙ get_or-drop i s k d
 
 pub length-slice : (b : List ℕ) (from to : ℕ) → from ≤ to → to ≤ length b → length (slice_range b from to) ≡ to - from
 length-slice b from to order within = omega (arith, length-take (to - from) (drop from b), length-drop from b)
@@ -26,128 +26,119 @@ slice-same a b from n same =
     ap (λ m. take m (drop from a)) count ∙ sym (drop-take from n a) ∙ ap (drop from) same ∙ drop-take from n b
     ∙ ap (λ m. take m (drop from b)) (sym count)
 
--- ---- running checks of the rest, and of bytes in two parts
+-- a piece of a piece
+pub slice-slice : (b : List ℕ) (from to at n : ℕ) → at + n ≤ to - from → slice_range (slice_range b from to) at (at + n) ≡ slice_range b (from + at) (from + at + n)
+slice-slice b from to at n h =
+    let count : at + n - at ≡ n = omega arith in
+    let whole : from + at + n - (from + at) ≡ n = omega arith in
+    ap (λ m. take m (drop at (take (to - from) (drop from b)))) count ∙ sym (drop-take at n (take (to - from) (drop from b)))
+    ∙ ap (drop at) (take-take (at + n) (to - from) (drop from b) h) ∙ drop-take at n (drop from b)
+    ∙ ap (take n) (drop-drop at from b) ∙ ap (λ m. take m (drop (from + at) b)) (sym whole)
 
-abbrev pub IsRunningAt : (ℕ → List ℕ → ℕ) → List ℕ → List ℕ → ℕ → Type 0
-IsRunningAt go states bytes k = get_or states (k + 1) 0 ≡ go (get_or states k 0) (get_or bytes k 0 ∷ [])
+-- two pieces that meet
+pub slice-join : (b : List ℕ) (from n m : ℕ) → slice_range b from (from + n) ++ slice_range b (from + n) (from + n + m) ≡ slice_range b from (from + n + m)
+slice-join b from n m =
+    let whole : from + n + m - from ≡ n + m = omega arith in
+    let front : n ≡ from + n - from = omega arith in
+    let back : m ≡ from + n + m - (from + n) = omega arith in
+    sym (ap (λ k. take k (drop from b)) whole ∙ take-add n m (drop from b)
+    ∙ (λ i. take (front i) (drop from b) ++ take (back i) (drop-drop n from b i)))
 
-pub running_drop : (go : ℕ → List ℕ → ℕ) (states bytes : List ℕ) (count : ℕ) → IsRunning go states bytes → IsRunning go (drop count states) (drop count bytes)
-running_drop go states bytes count run k h =
-    let next : count + (k + 1) ≡ count + k + 1 = omega arith in
-    get_or-drop count states (k + 1) 0 ∙ ap (λ n. get_or states n 0) next ∙ run (count + k) (omega (arith, length-drop count bytes))
-    ∙ (λ i. go (sym (get_or-drop count states k 0) i) (sym (get_or-drop count bytes k 0) i ∷ []))
+-- ---- a state that goes over bytes one by one
 
-pub running_none : (go : ℕ → List ℕ → ℕ) (states bytes : List ℕ) → length bytes ≡ 0 → IsRunning go states bytes
-running_none go states bytes none k h = absurd (omega arith)
+pub goes_on : {C : Type 0} (since : C → List ℕ → C → Type 0) (front middle last : C) (bytes : List ℕ) (b : ℕ)
+    → GoesOver since front bytes middle → since middle (b ∷ []) last → GoesOver since front (bytes ++ b ∷ []) last
+goes_on since front middle last [] b over next = (last, subst (λ s. since s (b ∷ []) last) over next, refl)
+goes_on since front middle last (a ∷ bytes) b over next = (over.0, over.1, goes_on since over.0 middle last bytes b over.2 next)
 
-pub running_append : (go : ℕ → List ℕ → ℕ) (states held more : List ℕ) (from n : ℕ) → length held ≡ n
-    → IsRunning go (slice_range states from (from + n + 1)) held → IsRunning go (slice_range states (from + n) (from + n + length more + 1)) more
-    → IsRunning go (slice_range states from (from + n + length more + 1)) (held ++ more)
-running_append go states held more from n size run on k h =
-    let m = length more in
-    let end = from + n + m + 1 in
-    let all = length-append held more in
-    elim (cases_lt k n) [
-      | inl front ↦
-          get_or-slice states from end (k + 1) (omega arith) ∙ sym (get_or-slice states from (from + n + 1) (k + 1) (omega arith)) ∙ run k (omega arith)
-          ∙ (λ i. go ((get_or-slice states from (from + n + 1) k (omega arith) ∙ sym (get_or-slice states from end k (omega arith))) i) (sym (get_or_append_left held more 0 k (omega arith)) i ∷ []))
-      | inr back ↦ later (k - n) (omega arith)
-    ]
-  where
-    later : (j : ℕ) → k ≡ n + j → get_or (slice_range states from (from + n + length more + 1)) (k + 1) 0 ≡ go (get_or (slice_range states from (from + n + length more + 1)) k 0) (get_or (held ++ more) k 0 ∷ [])
-    later j e =
-        let end = from + n + length more + 1 in
-        let all = length-append held more in
-        let place : from + n + j ≡ from + k = omega arith in
-        let next : from + k + 1 ≡ from + n + (j + 1) = omega arith in
-        let next_same : from + (k + 1) ≡ from + n + (j + 1) = omega arith in
-        let byte : get_or (held ++ more) k 0 ≡ get_or more j 0 =
-        ap (λ i. get_or (held ++ more) i 0) (let s : k ≡ length held + j = omega arith in s) ∙ get_or-append-add held more j 0 in
-        get_or-slice states from end (k + 1) (omega arith) ∙ ap (λ i. get_or states i 0) next_same
-        ∙ sym (get_or-slice states (from + n) end (j + 1) (omega arith)) ∙ on j (omega arith)
-        ∙ (λ i. go ((get_or-slice states (from + n) end j (omega arith) ∙ ap (λ p. get_or states p 0) place ∙ sym (get_or-slice states from end k (omega arith))) i) (sym byte i ∷ []))
+-- ---- what a state is, gone over bytes
 
--- ---- they go on byte by byte
+abbrev step : (ℕ → List ℕ → ℕ) → ℕ → ℕ → ℕ
+step go state b = go state (b ∷ [])
 
--- after place `from`, the states have gone on up to `place`
-pub record HasRun (go : ℕ → List ℕ → ℕ) (old new bytes : List ℕ) (from place state : ℕ) : Type 0 where
-  pub before : take (from + 1) new ≡ take (from + 1) old
-  pub last : state ≡ get_or new place 0
-  pub run : (k : ℕ) → from ≤ k → k < place → get_or new (k + 1) 0 ≡ go (get_or new k 0) (get_or bytes k 0 ∷ [])
+pub over_is : (go : ℕ → List ℕ → ℕ) (front last : ℕ) (bytes : List ℕ) → GoesOver (GoesBy go) front bytes last → last ≡ fold (step go) front bytes
+over_is go front last [] over = over
+over_is go front last (b ∷ bytes) over =
+    over_is go over.0 last bytes over.2 ∙ ap (λ s. fold (step go) s bytes) over.1
 
-pub run_begins : (go : ℕ → List ℕ → ℕ) (old bytes : List ℕ) (from state : ℕ) → state ≡ get_or old from 0 → HasRun go old old bytes from from state
-run_begins go old bytes from state e = record {
-  before = refl;
-  last = e;
-  run = λ k low high. absurd (omega arith);
-}
+-- what goes on by one byte, and then by more, goes on by them all
+abbrev pub Joins : (ℕ → List ℕ → ℕ) → Type 0
+Joins go = (front b : ℕ) (bytes : List ℕ) → All (λ n. n < 256) bytes → go (go front (b ∷ [])) bytes ≡ go front (b ∷ bytes)
 
-pub run_goes_on : (go : ℕ → List ℕ → ℕ) (old new bytes : List ℕ) (from place state next : ℕ) → HasRun go old new bytes from place state
-    → from ≤ place → place + 1 < length new → next ≡ go state (get_or bytes place 0 ∷ []) → HasRun go old (set new (place + 1) next) bytes from (place + 1) next
-run_goes_on go old new bytes from place state next r order room next_is = record {
-  before = take-set-le (from + 1) new (place + 1) next (omega arith) ∙ r.before;
-  last = sym (get_or-set_same new (place + 1) next 0 room);
-  run = λ k low high. elim (cases_lt k place) [
-    | inl before ↦ get_or-set_other new (place + 1) (k + 1) next 0 (omega arith) ∙ r.run k low before
-        ∙ ap (λ s. go s (get_or bytes k 0 ∷ [])) (sym (get_or-set_other new (place + 1) k next 0 (omega arith)))
-    | inr here ↦ newest k (omega arith)
-  ];
-}
-  where
-    newest : (k : ℕ) → k ≡ place → get_or (set new (place + 1) next) (k + 1) 0 ≡ go (get_or (set new (place + 1) next) k 0) (get_or bytes k 0 ∷ [])
-    newest k e =
-        ap (λ i. get_or (set new (place + 1) next) (i + 1) 0) e ∙ get_or-set_same new (place + 1) next 0 room ∙ next_is
-        ∙ ap (λ s. go s (get_or bytes place 0 ∷ [])) (r.last ∙ sym (get_or-set_other new (place + 1) place next 0 (omega arith)))
-        ∙ ap (λ j. go (get_or (set new (place + 1) next) j 0) (get_or bytes j 0 ∷ [])) (sym e)
+all_bytes : (bytes : List ℕ) → AreBytes bytes → All (λ n. n < 256) bytes
+all_bytes [] h = All-nil (λ n. n < 256)
+all_bytes (b ∷ bytes) h = All-cons (λ n. n < 256) b bytes (h 0) (all_bytes bytes (λ k. h (suc k)))
 
-pub run_is_running : (go : ℕ → List ℕ → ℕ) (old new bytes : List ℕ) (from to state : ℕ) → HasRun go old new bytes from to state
-    → IsRunning go (slice_range new from (to + 1)) (slice_range bytes from to)
-run_is_running go old new bytes from to state r k h =
-    let below : k < to - from = omega (arith, length-take (to - from) (drop from bytes)) in
-    let next : from + (k + 1) ≡ from + k + 1 = omega arith in
-    get_or-slice new from (to + 1) (k + 1) (omega arith) ∙ ap (λ i. get_or new i 0) next ∙ r.run (from + k) (omega arith) (omega arith)
-    ∙ (λ i. go (sym (get_or-slice new from (to + 1) k (omega arith)) i) (sym (get_or-slice bytes from to k below) i ∷ []))
+fold_is : (go : ℕ → List ℕ → ℕ) (front : ℕ) (bytes : List ℕ) → Joins go → AreBytes bytes → 0 < length bytes → fold (step go) front bytes ≡ go front bytes
+fold_is go front [] join h some = absurd (omega arith)
+fold_is go front (b ∷ []) join h some = refl
+fold_is go front (b ∷ c ∷ bytes) join h some =
+    fold_is go (go front (b ∷ [])) (c ∷ bytes) join (λ k. h (suc k)) (omega arith)
+    ∙ join front b (c ∷ bytes) (all_bytes (c ∷ bytes) (λ k. h (suc k)))
 
--- ---- the state at a place is the first, gone on by the bytes before it
+pub sum_joins : Joins sum_from
+sum_joins front b bytes h = omega (arith, sum_by-append (λ x. x) (b ∷ []) bytes)
 
--- what goes on by bytes, and then by one more, goes on by them all
-abbrev Joins : (ℕ → List ℕ → ℕ) → Type 0
-Joins go = (a : ℕ) (xs : List ℕ) (b : ℕ) → b < 256 → go (go a xs) (b ∷ []) ≡ go a (xs ++ b ∷ [])
+pub crc_joins : Joins crc_from
+crc_joins front b bytes h = sym (crc_from-append front (b ∷ []) bytes h)
 
-running_from : (go : ℕ → List ℕ → ℕ) (states bytes : List ℕ) → Joins go → AreBytes bytes → IsRunning go states bytes → (k : ℕ) → k < length bytes → get_or states (k + 1) 0 ≡ go (get_or states 0 0) (take (k + 1) bytes)
-running_from go states bytes join fits run zero h = run 0 h ∙ ap (go (get_or states 0 0)) (sym (take_more bytes 0 0 h))
-running_from go states bytes join fits run (suc k) h =
-    let here : k + 1 ≡ suc k = omega arith in
-    let so_far : get_or states (suc k) 0 ≡ go (get_or states 0 0) (take (suc k) bytes) =
-    ap (λ n. get_or states n 0) (sym here) ∙ running_from go states bytes join fits run k (omega arith) ∙ ap (λ n. go (get_or states 0 0) (take n bytes)) here in
-    run (suc k) h ∙ ap (λ s. go s (get_or bytes (suc k) 0 ∷ [])) so_far
-    ∙ join (get_or states 0 0) (take (suc k) bytes) (get_or bytes (suc k) 0) (fits (suc k))
-    ∙ ap (go (get_or states 0 0)) (sym (take_more bytes (suc k) 0 h))
+-- ---- the state at a place is the first, gone over the bytes before it
 
--- at a place of the arrays
-state_at : (go : ℕ → List ℕ → ℕ) (states bytes : List ℕ) (from to count : ℕ) → Joins go → AreBytes bytes → IsRunning go (slice_range states from (to + 1)) (take (to - from) bytes)
-    → 0 < count → count ≤ to - from → count ≤ length bytes → get_or states (from + count) 0 ≡ go (get_or states from 0) (take count bytes)
-state_at go states bytes from to count join fits run some there within =
-    let held = take (to - from) bytes in
-    let size = length-take (to - from) bytes in
-    let none : from + 0 ≡ from = omega arith in
-    let before : count ≡ count - 1 + 1 = omega arith in
-    let front : take count held ≡ take count bytes = take-take count (to - from) bytes there in
-    sym (get_or-slice states from (to + 1) count (omega arith)) ∙ ap (λ n. get_or (slice_range states from (to + 1)) n 0) before
-    ∙ running_from go (slice_range states from (to + 1)) held join (AreBytes-take (to - from) bytes fits) run (count - 1) (omega arith)
-    ∙ ap (λ n. go (get_or (slice_range states from (to + 1)) 0 0) (take n held)) (sym before)
-    ∙ (λ i. go ((get_or-slice states from (to + 1) 0 (omega arith) ∙ ap (λ j. get_or states j 0) none) i) (front i))
+-- of the states that are kept
+kept_is : (go : ℕ → List ℕ → ℕ) (states bytes : List ℕ) (from to j : ℕ) → IsRunning (GoesBy go) states bytes from to → from + j ≤ to
+    → get_or states (from + j) 0 ≡ fold (step go) (get_or states from 0) (slice_range bytes (16 * from) (16 * from + 16 * j))
+kept_is go states bytes from to zero run h =
+    let here : from + 0 ≡ from = omega arith in
+    let none : 16 * from + 16 * 0 - 16 * from ≡ 0 = omega arith in
+    ap (λ n. get_or states n 0) here ∙ sym (ap (λ n. fold (step go) (get_or states from 0) (take n (drop (16 * from) bytes))) none)
+kept_is go states bytes from to (suc j) run h =
+    let here : from + suc j ≡ from + j + 1 = omega arith in
+    let first : 16 * (from + j) ≡ 16 * from + 16 * j = omega arith in
+    let next : 16 * (from + j + 1) ≡ 16 * from + 16 * j + 16 = omega arith in
+    let last : 16 * from + 16 * j + 16 ≡ 16 * from + 16 * suc j = omega arith in
+    let base = 16 * from in
+    ap (λ n. get_or states n 0) here
+    ∙ over_is go (get_or states (from + j) 0) (get_or states (from + j + 1) 0) (slice_range bytes (16 * (from + j)) (16 * (from + j + 1))) (run (from + j) 0 (omega arith) (omega arith))
+    ∙ (λ i. fold (step go) (kept_is go states bytes from to j run (omega arith) i) (slice_range bytes (first i) (next i)))
+    ∙ sym (fold-append (step go) (get_or states from 0) (slice_range bytes base (base + 16 * j)) (slice_range bytes (base + 16 * j) (base + 16 * j + 16)))
+    ∙ ap (fold (step go) (get_or states from 0)) (slice-join bytes base (16 * j) 16)
+    ∙ ap (λ n. fold (step go) (get_or states from 0) (slice_range bytes base n)) last
 
-sum_joins : Joins sum_from
-sum_joins a xs b h = omega (arith, sum_by-append (λ x. x) xs (b ∷ []))
+-- the state before a place, as it is found: the one that is kept before it, gone over the bytes from there
+abbrev pub IsStateAt : (ℕ → List ℕ → ℕ) → List ℕ → List ℕ → ℕ → ℕ → Type 0
+IsStateAt go states bytes place state = GoesOver (GoesBy go) (get_or states (place / 16) state) (slice_range bytes (place - place % 16) place) state
 
-crc_joins : Joins crc_from
-crc_joins a xs b h = sym (crc_from-append a xs (b ∷ []) (All-cons (λ n. n < 256) b [] h (All-nil (λ n. n < 256))))
+state_at_is : (go : ℕ → List ℕ → ℕ) (states bytes : List ℕ) (from to place state : ℕ) → IsRunning (GoesBy go) states bytes from to → from ≤ place / 16 → place / 16 ≤ to → to < length states
+    → IsStateAt go states bytes place state → state ≡ fold (step go) (get_or states from 0) (slice_range bytes (16 * from) place)
+state_at_is go states bytes from to place state run first last room is =
+    let base = 16 * from in
+    let start = get_or states from 0 in
+    let j = place / 16 - from in
+    let m = place % 16 in
+    let number : place / 16 ≡ from + j = omega arith in
+    let begin : place - place % 16 ≡ base + 16 * j = omega arith in
+    let end : place ≡ base + 16 * j + m = omega arith in
+    over_is go (get_or states (place / 16) state) state (slice_range bytes (place - place % 16) place) is
+    ∙ ap (λ s. fold (step go) s (slice_range bytes (place - place % 16) place)) (get_or_default states (place / 16) state 0 (omega arith))
+    ∙ (λ i. fold (step go) (get_or states (number i) 0) (slice_range bytes (begin i) (end i)))
+    ∙ ap (λ s. fold (step go) s (slice_range bytes (base + 16 * j) (base + 16 * j + m))) (kept_is go states bytes from to j run (omega arith))
+    ∙ sym (fold-append (step go) start (slice_range bytes base (base + 16 * j)) (slice_range bytes (base + 16 * j) (base + 16 * j + m)))
+    ∙ ap (fold (step go) start) (slice-join bytes base (16 * j) m)
+    ∙ ap (λ n. fold (step go) start (slice_range bytes base n)) (sym end)
 
-pub sum_at : (states bytes : List ℕ) (from to count : ℕ) → AreBytes bytes → IsRunning sum_from (slice_range states from (to + 1)) (take (to - from) bytes)
-    → 0 < count → count ≤ to - from → count ≤ length bytes → get_or states (from + count) 0 ≡ sum_from (get_or states from 0) (take count bytes)
-sum_at states bytes from to count = state_at sum_from states bytes from to count sum_joins
-
-pub crc_at : (states bytes : List ℕ) (from to count : ℕ) → AreBytes bytes → IsRunning crc_from (slice_range states from (to + 1)) (take (to - from) bytes)
-    → 0 < count → count ≤ to - from → count ≤ length bytes → get_or states (from + count) 0 ≡ crc_from (get_or states from 0) (take count bytes)
-crc_at states bytes from to count = state_at crc_from states bytes from to count crc_joins
+-- from the state before a piece to the one after it
+pub state_since : (go : ℕ → List ℕ → ℕ) (states bytes : List ℕ) (from to count front whole : ℕ) → Joins go → IsRunning (GoesBy go) states bytes (from / 16) (to / 16) → to / 16 < length states
+    → AreBytes (slice_range bytes from (from + count)) → length (slice_range bytes from (from + count)) ≡ count → 0 < count → from + count ≤ to
+    → IsStateAt go states bytes from front → IsStateAt go states bytes (from + count) whole → whole ≡ go front (slice_range bytes from (from + count))
+state_since go states bytes from to count front whole join run room fits size some within first last =
+    let base = 16 * (from / 16) in
+    let m = from % 16 in
+    let piece = slice_range bytes from (from + count) in
+    let start = get_or states (from / 16) 0 in
+    let begin : from ≡ base + m = omega arith in
+    let joined : slice_range bytes base from ++ piece ≡ slice_range bytes base (from + count) =
+    subst (λ n. slice_range bytes base n ++ slice_range bytes n (n + count) ≡ slice_range bytes base (n + count)) (sym begin) (slice-join bytes base m count) in
+    state_at_is go states bytes (from / 16) (to / 16) (from + count) whole run (omega arith) (omega arith) room last
+    ∙ ap (fold (step go) start) (sym joined) ∙ fold-append (step go) start (slice_range bytes base from) piece
+    ∙ ap (λ s. fold (step go) s piece) (sym (state_at_is go states bytes (from / 16) (to / 16) from front run (omega arith) (omega arith) room first))
+    ∙ fold_is go front piece join fits (omega arith)

@@ -1,10 +1,10 @@
 -- What a buffer keeps.
-use Rattle.std.specs.Prelude.{ℕ, ◌+◌, ◌-◌, ◌≤◌, List, take, slice_range}
+use Rattle.std.specs.Prelude.{ℕ, ◌+◌, ◌-◌, ◌/◌, ◌≤◌, List, slice_range}
 use Rattle.osdp_check.specs.Checksum.{sum_from}
 use Rattle.osdp_check.specs.Crc.{crc_from}
 use Rattle.osdp_frame.specs.declared.buffer.Buffer.TheInside.{Inside}
 use Rattle.osdp_frame.specs.Packet.{largest}
-use Rattle.osdp_frame.specs.Running.{IsRunning}
+use Rattle.osdp_frame.specs.Running.{GoesBy, IsRunning}
 
 -- what a buffer holds: its bytes, and how many of them the running checks have gone over
 pub record Buffered : Type 0 where
@@ -17,14 +17,10 @@ bytes_of b = slice_range b.bytes b.from b.to
 abbrev pub buffered : Inside → Buffered
 buffered b = record { bytes = bytes_of b; run = b.ran - b.from }
 
--- the bytes that the running checks have gone over
-abbrev pub run_over : Inside → List ℕ
-run_over b = take (b.ran - b.from) (bytes_of b)
-
 pub record IsBuffer (b : Inside) : Type 0 where
   pub order : b.from ≤ b.ran
   pub run : b.ran ≤ b.to
-  pub within : b.to ≤ 2880
+  pub within : b.to ≤ 1712
   pub room : b.to ≤ b.from + largest
-  pub sums : IsRunning sum_from (slice_range b.sums b.from (b.ran + 1)) (run_over b)
-  pub crcs : IsRunning crc_from (slice_range b.crcs b.from (b.ran + 1)) (run_over b)
+  pub sums : IsRunning (GoesBy sum_from) b.sums b.bytes (b.from / 16) (b.ran / 16)
+  pub crcs : IsRunning (GoesBy crc_from) b.crcs b.bytes (b.from / 16) (b.ran / 16)

@@ -1,31 +1,33 @@
 //! The bytes that a framer holds, and the checks of their pieces.
 
-ghost use Rattle.std.specs.Prelude.{◌≡◌, ◌+◌, ◌-◌, ◌≤◌, ◌<◌, [], ◌++◌, length, max, take, drop, slice_range};
-ghost use Rattle.osdp_check.specs.Checksum.{sum_from};
-ghost use Rattle.osdp_check.specs.Crc.{crc_from};
+ghost use Rattle.std.specs.Prelude.{◌≡◌, ◌+◌, ◌-◌, ◌*◌, ◌/◌, ◌%◌, ◌≤◌, ◌<◌, [], ◌++◌, length, max, take, drop, slice_index_or, slice_range};
 ghost use Rattle.osdp_frame.specs.Bytes.{AreBytes};
 ghost use Rattle.osdp_frame.specs.Check.{check_of, check_size};
-ghost use Rattle.osdp_frame.specs.Running.{IsRunning};
+ghost use Rattle.osdp_frame.specs.Running.{GoesOver, IsRunning};
 
 use crate::CheckKind;
 use crate::bytes::{MAX_PACKET, are_bytes};
 use osdp_check::{Check, Crc16, Sum8};
 use std::marker::Model;
 
-/// Room for twice the largest packet, so that bytes are moved to the front once in many pushes.
-const ROOM: usize = 2880;
+/// Room for the largest packet and 272 bytes more, so that 256 bytes and more go between two moves to the front.
+const ROOM: usize = 1712;
+
+/// A state of the running checks is kept for one place of so many.
+const STRIDE: usize = 16;
 
 /// At most 1440 bytes, taken in at the end and let go at the front.
 ///
 /// Beside the first of them stand running checks, so that the check of a piece at the front takes a few
-/// steps however long the piece is, and those of many pieces go over each byte once. With the room for
-/// them a buffer takes 11.5 kB.
+/// steps however long the piece is: it goes over fewer than sixteen bytes before either end. For many pieces
+/// the running checks go over each byte once. With the room for them a buffer takes 2 kB.
 #[derive(Debug, Drop)]
 pub struct Buffer {
-    bytes: [u8; 2880],
-    /// The running checks before each of the bytes from `from` to `ran`, and after the last of these.
-    sums: [Sum8; 2881],
-    crcs: [Crc16; 2881],
+    bytes: [u8; 1712],
+    /// The states of the running checks: number n before the byte at place 16 * n, from the last such place
+    /// that is not past `from` to the last that is not past `ran`. The first of them may be any state.
+    sums: [Sum8; 108],
+    crcs: [Crc16; 108],
     /// Where the bytes held begin, how far the running checks have come, and where the bytes end.
     from: usize,
     ran: usize,
@@ -48,9 +50,9 @@ impl Buffer {
         ensures { result ≡ record { bytes = []; run = 0 } }
     {
         Buffer {
-            bytes: [0; 2880],
-            sums: [Sum8::start(); 2881],
-            crcs: [Crc16::start(); 2881],
+            bytes: [0; 1712],
+            sums: [Sum8::start(); 108],
+            crcs: [Crc16::start(); 108],
             from: 0,
             ran: 0,
             to: 0,
@@ -124,11 +126,12 @@ impl Buffer {
         if to <= self.ran {
             return;
         }
-        run_on(&mut self.sums, &mut self.crcs, &self.bytes, self.ran, to);
+        run_on(&mut self.sums, &self.bytes, self.ran / STRIDE, to / STRIDE);
+        run_on(&mut self.crcs, &self.bytes, self.ran / STRIDE, to / STRIDE);
         self.ran = to;
     }
 
-    /// The check of the first `count` bytes, in its first one or two bytes. It takes a few steps.
+    /// The check of the first `count` bytes, in its first one or two bytes. It goes over at most thirty bytes.
     #[inline(never)]
     pub fn check(&self, check: CheckKind, count: usize) -> [u8; 2]
         requires some { 0 < count }
@@ -139,13 +142,13 @@ impl Buffer {
         let to = self.from + count;
         match check {
             CheckKind::Sum => {
-                let front = self.sums[self.from];
-                let whole = self.sums[to];
+                let front = state_at(&self.sums, &self.bytes, self.from);
+                let whole = state_at(&self.sums, &self.bytes, to);
                 whole.spell_since(&front, count)
             }
             CheckKind::Crc => {
-                let front = self.crcs[self.from];
-                let whole = self.crcs[to];
+                let front = state_at(&self.crcs, &self.bytes, self.from);
+                let whole = state_at(&self.crcs, &self.bytes, to);
                 whole.spell_since(&front, count)
             }
         }
@@ -153,11 +156,12 @@ impl Buffer {
 }
 
 /// Moves the bytes from `from` to `to`, and the running checks from `from` to `ran`, so that `count` more
-/// bytes have room, and tells where they begin then.
+/// bytes have room, and tells where they begin then. The bytes from the first state on move with them, and
+/// all by a multiple of sixteen places, so that each state stands before the same byte.
 fn make_room(
-    bytes: &mut [u8; 2880],
-    sums: &mut [Sum8; 2881],
-    crcs: &mut [Crc16; 2881],
+    bytes: &mut [u8; 1712],
+    sums: &mut [Sum8; 108],
+    crcs: &mut [Crc16; 108],
     from: usize,
     ran: usize,
     to: usize,
@@ -165,37 +169,36 @@ fn make_room(
 ) -> usize
     requires order { from ≤ ran }
     requires run { ran ≤ to }
-    requires within { to ≤ 2880 }
+    requires within { to ≤ 1712 }
     requires room { to - from + count ≤ MAX_PACKET }
-    ensures bytes { slice_range bytes.new result (result + (to - from)) ≡ slice_range bytes.old from to }
-    ensures sums { slice_range sums.new result (result + (ran - from) + 1) ≡ slice_range sums.old from (ran + 1) }
-    ensures crcs { slice_range crcs.new result (result + (ran - from) + 1) ≡ slice_range crcs.old from (ran + 1) }
-    ensures room { result + (to - from) + count ≤ 2880 }
+    ensures stride { result % 16 ≡ from % 16 }
+    ensures bytes { slice_range bytes.new (result - from % 16) (result + (to - from)) ≡ slice_range bytes.old (from - from % 16) to }
+    ensures sums { slice_range sums.new (result / 16) (result / 16 + (ran / 16 - from / 16) + 1) ≡ slice_range sums.old (from / 16) (ran / 16 + 1) }
+    ensures crcs { slice_range crcs.new (result / 16) (result / 16 + (ran / 16 - from / 16) + 1) ≡ slice_range crcs.old (from / 16) (ran / 16 + 1) }
+    ensures room { result + (to - from) + count ≤ 1712 }
 {
     if ROOM - to >= count {
         return from;
     }
-    move_to_front(bytes, from, to);
-    move_to_front(sums, from, ran + 1);
-    move_to_front(crcs, from, ran + 1);
-    0
+    let place = from % STRIDE;
+    move_to_front(bytes, from - place, to);
+    move_to_front(sums, from / STRIDE, ran / STRIDE + 1);
+    move_to_front(crcs, from / STRIDE, ran / STRIDE + 1);
+    place
 }
 
 /// Moves the items from `from` to `to` to the front.
 fn move_to_front<T: Copy>(items: &mut [T], from: usize, to: usize)
     requires order { from ≤ to }
     requires within { to ≤ length items.old }
-    requires apart { to - from ≤ from }
     ensures { take (to - from) items.new ≡ slice_range items.old from to }
 {
-    let (front, back) = items.split_at_mut(from);
-    let count = to - from;
-    front[..count].copy_from_slice(&back[..count]);
+    items.copy_within(from..to, 0);
 }
 
 /// Puts bytes into the buffer at a place.
-fn put(buffer: &mut [u8; 2880], at: usize, bytes: &[u8])
-    requires { at + length bytes.now ≤ 2880 }
+fn put(buffer: &mut [u8; 1712], at: usize, bytes: &[u8])
+    requires { at + length bytes.now ≤ 1712 }
     ensures before { take at buffer.new ≡ take at buffer.old }
     ensures there { slice_range buffer.new at (at + length bytes.now) ≡ bytes.now }
 {
@@ -203,29 +206,38 @@ fn put(buffer: &mut [u8; 2880], at: usize, bytes: &[u8])
     buffer[at..end].copy_from_slice(bytes);
 }
 
-/// Goes on with the running checks over the bytes from `from` to `to`.
+/// Goes on with a running check from state number `from` to number `to`.
 #[inline(never)]
-fn run_on(
-    sums: &mut [Sum8; 2881],
-    crcs: &mut [Crc16; 2881],
-    bytes: &[u8; 2880],
-    from: usize,
-    to: usize,
-)
+fn run_on<C: Check + Copy>(states: &mut [C], bytes: &[u8; 1712], from: usize, to: usize)
     requires order { from ≤ to }
-    requires within { to ≤ 2880 }
-    ensures sums_before { take (from + 1) sums.new ≡ take (from + 1) sums.old }
-    ensures crcs_before { take (from + 1) crcs.new ≡ take (from + 1) crcs.old }
-    ensures sums { IsRunning sum_from (slice_range sums.new from (to + 1)) (slice_range bytes.now from to) }
-    ensures crcs { IsRunning crc_from (slice_range crcs.new from (to + 1)) (slice_range bytes.now from to) }
+    requires states { to < length states.old }
+    requires bytes { 16 * to ≤ 1712 }
+    ensures before { take (from + 1) states.new ≡ take (from + 1) states.old }
+    ensures running { IsRunning C.TookSince states.new bytes.now from to }
 {
-    let mut sum = sums[from];
-    let mut crc = crcs[from];
-    for place in from..to {
-        let byte = bytes[place];
-        sum.add(byte);
-        crc.add(byte);
-        sums[place + 1] = sum;
-        crcs[place + 1] = crc;
+    for number in from..to {
+        let piece = &bytes[STRIDE * number..STRIDE * (number + 1)];
+        states[number + 1] = gone_over(states[number], piece);
     }
+}
+
+/// The state of a running check before the byte at a place.
+fn state_at<C: Check + Copy>(states: &[C], bytes: &[u8; 1712], place: usize) -> C
+    requires states { place / 16 < length states.now }
+    requires bytes { place ≤ 1712 }
+    ensures { GoesOver C.TookSince (slice_index_or states.now (place / 16) result) (slice_range bytes.now (place - place % 16) place) result }
+{
+    let begin = place - place % STRIDE;
+    gone_over(states[place / STRIDE], &bytes[begin..place])
+}
+
+/// What the bytes make of a state.
+fn gone_over<C: Check + Copy>(front: C, bytes: &[u8]) -> C
+    ensures { GoesOver C.TookSince front bytes.now result }
+{
+    let mut state = front;
+    for byte in bytes {
+        state.add(*byte);
+    }
+    state
 }

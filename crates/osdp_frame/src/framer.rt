@@ -20,7 +20,7 @@ const SHORT: usize = 32;
 ///
 /// Each byte takes a few steps, whatever the line sends: a place where no packet begins costs no more
 /// where a long packet could have begun. For this a framer keeps running checks of the bytes that it
-/// holds, and takes 11.5 kB in all.
+/// holds, and takes 2 kB in all.
 #[derive(Debug, Drop)]
 pub struct Framer {
     held: Buffer,

@@ -1,10 +1,9 @@
-use Rattle.osdp_check.specs.Checksum.{sum_from}
-use Rattle.osdp_check.specs.Crc.{crc_from}
-use Rattle.osdp_frame.proofs.Running.{HasRun}
+use Rattle.std.proofs.Common.{◌≡◌, ◌+◌, take}
+use Rattle.osdp_frame.specs.Running.{IsRunning}
 use Rattle.osdp_frame.proofs.buffer.run_on.Given as goal
 
-abbrev pub invariant-loop-place : goal.invariant-loop-place
-invariant-loop-place l = record {
-  sums : HasRun sum_from l.initial.sums l.sums l.bytes l.from l.place l.sum;
-  crcs : HasRun crc_from l.initial.crcs l.crcs l.bytes l.from l.place l.crc;
+abbrev pub invariant-loop-number : goal.invariant-loop-number
+invariant-loop-number g l = record {
+  before : take (l.from + 1) l.states ≡ take (l.from + 1) l.initial.states;
+  run : IsRunning g.C.Check.TookSince l.states l.bytes l.from l.number;
 }

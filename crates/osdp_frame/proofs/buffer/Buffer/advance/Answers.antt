@@ -1,7 +1,8 @@
-use Rattle.std.proofs.Common.{◌≡◌, ◌-◌, ◌+◌, ◌≤◌, length, drop, slice_range, ap, ◌∙◌, arith}
+use Rattle.std.proofs.Common.{◌≡◌, ◌-◌, ◌+◌, ◌/◌, ◌≤◌, length, drop, ap, ◌∙◌, arith}
 use Rattle.osdp_check.specs.Checksum.{sum_from}
 use Rattle.osdp_check.specs.Crc.{crc_from}
 use Rattle.osdp_frame.specs.Buffered.{Buffered}
+use Rattle.osdp_frame.specs.Running.{GoesBy}
 use Rattle.osdp_frame.proofs.Buffering.{slice_after, run_after}
 use Rattle.osdp_frame.proofs.Running.{length-slice}
 use Rattle.osdp_frame.proofs.buffer.Buffer.advance.Goals as goal
@@ -9,18 +10,16 @@ use Rattle.osdp_frame.proofs.buffer.Buffer.advance.Goals as goal
 pub invariant_of-self : goal.invariant_of-self
 invariant_of-self c =
     let b = c.self.inside in
-    let held = slice_range b.bytes b.from b.to in
     let i = c.self.invariant in
     let size = length-slice b.bytes b.from b.to (omega arith) (omega (arith, i.within)) in
     let there : b.from + c.args.count ≤ b.to = omega (arith, ap (λ (v : Buffered). length v.bytes) c.self.view_is) in
-    let rest = slice_after b.bytes b.from b.to c.args.count there in
     record {
       order = omega arith;
       run = omega arith;
       within = i.within;
       room = omega arith;
-      sums = run_after sum_from b.sums held (slice_range b.bytes (b.from + c.args.count) b.to) b.from b.ran c.args.count _ rest c.max-self-inside.ensures i.sums;
-      crcs = run_after crc_from b.crcs held (slice_range b.bytes (b.from + c.args.count) b.to) b.from b.ran c.args.count _ rest c.max-self-inside.ensures i.crcs;
+      sums = run_after (GoesBy sum_from) b.sums b.bytes (b.from / 16) (b.ran / 16) ((b.from + c.args.count) / 16) (c.max-self-inside.result / 16) (omega arith) (λ past. omega arith) i.sums;
+      crcs = run_after (GoesBy crc_from) b.crcs b.bytes (b.from / 16) (b.ran / 16) ((b.from + c.args.count) / 16) (c.max-self-inside.result / 16) (omega arith) (λ past. omega arith) i.crcs;
     }
 
 pub returns : goal.returns

@@ -1,7 +1,8 @@
-use Rattle.std.proofs.Common.{◌+◌, ◌≤◌, length, ap, arith}
+use Rattle.std.proofs.Common.{◌+◌, ◌/◌, ◌≤◌, length, ap, arith}
 use Rattle.osdp_check.specs.Checksum.{sum_from}
 use Rattle.osdp_check.specs.Crc.{crc_from}
 use Rattle.osdp_frame.specs.Buffered.{Buffered}
+use Rattle.osdp_frame.specs.Running.{GoesBy}
 use Rattle.osdp_frame.proofs.Buffering.{run_further}
 use Rattle.osdp_frame.proofs.Running.{length-slice}
 use Rattle.osdp_frame.proofs.buffer.Buffer.run_to.Goals as goal
@@ -18,6 +19,6 @@ invariant_of-self c =
       run = there;
       within = i.within;
       room = i.room;
-      sums = run_further sum_from b.sums c.run_on.new.sums b.bytes b.from b.ran end b.to i.order (omega arith) there (omega (arith, i.within)) c.run_on.ensures.sums_before i.sums c.run_on.ensures.sums;
-      crcs = run_further crc_from b.crcs c.run_on.new.crcs b.bytes b.from b.ran end b.to i.order (omega arith) there (omega (arith, i.within)) c.run_on.ensures.crcs_before i.crcs c.run_on.ensures.crcs;
+      sums = run_further (GoesBy sum_from) b.sums c.run_on.new.states b.bytes (b.from / 16) (b.ran / 16) (end / 16) c.run_on.ensures.before i.sums c.run_on.ensures.running;
+      crcs = run_further (GoesBy crc_from) b.crcs c.run_on-2.new.states b.bytes (b.from / 16) (b.ran / 16) (end / 16) c.run_on-2.ensures.before i.crcs c.run_on-2.ensures.running;
     }

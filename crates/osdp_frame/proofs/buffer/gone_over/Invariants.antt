@@ -1,0 +1,6 @@
+use Rattle.std.proofs.Common.{take}
+use Rattle.osdp_frame.specs.Running.{GoesOver}
+use Rattle.osdp_frame.proofs.buffer.gone_over.Given as goal
+
+abbrev pub invariant-loop-byte : goal.invariant-loop-byte
+invariant-loop-byte g l = GoesOver g.C.Check.TookSince l.fn.front (take l.byte-index l.bytes) l.state
