@@ -13,14 +13,14 @@ use crate::fault::{BadWords, MsgFault};
 use crate::leds::Leds;
 use crate::limits::MAX_MESSAGE;
 use crate::outputs::Outputs;
-use crate::parsing::{MOST_WORDS, parse_byte};
+use crate::parsing::parse_byte;
 use crate::placing::{copy_list, place_list};
 use crate::printing::{print_byte, print_records};
 use crate::records::put_records;
 use crate::spelling::{put_byte, put_code};
 use crate::tabled::{Tabled, first_fault};
 use arrayvec::ArrayVec;
-use osdp_words::words_in;
+use osdp_words::Fields;
 use std::fmt;
 
 /// A command. Each value has the lengths and counts of its row in the table of commands.
@@ -126,26 +126,34 @@ fn decode(code: u8, bytes: &[u8]) -> Result<Command, MsgFault>
     Ok(command.unwrap())
 }
 
-/// The command whose text begins with a name and goes on with these words.
-fn parse_row(name: &str, words: &[&str]) -> Option<Command>
-    ensures { ReadsWords command_words CommandFits (name.now ∷ texts words.now) result }
+/// The command whose text begins with a name and goes on with these fields.
+fn parse_row(name: &str, fields: Fields<'_>) -> Option<Command>
+    ensures { ReadsWords command_words CommandFits (name.now ∷ fields.entry) result }
 {
     match name {
-        "POLL" => words.is_empty().then_some(Command::Poll),
-        "ID" => parse_byte(words).map(Command::Id),
-        "CAP" => parse_byte(words).map(Command::Cap),
-        "LSTAT" => words.is_empty().then_some(Command::LocalStatus),
-        "ISTAT" => words.is_empty().then_some(Command::InputStatus),
-        "OSTAT" => words.is_empty().then_some(Command::OutputStatus),
-        "RSTAT" => words.is_empty().then_some(Command::ReaderStatus),
-        "OUT" => Outputs::parse(words).map(Command::Output),
-        "LED" => Leds::parse(words).map(Command::Led),
-        "BUZ" => Buzzer::parse(words).map(Command::Buzzer),
-        "TEXT" => Text::parse(words).map(Command::Text),
-        "COMSET" => Communication::parse(words).map(Command::Comset),
-        "MFG" => MakerMessage::parse(words).map(Command::Maker),
+        "POLL" => fields.is_empty().then_some(Command::Poll),
+        "ID" => parse_byte(fields).map(Command::Id),
+        "CAP" => parse_byte(fields).map(Command::Cap),
+        "LSTAT" => fields.is_empty().then_some(Command::LocalStatus),
+        "ISTAT" => fields.is_empty().then_some(Command::InputStatus),
+        "OSTAT" => fields.is_empty().then_some(Command::OutputStatus),
+        "RSTAT" => fields.is_empty().then_some(Command::ReaderStatus),
+        "OUT" => Outputs::parse(fields).map(Command::Output),
+        "LED" => Leds::parse(fields).map(Command::Led),
+        "BUZ" => Buzzer::parse(fields).map(Command::Buzzer),
+        "TEXT" => Text::parse(fields).map(Command::Text),
+        "COMSET" => Communication::parse(fields).map(Command::Comset),
+        "MFG" => MakerMessage::parse(fields).map(Command::Maker),
         _ => None,
     }
+}
+
+/// The command whose text has these words.
+fn parse_fields(mut fields: Fields<'_>) -> Option<Command>
+    ensures { ReadsWords command_words CommandFits fields.entry result }
+{
+    let name = fields.word()?;
+    parse_row(name, fields)
 }
 
 impl Command {
@@ -215,22 +223,15 @@ impl Command {
         ensures value { IfOk result (λ m. AllStandFor (command_words m) (texts words.now) × CommandFits m) }
         ensures only { (m : Command) → CommandFits m → AllStandFor (command_words m) (texts words.now) → result ≡ Ok m }
     {
-        let [name, rest @ ..] = words else {
-            return Err(BadWords);
-        };
-        parse_row(name, rest).ok_or(BadWords)
+        parse_fields(Fields::new(words)).ok_or(BadWords)
     }
 
     /// The command whose text a line is. Its words have one or more spaces between each two.
-    #[tactic(auto, using(crate::proofs::WordCounts::no_command))]
     pub fn parse_line(line: &str) -> Result<Command, BadWords>
         ensures value { IfOk result (λ m. AllStandFor (command_words m) (words_in line.now) × CommandFits m) }
         ensures only { (m : Command) → CommandFits m → AllStandFor (command_words m) (words_in line.now) → result ≡ Ok m }
     {
-        match words_in::<MOST_WORDS>(line) {
-            Some(words) => Command::parse(words.as_slice()),
-            None => Err(BadWords),
-        }
+        parse_fields(Fields::of_line(line)).ok_or(BadWords)
     }
 
     /// An equal command.

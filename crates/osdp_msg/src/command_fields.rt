@@ -3,7 +3,7 @@
 ghost use Rattle.std.specs.Prelude.{◌≡◌, ◌≤◌, ◌∷◌, [], codes, length};
 ghost use Rattle.std.specs.Fmt.{WritesOnOk};
 ghost use Rattle.osdp_words.specs.Reading.{ReadsWords};
-ghost use Rattle.osdp_words.specs.Word.{plain, text_of, texts};
+ghost use Rattle.osdp_words.specs.Word.{plain, text_of};
 ghost use Rattle.osdp_msg.specs.CommandFields.{BuzzerFits, buzzer_at, buzzer_data, buzzer_words, TextFits, text_at, text_data, text_words, CommunicationFits, communication_at, communication_data, communication_words, MakerFits, maker_at, maker_data, maker_words};
 ghost use Rattle.osdp_msg.specs.ListedCommands.{HasLength};
 
@@ -74,10 +74,10 @@ impl Buzzer {
         write!(f, "BUZ {reader} {tone} {on_time} {off_time} {count}")
     }
 
-    pub(crate) fn parse(words: &[&str]) -> Option<Buzzer>
-        ensures { ReadsWords buzzer_words BuzzerFits (texts words.now) result }
+    pub(crate) fn parse(fields: Fields<'_>) -> Option<Buzzer>
+        ensures { ReadsWords buzzer_words BuzzerFits fields.entry result }
     {
-        let [reader, tone, on_time, off_time, count] = parse_numbers::<5>(words)?;
+        let [reader, tone, on_time, off_time, count] = parse_numbers::<5>(fields)?;
         Some(Buzzer {
             reader,
             tone,
@@ -173,11 +173,11 @@ impl Text {
         )
     }
 
-    pub(crate) fn parse(words: &[&str]) -> Option<Text>
-        ensures { ReadsWords text_words TextFits (texts words.now) result }
+    pub(crate) fn parse(fields: Fields<'_>) -> Option<Text>
+        ensures { ReadsWords text_words TextFits fields.entry result }
     {
         let ([reader, command, time, row, column], characters) = parse_numbers_and_list::<5, 255>(
-            words,
+            fields,
         )?;
         Some(Text {
             reader,
@@ -226,10 +226,9 @@ impl Communication {
         write!(f, "{name} {address} {baud_rate}")
     }
 
-    pub(crate) fn parse(words: &[&str]) -> Option<Communication>
-        ensures { ReadsWords communication_words CommunicationFits (texts words.now) result }
+    pub(crate) fn parse(mut fields: Fields<'_>) -> Option<Communication>
+        ensures { ReadsWords communication_words CommunicationFits fields.entry result }
     {
-        let mut fields = Fields::new(words);
         let address = fields.number_u8()?;
         let baud_rate = fields.number_u32()?;
         fields
@@ -310,10 +309,9 @@ impl MakerMessage {
         write!(f, "{name} {vendor} {bytes}")
     }
 
-    pub(crate) fn parse(words: &[&str]) -> Option<MakerMessage>
-        ensures { ReadsWords maker_words MakerFits (texts words.now) result }
+    pub(crate) fn parse(mut fields: Fields<'_>) -> Option<MakerMessage>
+        ensures { ReadsWords maker_words MakerFits fields.entry result }
     {
-        let mut fields = Fields::new(words);
         let vendor = fields.vendor()?;
         let bytes = fields.byte_list()?;
         fields.is_empty().then_some(MakerMessage { vendor, bytes })

@@ -5,7 +5,7 @@ ghost use Rattle.std.specs.Prelude.{codes};
 ghost use Rattle.std.specs.Fmt.{WritesOnOk};
 ghost use Rattle.byteorder.specs.Endian.{little_number};
 ghost use Rattle.osdp_words.specs.Reading.{ReadsWords};
-ghost use Rattle.osdp_words.specs.Word.{plain, text_of, texts};
+ghost use Rattle.osdp_words.specs.Word.{plain, text_of};
 ghost use Rattle.osdp_msg.specs.Raw.{raw_card};
 ghost use Rattle.osdp_msg.specs.ReplyFields.{RawFits, raw_at, raw_data, raw_words};
 
@@ -129,10 +129,9 @@ impl Raw {
         write!(f, "RAW {reader} {format} {bits} {bytes}")
     }
 
-    pub(crate) fn parse(words: &[&str]) -> Option<Raw>
-        ensures { ReadsWords raw_words RawFits (texts words.now) result }
+    pub(crate) fn parse(mut fields: Fields<'_>) -> Option<Raw>
+        ensures { ReadsWords raw_words RawFits fields.entry result }
     {
-        let mut fields = Fields::new(words);
         let [reader, format] = fields.numbers_u8::<2>()?;
         let bits = fields.number_u16()?;
         let bytes: ArrayVec<u8, MAX_CARD_BYTES> = fields.byte_list()?;

@@ -3,7 +3,6 @@
 ghost use Rattle.std.specs.Prelude.{◌≡◌, ◌<◌, ◌≤◌, ◌+◌, ◌*◌, ◌%◌, length, map};
 ghost use Rattle.std.specs.List.{All};
 ghost use Rattle.osdp_words.specs.Reading.{ReadsWords};
-ghost use Rattle.osdp_words.specs.Word.{texts};
 ghost use Rattle.osdp_msg.specs.CommandFields.{records_within};
 ghost use Rattle.osdp_msg.specs.Records.{records_at};
 
@@ -11,6 +10,7 @@ use crate::parsing::parse_records;
 use crate::records::{Record, read_records_over};
 use crate::spelling::{copy_over, list_of};
 use arrayvec::ArrayVec;
+use osdp_words::Fields;
 use std::marker::Model;
 
 /// One record at least, and at most `MOST`, as many as a packet has room for.
@@ -79,10 +79,10 @@ impl<R: Record, const MOST: usize> RecordList<R, MOST> {
         copy_over(&mut self.records, other.records());
     }
 
-    pub(crate) fn parse(words: &[&str]) -> Option<RecordList<R, MOST>>
-        ensures { ReadsWords (λ records. map R.word records) (λ records. (0 < length records) × (length records ≤ MOST) × All R.fits records) (texts words.now) result }
+    pub(crate) fn parse(fields: Fields<'_>) -> Option<RecordList<R, MOST>>
+        ensures { ReadsWords (λ records. map R.word records) (λ records. (0 < length records) × (length records ≤ MOST) × All R.fits records) fields.entry result }
     {
-        let records: ArrayVec<R, MOST> = parse_records(words)?;
+        let records: ArrayVec<R, MOST> = parse_records(fields)?;
         if records.is_empty() {
             return None;
         }

@@ -9,7 +9,7 @@ ghost use Rattle.osdp_msg.specs.ReplyText.{reply_words, reply_text};
 use crate::command_fields::{Communication, MakerMessage};
 use crate::fault::{BadWords, MsgFault};
 use crate::limits::{MAX_DATA, MAX_MESSAGE};
-use crate::parsing::{MOST_WORDS, parse_records, parse_states};
+use crate::parsing::{parse_records, parse_states};
 use crate::printing::{print_bytes, print_records};
 use crate::raw::Raw;
 use crate::records::{put_records, read_records};
@@ -18,7 +18,7 @@ use crate::spelling::{list_of, put_bytes, put_code, rest};
 use crate::tabled::{Tabled, first_fault};
 use arrayvec::ArrayVec;
 use byteorder::{ByteOrder, LittleEndian};
-use osdp_words::words_in;
+use osdp_words::Fields;
 use std::fmt;
 
 /// A reply. Each value has the lengths and counts of its row in the table of replies.
@@ -135,29 +135,37 @@ fn decode(code: u8, bytes: &[u8]) -> Result<Reply, MsgFault>
     }
 }
 
-/// The reply whose text begins with a name and goes on with these words.
-fn parse_row(name: &str, words: &[&str]) -> Option<Reply>
-    ensures { ReadsWords reply_words ReplyFits (name.now ∷ texts words.now) result }
+/// The reply whose text begins with a name and goes on with these fields.
+fn parse_row(name: &str, fields: Fields<'_>) -> Option<Reply>
+    ensures { ReadsWords reply_words ReplyFits (name.now ∷ fields.entry) result }
 {
     match name {
-        "ACK" => words.is_empty().then_some(Reply::Ack),
-        "NAK" => Nak::parse(words).map(Reply::Nak),
-        "PDID" => PdId::parse(words).map(Reply::PdId),
+        "ACK" => fields.is_empty().then_some(Reply::Ack),
+        "NAK" => Nak::parse(fields).map(Reply::Nak),
+        "PDID" => PdId::parse(fields).map(Reply::PdId),
         "PDCAP" => Some(Reply::PdCap(PdCap {
-            capabilities: parse_records(words)?,
+            capabilities: parse_records(fields)?,
         })),
-        "LSTATR" => LocalState::parse(words).map(Reply::LocalState),
-        "ISTATR" => parse_states(words).map(Reply::Inputs),
-        "OSTATR" => parse_states(words).map(Reply::Outputs),
-        "RSTATR" => parse_states(words).map(Reply::Readers),
-        "RAW" => Raw::parse(words).map(Reply::Raw),
-        "FMT" => Formatted::parse(words).map(Reply::Formatted),
-        "KEYPAD" => Keypad::parse(words).map(Reply::Keypad),
-        "COM" => Communication::parse(words).map(Reply::Com),
-        "BUSY" => words.is_empty().then_some(Reply::Busy),
-        "MFGREP" => MakerMessage::parse(words).map(Reply::MakerReply),
+        "LSTATR" => LocalState::parse(fields).map(Reply::LocalState),
+        "ISTATR" => parse_states(fields).map(Reply::Inputs),
+        "OSTATR" => parse_states(fields).map(Reply::Outputs),
+        "RSTATR" => parse_states(fields).map(Reply::Readers),
+        "RAW" => Raw::parse(fields).map(Reply::Raw),
+        "FMT" => Formatted::parse(fields).map(Reply::Formatted),
+        "KEYPAD" => Keypad::parse(fields).map(Reply::Keypad),
+        "COM" => Communication::parse(fields).map(Reply::Com),
+        "BUSY" => fields.is_empty().then_some(Reply::Busy),
+        "MFGREP" => MakerMessage::parse(fields).map(Reply::MakerReply),
         _ => None,
     }
+}
+
+/// The reply whose text has these words.
+fn parse_fields(mut fields: Fields<'_>) -> Option<Reply>
+    ensures { ReadsWords reply_words ReplyFits fields.entry result }
+{
+    let name = fields.word()?;
+    parse_row(name, fields)
 }
 
 impl Reply {
@@ -209,22 +217,15 @@ impl Reply {
         ensures value { IfOk result (λ m. AllStandFor (reply_words m) (texts words.now) × ReplyFits m) }
         ensures only { (m : Reply) → ReplyFits m → AllStandFor (reply_words m) (texts words.now) → result ≡ Ok m }
     {
-        let [name, rest @ ..] = words else {
-            return Err(BadWords);
-        };
-        parse_row(name, rest).ok_or(BadWords)
+        parse_fields(Fields::new(words)).ok_or(BadWords)
     }
 
     /// The reply whose text a line is. Its words have one or more spaces between each two.
-    #[tactic(auto, using(crate::proofs::WordCounts::no_reply))]
     pub fn parse_line(line: &str) -> Result<Reply, BadWords>
         ensures value { IfOk result (λ m. AllStandFor (reply_words m) (words_in line.now) × ReplyFits m) }
         ensures only { (m : Reply) → ReplyFits m → AllStandFor (reply_words m) (words_in line.now) → result ≡ Ok m }
     {
-        match words_in::<MOST_WORDS>(line) {
-            Some(words) => Reply::parse(words.as_slice()),
-            None => Err(BadWords),
-        }
+        parse_fields(Fields::of_line(line)).ok_or(BadWords)
     }
 
     /// An equal reply.

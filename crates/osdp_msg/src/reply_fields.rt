@@ -3,7 +3,7 @@
 ghost use Rattle.std.specs.Prelude.{◌≡◌, ◌≤◌, ◌∷◌, [], codes, length};
 ghost use Rattle.std.specs.Fmt.{WritesOnOk};
 ghost use Rattle.osdp_words.specs.Reading.{ReadsWords};
-ghost use Rattle.osdp_words.specs.Word.{plain, text_of, texts};
+ghost use Rattle.osdp_words.specs.Word.{plain, text_of};
 ghost use Rattle.osdp_msg.specs.ListedCommands.{HasLength};
 ghost use Rattle.osdp_msg.specs.ReplyFields.{NakFits, nak_at, nak_data, nak_words, PdIdFits, pd_id_at, pd_id_data, pd_id_words, LocalStateFits, local_state_at, local_state_data, local_state_words, FormattedFits, formatted_at, formatted_data, formatted_words, KeypadFits, keypad_at, keypad_data, keypad_words};
 
@@ -68,10 +68,9 @@ impl Nak {
         write!(f, " {detail}")
     }
 
-    pub(crate) fn parse(words: &[&str]) -> Option<Nak>
-        ensures { ReadsWords nak_words NakFits (texts words.now) result }
+    pub(crate) fn parse(mut fields: Fields<'_>) -> Option<Nak>
+        ensures { ReadsWords nak_words NakFits fields.entry result }
     {
-        let mut fields = Fields::new(words);
         let reason = NakReason::from(fields.number_u8()?);
         if fields.is_empty() {
             return Some(Nak {
@@ -160,10 +159,9 @@ impl PdId {
         write!(f, " {major} {minor} {build}")
     }
 
-    pub(crate) fn parse(words: &[&str]) -> Option<PdId>
-        ensures { ReadsWords pd_id_words PdIdFits (texts words.now) result }
+    pub(crate) fn parse(mut fields: Fields<'_>) -> Option<PdId>
+        ensures { ReadsWords pd_id_words PdIdFits fields.entry result }
     {
-        let mut fields = Fields::new(words);
         let vendor = fields.vendor()?;
         let [model, version] = fields.numbers_u8::<2>()?;
         let serial = fields.number_u32()?;
@@ -234,10 +232,10 @@ impl LocalState {
         write!(f, "LSTATR {tamper} {power}")
     }
 
-    pub(crate) fn parse(words: &[&str]) -> Option<LocalState>
-        ensures { ReadsWords local_state_words LocalStateFits (texts words.now) result }
+    pub(crate) fn parse(fields: Fields<'_>) -> Option<LocalState>
+        ensures { ReadsWords local_state_words LocalStateFits fields.entry result }
     {
-        let [tamper, power] = parse_numbers::<2>(words)?;
+        let [tamper, power] = parse_numbers::<2>(fields)?;
         Some(LocalState { tamper, power })
     }
 }
@@ -293,10 +291,10 @@ impl Formatted {
         write!(f, "FMT {reader} {direction} {digits}")
     }
 
-    pub(crate) fn parse(words: &[&str]) -> Option<Formatted>
-        ensures { ReadsWords formatted_words FormattedFits (texts words.now) result }
+    pub(crate) fn parse(fields: Fields<'_>) -> Option<Formatted>
+        ensures { ReadsWords formatted_words FormattedFits fields.entry result }
     {
-        let ([reader, direction], digits) = parse_numbers_and_list::<2, 255>(words)?;
+        let ([reader, direction], digits) = parse_numbers_and_list::<2, 255>(fields)?;
         Some(Formatted {
             reader,
             direction,
@@ -353,10 +351,9 @@ impl Keypad {
         write!(f, "KEYPAD {reader} {digits}")
     }
 
-    pub(crate) fn parse(words: &[&str]) -> Option<Keypad>
-        ensures { ReadsWords keypad_words KeypadFits (texts words.now) result }
+    pub(crate) fn parse(mut fields: Fields<'_>) -> Option<Keypad>
+        ensures { ReadsWords keypad_words KeypadFits fields.entry result }
     {
-        let mut fields = Fields::new(words);
         let reader = fields.number_u8()?;
         let digits = fields.byte_list()?;
         fields.is_empty().then_some(Keypad { reader, digits })

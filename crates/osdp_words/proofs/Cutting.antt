@@ -1,7 +1,12 @@
 -- The pieces of a line between spaces, one after the other, and the words among them.
-use Rattle.std.proofs.Common.{lit<, ◌≡◌, ◌≤◌, ℕ, arith, true, false, List, [], ◌∷◌, ◌++◌, filter, length, Bor, Some, None, cond, eqb, not, refl, sym, ap, subst, ◌∙◌, append_assoc, append-nil}
-use Rattle.std.proofs.lemmas.List.{length-append, map-append}
-use Rattle.std.specs.List.{slice_split}
+use Rattle.std.proofs.Common.{lit<, ◌≡◌, ◌<◌, ℕ, arith, Bool, true, false, List, [], ◌∷◌, ◌++◌, filter, length, Bor, Option, Some, None, cond, eqb, not, refl, sym, ap, subst, ◌∙◌, append_assoc, append-nil}
+use Rattle.std.proofs.lemmas.List.{map-append}
+use Rattle.std.proofs.lemmas.List.Elements.{All-from_get_or}
+use Rattle.std.proofs.lemmas.List.Splits.{slice_split_first, slice_split_none}
+use Rattle.std.proofs.lemmas.List.Sums.{fails_before_first}
+use Rattle.std.proofs.lemmas.Str.Pattern.{IsSplitOnceResult, split_once_first}
+use Rattle.std.specs.List.{after_first, before_first, position_or_len, slice_split}
+use Rattle.std.specs.Prelude.{MatchOption, IsTrue, ◌↔◌}
 use Rattle.std.specs.Str.Iter.{split_has_more, split_pattern, split_steps, split_text}
 use Rattle.std.specs.Str.Pattern.{FindsChar}
 use Rattle.std.specs.declared.str.Split.{Split}
@@ -82,6 +87,38 @@ pub all_taken : (all words : List (List ℕ)) (s t : Split ℕ) → IsCutTo all 
 all_taken all words s t cut k =
     sym (append-nil words) ∙ ap (λ l. words ++ some_characters l) (sym (no_piece s t cut.left cut.are k)) ∙ cut.whole
 
--- no more words than the line has
-pub no_more : (all words : List (List ℕ)) (s : Split ℕ) → IsCutTo all words s → length words ≤ length all
-no_more all words s cut = omega (arith, ap length cut.whole, length-append words (some_characters cut.left))
+-- ---- one word after another
+
+-- a line is cut at its first space, or not at all
+abbrev pub CutsOnce : List ℕ → Option (Bor (List ℕ) × Bor (List ℕ)) → Type 0
+CutsOnce line r =
+    MatchOption r (slice_split (λ c. eqb c 32) line ≡ line ∷ []) (λ x. slice_split (λ c. eqb c 32) line ≡ x.0.now ∷ slice_split (λ c. eqb c 32) x.1.now)
+
+pub cuts_once : (line : List ℕ) (r : Option (Bor (List ℕ) × Bor (List ℕ))) → IsSplitOnceResult 32 line r → CutsOnce line r
+cuts_once line r h = go r (split_once_first 32 line r h (lit< tt))
+  where
+    go : (q : Option (Bor (List ℕ) × Bor (List ℕ)))
+        → MatchOption q (position_or_len (λ b. eqb b 32) line ≡ length line) (λ x. (position_or_len (λ b. eqb b 32) line < length line) × (x.0.now ≡ before_first (λ b. eqb b 32) line) × (x.1.now ≡ after_first (λ b. eqb b 32) line))
+        → CutsOnce line q
+    go None k = slice_split_none (λ c. eqb c 32) line (All-from_get_or (λ c. eqb c 32 ≡ false) line 0 (λ i lt. fails_before_first (λ c. eqb c 32) line i 0 (omega (arith, k))))
+    go (Some x) k = rw (k.1, k.2) (slice_split_first (λ c. eqb c 32) line 0 k.0)
+
+pub passed_over : (line part more : List ℕ) → slice_split (λ c. eqb c 32) line ≡ part ∷ slice_split (λ c. eqb c 32) more → eqb (length part) 0 ≡ true
+    → words_in line ≡ words_in more
+passed_over line part more e none = ap some_characters e ∙ empty_piece part (slice_split (λ c. eqb c 32) more) none
+
+pub begins_with : (line part more : List ℕ) → slice_split (λ c. eqb c 32) line ≡ part ∷ slice_split (λ c. eqb c 32) more → eqb (length part) 0 ≡ false
+    → words_in line ≡ part ∷ words_in more
+begins_with line part more e some = ap some_characters e ∙ a_word part (slice_split (λ c. eqb c 32) more) some
+
+pub no_word : (line : List ℕ) → slice_split (λ c. eqb c 32) line ≡ line ∷ [] → eqb (length line) 0 ≡ true → words_in line ≡ []
+no_word line e none = ap some_characters e ∙ empty_piece line [] none
+
+pub one_word : (line : List ℕ) → slice_split (λ c. eqb c 32) line ≡ line ∷ [] → eqb (length line) 0 ≡ false → words_in line ≡ line ∷ []
+one_word line e some = ap some_characters e ∙ a_word line [] some
+
+-- where a slice has words, some are left
+pub not_none : (words : List (Bor (List ℕ))) (after all : List (List ℕ)) (empty : Bool) → texts words ++ after ≡ all → empty ≡ eqb (length words) 0 → empty ≡ false
+    → IsTrue empty ↔ (all ≡ [])
+not_none [] after all empty e is other = absurd (cc (is, other))
+not_none (word ∷ words) after all empty e is other = (λ yes. absurd (cc (yes, other)), λ none. absurd (cc (e, none)))

@@ -4,29 +4,32 @@ ghost use Rattle.std.specs.Prelude.{◌≡◌, ◌<◌, ◌≤◌, ◌^◌, ◌�
 ghost use Rattle.arrayvec.specs.ArrayVec.{array_vec_len};
 ghost use Rattle.hex.specs.Hex.{IsBytes};
 ghost use Rattle.osdp_words.specs.Reading.{Takes};
-ghost use Rattle.osdp_words.specs.Word.{AreWithin, bytes, number, numbers, texts};
+ghost use Rattle.osdp_words.specs.Word.{AreWithin, bytes, number, numbers, texts, words_in};
 
 use crate::byte_lists::{byte_list, vendor};
 use crate::numbers::{number_u8, number_u16, number_u32};
 use crate::records::record;
+use crate::splitting::first_word;
 use arrayvec::ArrayVec;
 use std::marker::Model;
 
 /// The words of a text that are still to be read. Each call takes the words of one value from the front;
 /// after a None some of them may be gone.
+// A text is cut as its words are taken, so that no list of them has to stand anywhere.
 #[derive(Drop)]
 pub struct Fields<'a> {
     words: &'a [&'a str],
+    line: &'a str,
 }
 
 impl<'a> Model for Fields<'a> {
-    ghost use Rattle.std.specs.Prelude.{List, ℕ};
+    ghost use Rattle.std.specs.Prelude.{◌++◌, List, ℕ};
     ghost use Rattle.std.specs.Borrow.{Bor};
-    ghost use Rattle.osdp_words.specs.Word.{texts};
+    ghost use Rattle.osdp_words.specs.Word.{texts, words_in};
 
     ghost Value = { List (List ℕ) };
 
-    ghost view = { λ fields. texts fields.words.now };
+    ghost view = { λ fields. texts fields.words.now ++ words_in fields.line.now };
 }
 
 impl<'a> Fields<'a> {
@@ -34,14 +37,22 @@ impl<'a> Fields<'a> {
     pub fn new(words: &'a [&'a str]) -> Self
         ensures { result ≡ texts words.now }
     {
-        Fields { words }
+        Fields { words, line: "" }
+    }
+
+    /// The words of a line, with one or more spaces between each two. Spaces before the first and after the last are passed over; a tab
+    /// is no space.
+    pub fn of_line(line: &'a str) -> Self
+        ensures { result ≡ words_in line.now }
+    {
+        Fields { words: &[], line }
     }
 
     /// Whether every word was taken.
     pub fn is_empty(&self) -> bool
         ensures { IsTrue result ↔ (self.now ≡ []) }
     {
-        self.words.is_empty()
+        self.words.is_empty() && first_word(self.line).is_none()
     }
 
     /// The next word, whatever it is.
@@ -49,8 +60,12 @@ impl<'a> Fields<'a> {
         ensures { MatchOption result (self.old ≡ []) (λ word. self.old ≡ word.now ∷ self.new) }
     {
         let words = self.words;
-        let first = *words.first()?;
-        self.words = &words[1..];
+        if let Some(first) = words.first() {
+            self.words = &words[1..];
+            return Some(*first);
+        }
+        let (first, rest) = first_word(self.line)?;
+        self.line = rest;
         Some(first)
     }
 

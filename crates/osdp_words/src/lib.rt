@@ -8,8 +8,7 @@
 //!
 //! [`Fields`] takes the words of a text from its front, and [`number_u8`] and the like read one word.
 //! Each gives the one value after what was given, and None exactly where there is none. [`ByteList`]
-//! and [`Record`] print words inside a `write!`, and [`words_in`] cuts a line into words. Only [`all_words_in`]
-//! takes memory.
+//! and [`Record`] print words inside a `write!`, and [`all_words_in`] cuts a line into words, for which it takes memory.
 #![tactic(auto)]
 
 mod byte_lists;
@@ -29,4 +28,4 @@ pub use crate::laws::{
 pub use crate::numbers::{number_u8, number_u16, number_u32, number_u64};
 pub use crate::printing::{ByteList, Record};
 pub use crate::records::record;
-pub use crate::splitting::{all_words_in, words_in};
+pub use crate::splitting::all_words_in;

@@ -1,26 +1,25 @@
 //! A line of text as words.
 
-ghost use Rattle.std.specs.Prelude.{◌≡◌, ◌<◌, length, IfOk, MatchOption};
+ghost use Rattle.std.specs.Prelude.{◌≡◌, ◌∷◌, [], IfOk, MatchOption};
 ghost use Rattle.osdp_words.specs.Word.{texts, words_in};
 
-use arrayvec::ArrayVec;
 use std::alloc::{AllocError, Global};
 
-/// The words of a line, with one or more spaces between each two, where there are no more than `N`. Spaces before the first and after the
-/// last are passed over; a tab is no space.
-pub fn words_in<const N: usize>(line: &str) -> Option<ArrayVec<&str, N>>
-    ensures { MatchOption result (N < length (words_in line.now)) (λ words. texts words.items ≡ words_in line.now) }
+/// The first word of a line, and what stands after it.
+pub(crate) fn first_word(line: &str) -> Option<(&str, &str)>
+    ensures { MatchOption result (words_in line.now ≡ []) (λ cut. words_in line.now ≡ cut.0.now ∷ words_in cut.1.now) }
 {
-    let mut words = ArrayVec::new();
-    for word in line.split(' ') {
-        if !word.is_empty() {
-            if words.is_full() {
-                return None;
-            }
-            words.push(word);
+    let mut rest = line;
+    'parts: while let Some((part, more)) = rest.split_once(' ') {
+        if !part.is_empty() {
+            return Some((part, more));
         }
+        rest = more;
     }
-    Some(words)
+    if rest.is_empty() {
+        return None;
+    }
+    Some((rest, ""))
 }
 
 /// All words of a line, however many they are.

@@ -5,12 +5,12 @@ use Rattle.osdp_msg.proofs.command_fields.MakerMessage.parse.Goals as goal
 
 pub returns-in_err-vendor : goal.returns-in_err-vendor
 returns-in_err-vendor c =
-    two_no_front vendor_words IsVendor list_words (IsList 1429) maker_words MakerFits maker_from maker_parts maker_made _ _ _ (rw c.new-fields.ensures at c.in_err-vendor.ensures) c.from_residual.ensures
+    two_no_front vendor_words IsVendor list_words (IsList 1429) maker_words MakerFits maker_from maker_parts maker_made _ _ _ c.in_err-vendor.ensures c.from_residual.ensures
 
 pub returns-in_err-bytes : goal.returns-in_err-bytes
 returns-in_err-bytes c =
-    two_no_back vendor_words IsVendor list_words (IsList 1429) maker_words MakerFits maker_from maker_parts maker_made _ _ _ _ _ (rw c.new-fields.ensures at c.in_ok-vendor.ensures) c.in_err-bytes.ensures c.from_residual-in_err-bytes.ensures
+    two_no_back vendor_words IsVendor list_words (IsList 1429) maker_words MakerFits maker_from maker_parts maker_made _ _ _ _ _ c.in_ok-vendor.ensures c.in_err-bytes.ensures c.from_residual-in_err-bytes.ensures
 
 pub returns : goal.returns
 returns c =
-    two_whole vendor_words IsVendor list_words (IsList 1429) maker_words MakerFits maker_from maker_parts maker_made _ _ _ _ _ _ _ (rw c.new-fields.ensures at c.in_ok-vendor.ensures) c.in_ok-bytes.ensures c.is_empty.ensures c.then_some.ensures
+    two_whole vendor_words IsVendor list_words (IsList 1429) maker_words MakerFits maker_from maker_parts maker_made _ _ _ _ _ _ _ c.in_ok-vendor.ensures c.in_ok-bytes.ensures c.is_empty.ensures c.then_some.ensures

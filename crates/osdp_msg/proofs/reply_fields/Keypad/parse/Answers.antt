@@ -6,12 +6,12 @@ use Rattle.osdp_msg.proofs.reply_fields.Keypad.parse.Goals as goal
 
 pub returns-in_err-reader : goal.returns-in_err-reader
 returns-in_err-reader c =
-    two_no_front number_words (IsBelow (2 ^ 8)) list_words (IsList 255) keypad_words KeypadFits keypad_from keypad_parts keypad_made _ _ _ (rw c.new-fields.ensures at c.in_err-reader.ensures) c.from_residual.ensures
+    two_no_front number_words (IsBelow (2 ^ 8)) list_words (IsList 255) keypad_words KeypadFits keypad_from keypad_parts keypad_made _ _ _ c.in_err-reader.ensures c.from_residual.ensures
 
 pub returns-in_err-digits : goal.returns-in_err-digits
 returns-in_err-digits c =
-    two_no_back number_words (IsBelow (2 ^ 8)) list_words (IsList 255) keypad_words KeypadFits keypad_from keypad_parts keypad_made _ _ _ _ _ (rw c.new-fields.ensures at c.in_ok-reader.ensures) c.in_err-digits.ensures c.from_residual-in_err-digits.ensures
+    two_no_back number_words (IsBelow (2 ^ 8)) list_words (IsList 255) keypad_words KeypadFits keypad_from keypad_parts keypad_made _ _ _ _ _ c.in_ok-reader.ensures c.in_err-digits.ensures c.from_residual-in_err-digits.ensures
 
 pub returns : goal.returns
 returns c =
-    two_whole number_words (IsBelow (2 ^ 8)) list_words (IsList 255) keypad_words KeypadFits keypad_from keypad_parts keypad_made _ _ _ _ _ _ _ (rw c.new-fields.ensures at c.in_ok-reader.ensures) c.in_ok-digits.ensures c.is_empty.ensures c.then_some.ensures
+    two_whole number_words (IsBelow (2 ^ 8)) list_words (IsList 255) keypad_words KeypadFits keypad_from keypad_parts keypad_made _ _ _ _ _ _ _ c.in_ok-reader.ensures c.in_ok-digits.ensures c.is_empty.ensures c.then_some.ensures
