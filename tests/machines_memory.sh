@@ -59,14 +59,14 @@ done
 for test in a_session numbers_take_turns another_address; do
   refuse_each $machines tests::controller::out_of_memory_is_told 1 "tests::controller::$test" 1
 done
-# A bus asks as it is made, and once for each device.
-refuse_each osdp_port_tests bus::reservations::out_of_memory_is_told 3 bus::turns::runs_end '1|2'
+# A bus asks as it is made, and twice for each device: for its commands, and for the device itself.
+refuse_each osdp_port_tests bus::reservations::out_of_memory_is_told 5 bus::turns::runs_end '[1-3]'
 for test in two_devices_take_turns a_pause_holds_the_line; do
-  refuse_each osdp_port_tests bus::reservations::out_of_memory_is_told 3 bus::turns::$test '1|2|3'
+  refuse_each osdp_port_tests bus::reservations::out_of_memory_is_told 5 bus::turns::$test '[1-5]'
 done
 # Ten requests to set up; three that ask beforehand for the room that the commands may take, without which it goes on; four by the steps.
 refuse_each osdp_sim_tests refusals::out_of_memory_is_told 17 refusals::memory_is_needed '[1-9]|10|14|15|16|17'
 refuse_each osdp_sim_tests scripts::out_of_memory_is_told 27 scripts::memory_is_needed '.*'
 # The first request is the test's own, for the list of readers.
-refuse_each osdp_sim_tests buses::refusals::out_of_memory_is_told 34 buses::refusals::memory_is_needed '.*'
+refuse_each osdp_sim_tests buses::refusals::out_of_memory_is_told 36 buses::refusals::memory_is_needed '.*'
 exit "$failed"

@@ -39,7 +39,7 @@ pub record IsRead (held : Held) : Type 0 where
   pub goes_on : held.ended ≡ false
   pub undecided : decided false held.bytes ≡ None
 
--- there is room for all devices, so that only a new one's own queue asks for memory
+-- the list has room for all devices, so that a new one asks for its own block and its queue alone
 pub record HasRoom (l : DeviceList) : Type 0 where
   pub few : length l.entries.items ≤ most_devices
   pub room : most_devices ≤ vec_capacity l.entries

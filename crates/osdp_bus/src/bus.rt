@@ -5,9 +5,9 @@ ghost use Rattle.osdp_controller.specs.States.{is_closed};
 ghost use Rattle.osdp_bus.specs.Devices.{address_of};
 
 use crate::Entry;
+use crate::boxed_device::BoxedDevice;
 use crate::config::BusConfig;
-use crate::device::{Device, comset_of};
-use crate::device_list::{DeviceList, is_taken, is_taken_beside};
+use crate::device_list::{DeviceList, is_taken};
 use crate::fault::BusFault;
 use crate::line::Line;
 use osdp_controller::Report;
@@ -50,7 +50,7 @@ impl Bus {
     ghost use Rattle.osdp_controller.specs.Lent.{IsWritten};
     ghost use Rattle.osdp_bus.specs.Ticking.{bus_ticks};
 
-    /// A bus without devices. It takes the memory for sixteen.
+    /// A bus without devices. It takes the memory for a list of sixteen, and none for these themselves.
     ///
     /// OutOfRange (B5) where a setting is out of its range; else NoMemory (B1) where there is none.
     pub fn new(alloc: Global, config: BusConfig) -> Result<Bus, BusFault>
@@ -76,7 +76,7 @@ impl Bus {
         Ok(Bus { alloc, line })
     }
 
-    /// Adds a device at this address, whose session is closed. It takes the memory for its waiting commands.
+    /// Adds a device at this address, whose session is closed. It takes the memory for the device and for its waiting commands.
     ///
     /// TooMany (B2) where sixteen are there; else OutOfRange (B5) for the configuration address; else AddressTaken (B3)
     /// where the address is that of a device or reserved for one; else NoMemory (B1) where there is none. Nothing has
@@ -94,7 +94,7 @@ impl Bus {
         if is_taken(self.line.devices.entries.as_slice(), address.get()) {
             return Err(BusFault::AddressTaken);
         }
-        let device = Device::new(self.alloc, address, &self.line.config)?;
+        let device = BoxedDevice::new(self.alloc, address, &self.line.config)?;
         self.line.devices.entries.push_reserved(device);
         Ok(entry)
     }

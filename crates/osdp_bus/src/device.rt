@@ -1,22 +1,18 @@
 //! A device of a bus.
 
-ghost use Rattle.std.specs.Prelude.{◌≡◌, ◌<◌, IfErr, IfOk, None, OnOk, Some, is_some, option_map};
+ghost use Rattle.std.specs.Prelude.{◌≡◌, IfErr, None, OnOk, Some, is_some, option_map};
 ghost use Rattle.osdp_controller.specs.Comsets.{is_comset};
 ghost use Rattle.osdp_controller.specs.Hearing.{comset_of};
 ghost use Rattle.osdp_controller.specs.Lent.{IsWritten};
 ghost use Rattle.osdp_controller.specs.Machine.{begin_refusal, retarget_refusal, submit_refusal};
-ghost use Rattle.osdp_bus.specs.declared.fault.BusFault.TheVariants.{NoMemory};
 ghost use Rattle.osdp_bus.specs.Devices.{device_hears, device_ticks, freed_with, holds, is_at, is_device_due, is_reserved, reserved_after, reserved_for, step_of, takes_up, told_of};
-ghost use Rattle.osdp_bus.specs.Machine.{bus_fault, device_begins, device_retargets, device_submits, device_withdraws, new_device, reserved_without, withdrawn_of};
-ghost use Rattle.osdp_bus.specs.Settings.{IsBusConfig};
+ghost use Rattle.osdp_bus.specs.Machine.{bus_fault, device_begins, device_retargets, device_submits, device_withdraws, reserved_without, withdrawn_of};
 ghost use Rattle.osdp_bus.specs.Waits.{IsDueFrom};
 
-use crate::config::BusConfig;
 use crate::fault::BusFault;
 use osdp_controller::{Controller, ControllerFault, Report};
 use osdp_frame::{Address, Burst, FrameView};
 use osdp_msg::{Command, Communication};
-use std::alloc::Global;
 
 /// A device: its controller, and the address that is reserved for it.
 #[derive(Debug, Drop)]
@@ -26,26 +22,6 @@ pub struct Device {
 }
 
 impl Device {
-    /// A new device at the address of one.
-    pub(crate) fn new(
-        alloc: Global,
-        address: Address,
-        config: &BusConfig,
-    ) -> Result<Device, BusFault>
-        requires config { IsBusConfig config.now }
-        requires device { address < 127 }
-        ensures made { IfOk result (λ d. d ≡ new_device address config.now) }
-        ensures fault { IfErr result (λ fault. fault ≡ NoMemory) }
-    {
-        match Controller::new(alloc, config.of_controller(address), config.capacity) {
-            Ok(controller) => Ok(Device {
-                controller,
-                reserved: None,
-            }),
-            Err(_) => Err(BusFault::NoMemory),
-        }
-    }
-
     /// Whether it is at this address.
     pub(crate) fn is_at(&self, address: u8) -> bool
         ensures { result ≡ is_at address self.now }

@@ -9,19 +9,19 @@ ghost use Rattle.osdp_bus.specs.Waits.{IsDueFrom, any_due, earlier};
 ghost use Rattle.osdp_frame.specs.Shown.{item_of};
 
 use crate::Entry;
-use crate::device::Device;
+use crate::boxed_device::BoxedDevice;
 use osdp_controller::Report;
 use osdp_frame::{FrameView, Item};
 
 /// The devices in the order of adding, and the report that waits to be taken.
 #[derive(Debug, Drop)]
 pub struct DeviceList {
-    pub entries: Vec<Device>,
+    pub entries: Vec<BoxedDevice>,
     pub report: Option<(Entry, Report)>,
 }
 
 /// The first device at this address.
-fn first_at(devices: &[Device], address: u8) -> Option<Entry>
+fn first_at(devices: &[BoxedDevice], address: u8) -> Option<Entry>
     ensures place { result ≡ first_from 0 (is_at address) devices.now }
     ensures within { IfSome result (λ entry. entry < length devices.now) }
 {
@@ -34,7 +34,7 @@ fn first_at(devices: &[Device], address: u8) -> Option<Entry>
 }
 
 /// The first device whose exchange is outstanding.
-pub(crate) fn first_holding(devices: &[Device]) -> Option<Entry>
+pub(crate) fn first_holding(devices: &[BoxedDevice]) -> Option<Entry>
     ensures { result ≡ first_from 0 holds devices.now }
 {
     for (i, device) in devices.iter().enumerate() {
@@ -46,7 +46,7 @@ pub(crate) fn first_holding(devices: &[Device]) -> Option<Entry>
 }
 
 /// The first device that is due, by its number, where the first of them has number `at`.
-fn first_due(devices: &[Device], at: Entry, now: u64) -> Option<Entry>
+fn first_due(devices: &[BoxedDevice], at: Entry, now: u64) -> Option<Entry>
     requires { at + length devices.now < 2 ^ 63 }
     ensures { result ≡ first_from at (is_device_due now) devices.now }
 {
@@ -59,7 +59,7 @@ fn first_due(devices: &[Device], at: Entry, now: u64) -> Option<Entry>
 }
 
 /// The first device in turn that is due, beginning with that of this entry.
-pub(crate) fn next_due(devices: &[Device], first: Entry, now: u64) -> Option<Entry>
+pub(crate) fn next_due(devices: &[BoxedDevice], first: Entry, now: u64) -> Option<Entry>
     requires { first ≤ length devices.now }
     ensures { result ≡ first_around first (is_device_due now) devices.now }
 {
@@ -70,7 +70,7 @@ pub(crate) fn next_due(devices: &[Device], first: Entry, now: u64) -> Option<Ent
 }
 
 /// From when on some device is due, but not before this moment. None where none ever is.
-pub(crate) fn earliest(devices: &[Device], now: u64) -> Option<u64>
+pub(crate) fn earliest(devices: &[BoxedDevice], now: u64) -> Option<u64>
     ensures { IsDueFrom (any_due devices.now) now result }
 {
     let mut first = None;
@@ -92,7 +92,7 @@ pub(crate) fn earlier(a: Option<u64>, b: Option<u64>) -> Option<u64>
 }
 
 /// Whether some device takes the address up.
-pub(crate) fn is_taken(devices: &[Device], address: u8) -> bool
+pub(crate) fn is_taken(devices: &[BoxedDevice], address: u8) -> bool
     ensures { result ≡ is_taken address devices.now }
 {
     for device in devices {
@@ -104,7 +104,7 @@ pub(crate) fn is_taken(devices: &[Device], address: u8) -> bool
 }
 
 /// Whether some device other than that of this entry takes the address up.
-pub(crate) fn is_taken_beside(devices: &[Device], entry: Entry, address: u8) -> bool
+pub(crate) fn is_taken_beside(devices: &[BoxedDevice], entry: Entry, address: u8) -> bool
     requires { entry < length devices.now }
     ensures { result ≡ is_taken_beside entry address devices.now }
 {

@@ -19,6 +19,7 @@
 //! What a bus does is the definitions in `specs/`. Only `Bus::new` and `Bus::add` take memory.
 #![tactic(auto)]
 
+mod boxed_device;
 mod bus;
 mod calls;
 mod config;

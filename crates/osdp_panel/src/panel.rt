@@ -35,7 +35,7 @@ impl Model for Panel {
 }
 
 impl Panel {
-    /// A panel without devices. It takes the memory for sixteen.
+    /// A panel without devices. It takes the memory for a list of sixteen, and none for these themselves.
     ///
     /// OutOfRange (B5) where a setting is out of its range; else NoMemory (B1) where there is none.
     pub fn new(alloc: Global, config: BusConfig) -> Result<Panel, BusFault>
@@ -47,7 +47,7 @@ impl Panel {
         }
     }
 
-    /// Adds a device at an address, whose session is closed, and tells its entry. It takes the memory for its commands.
+    /// Adds a device at an address, whose session is closed, and tells its entry. It takes the memory for the device and for its commands.
     ///
     /// The faults are those of `Bus::add`.
     pub fn add(&mut self, address: Address) -> Result<Entry, BusFault>
