@@ -14,6 +14,7 @@ use Rattle.osdp_link_laws.specs.Link as link
 use Rattle.osdp_link_laws.specs.Link.{Account, controller_restarted, reader_restarted}
 use Rattle.osdp_link_laws.specs.Sessions.{LeavesCommands, queued}
 use Rattle.osdp_link_laws.specs.Sessions as sessions
+use Rattle.osdp_link_laws.proofs.Doing.{forgets_all}
 use Rattle.osdp_link_laws.proofs.Lines.{each_all, each_map, each_of}
 use Rattle.osdp_link_laws.proofs.Stages.{Each}
 use Rattle.osdp_reader.specs.State.{ReaderState}
@@ -180,16 +181,7 @@ module _ {H : Type 0} where
         (some_same (forgets (Some d) t) u (sym (forgot k d t ls.bus.devices.entries ls.stations h.entry h.station) ∙ h.next_station)) (
           record {
             others = record { reader = refl; to_reader = refl; to_controller = refl; earlier = refl };
-            account = record {
-              issued = refl;
-              taken = refl;
-              given = refl;
-              settled = refl;
-              unsettled = refl;
-              forgotten = refl;
-              removed = refl;
-              events = record { queued = refl; kept = refl; thrown_away = refl; offered = refl; reported = refl; restarts = refl };
-            };
+            account = forgets_all d.controller t.account;
             ended = subst (λ a. LeavesCommands a []) to left;
           },
           ap (λ (x : Device). x.reserved) made.1,

@@ -8,6 +8,7 @@ use Rattle.osdp_msg.specs.declared.command.Command.{Command}
 use Rattle.osdp_msg.specs.declared.event.Event.{Event}
 use Rattle.osdp_msg.specs.declared.nak.NakReason.TheVariants.{UnexpectedSequence}
 use Rattle.osdp_controller.specs.Machine as controllers
+use Rattle.osdp_controller.specs.Machine.{Machine}
 use Rattle.osdp_controller.specs.declared.fault.ControllerFault.{ControllerFault}
 use Rattle.osdp_controller.specs.declared.fault.ControllerFault.TheVariants.{NotClosed, OutOfRange}
 use Rattle.osdp_controller.specs.declared.state.State.{State}
@@ -20,9 +21,9 @@ use Rattle.osdp_reader.specs.Table.{answer_to, command_in, event_or_answer, hear
 use Rattle.osdp_reader.specs.declared.handler.Answer.{Answer}
 use Rattle.osdp_reader.specs.declared.kind.Kind.TheVariants.{Silent, Secured, Zero, Busy, Wrong}
 use Rattle.osdp_reader_laws.specs.Laws.{ComesTo}
-use Rattle.osdp_link_laws.specs.Effects.{AnswersBy, HasAddress, Loses, LosesOne, RefusesNumbers, RestartsController, RestartsReader, Retargets, SetsHandler, ThrowsAway, Withdraws}
+use Rattle.osdp_link_laws.specs.Effects.{AnswersBy, Forgets, HasAddress, Loses, LosesOne, RefusesNumbers, RestartsController, RestartsReader, Retargets, SetsHandler, ThrowsAway, Withdraws}
 use Rattle.osdp_link_laws.specs.Link as link
-use Rattle.osdp_link_laws.specs.Link.{Account, Link, Withdrawn, lost_at, reader_restarted}
+use Rattle.osdp_link_laws.specs.Link.{Account, Link, Withdrawn, controller_restarted, lost_at, outstanding_command, reader_restarted}
 use Rattle.osdp_link_laws.proofs.Acting.{no_event}
 use Rattle.osdp_link_laws.proofs.Numbers.{is_false, is_true}
 use Rattle.osdp_link_laws.proofs.Restarts.{drop_front}
@@ -35,6 +36,20 @@ for_it false true all command here = refl
 for_it false false true command here = refl
 for_it false false false command (inl here) = absurd cc
 for_it false false false command (inr here) = absurd cc
+
+-- ---- a controller that has restarted
+
+pub forgets_all : (m : Machine) (t : Account) → Forgets (outstanding_command m.session.state) m.waiting t (controller_restarted m t)
+forgets_all m t = record {
+  issued = refl;
+  taken = refl;
+  given = refl;
+  settled = refl;
+  unsettled = refl;
+  forgotten = refl;
+  removed = refl;
+  events = record { queued = refl; kept = refl; thrown_away = refl; offered = refl; reported = refl; restarts = refl };
+}
 
 module _ {H : Type 0} where
   comes_here : (r : ReaderState H) (p : Packet) → ComesTo r p → is_for_another r p ≡ false
@@ -121,16 +136,7 @@ module _ {H : Type 0} where
     restarts_controller l config room = record {
       others = record { reader = refl; to_reader = refl; to_controller = refl; earlier = refl };
       controller = record { state = refl; config = refl; number = refl; greatest = refl; waiting = refl; capacity = refl };
-      account = record {
-        issued = refl;
-        taken = refl;
-        given = refl;
-        settled = refl;
-        unsettled = refl;
-        forgotten = refl;
-        removed = refl;
-        events = record { queued = refl; kept = refl; thrown_away = refl; offered = refl; reported = refl; restarts = refl };
-      };
+      account = forgets_all l.controller l.account;
     }
 
 -- ---- a command is taken back

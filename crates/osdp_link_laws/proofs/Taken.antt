@@ -8,15 +8,15 @@ use Rattle.osdp_link_laws.specs.Sessions.{AreInARow, IsAmong, LeavesCommands, al
 use Rattle.osdp_link_laws.proofs.Without.{without_all, without_both, without_drops, without_keeps, without_none}
 
 module _ {A : Type 0} where
-  among_all : (xs : List A) → IsAmong xs xs
+  pub among_all : (xs : List A) → IsAmong xs xs
   among_all [] = refl
   among_all (x ∷ xs) = inr (xs, refl, among_all xs)
 
-  among_none : (xs : List A) → IsAmong [] xs
+  pub among_none : (xs : List A) → IsAmong [] xs
   among_none [] = refl
   among_none (x ∷ xs) = inl (among_none xs)
 
-  among_both : (some all others more : List A) → IsAmong some all → IsAmong others more → IsAmong (some ++ others) (all ++ more)
+  pub among_both : (some all others more : List A) → IsAmong some all → IsAmong others more → IsAmong (some ++ others) (all ++ more)
   among_both some [] others more none is = subst (λ xs. IsAmong (xs ++ others) more) (sym none) is
   among_both some (x ∷ all) others more (inl before) is = inl (among_both some all others more before is)
   among_both some (x ∷ all) others more (inr (rest, same, before)) is =

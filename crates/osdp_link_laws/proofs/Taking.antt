@@ -65,14 +65,16 @@ module _ (fixed : ControllerConfig) {H : Type 0} (answer_of : H → Command → 
   abbrev pub Puts : Stage → ℕ → Exchange → Reply → Type 0
   Puts at n x a = (r : ReaderState H) → HasActed fixed n x a r → ReaderAt fixed since at r
 
-  -- the command at number 0 again
-  zero_again : (at : Stage) (a : Reply) (l : Link H) → command_in (frame fixed Opening 0) ≡ Ok (command.Id 0) → AtStage at l
-      → HasActed fixed 0 Opening a l.reader → a ≡ reply.PdId settings.id
-      → Grows at 0 a l → Puts at 0 Opening a
-      → AtStage at (gets_by Zero (frame fixed Opening 0) l)
-  zero_again at a l reads h acted is grows puts =
+  -- the command at number 0: what holds of the reader then, of what it says and of the account may be of another restart
+  pub zero_heard : (new : Restarted) (at : Stage) (a : Reply) (l : Link H) → command_in (frame fixed Opening 0) ≡ Ok (command.Id 0) → AtStage at l
+      → ((r : ReaderState H) → HasActed fixed 0 Opening a r → ReaderAt fixed new at r)
+      → ToControllerAt fixed new at (l.to_controller ++ answer fixed 0 (reply.PdId l.reader.config.id) ∷ [])
+      → Accounts fixed answer_of after settings new (pending_at at) (owed_at at) (given_up_at at l.controller.session.state) (shown_at at) (unreported_at at)
+      l.controller.waiting l.reader.queue.events l.account
+      → At fixed answer_of after settings new at (gets_by Zero (frame fixed Opening 0) l)
+  zero_heard new at a l reads h puts line account =
       let p = frame fixed Opening 0 in
-      subst (λ c. AtStage at (record l {
+      subst (λ c. At fixed answer_of after settings new at (record l {
         reader = (begun answer_of after c l.reader p).reader;
         to_controller = l.to_controller ++ option_to_list (begun answer_of after c l.reader p).reply;
         account = link.taken Zero (begun answer_of after c l.reader p).command (begun answer_of after c l.reader p).said (link.front_of l.reader) l.account;
@@ -83,9 +85,18 @@ module _ (fixed : ControllerConfig) {H : Type 0} (answer_of : H → Command → 
         reader = puts _ (record { here = λ e. (refl, tt); offer = refl });
         answering = record { id = h.answering.id; caps = h.answering.caps };
         to_reader = h.to_reader;
-        to_controller = grows _ (inr (inl (ap (λ i. answer fixed 0 (reply.PdId i)) h.answering.id ∙ sym (ap (answer fixed 0) is))));
-        account = h.account;
+        to_controller = line;
+        account = account;
       })
+
+  -- .. again
+  zero_again : (at : Stage) (a : Reply) (l : Link H) → command_in (frame fixed Opening 0) ≡ Ok (command.Id 0) → AtStage at l
+      → HasActed fixed 0 Opening a l.reader → a ≡ reply.PdId settings.id
+      → Grows at 0 a l → Puts at 0 Opening a
+      → AtStage at (gets_by Zero (frame fixed Opening 0) l)
+  zero_again at a l reads h acted is grows puts =
+      zero_heard since at a l reads h puts
+      (grows _ (inr (inl (ap (λ i. answer fixed 0 (reply.PdId i)) h.answering.id ∙ sym (ap (answer fixed 0) is))))) h.account
 
   -- the frame of an exchange that the reader has acted on
   pub again : (at : Stage) (n : ℕ) (x : Exchange) (a : Reply) (l : Link H) → fixed.address < 127
@@ -162,22 +173,10 @@ module _ (fixed : ControllerConfig) {H : Type 0} (answer_of : H → Command → 
       → Grows fixed answer_of after settings Now at 0 a l → Puts fixed answer_of after settings Before at 0 Opening a
       → At fixed answer_of after settings Before at (gets_by fixed answer_of after settings Now Zero (frame fixed Opening 0) l)
   revived at a l reads h is none grows puts =
-      let p = frame fixed Opening 0 in
-      subst (λ c. At fixed answer_of after settings Before at (record l {
-        reader = (begun answer_of after c l.reader p).reader;
-        to_controller = l.to_controller ++ option_to_list (begun answer_of after c l.reader p).reply;
-        account = link.taken Zero (begun answer_of after c l.reader p).command (begun answer_of after c l.reader p).said (link.front_of l.reader) l.account;
-      })) (sym reads) (record {
-        stage = h.stage;
-        controller = h.controller;
-        waiting = h.waiting;
-        reader = puts _ (record { here = λ e. (refl, tt); offer = refl });
-        answering = record { id = h.answering.id; caps = h.answering.caps };
-        to_reader = h.to_reader;
-        to_controller = line_since fixed Now Before (λ may. may) at _ (grows _ (inr (inl (ap (λ i. answer fixed 0 (reply.PdId i)) h.answering.id ∙ sym (ap (answer fixed 0) is)))));
-        account = account_revived (pending_at at) (owed_at at) (given_up_at at l.controller.session.state) (shown_at at) (unreported_at at)
-            l.controller.waiting l.reader.queue.events l.account none.0 none.1 h.account;
-      })
+      zero_heard fixed answer_of after settings Now Before at a l reads h puts
+      (line_since fixed Now Before (λ may. may) at _ (grows _ (inr (inl (ap (λ i. answer fixed 0 (reply.PdId i)) h.answering.id ∙ sym (ap (answer fixed 0) is))))))
+      (account_revived (pending_at at) (owed_at at) (given_up_at at l.controller.session.state) (shown_at at) (unreported_at at)
+      l.controller.waiting l.reader.queue.events l.account none.0 none.1 h.account)
 
   -- the frame of an exchange that the reader has acted on: it says its answer again, refuses the number, or hears number 0
   abbrev HeardAt : Stage → Link H → Type 0

@@ -11,6 +11,7 @@ use Rattle.osdp_msg.specs.declared.event.Event.{Event}
 use Rattle.osdp_controller.specs.Comsets.{has_comset}
 use Rattle.osdp_controller.specs.Hearing.{comset_of}
 use Rattle.osdp_controller.specs.Machine as controllers
+use Rattle.osdp_controller.specs.Machine.{Machine}
 use Rattle.osdp_controller.specs.declared.fault.ControllerFault.{ControllerFault}
 use Rattle.osdp_controller.specs.declared.fault.ControllerFault.TheVariants.{OutOfRange}
 use Rattle.osdp_controller.specs.declared.state.State.{State}
@@ -156,26 +157,23 @@ module _ {H : Type 0} where
   quietly i s t n at q a =
       one_changes i s t n at (λ b name. inl (quiet_names i s t b q name)) (quiet_kept i s t q (a.kept i s at)) (inr (q.address, q.closed)) a
 
-  -- .. where the one equals the other but for what no address depends on
-  pub same : (s : Site H) → Quietly s s
-  same s = record {
-    address = refl;
-    left = all_left (unended s);
-    reader = refl;
-    stored = refl;
-    closed = λ is. is;
-    coming = Nothing refl;
+  -- .. where the controller stays, and of its device what addresses depend on
+  unmoved : (s t : Site H) → t.controller ≡ s.controller → reader_address t ≡ reader_address s → t.reader.stored ≡ s.reader.stored
+      → IsRead s.coming t.coming → Quietly s t
+  unmoved s t controller reader stored coming = record {
+    address = ap (λ (m : Machine). m.session.config.address) controller;
+    left = subst (λ (m : Machine). AreLeft (unended s) (asked_in m.session.state ++ m.waiting)) (sym controller) (all_left (unended s));
+    reader = reader;
+    stored = stored;
+    closed = λ is. ap (λ (m : Machine). m.session.state) controller ∙ is;
+    coming = coming;
   }
 
+  pub same : (s : Site H) → Quietly s s
+  same s = unmoved s s refl refl refl (Nothing refl)
+
   pub losing : (place : ℕ) (s : Site H) → Quietly s (record s { coming = lost_at place s.coming })
-  losing place s = record {
-    address = refl;
-    left = all_left (unended s);
-    reader = refl;
-    stored = refl;
-    closed = λ is. is;
-    coming = One place refl;
-  }
+  losing place s = unmoved s (record s { coming = lost_at place s.coming }) refl refl refl (One place refl)
 
   -- ---- a change at a place
 
@@ -198,42 +196,14 @@ module _ {H : Type 0} where
     -- ---- calls
 
     pub queueing : (full : Bool) (e : Event) (s : Site H) → Quietly s (line.left_by s (link.queues full e (line.link_of s [] [])))
-    queueing true e s = record {
-      address = refl;
-      left = all_left (unended s);
-      reader = refl;
-      stored = refl;
-      closed = λ is. is;
-      coming = Nothing refl;
-    }
-    queueing false e s = record {
-      address = refl;
-      left = all_left (unended s);
-      reader = refl;
-      stored = refl;
-      closed = λ is. is;
-      coming = Nothing refl;
-    }
+    queueing true e s = same s
+    queueing false e s = unmoved s (line.left_by s (link.queues false e (line.link_of s [] []))) refl refl refl (Nothing refl)
 
     pub busying : (busy : Bool) (s : Site H) → Quietly s (calls answer_of after (link.SetBusy busy) s)
-    busying busy s = record {
-      address = refl;
-      left = all_left (unended s);
-      reader = refl;
-      stored = refl;
-      closed = λ is. is;
-      coming = Nothing refl;
-    }
+    busying busy s = unmoved s (calls answer_of after (link.SetBusy busy) s) refl refl refl (Nothing refl)
 
     pub handling : (handler : H) (s : Site H) → Quietly s (calls answer_of after (link.SetHandler handler) s)
-    handling handler s = record {
-      address = refl;
-      left = all_left (unended s);
-      reader = refl;
-      stored = refl;
-      closed = λ is. is;
-      coming = Nothing refl;
-    }
+    handling handler s = unmoved s (calls answer_of after (link.SetHandler handler) s) refl refl refl (Nothing refl)
 
     pub withdrawing : (s : Site H) → Quietly s (line.withdraws answer_of after s)
     withdrawing s = record {
@@ -250,14 +220,7 @@ module _ {H : Type 0} where
     submitted : (fault : Option ControllerFault) (r : Option ℕ) (i : ℕ) (c : Command) (s : Site H) (n : Net H) → site_at i n.sites ≡ Some s
         → (fault ≡ None → (a : ℕ) → Sets a c → (j : ℕ) (u : Site H) → j ≢ i → site_at j n.sites ≡ Some u → IsNameOf a j u → ⊥) → CommandFits c → Apart n
         → Apart (record n { sites = changed i (line.keeping r (line.left_by s (link.submits fault c (line.link_of s [] [])))) n.sites })
-    submitted (Some fault) r i c s n at free fits a = quietly i s (line.keeping r s) n at (record {
-      address = refl;
-      left = all_left (unended s);
-      reader = refl;
-      stored = refl;
-      closed = λ is. is;
-      coming = Nothing refl;
-    }) a
+    submitted (Some fault) r i c s n at free fits a = quietly i s (line.keeping r s) n at (unmoved s (line.keeping r s) refl refl refl (Nothing refl)) a
     submitted None r i c s n at free fits a = one_changes i s t n at names kept (inr (refl, λ is. is)) a
       where
         t : Site H
@@ -319,14 +282,7 @@ module _ {H : Type 0} where
         → controllers.retarget_refusal address s.controller ≡ fault → site_at i n.sites ≡ Some s
         → (fault ≡ None → (j : ℕ) (u : Site H) → j ≢ i → site_at j n.sites ≡ Some u → IsNameOf address j u → ⊥) → Apart n
         → Apart (record n { sites = changed i (line.keeping r (line.left_by s (link.retargets fault address (line.link_of s [] [])))) n.sites })
-    retargeted (Some fault) r i address s n may at free a = quietly i s (line.keeping r s) n at (record {
-      address = refl;
-      left = all_left (unended s);
-      reader = refl;
-      stored = refl;
-      closed = λ is. is;
-      coming = Nothing refl;
-    }) a
+    retargeted (Some fault) r i address s n may at free a = quietly i s (line.keeping r s) n at (unmoved s (line.keeping r s) refl refl refl (Nothing refl)) a
     retargeted None r i address s n may at free a =
         let is = may_retarget address s.controller.session.state may in
         let h = a.kept i s at in

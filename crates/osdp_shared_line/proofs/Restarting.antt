@@ -136,15 +136,7 @@ module _ {H : Type 0} (k : ℕ) where
   reader_kept (LoseToPanel place) keeps = λ q. tt
   reader_kept (RestartPanel settings) keeps = tt
   reader_kept (RestartReader i address handler room) keeps = λ e. absurd (keeps e)
-  reader_kept (Submit i c) keeps = λ e. tt
-  reader_kept (Queue i e) keeps = λ e. tt
-  reader_kept (SetBusy i busy) keeps = λ e. tt
-  reader_kept (SetHandler i h) keeps = λ e. tt
-  reader_kept (Withdraw i) keeps = λ e. tt
-  reader_kept (Retarget i address) keeps = λ e. tt
-  reader_kept (Tick i now) keeps = λ e. tt
-  reader_kept (ToReader i how) keeps = λ e. tt
-  reader_kept (Reopen i now) keeps = λ e. tt
+  reader_kept _ keeps = λ e. tt
 
   device_kept : (move : NetMove H) → KeepsDeviceOf k move → HoldsOf KeepsDevice k move
   device_kept (ToPanel how now) keeps = (λ by. tt, tt)
@@ -152,15 +144,8 @@ module _ {H : Type 0} (k : ℕ) where
   device_kept (LoseToPanel place) keeps = λ q. tt
   device_kept (RestartPanel settings) keeps = tt
   device_kept (RestartReader i address handler room) keeps = λ e. absurd (keeps e)
-  device_kept (Submit i c) keeps = λ e. tt
-  device_kept (Queue i e) keeps = λ e. tt
-  device_kept (SetBusy i busy) keeps = λ e. tt
   device_kept (SetHandler i h) keeps = λ e. absurd (keeps e)
-  device_kept (Withdraw i) keeps = λ e. tt
-  device_kept (Retarget i address) keeps = λ e. tt
-  device_kept (Tick i now) keeps = λ e. tt
-  device_kept (ToReader i how) keeps = λ e. tt
-  device_kept (Reopen i now) keeps = λ e. tt
+  device_kept _ keeps = λ e. tt
 
   all_ordinary : (move : NetMove H) → IsOrdinaryOf k move → HoldsOf IsOrdinary k move
   all_ordinary (ToPanel how now) is = (λ by. tt, tt)
@@ -168,15 +153,8 @@ module _ {H : Type 0} (k : ℕ) where
   all_ordinary (LoseToPanel place) is = λ q. tt
   all_ordinary (RestartPanel settings) is = absurd is
   all_ordinary (RestartReader i address handler room) is = λ e. absurd (is e)
-  all_ordinary (Submit i c) is = λ e. tt
-  all_ordinary (Queue i e) is = λ e. tt
-  all_ordinary (SetBusy i busy) is = λ e. tt
-  all_ordinary (SetHandler i h) is = λ e. tt
   all_ordinary (Withdraw i) is = λ e. absurd (is e)
-  all_ordinary (Retarget i address) is = λ e. tt
-  all_ordinary (Tick i now) is = λ e. tt
-  all_ordinary (ToReader i how) is = λ e. tt
-  all_ordinary (Reopen i now) is = λ e. tt
+  all_ordinary _ is = λ e. tt
 
 module _ {H : Type 0} (answer_of : H → Command → Answer) (after : H → Command → H) where
   -- ---- one restart
