@@ -5,7 +5,7 @@ use Rattle.std.specs.Option.{option_map_or}
 use Rattle.osdp_msg.specs.declared.command.Command.{Command}
 use Rattle.osdp_msg.specs.declared.command_fields.Communication.{Communication}
 use Rattle.osdp_controller.specs.declared.report.Report.{Report}
-use Rattle.osdp_controller.specs.declared.report.Report.TheVariants.{Opened, Settled, Moved, Event, PollAnswered, Unread, Lost}
+use Rattle.osdp_controller.specs.declared.report.Report.TheVariants.{Opened}
 use Rattle.osdp_controller.specs.Comsets.{is_comset}
 use Rattle.osdp_controller.specs.Hearing.{comset_of}
 use Rattle.osdp_controller.specs.Machine.{submit_refusal}
@@ -39,12 +39,7 @@ done_some b reserved = refl
 
 told_done : (report : Report) (reserved : Option ℕ) → reserved_told report reserved ≡ (if is_comset_done report then None else reserved)
 told_done (Opened id) reserved = refl
-told_done (Settled command reply) reserved = refl
-told_done (Moved command answered) reserved = refl
-told_done (Event event) reserved = refl
-told_done (PollAnswered reply) reserved = refl
-told_done (Unread command code) reserved = refl
-told_done (Lost cause command) reserved = refl
+told_done _ reserved = refl
 
 with_done : (o : Option (ℕ × Report)) (j : ℕ) (reserved : Option ℕ) → reserved_with o j reserved ≡ (if tells_done j o then None else reserved)
 with_done None j reserved = refl

@@ -20,11 +20,12 @@ use Rattle.osdp_link_laws.specs.Refusals.{told_by_front}
 use Rattle.osdp_link_laws.proofs.Lines.{both, each_append, each_of}
 use Rattle.osdp_link_laws.proofs.Stages.{Each}
 use Rattle.osdp_shared_line.specs.Line as line
-use Rattle.osdp_shared_line.specs.Line.{LoseToPanel, LoseToReader, Net, NetMove, Queue, Reopen, RestartPanel, RestartReader, Retarget, SetBusy, SetHandler, Site, Submit, Tick, ToPanel, ToReader, Withdraw, address_of, after_net, changed, first_gets, gets, is_comset_refused, is_told, link_of, site_at, tagged}
+use Rattle.osdp_shared_line.specs.Line.{Net, NetMove, Queue, Reopen, SetBusy, Site, Submit, Tick, ToPanel, ToReader, address_of, after_net, changed, first_gets, gets, is_comset_refused, is_told, link_of, site_at, tagged}
 use Rattle.osdp_shared_line.specs.Runs.{moves_at, moves_of}
 use Rattle.osdp_shared_line.specs.Views as views
 use Rattle.osdp_shared_line.specs.Views.{HeardByOwn, front_to_panel, move_of, one_if, own, own_front, view}
-use Rattle.osdp_shared_line.proofs.Delivering.{gets_one}
+use Rattle.osdp_shared_line.proofs.Changing.{or_false}
+use Rattle.osdp_shared_line.proofs.Delivering.{was_there}
 use Rattle.osdp_shared_line.proofs.Hearing.{closed_hears, first_other, first_own}
 use Rattle.osdp_shared_line.proofs.Sites.{changed_from, map_from, own_first, some_same}
 use Rattle.osdp_bus_links.specs.Premises.{IsScheduled}
@@ -56,10 +57,6 @@ none_of : (r : Option ℕ) → is_some r ≡ false → r ≡ None
 none_of None is = refl
 none_of (Some address) is = absurd cc
 
-pub neither : (a b : Bool) → a || b ≡ false → (a ≡ false) × (b ≡ false)
-neither true b e = absurd cc
-neither false b e = (refl, e)
-
 module _ {H : Type 0} (answer_of : H → Command → Answer) (after : H → Command → H) where
   -- ---- the moves of its link
 
@@ -71,7 +68,7 @@ module _ {H : Type 0} (answer_of : H → Command → Answer) (after : H → Comm
 
   may_ask : (o : Option Communication) (i : ℕ) (s : Site H) (ss : List (Site H)) → is_comset_refused i o s ss ≡ false → MayAsk o s.reserved
   may_ask None i s ss free = tt
-  may_ask (Some d) i s ss free = none_of s.reserved (neither (line.is_taken_beside i d.address ss) (is_some s.reserved) free).1
+  may_ask (Some d) i s ss free = none_of s.reserved (or_false (line.is_taken_beside i d.address ss) (is_some s.reserved) free).1
 
   reading_may : (ps : List (ℕ × Packet)) (how : Delivery) (k : ℕ) (s : Site H) (n : Net H) → Fit k s n (own_front k ps how)
   reading_may [] how k s n = (tt, tt)
@@ -107,13 +104,7 @@ module _ {H : Type 0} (answer_of : H → Command → Answer) (after : H → Comm
       both (Fit k s n) (eqb i k) (own_front k s.coming how) [] (reading_may s.coming how k s n) (tt, tt)
   moves_may (ToPanel how now) k s n scheduled = panel_may n.to_panel how now k s n
   moves_may (Reopen i now) k s n scheduled = one_may i k s n (link.Reopen now) tt tt
-  moves_may (SetHandler i h) k s n scheduled = absurd scheduled
-  moves_may (Withdraw i) k s n scheduled = absurd scheduled
-  moves_may (Retarget i address) k s n scheduled = absurd scheduled
-  moves_may (LoseToReader i place) k s n scheduled = absurd scheduled
-  moves_may (LoseToPanel place) k s n scheduled = absurd scheduled
-  moves_may (RestartReader i address h room) k s n scheduled = absurd scheduled
-  moves_may (RestartPanel settings) k s n scheduled = absurd scheduled
+  moves_may _ k s n scheduled = absurd scheduled
 
   -- ---- the site before, and what is kept for it
 
@@ -257,15 +248,6 @@ module _ {H : Type 0} (answer_of : H → Command → Answer) (after : H → Comm
 
   module _ (n : Net H) (heard : HeardByOwn n) (q : ℕ × Packet) (rest : List (ℕ × Packet)) (front : n.to_panel ≡ q ∷ rest) (now : ℕ) where
     -- where it is read, and comes to a controller or to none
-    was : (k : ℕ) (t : Site H) → site_at k (first_gets q.1 now n.sites) ≡ Some t → (s : Site H) × (site_at k n.sites ≡ Some s)
-    was k t is = elim (gets_one q.1 now n.sites) [
-      | inl none ↦ (t, subst (λ ss. site_at k ss ≡ Some t) none is)
-      | inr (i, u, at, one) ↦ elim (changed_from k i (gets q.1 now u) u t n.sites at (subst (λ ss. site_at k ss ≡ Some t) one is)) [
-        | inl here ↦ (u, subst (λ j. site_at j n.sites ≡ Some u) (sym here.0) at)
-        | inr there ↦ (t, there.1)
-      ]
-    ]
-
     got : (k : ℕ) (s t : Site H) → site_at k n.sites ≡ Some s → address_of s ≡ q.1.address → site_at k (first_gets q.1 now n.sites) ≡ Some t
         → t.reserved ≡ freed_by (hears q.1 now s.controller.session).report s.reserved
     got k s t at here is =
@@ -347,8 +329,8 @@ module _ {H : Type 0} (answer_of : H → Command → Answer) (after : H → Comm
 
     comes : (how : Delivery) (k : ℕ) (t : Site H) → site_at k (line.to_panel (q ∷ rest) how now n).sites ≡ Some t
         → (s : Site H) × (site_at k n.sites ≡ Some s) × Comes how k s t
-    comes Delivered k t is = let old = was k t is in (old.0, old.1, came Delivered k old.0 t (λ e. cc) old.1 is)
-    comes Repeated k t is = let old = was k t is in (old.0, old.1, came Repeated k old.0 t (λ e. cc) old.1 is)
+    comes Delivered k t is = let old = was_there q.1 now k t n.sites is in (old.0, old.1, came Delivered k old.0 t (λ e. cc) old.1 is)
+    comes Repeated k t is = let old = was_there q.1 now k t n.sites is in (old.0, old.1, came Repeated k old.0 t (λ e. cc) old.1 is)
     comes Lost k t is = (
       t,
       is,
@@ -388,13 +370,7 @@ module _ {H : Type 0} (answer_of : H → Command → Answer) (after : H → Comm
   before (ToPanel how now) k t n scheduled heard is = reading_panel n.to_panel how now k t n heard refl is
   before (Reopen i now) k t n scheduled heard is =
       kept_so k t n i (link.Reopen now) (λ s. refl) (kept_change i k (site_at i n.sites) (line.calls answer_of after (link.Reopen now)) t n refl (λ s. refl) is)
-  before (SetHandler i h) k t n scheduled heard is = absurd scheduled
-  before (Withdraw i) k t n scheduled heard is = absurd scheduled
-  before (Retarget i address) k t n scheduled heard is = absurd scheduled
-  before (LoseToReader i place) k t n scheduled heard is = absurd scheduled
-  before (LoseToPanel place) k t n scheduled heard is = absurd scheduled
-  before (RestartReader i address h room) k t n scheduled heard is = absurd scheduled
-  before (RestartPanel settings) k t n scheduled heard is = absurd scheduled
+  before _ k t n scheduled heard is = absurd scheduled
 
   -- ---- of a list of moves
 

@@ -10,7 +10,7 @@ use Rattle.osdp_link_laws.specs.Link.{Delivered, Delivery, Lost, Repeated, after
 use Rattle.osdp_link_laws.proofs.Lines.{each_append, each_map}
 use Rattle.osdp_link_laws.proofs.Stages.{Each}
 use Rattle.osdp_shared_line.specs.Line as line
-use Rattle.osdp_shared_line.specs.Line.{LoseToPanel, LoseToReader, Net, NetMove, Queue, Reopen, RestartPanel, RestartReader, Retarget, SetBusy, SetHandler, Site, Submit, Tick, ToPanel, ToReader, Withdraw, after_net, changed, first_gets, gets, is_told, left_by, link_of, run, site_at, tagged}
+use Rattle.osdp_shared_line.specs.Line.{Net, NetMove, Queue, Reopen, SetBusy, Site, Submit, Tick, ToPanel, ToReader, after_net, changed, first_gets, gets, is_told, left_by, link_of, run, site_at, tagged}
 use Rattle.osdp_shared_line.specs.Views.{own}
 use Rattle.osdp_shared_line.proofs.Delivering.{gets_one}
 use Rattle.osdp_shared_line.proofs.Sites.{own_first, own_rest}
@@ -118,13 +118,7 @@ module _ {H : Type 0} where
     move_sited (ToReader i how) n scheduled all = reading_sited i how (site_at i n.sites) n refl all
     move_sited (ToPanel how now) n scheduled all = panel_sited n.to_panel how now n refl all
     move_sited (Reopen i now) n scheduled all = change_sited (λ s. false) i (site_at i n.sites) (line.calls answer_of after (link.Reopen now)) n all
-    move_sited (SetHandler i h) n scheduled all = absurd scheduled
-    move_sited (Withdraw i) n scheduled all = absurd scheduled
-    move_sited (Retarget i address) n scheduled all = absurd scheduled
-    move_sited (LoseToReader i place) n scheduled all = absurd scheduled
-    move_sited (LoseToPanel place) n scheduled all = absurd scheduled
-    move_sited (RestartReader i address h room) n scheduled all = absurd scheduled
-    move_sited (RestartPanel settings) n scheduled all = absurd scheduled
+    move_sited _ n scheduled all = absurd scheduled
 
     pub all_sited : (moves : List (NetMove H)) (n : Net H) → Each IsScheduled moves → AreSited n → AreSited (run answer_of after moves n)
     all_sited [] n scheduled all = all

@@ -1,6 +1,6 @@
 -- What a bus accepts it gives to nobody else: where nobody restarts and no address is set but by COMSETs, all addresses at which a device is, or
 -- may come, are its controller's or kept for it.
-use Rattle.std.proofs.Common.{◌≡◌, ◌≢◌, ◌||◌, ◌==◌, ℕ, zero, suc, not, Bool, true, false, List, [], ◌∷◌, ◌++◌, Option, Some, None, refl, sym, subst, ap, ◌∙◌, inl, inr}
+use Rattle.std.proofs.Common.{◌≡◌, ◌≢◌, ◌||◌, ◌==◌, ℕ, not, Bool, true, false, List, [], ◌∷◌, ◌++◌, Option, Some, None, refl, sym, subst, ap, ◌∙◌, inl, inr}
 use Rattle.std.proofs.lemmas.Bool.Decides.{eqb_tells}
 use Rattle.std.specs.Prelude.{is_some}
 use Rattle.osdp_frame.specs.Packet.{Packet}
@@ -13,12 +13,13 @@ use Rattle.osdp_link_laws.proofs.Lines.{each_of}
 use Rattle.osdp_link_laws.proofs.Numbers.{is_true}
 use Rattle.osdp_link_laws.proofs.Stages.{Each}
 use Rattle.osdp_shared_line.specs.Addresses.{HasNoOther, IsAsked, IsSaid, IsSetUp, IsThere, MayComeTo, NetMoveFits, NetMovesFit, NobodyElseHears, Sets, SetsReader, Somewhere, asked_in}
-use Rattle.osdp_shared_line.specs.Line.{LoseToPanel, LoseToReader, Net, NetMove, Queue, Reopen, RestartPanel, RestartReader, Retarget, SetBusy, SetHandler, Site, Submit, Tick, ToPanel, ToReader, Withdraw, address_of, after_net, is_command_accepted, is_comset_refused, is_reserved, is_taken, is_taken_beside, run, site_at, takes_up}
+use Rattle.osdp_shared_line.specs.Line.{Net, NetMove, Queue, Reopen, SetBusy, Site, Submit, Tick, ToPanel, ToReader, address_of, after_net, is_command_accepted, is_comset_refused, is_reserved, is_taken_beside, run, takes_up}
 use Rattle.osdp_shared_line.specs.Views.{EachMoveIsItsOwn, OpensQuietly, move_of, own, view}
+use Rattle.osdp_shared_line.proofs.Changing.{none_beside, or_false}
 use Rattle.osdp_shared_line.proofs.Linking.{move_fits}
 use Rattle.osdp_shared_line.proofs.Sites.{own_first, own_rest, some_same}
 use Rattle.osdp_bus_links.specs.Premises.{AllOthersFit, BusSuffices, IsScheduled, NoneIsKept, OthersFit}
-use Rattle.osdp_bus_links.proofs.Keeping.{before, moves_may, neither}
+use Rattle.osdp_bus_links.proofs.Keeping.{before, moves_may}
 use Rattle.osdp_bus_links.proofs.Leading.{starts}
 use Rattle.osdp_bus_links.proofs.Linked.{AreLinked, IsLinked, OfALink, linked_after}
 use Rattle.osdp_bus_links.proofs.Names.{IsName}
@@ -46,10 +47,6 @@ of_own P Q R k (p ∷ ps) gives all (inr found) = elim (eqb_tells p.0 k) [
 
 -- ---- what is taken
 
-not_both : (b : Bool) → b ≡ true → b ≡ false → ⊥
-not_both true is free = cc
-not_both false is free = cc
-
 accepts_so : (a b : Bool) → not (a || b) ≡ true → a ≡ false
 accepts_so true b is = absurd cc
 accepts_so false b is = refl
@@ -68,21 +65,6 @@ module _ {H : Type 0} where
   name_taken a s (inl here) = ap (λ b. b || is_reserved a s.reserved) (is_true (address_of s) a (sym here))
   name_taken a s (inr kept) = either_so (address_of s == a) (is_reserved a s.reserved) (kept_is s.reserved a kept)
 
-  none_takes : (a k : ℕ) (s : Site H) (ss : List (Site H)) → is_taken a ss ≡ false → site_at k ss ≡ Some s → takes_up a s ≡ true → ⊥
-  none_takes a k s [] free is taken = cc
-  none_takes a zero s (t ∷ ss) free is taken =
-      not_both (takes_up a t) (ap (takes_up a) (some_same t s is) ∙ taken) (neither (takes_up a t) (is_taken a ss) free).0
-  none_takes a (suc k) s (t ∷ ss) free is taken = none_takes a k s ss (neither (takes_up a t) (is_taken a ss) free).1 is taken
-
-  none_beside : (i a k : ℕ) (s : Site H) (ss : List (Site H)) → is_taken_beside i a ss ≡ false → k ≢ i → site_at k ss ≡ Some s → takes_up a s ≡ true → ⊥
-  none_beside i a k s [] free other is taken = cc
-  none_beside zero a zero s (t ∷ ss) free other is taken = other refl
-  none_beside zero a (suc k) s (t ∷ ss) free other is taken = none_takes a k s ss free is taken
-  none_beside (suc i) a zero s (t ∷ ss) free other is taken =
-      not_both (takes_up a t) (ap (takes_up a) (some_same t s is) ∙ taken) (neither (takes_up a t) (is_taken_beside i a ss) free).0
-  none_beside (suc i) a (suc k) s (t ∷ ss) free other is taken =
-      none_beside i a k s ss (neither (takes_up a t) (is_taken_beside i a ss) free).1 (λ e. other (ap suc e)) is taken
-
 module _ {H : Type 0} (answer_of : H → Command → Answer) (after : H → Command → H) where
   -- ---- where a device is or may come
 
@@ -100,7 +82,7 @@ module _ {H : Type 0} (answer_of : H → Command → Answer) (after : H → Comm
       let free : is_comset_refused k (Some asked) s n.sites ≡ false =
       ap (λ o. is_comset_refused k o s n.sites) (sym is)
       ∙ accepts_so (is_comset_refused k (comset_of c) s n.sites) (is_some (controllers.submit_refusal c s.controller)) accepted in
-      none_beside k asked.address j t n.sites (neither (is_taken_beside k asked.address n.sites) (is_some s.reserved) free).0 other there
+      none_beside k asked.address j t n.sites (or_false (is_taken_beside k asked.address n.sites) (is_some s.reserved) free).0 other there
       (name_taken asked.address t (named asked.address j t n (linked j t there) may))
 
   fits : (move : NetMove H) (n : Net H) → IsScheduled move → OthersFit answer_of after move n → AreLinked answer_of after n
@@ -112,13 +94,7 @@ module _ {H : Type 0} (answer_of : H → Command → Answer) (after : H → Comm
   fits (ToReader k how) n scheduled others linked = others
   fits (ToPanel how now) n scheduled others linked = tt
   fits (Reopen k now) n scheduled others linked = others
-  fits (SetHandler k h) n scheduled others linked = absurd scheduled
-  fits (Withdraw k) n scheduled others linked = absurd scheduled
-  fits (Retarget k address) n scheduled others linked = absurd scheduled
-  fits (LoseToReader k place) n scheduled others linked = absurd scheduled
-  fits (LoseToPanel place) n scheduled others linked = absurd scheduled
-  fits (RestartReader k address h room) n scheduled others linked = absurd scheduled
-  fits (RestartPanel settings) n scheduled others linked = absurd scheduled
+  fits _ n scheduled others linked = absurd scheduled
 
   opens : (move : NetMove H) (n : Net H) → IsScheduled move → OthersFit answer_of after move n → OpensQuietly move n
   opens (Submit k c) n scheduled others = tt
@@ -128,13 +104,7 @@ module _ {H : Type 0} (answer_of : H → Command → Answer) (after : H → Comm
   opens (ToReader k how) n scheduled others = tt
   opens (ToPanel how now) n scheduled others = tt
   opens (Reopen k now) n scheduled others = others
-  opens (SetHandler k h) n scheduled others = absurd scheduled
-  opens (Withdraw k) n scheduled others = absurd scheduled
-  opens (Retarget k address) n scheduled others = absurd scheduled
-  opens (LoseToReader k place) n scheduled others = absurd scheduled
-  opens (LoseToPanel place) n scheduled others = absurd scheduled
-  opens (RestartReader k address h room) n scheduled others = absurd scheduled
-  opens (RestartPanel settings) n scheduled others = absurd scheduled
+  opens _ n scheduled others = absurd scheduled
 
   -- ---- one list of moves after another
 
@@ -160,13 +130,7 @@ module _ {H : Type 0} (answer_of : H → Command → Answer) (after : H → Comm
   others (ToReader k how) n scheduled fit = fit
   others (ToPanel how now) n scheduled fit = tt
   others (Reopen k now) n scheduled fit = fit
-  others (SetHandler k h) n scheduled fit = absurd scheduled
-  others (Withdraw k) n scheduled fit = absurd scheduled
-  others (Retarget k address) n scheduled fit = absurd scheduled
-  others (LoseToReader k place) n scheduled fit = absurd scheduled
-  others (LoseToPanel place) n scheduled fit = absurd scheduled
-  others (RestartReader k address h room) n scheduled fit = absurd scheduled
-  others (RestartPanel settings) n scheduled fit = absurd scheduled
+  others _ n scheduled fit = absurd scheduled
 
   module _ (given : OfALink answer_of after) (its_own : EachMoveIsItsOwn answer_of after) (nobody : NobodyElseHears answer_of after) where
     linked_on : (first : Net H) (ms : List (NetMove H)) (move : NetMove H) → IsSetUp first → NetMovesFit answer_of after ms first

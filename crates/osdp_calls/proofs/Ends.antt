@@ -132,14 +132,7 @@ module _ {H : Type 0} where
 
   said_bus : (call : bus.Call) (b : BusState) (l : InUse H) → (said_at call b l).bus ≡ l.bus
   said_bus (bus.Tick now) b l = says_bus (asked_at now b) (bus_ticks now b).sent l
-  said_bus (bus.Add address) b l = refl
-  said_bus (bus.Begin entry now) b l = refl
-  said_bus (bus.Submit entry command) b l = refl
-  said_bus (bus.Withdraw entry) b l = refl
-  said_bus (bus.Retarget entry address) b l = refl
-  said_bus (bus.OnBytes bytes now) b l = refl
-  said_bus (bus.OnSilence now) b l = refl
-  said_bus bus.NextReport b l = refl
+  said_bus _ b l = refl
 
   said_keeps : (k : ℕ) (call : bus.Call) (b : BusState) (d : Held H) (l : InUse H) → IsHeld k d l.stations → IsHeld k d (said_at call b l).stations
   said_keeps k (bus.Tick now) b d l is = says_keeps k (asked_at now b) (bus_ticks now b).sent d l is

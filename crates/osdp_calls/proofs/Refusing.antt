@@ -84,12 +84,7 @@ told_each P k (Some r) is = (is, tt)
 -- reports change no count of restarts
 report_restarts : (o : Report) (a : Account) → (after_report (Some o) a).restarts ≡ a.restarts
 report_restarts (report.Opened id) a = refl
-report_restarts (report.Settled command answer) a = refl
-report_restarts (report.Moved command answered) a = refl
-report_restarts (report.Event event) a = refl
-report_restarts (report.PollAnswered answer) a = refl
-report_restarts (report.Unread command code) a = refl
-report_restarts (report.Lost cause command) a = refl
+report_restarts _ a = refl
 
 -- a tick of a controller tells of no refused number
 ticks_tell : (k : ℕ) (o : Option ℕ) (b : BusState) → Each (Tells k) (told_by_ticking o b)

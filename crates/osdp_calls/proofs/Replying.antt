@@ -102,12 +102,7 @@ module _ {H : Type 0} where
         by_kind : (k : Kind) → kind_of r p ≡ k
             → (told_by answer_of after parts r (later held (PacketItem p))).reader ≡ reader_with (first_answered r (read_up_to r parts)) r → Goal k
         by_kind kind.Silent is rest = rest
-        by_kind kind.Secured is rest = ap (λ k. (outcome answer_of after k r p).reader) (sym is)
-        by_kind kind.Zero is rest = ap (λ k. (outcome answer_of after k r p).reader) (sym is)
-        by_kind kind.Repeat is rest = ap (λ k. (outcome answer_of after k r p).reader) (sym is)
-        by_kind kind.Taken is rest = ap (λ k. (outcome answer_of after k r p).reader) (sym is)
-        by_kind kind.Busy is rest = ap (λ k. (outcome answer_of after k r p).reader) (sym is)
-        by_kind kind.Wrong is rest = ap (λ k. (outcome answer_of after k r p).reader) (sym is)
+        by_kind _ is rest = ap (λ k. (outcome answer_of after k r p).reader) (sym is)
 
     pub next_reader : (parts : List RunItem) (r : ReaderState H) (held : Held)
         → (told_by answer_of after parts r held).reader ≡ reader_with (first_answered r (read_up_to r parts)) r

@@ -120,12 +120,7 @@ module _ {H : Type 0} (answer_of : H → Command → Answer) (after : H → Comm
       by_kind : (k : Kind) → kind_of r p ≡ k
           → (told_by answer_of after parts r (later held (PacketItem p))).said ≡ option_map (said_to answer_of after r) (first_answered r (read_up_to r parts)) → Goal k
       by_kind kind.Silent is rest = rest
-      by_kind kind.Secured is rest = refl
-      by_kind kind.Zero is rest = refl
-      by_kind kind.Repeat is rest = refl
-      by_kind kind.Taken is rest = refl
-      by_kind kind.Busy is rest = refl
-      by_kind kind.Wrong is rest = refl
+      by_kind _ is rest = refl
 
   -- what is read ends with the first that is answered
   reads_to_first : (parts : List RunItem) (r : ReaderState H) → ReadsToFirst r (whole_packets parts) (read_up_to r parts) (first_answered r (read_up_to r parts))
@@ -193,12 +188,7 @@ module _ {H : Type 0} (answer_of : H → Command → Answer) (after : H → Comm
       → (taken k c said front a).taken ≡ a.taken ++ option_to_list (taken_by k c)
   taken_so kind.Taken None said front a = sym (append-nil a.taken)
   taken_so kind.Taken (Some c) said front a = command_so c said front a
-  taken_so kind.Silent c said front a = sym (append-nil a.taken)
-  taken_so kind.Secured c said front a = sym (append-nil a.taken)
-  taken_so kind.Zero c said front a = sym (append-nil a.taken)
-  taken_so kind.Repeat c said front a = sym (append-nil a.taken)
-  taken_so kind.Busy c said front a = sym (append-nil a.taken)
-  taken_so kind.Wrong c said front a = sym (append-nil a.taken)
+  taken_so _ c said front a = sym (append-nil a.taken)
 
   acts_so : (o : Option Packet) (t : Station H)
       → (answers answer_of after o t).account.taken ≡ t.account.taken ++ acted_on (option_map (said_to answer_of after t.reader) o)

@@ -64,12 +64,7 @@ command_still _ said front a is =
 taken_still : (k : Kind) (c : Option Command) (said : Option Reply) (front : List Event) (a : Account) → IsUndisturbed a → IsUndisturbed (taken k c said front a)
 taken_still kind.Taken None said front a is = is
 taken_still kind.Taken (Some c) said front a is = command_still c said front a is
-taken_still kind.Silent c said front a is = is
-taken_still kind.Secured c said front a is = is
-taken_still kind.Zero c said front a is = is
-taken_still kind.Repeat c said front a is = is
-taken_still kind.Busy c said front a is = is
-taken_still kind.Wrong c said front a is = is
+taken_still _ c said front a is = is
 
 module _ {H : Type 0} where
   abbrev Still : Station H → Type 0

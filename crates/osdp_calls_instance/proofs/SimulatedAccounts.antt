@@ -124,12 +124,7 @@ module _ {H : Type 0} where
 
   one_told : (said : Report) (u : ReaderSite H) → told_in_run (site_is_told said u) ≡ with_one said (told_in_run u)
   one_told (report.Opened id) u = refl
-  one_told (report.Settled command answer) u = refl
-  one_told (report.Moved command answered) u = refl
-  one_told (report.Event event) u = refl
-  one_told (report.PollAnswered answer) u = refl
-  one_told (report.Unread command code) u = refl
-  one_told (report.Lost cause command) u = refl
+  one_told _ u = refl
 
   report_site : (k : ℕ) (o : Option (ℕ × Report)) (y : Told) (s : LineState H) → IsSite k y s.sites
       → IsSite k (with_those k (option_to_list o) y) (report_told o s).sites

@@ -47,13 +47,7 @@ module _ {H : Type 0} (answer_of : H → Command → Answer) (after : H → Comm
   panel_range : (call : bus.Call) (l : InUse H) → PanelFits call → InRange answer_of after (OfPanel call) l
   panel_range (bus.Submit k command) l fits = fits
   panel_range (bus.Add address) l fits = absurd fits
-  panel_range (bus.Begin k now) l fits = tt
-  panel_range (bus.Withdraw k) l fits = tt
-  panel_range (bus.Retarget k address) l fits = tt
-  panel_range (bus.OnBytes bytes now) l fits = tt
-  panel_range (bus.OnSilence now) l fits = tt
-  panel_range (bus.Tick now) l fits = tt
-  panel_range bus.NextReport l fits = tt
+  panel_range _ l fits = tt
 
   more_range : (xs ys : List (Step H)) (l : InUse H) → AllInRange answer_of after xs l → AllInRange answer_of after ys (after_calls answer_of after xs l)
       → AllInRange answer_of after (xs ++ ys) l

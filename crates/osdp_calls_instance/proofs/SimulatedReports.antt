@@ -167,12 +167,7 @@ module _ {H : Type 0} where
         → told_to (record t { account = taken x c said front t.account }) ≡ told_to t
     taken_told kind.Taken None said front t = refl
     taken_told kind.Taken (Some c) said front t = command_told c said front t
-    taken_told kind.Silent c said front t = refl
-    taken_told kind.Secured c said front t = refl
-    taken_told kind.Zero c said front t = refl
-    taken_told kind.Repeat c said front t = refl
-    taken_told kind.Busy c said front t = refl
-    taken_told kind.Wrong c said front t = refl
+    taken_told _ c said front t = refl
 
     answers_told : (o : Option Packet) (t : Station H) → told_to (answers answer_of after o t) ≡ told_to t
     answers_told None t = refl

@@ -74,12 +74,7 @@ module _ {H : Type 0} where
     where
       by_report : (said : Report) (u : ReaderSite H) → (site_is_told said u).account.taken ≡ u.account.taken
       by_report (report.Opened id) u = refl
-      by_report (report.Settled command answer) u = refl
-      by_report (report.Moved command answered) u = refl
-      by_report (report.Event event) u = refl
-      by_report (report.PollAnswered answer) u = refl
-      by_report (report.Unread command code) u = refl
-      by_report (report.Lost cause command) u = refl
+      by_report _ u = refl
 
   queue_taken : (full : Bool) (event : Event) (u : ReaderSite H) → (site_queues_unless full event u).account.taken ≡ u.account.taken
   queue_taken true event u = refl

@@ -80,12 +80,7 @@ module _ {H : Type 0} where
 
   hears_takes : (said : Report) (t : Station H) → taken_to (hears_of said t) ≡ taken_to t
   hears_takes (report.Opened id) t = refl
-  hears_takes (report.Settled command answer) t = refl
-  hears_takes (report.Moved command answered) t = refl
-  hears_takes (report.Event event) t = refl
-  hears_takes (report.PollAnswered answer) t = refl
-  hears_takes (report.Unread command code) t = refl
-  hears_takes (report.Lost cause command) t = refl
+  hears_takes _ t = refl
 
   all_hear_takes : (k : ℕ) (said : List (ℕ × Report)) (d : Held H) (y : List Command) (ts : List (Station H)) → IsTaking k d y ts
       → IsTaking k d y (all_hear said ts)

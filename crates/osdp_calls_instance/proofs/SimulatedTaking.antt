@@ -60,11 +60,7 @@ module _ {H : Type 0} (answer_of : H → Command → Answer) (after : H → Comm
   kind_takes kind.Silent said is = refl
   kind_takes kind.Taken said is =
       append-nil (acted_on (Some said)) ∙ ap (λ y. option_to_list (saying.taken_by y said.command)) is ∙ command_same said.command
-  kind_takes kind.Secured said is = append-nil (acted_on (Some said)) ∙ ap (λ y. option_to_list (saying.taken_by y said.command)) is
-  kind_takes kind.Zero said is = append-nil (acted_on (Some said)) ∙ ap (λ y. option_to_list (saying.taken_by y said.command)) is
-  kind_takes kind.Repeat said is = append-nil (acted_on (Some said)) ∙ ap (λ y. option_to_list (saying.taken_by y said.command)) is
-  kind_takes kind.Busy said is = append-nil (acted_on (Some said)) ∙ ap (λ y. option_to_list (saying.taken_by y said.command)) is
-  kind_takes kind.Wrong said is = append-nil (acted_on (Some said)) ∙ ap (λ y. option_to_list (saying.taken_by y said.command)) is
+  kind_takes _ said is = append-nil (acted_on (Some said)) ∙ ap (λ y. option_to_list (saying.taken_by y said.command)) is
 
   parts_take : (parts : List RunItem) (r : ReaderState H) → acted_on_all (said_to_all answer_of after parts r) ≡ packets_taken (whole_packets parts) r
   parts_take [] r = refl

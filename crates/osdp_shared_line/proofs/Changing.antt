@@ -43,7 +43,7 @@ both_take true fault given none = absurd cc
 both_take false None given none = refl
 both_take false (Some fault) given none = absurd cc
 
-not_both : (b : Bool) → b ≡ true → b ≡ false → ⊥
+pub not_both : (b : Bool) → b ≡ true → b ≡ false → ⊥
 not_both b holds fails = cc
 
 pub was_closed : (state : State) → controllers.refused_unless_closed state ≡ None → state ≡ Closed
@@ -107,25 +107,25 @@ module _ {H : Type 0} where
   takes_up_own : (a : ℕ) (s : Site H) → address_of s ≡ a → takes_up a s ≡ true
   takes_up_own a s is = ap (λ b. b || is_reserved a s.reserved) (is_true (address_of s) a is)
 
-  none_takes : (a k : ℕ) (s : Site H) (ss : List (Site H)) → is_taken a ss ≡ false → site_at k ss ≡ Some s → address_of s ≡ a → ⊥
-  none_takes a k s [] free is at = cc
-  none_takes a zero s (t ∷ ss) free is at =
-      not_both (takes_up a t) (takes_up_own a t (ap address_of (some_same t s is) ∙ at)) (or_false (takes_up a t) (is_taken a ss) free).0
-  none_takes a (suc k) s (t ∷ ss) free is at = none_takes a k s ss (or_false (takes_up a t) (is_taken a ss) free).1 is at
+  none_takes : (a k : ℕ) (s : Site H) (ss : List (Site H)) → is_taken a ss ≡ false → site_at k ss ≡ Some s → takes_up a s ≡ true → ⊥
+  none_takes a k s [] free is taken = cc
+  none_takes a zero s (t ∷ ss) free is taken =
+      not_both (takes_up a t) (ap (takes_up a) (some_same t s is) ∙ taken) (or_false (takes_up a t) (is_taken a ss) free).0
+  none_takes a (suc k) s (t ∷ ss) free is taken = none_takes a k s ss (or_false (takes_up a t) (is_taken a ss) free).1 is taken
 
-  none_beside : (i a k : ℕ) (s : Site H) (ss : List (Site H)) → is_taken_beside i a ss ≡ false → k ≢ i → site_at k ss ≡ Some s → address_of s ≡ a → ⊥
-  none_beside i a k s [] free other is at = cc
-  none_beside zero a zero s (t ∷ ss) free other is at = other refl
-  none_beside zero a (suc k) s (t ∷ ss) free other is at = none_takes a k s ss free is at
-  none_beside (suc i) a zero s (t ∷ ss) free other is at =
-      not_both (takes_up a t) (takes_up_own a t (ap address_of (some_same t s is) ∙ at)) (or_false (takes_up a t) (is_taken_beside i a ss) free).0
-  none_beside (suc i) a (suc k) s (t ∷ ss) free other is at =
-      none_beside i a k s ss (or_false (takes_up a t) (is_taken_beside i a ss) free).1 (λ e. other (ap suc e)) is at
+  pub none_beside : (i a k : ℕ) (s : Site H) (ss : List (Site H)) → is_taken_beside i a ss ≡ false → k ≢ i → site_at k ss ≡ Some s → takes_up a s ≡ true → ⊥
+  none_beside i a k s [] free other is taken = cc
+  none_beside zero a zero s (t ∷ ss) free other is taken = other refl
+  none_beside zero a (suc k) s (t ∷ ss) free other is taken = none_takes a k s ss free is taken
+  none_beside (suc i) a zero s (t ∷ ss) free other is taken =
+      not_both (takes_up a t) (ap (takes_up a) (some_same t s is) ∙ taken) (or_false (takes_up a t) (is_taken_beside i a ss) free).0
+  none_beside (suc i) a (suc k) s (t ∷ ss) free other is taken =
+      none_beside i a k s ss (or_false (takes_up a t) (is_taken_beside i a ss) free).1 (λ e. other (ap suc e)) is taken
 
   -- what the bus gives, and no other device may come to, is free
   free_for : (i a : ℕ) (n : Net H) → is_taken_beside i a n.sites ≡ false → HasNoOther i a n
       → (j : ℕ) (u : Site H) → j ≢ i → site_at j n.sites ≡ Some u → IsNameOf a j u → ⊥
-  free_for i a n given none j u other is (inl at) = none_beside i a j u n.sites given other is at
+  free_for i a n given none j u other is (inl at) = none_beside i a j u n.sites given other is (takes_up_own a u at)
   free_for i a n given none j u other is (inr may) = none j u other is may
 
   -- ---- a site that goes nowhere, asks nothing more, and has no more to read

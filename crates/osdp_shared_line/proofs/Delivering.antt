@@ -268,6 +268,17 @@ module _ {H : Type 0} where
       by_test false (inl none) = inl (ap (λ l. s ∷ l) none)
       by_test false (inr (i, t, at, is)) = inr (suc i, t, at, ap (λ l. s ∷ l) is)
 
+  -- so each site was there before
+  pub was_there : (p : Packet) (now k : ℕ) (t : Site H) (ss : List (Site H)) → site_at k (first_gets p now ss) ≡ Some t
+      → (s : Site H) × (site_at k ss ≡ Some s)
+  was_there p now k t ss is = elim (gets_one p now ss) [
+    | inl none ↦ (t, subst (λ us. site_at k us ≡ Some t) none is)
+    | inr (i, u, at, one) ↦ elim (changed_from k i (gets p now u) u t ss at (subst (λ us. site_at k us ≡ Some t) one is)) [
+      | inl here ↦ (u, subst (λ j. site_at j ss ≡ Some u) (sym here.0) at)
+      | inr there ↦ (t, there.1)
+    ]
+  ]
+
   getting : (p : Packet) (now : ℕ) (n : Net H) → Apart n → Apart (record n { sites = first_gets p now n.sites })
   getting p now n a =
       elim (gets_one p now n.sites) [

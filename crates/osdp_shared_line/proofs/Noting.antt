@@ -15,7 +15,7 @@ use Rattle.osdp_reader.specs.declared.handler.Answer.{Answer}
 use Rattle.osdp_link_laws.proofs.Stages.{Each}
 use Rattle.osdp_shared_line.specs.Addresses.{IsAsked, IsNameOf, IsSaid, IsThere, MayComeTo, NetMoveFits, Sets, SetsReader, Somewhere, asked_by, asked_in, unended}
 use Rattle.osdp_shared_line.specs.Line as line
-use Rattle.osdp_shared_line.specs.Line.{LoseToPanel, LoseToReader, Net, NetMove, Queue, Reopen, RestartPanel, RestartReader, Retarget, SetBusy, SetHandler, Site, Submit, Tick, ToPanel, ToReader, Withdraw, address_of, after_net, changed, restarts, site_at}
+use Rattle.osdp_shared_line.specs.Line.{Net, NetMove, RestartPanel, RestartReader, Retarget, Site, Submit, address_of, after_net, changed, restarts, site_at}
 use Rattle.osdp_shared_line.specs.Programs.{IsKnown, KeepsRule, Note, RestFits, all_addresses, also_at, note_after, noted_at, notes_after, two_addresses}
 use Rattle.osdp_shared_line.proofs.Apart.{IsOwnComset, all_left, reader_address}
 use Rattle.osdp_shared_line.proofs.Changing.{IsRead, Nothing, each_left, fewer, set_is}
@@ -148,16 +148,7 @@ module _ {H : Type 0} where
         panel k s at j t other there (inr may) =
             h.apart j k t s other there at (settings k).0.address
             ((h.sites j t there).may (settings k).0.address (may_before j t (settings k).0.address may)) (rule k s at)
-    fits (Queue i e) n notes rest rule h = rest
-    fits (SetBusy i busy) n notes rest rule h = rest
-    fits (SetHandler i handler) n notes rest rule h = rest
-    fits (Withdraw i) n notes rest rule h = rest
-    fits (Tick i now) n notes rest rule h = rest
-    fits (ToReader i how) n notes rest rule h = rest
-    fits (ToPanel how now) n notes rest rule h = rest
-    fits (LoseToReader i place) n notes rest rule h = rest
-    fits (LoseToPanel place) n notes rest rule h = rest
-    fits (Reopen i now) n notes rest rule h = rest
+    fits _ n notes rest rule h = rest
 
   -- ---- what is noted of one site
 

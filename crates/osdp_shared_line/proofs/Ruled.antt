@@ -21,7 +21,7 @@ use Rattle.osdp_shared_line.specs.Programs.{IsKnown, KeepRule, KeepsRule, Note, 
 use Rattle.osdp_shared_line.proofs.Apart.{Apart, IsToClosed, IsOwnComset, all_left, reader_address}
 use Rattle.osdp_shared_line.proofs.Changing.{Nothing, One, left_withdrawn}
 use Rattle.osdp_shared_line.proofs.Controllers.{AreLeft, hears_well}
-use Rattle.osdp_shared_line.proofs.Delivering.{gets_one}
+use Rattle.osdp_shared_line.proofs.Delivering.{was_there}
 use Rattle.osdp_shared_line.proofs.Hearing.{closed_hears, first_other, first_own}
 use Rattle.osdp_shared_line.proofs.Lists.{each_kept, somewhere_front, somewhere_rest}
 use Rattle.osdp_shared_line.proofs.Noting.{AsksFor, Goes, IsFresh, IsIn, IsNoted, Noted, OwnFrom, TakesNone, all_are, all_go, are_all, as_is, fits, opening_asks_none, plainly, same_known, sets_asks, soft}
@@ -29,7 +29,7 @@ use Rattle.osdp_shared_line.proofs.Openings.{IsOpening, hears_opening}
 use Rattle.osdp_shared_line.proofs.Ruling.{false_true, queueing, quiet_call, reopening, retargeting, submitting}
 use Rattle.osdp_shared_line.proofs.Running.{apart_after, apart_first}
 use Rattle.osdp_shared_line.proofs.Saying.{none_taken, restarting, ticking, to_reader}
-use Rattle.osdp_shared_line.proofs.Sites.{changed_from, some_same}
+use Rattle.osdp_shared_line.proofs.Sites.{some_same}
 
 module _ {H : Type 0} (answer_of : H → Command → Answer) (after : H → Command → H) where
   -- ---- the panel reads
@@ -204,7 +204,7 @@ module _ {H : Type 0} (answer_of : H → Command → Answer) (after : H → Comm
 
       pub read_front : Noted (record n { sites = first_gets q.1 now n.sites; to_panel = left }) (notes_after (ToPanel how now) n notes)
       read_front = all_go n notes (ToPanel how now) h 0 (record n { sites = first_gets q.1 now n.sites; to_panel = left }) (λ k u is.
-          let old = was_there k u is in (
+          let old = was_there q.1 now k u n.sites is in (
             old.0,
             old.1,
             elim (eqb_tells (address_of old.0) q.1.address) [
@@ -214,15 +214,6 @@ module _ {H : Type 0} (answer_of : H → Command → Answer) (after : H → Comm
                   (elsewhere k old.0 old.1 differs.0)
             ],
           ))
-        where
-          was_there : (k : ℕ) (u : Site H) → site_at k (first_gets q.1 now n.sites) ≡ Some u → (s : Site H) × (site_at k n.sites ≡ Some s)
-          was_there k u is = elim (gets_one q.1 now n.sites) [
-            | inl none ↦ (u, subst (λ ss. site_at k ss ≡ Some u) none is)
-            | inr (j, s, at, one) ↦ elim (changed_from k j (gets q.1 now s) s u n.sites at (subst (λ ss. site_at k ss ≡ Some u) one is)) [
-              | inl here ↦ (s, subst (λ l. site_at l n.sites ≡ Some s) (sym here.0) at)
-              | inr other ↦ (u, other.1)
-            ]
-          ]
 
   module _ (n : Net H) (notes : ℕ → Note) (h : Noted n notes) (whole : Apart n) where
     -- nothing happens to any site

@@ -54,11 +54,7 @@ use Rattle.osdp_sim_laws.proofs.Schedules.{Follows, GoesFrom, goes_from, goes_on
 order_within : (step : SimStep) → IsOrder step → IsInSession step
 order_within (Issue number c) is = tt
 order_within (Queue number e) is = tt
-order_within (Busy number busy) is = absurd is
-order_within (Wait wait) is = absurd is
-order_within (ToReader move) is = absurd is
-order_within (ToController move) is = absurd is
-order_within (Reopen number) is = absurd is
+order_within _ is = absurd is
 
 orders_within : (orders : List SimStep) → Each IsOrder orders → Each IsInSession orders
 orders_within [] are = tt
