@@ -8,6 +8,7 @@ use Rattle.osdp_frame.specs.Packet.{Packet}
 use Rattle.osdp_link_laws.proofs.Numbers.{is_false, is_true}
 use Rattle.osdp_link_laws.proofs.Stages.{Each}
 use Rattle.osdp_shared_line.specs.Line.{site_at}
+use Rattle.osdp_shared_line.proofs.Changing.{or_false}
 use Rattle.osdp_calls.specs.Lines.{Burst, Opening, ahead_of_device, ahead_of_panel, concerns, is_ahead_of_device, is_ahead_of_panel, is_before, is_past_for_device, is_past_for_panel, those}
 use Rattle.osdp_calls.proofs.Losing.{Sub, those_sub}
 
@@ -155,10 +156,6 @@ device_told_panel from k p os said le within =
 
 -- ---- a session opens: what was said before it
 
-or_left : (a b : Bool) → a || b ≡ false → (a ≡ false) × (b ≡ false)
-or_left true b is = absurd cc
-or_left false b is = (refl, is)
-
 kept_by : (a x y : Bool) → a && (x && not y) ≡ true → (a ≡ true) × (x ≡ true) × (y ≡ false)
 kept_by true true false is = (refl, refl, refl)
 kept_by true true true is = absurd cc
@@ -212,7 +209,7 @@ those_all Q f i n (b ∷ bs) at all = by_test (f i b) refl (those_all Q f (suc i
 
 not_concerned : (o : Opening) (j : ℕ) (b : Burst) → j < o.place → is_before o j b ≡ false → (b.entry ≢ o.entry) × (b.packet.address ≢ o.address)
 not_concerned o j b lt is =
-    let tests = or_left (b.entry == o.entry) (b.packet.address == o.address) (sym (ap (λ x. x && concerns o b) (le-leb (suc j) o.place (omega (arith, lt)))) ∙ is) in (
+    let tests = or_false (b.entry == o.entry) (b.packet.address == o.address) (sym (ap (λ x. x && concerns o b) (le-leb (suc j) o.place (omega (arith, lt)))) ∙ is) in (
       λ e. absurd (let a = tests.0 in let t = is_true b.entry o.entry e in cc),
       λ e. absurd (let a = tests.1 in let t = is_true b.packet.address o.address e in cc),
     )
@@ -226,7 +223,7 @@ pub device_quiet : (k from : ℕ) (o : Opening) (os : List Opening) (said : List
 device_quiet k from o os said mine at =
     those_all (λ q. q.0 ≢ k) (is_ahead_of_device k from (o ∷ os)) 0 (length said) said (omega arith) (λ j b lt is.
     let kept = kept_by b.by_panel (nat_le from j) (is_past_for_device k (o ∷ os) j b) is in
-    let both = or_left ((o.entry == k) && is_before o j b) (is_past_for_device k os j b) kept.2 in
+    let both = or_false ((o.entry == k) && is_before o j b) (is_past_for_device k os j b) kept.2 in
     let gone = not_concerned o j b (omega (arith, lt, at)) (mine_past (o.entry == k) (is_before o j b) (is_true o.entry k mine) both.0) in
     (λ e. gone.0 (e ∙ sym mine)))
 
@@ -235,5 +232,5 @@ pub panel_quiet : (from : ℕ) (o : Opening) (os : List Opening) (said : List Bu
 panel_quiet from o os said at =
     those_all (λ q. (q.0 ≢ o.entry) × (q.1.address ≢ o.address)) (is_ahead_of_panel from (o ∷ os)) 0 (length said) said (omega arith) (λ j b lt is.
     let kept = kept_by (not b.by_panel) (nat_le from j) (is_past_for_panel (o ∷ os) j b) is in
-    let both = or_left (is_before o j b) (is_past_for_panel os j b) kept.2 in
+    let both = or_false (is_before o j b) (is_past_for_panel os j b) kept.2 in
     not_concerned o j b (omega (arith, lt, at)) both.0)

@@ -26,7 +26,7 @@ use Rattle.osdp_calls.proofs.Losing.{IsStill, changed_twice}
 use Rattle.osdp_calls.proofs.Matching.{FoundAt, Nobody, Somebody, found}
 use Rattle.osdp_calls.proofs.Nexts.{read_to, reads_all, then_rests_to}
 use Rattle.osdp_calls.proofs.Replying.{next_reader, reader_with}
-use Rattle.osdp_calls.proofs.Same.{IsNetOf}
+use Rattle.osdp_calls.proofs.Same.{IsNetOf, read_so}
 use Rattle.osdp_calls.proofs.Stations.{RestsTo, Sites, both_change, make_none, station_changes}
 use Rattle.osdp_calls.proofs.Steps.{StepsTo, by_own, one_queue, queue_no_command, site_queues}
 
@@ -36,16 +36,9 @@ module _ {H : Type 0} (answer_of : H → Command → Answer) (after : H → Comm
   queued_so : (full : Bool) (event : Event) (l : InUse H) (k : ℕ) (d : Device) (t : Station H) (s : Site H) → Sites l k d t s
       → Sites l k d (queues full event t) (left_by s (link.queues full event (link_of s [] [])))
   queued_so true event l k d t s is = is
-  queued_so false event l k d t s is = record {
-    controller = is.controller;
-    reserved = is.reserved;
-    reader = ap (after_submit event) is.reader;
-    coming = is.coming;
-    account = ap (λ (a : link.Account). record a { queued = a.queued ++ event ∷ []; kept = a.kept ++ event ∷ [] }) is.account;
-    earlier = is.earlier;
-    place = is.place;
-    stored = is.stored;
-  }
+  queued_so false event l k d t s is =
+      read_so is (ap (after_submit event) is.reader)
+      (ap (λ (a : link.Account). record a { queued = a.queued ++ event ∷ []; kept = a.kept ++ event ∷ [] }) is.account) is.stored
 
   takes_same : (k : ℕ) (event : Event) (l : InUse H) (n : Net H) → IsNetOf l n
       → site_queues (site_at k n.sites) event ≡ queued_at (site_at k l.stations) event
@@ -82,32 +75,14 @@ module _ {H : Type 0} (answer_of : H → Command → Answer) (after : H → Comm
       by_own answer_of after (calls.SetHandler k handler) (line.SetHandler k handler) l n
       (on_station k (λ t. record t { reader = after_set_handler handler t.reader }) l) (λ j. refl) (λ j. refl) tt refl (tt, tt) tt
       (both_change k (λ t. record t { reader = after_set_handler handler t.reader }) (line.calls answer_of after (link.SetHandler handler)) l n h
-      (λ d t s is. record {
-        controller = is.controller;
-        reserved = is.reserved;
-        reader = ap (after_set_handler handler) is.reader;
-        coming = is.coming;
-        account = is.account;
-        earlier = is.earlier;
-        place = is.place;
-        stored = is.stored;
-      }))
+      (λ d t s is. read_so is (ap (after_set_handler handler) is.reader) is.account is.stored))
 
   -- what has come on a line is nothing to the net
   pub lines_change : (k : ℕ) (change : Station H → Received) (l : InUse H) (n : Net H) → IsNetOf l n
       → RestsTo answer_of after n (on_station k (λ t. record t { line = change t }) l)
   lines_change k change l n h =
       make_none answer_of after (Each IsStill) (on_station k (λ t. record t { line = change t }) l) n tt
-      (station_changes k (λ t. record t { line = change t }) l n h (λ d t s is. record {
-        controller = is.controller;
-        reserved = is.reserved;
-        reader = is.reader;
-        coming = is.coming;
-        account = is.account;
-        earlier = is.earlier;
-        place = is.place;
-        stored = is.stored;
-      }))
+      (station_changes k (λ t. record t { line = change t }) l n h (λ d t s is. read_so is is.reader is.account is.stored))
 
   pub place_of : (k : ℕ) (t : Station H) (l : InUse H) (n : Net H) → IsNetOf l n → site_at k l.stations ≡ Some t → t.place ≤ length l.said
   place_of k t l n h is = by_found (found (Sites l) k l.bus.devices.entries l.stations n.sites h.sites)

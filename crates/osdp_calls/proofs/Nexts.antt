@@ -24,7 +24,7 @@ use Rattle.osdp_calls.proofs.Ahead.{AreWithin, device_front, device_further, dev
 use Rattle.osdp_calls.proofs.Losing.{IsStill, Rests, both_still, changed_twice, joins, lose_to_reader, then_reaches, with_coming}
 use Rattle.osdp_calls.proofs.Matching.{FoundAt, Nobody, Somebody, changed_same, found, matched, set_station}
 use Rattle.osdp_calls.proofs.Replying.{IsReply, hears_replies, reader_with, silent_to_replies}
-use Rattle.osdp_calls.proofs.Same.{IsNetOf, IsRightly, IsSiteOf}
+use Rattle.osdp_calls.proofs.Same.{IsNetOf, IsRightly, IsSiteOf, placed_so, read_so, sites_so}
 use Rattle.osdp_calls.proofs.Stations.{Refines, RestsTo, Sites, make_move, make_none}
 
 pub length_more : {A : Type 0} (xs : List A) (x : A) → length (xs ++ x ∷ []) ≡ length xs + 1
@@ -64,16 +64,8 @@ module _ {H : Type 0} where
       (subst (λ qs. IsNetOf l (record n { to_panel = qs })) (sym (append-nil n.to_panel)) h)
   device_said k (Some p) l n is h = record {
     sites = matched (Sites l) (IsSiteOf l.openings (l.said ++ from_device k p ∷ []) l.bus.greatest) 0 l.bus.devices.entries l.stations n.sites
-        (λ j d t s at. record {
-          controller = at.controller;
-          reserved = at.reserved;
-          reader = at.reader;
-          coming = at.coming ∙ sym (device_told_device j t.place k p l.openings l.said);
-          account = at.account;
-          earlier = at.earlier;
-          place = let le = at.place in let more = length_more l.said (from_device k p) in omega (arith, le, more);
-          stored = at.stored;
-        }) h.sites;
+        (λ j d t s at. placed_so at (at.coming ∙ sym (device_told_device j t.place k p l.openings l.said))
+        (let le = at.place in let more = length_more l.said (from_device k p) in omega (arith, le, more))) h.sites;
     to_panel = ap (λ qs. qs ++ (k, p) ∷ []) h.to_panel ∙ sym (device_told_panel l.place k p l.openings l.said h.place h.openings);
     place = let le = h.place in let more = length_more l.said (from_device k p) in omega (arith, le, more);
     openings = within_more (length l.said) (length (l.said ++ from_device k p ∷ [])) l.openings (let more = length_more l.said (from_device k p) in omega (arith, more)) h.openings;
@@ -103,23 +95,8 @@ module _ {H : Type 0} where
             (lose_to_reader answer_of after k s (ahead_of_device k i l.openings l.said) (ahead_of_device k t.place l.openings l.said) [] n c
             (device_further k t.place i l.openings l.said le)) in
             rests_to n (with_coming answer_of after k s (ahead_of_device k i l.openings l.said) n) (with_station k (record t { place = i }) l) lost
-            (record {
-              sites = set_station (Sites l) k d (record t { place = i }) (record s { coming = ahead_of_device k i l.openings l.said }) l.bus.devices.entries
-                  l.stations n.sites h.sites a (record {
-                    controller = at.controller;
-                    reserved = at.reserved;
-                    reader = at.reader;
-                    coming = refl;
-                    account = at.account;
-                    earlier = at.earlier;
-                    place = within;
-                    stored = at.stored;
-                  });
-              to_panel = h.to_panel;
-              place = h.place;
-              openings = h.openings;
-              said = h.said;
-            })
+            (sites_so h (set_station (Sites l) k d (record t { place = i }) (record s { coming = ahead_of_device k i l.openings l.said })
+            l.bus.devices.entries l.stations n.sites h.sites a (placed_so at refl within)))
 
     -- ---- a packet is read
 
@@ -147,24 +124,10 @@ module _ {H : Type 0} where
             let o = hears answer_of after t.reader p in
             let n1 : Net H = record n { sites = changed k (left_by s (link.reader_gets answer_of after p (link_of s [] []))) n.sites } in
             let read : IsNetOf l1 n1 =
-            record {
-              sites = set_station (Sites l) k d (has_read p t) (left_by s (link.reader_gets answer_of after p (link_of s [] []))) l.bus.devices.entries l.stations
-                  n.sites h.sites a (record {
-                    controller = at.controller;
-                    reserved = at.reserved;
-                    reader = ap (λ (r : ReaderState H). (hears answer_of after r p).reader) at.reader;
-                    coming = at.coming;
-                    account = (λ i. (link.taken (kind_of (at.reader i) p) (hears answer_of after (at.reader i) p).command
-                        (hears answer_of after (at.reader i) p).said (link.front_of (at.reader i)) (at.account i)));
-                    earlier = at.earlier;
-                    place = at.place;
-                    stored = replies.stored;
-                  });
-              to_panel = h.to_panel;
-              place = h.place;
-              openings = h.openings;
-              said = h.said;
-            } in
+            sites_so h (set_station (Sites l) k d (has_read p t) (left_by s (link.reader_gets answer_of after p (link_of s [] [])))
+            l.bus.devices.entries l.stations n.sites h.sites a (read_so at (ap (λ (r : ReaderState H). (hears answer_of after r p).reader) at.reader)
+            (λ i. (link.taken (kind_of (at.reader i) p) (hears answer_of after (at.reader i) p).command
+            (hears answer_of after (at.reader i) p).said (link.front_of (at.reader i)) (at.account i))) replies.stored)) in
             let done : IsNetOf (device_says k (option_to_list o.reply) l1) (record n1 { to_panel = n1.to_panel ++ tagged k (option_to_list o.reply) }) =
             device_said k o.reply l1 n1 replies.said read in
             let there_too : line.hears_at answer_of after k p s n ≡ record n1 { to_panel = n1.to_panel ++ tagged k (option_to_list o.reply) } =

@@ -8,7 +8,7 @@ use Rattle.osdp_calls.specs.Lines.{InUse, Opening, Station, ahead_of_device, ahe
 use Rattle.osdp_calls.proofs.Ahead.{device_opened, others_opened, panel_opened}
 use Rattle.osdp_calls.proofs.Losing.{Rests, lose_to_panel, lose_to_reader, then_rests, with_coming, with_panel}
 use Rattle.osdp_calls.proofs.Matching.{Match, changed_same, set_others, set_same}
-use Rattle.osdp_calls.proofs.Same.{IsNetOf}
+use Rattle.osdp_calls.proofs.Same.{IsNetOf, placed_so}
 use Rattle.osdp_calls.proofs.Nexts.{rests_to}
 use Rattle.osdp_calls.proofs.Stations.{RestsTo, Sites}
 use Rattle.std.specs.Prelude.{slice_get, slice_set}
@@ -36,25 +36,9 @@ module _ {H : Type 0} (answer_of : H → Command → Answer) (after : H → Comm
       rests_to answer_of after n n2 l1 (then_rests answer_of after n n1 n2 first second) (record {
         sites = subst (λ ds. Match (Sites l1) 0 ds l.stations n2.sites) (set_same k d l.bus.devices.entries a)
             (subst (λ ts. Match (Sites l1) 0 (slice_set l.bus.devices.entries k d) ts n2.sites) (changed_same k t l.stations b)
-            (set_others (Sites l) (Sites l1) k d t s1 l.bus.devices.entries l.stations n.sites (λ x d1 t1 s2 other was. record {
-              controller = was.controller;
-              reserved = was.reserved;
-              reader = was.reader;
-              coming = was.coming ∙ sym (others_opened x t1.place o l.openings l.said (λ e. other (sym e)));
-              account = was.account;
-              earlier = was.earlier;
-              place = was.place;
-              stored = was.stored;
-            }) h.sites (record {
-              controller = is.controller;
-              reserved = is.reserved;
-              reader = is.reader;
-              coming = refl;
-              account = is.account;
-              earlier = is.earlier;
-              place = is.place;
-              stored = is.stored;
-            })));
+            (set_others (Sites l) (Sites l1) k d t s1 l.bus.devices.entries l.stations n.sites (λ x d1 t1 s2 other was.
+            placed_so was (was.coming ∙ sym (others_opened x t1.place o l.openings l.said (λ e. other (sym e)))) was.place)
+            h.sites (placed_so is refl is.place)));
         to_panel = refl;
         place = h.place;
         openings = (within, h.openings);

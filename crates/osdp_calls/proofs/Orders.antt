@@ -37,7 +37,7 @@ use Rattle.osdp_calls.proofs.Losing.{IsStill}
 use Rattle.osdp_calls.proofs.Controllers.{closed_of, config_same, is_to_open, retargeted_same, submitted_same, waiting_same, withdrawn_same}
 use Rattle.osdp_calls.proofs.Matching.{And, Done, FoundAt, Match, Nobody, Somebody, changed_same, found, set, set_same}
 use Rattle.osdp_calls.proofs.Panel.{at_seen}
-use Rattle.osdp_calls.proofs.Same.{Controls, IsNetOf, IsSame, IsToOpen}
+use Rattle.osdp_calls.proofs.Same.{Controls, IsNetOf, IsSame, IsToOpen, controlled_so, sites_so}
 use Rattle.osdp_calls.proofs.Stations.{Makes, RestsTo, Sites, make_move, make_none}
 use Rattle.osdp_calls.proofs.Steps.{Made, MadeByPanel, StepsTo, by_own, by_plain, by_refusal, by_submit}
 
@@ -172,29 +172,12 @@ module _ {H : Type 0} where
                 (make_none answer_of after (Each IsStill) (record l1 {
                   bus = record l1.bus { devices = record l1.bus.devices { entries = slice_set l.bus.devices.entries entry e } };
                   stations = changed entry u l.stations;
-                }) n tt (record {
-                  sites = subst (λ ss. Match (Sites l1) 0 (slice_set l.bus.devices.entries entry e) (changed entry u l.stations) ss) (changed_same entry s n.sites c)
-                      (set (Sites l1) entry e u s l.bus.devices.entries l.stations n.sites h1.sites (record {
-                        controller = is_to_open l.bus.greatest moment d.controller s.controller (omega arith) shut control;
-                        reserved = has.reserved;
-                        reader = has.reader;
-                        coming = has.coming;
-                        account = has.account;
-                        earlier = has.earlier;
-                        place = has.place;
-                        stored = has.stored;
-                      }));
-                  to_panel = h.to_panel;
-                  place = h.place;
-                  openings = h.openings;
-                  said = h.said;
-                }))
+                }) n tt (sites_so h1
+                (subst (λ ss. Match (Sites l1) 0 (slice_set l.bus.devices.entries entry e) (changed entry u l.stations) ss) (changed_same entry s n.sites c)
+                (set (Sites l1) entry e u s l.bus.devices.entries l.stations n.sites h1.sites
+                (controlled_so has (is_to_open l.bus.greatest moment d.controller s.controller (omega arith) shut control) has.reserved has.account)))))
 
     -- ---- a command
-
-    or_left : (a b : Bool) → a || b ≡ false → (a ≡ false) × (b ≡ false)
-    or_left true b is = absurd cc
-    or_left false b is = (refl, is)
 
     pub refused_same : (o : Option Communication) (k : ℕ) (d : Device) (t : Station H) (s : Site H) (l : InUse H) (n : Net H) → IsNetOf l n → Sites l k d t s
         → line.is_comset_refused k o s n.sites ≡ bus.is_comset_refused o k d l.bus
@@ -256,22 +239,10 @@ module _ {H : Type 0} where
             (subst (IsNetOf (record l {
               bus = record l.bus { devices = record l.bus.devices { entries = slice_set l.bus.devices.entries k e } };
               stations = changed k u l.stations;
-            })) (sym next) (record {
-              sites = set (Sites l) k e u s1 l.bus.devices.entries l.stations n.sites h.sites (record {
-                controller = submitted_same t.begun l.bus.greatest command d.controller s.controller control;
-                reserved = ap (line.asked_for (comset_of command)) has.reserved ∙ reserves_same (comset_of command) d.reserved;
-                reader = has.reader;
-                coming = has.coming;
-                account = ap (λ (x : link.Account). record x { issued = x.issued ++ command ∷ [] }) has.account;
-                earlier = has.earlier;
-                place = has.place;
-                stored = has.stored;
-              });
-              to_panel = h.to_panel;
-              place = h.place;
-              openings = h.openings;
-              said = h.said;
-            })))
+            })) (sym next) (sites_so h (set (Sites l) k e u s1 l.bus.devices.entries l.stations n.sites h.sites
+            (controlled_so has (submitted_same t.begun l.bus.greatest command d.controller s.controller control)
+            (ap (line.asked_for (comset_of command)) has.reserved ∙ reserves_same (comset_of command) d.reserved)
+            (ap (λ (x : link.Account). record x { issued = x.issued ++ command ∷ [] }) has.account))))))
 
         by_fault : (f : Option BusFault) → submit_refusal_at k command l.bus ≡ f → StepsTo answer_of after (OfPanel (panel.Submit k command)) l n (record l {
           bus = changed_unless f l.bus (after_submit_at k command l.bus);
@@ -310,23 +281,12 @@ module _ {H : Type 0} where
             (subst (IsNetOf (record l {
               bus = record l.bus { devices = record l.bus.devices { entries = slice_set l.bus.devices.entries k e } };
               stations = changed k u l.stations;
-            })) (sym (ap (λ o. line.change_at k o (line.withdraws answer_of after) n) c)) (record {
-              sites = set (Sites l) k e u (line.withdraws answer_of after s) l.bus.devices.entries l.stations n.sites h.sites (record {
-                controller = subst (λ o. Controls o l.bus.greatest e.controller (line.withdraws answer_of after s).controller) (sym begun)
-                    (withdrawn_same l.bus.greatest d.controller s.controller control);
-                reserved = (λ i. line.freed_without (same i) (has.reserved i)) ∙ frees_same (bus.withdrawn_of d) d.reserved;
-                reader = has.reader;
-                coming = has.coming;
-                account = (λ i. record (has.account i) { removed = (has.account i).removed ++ map link.Withdrawn (option_to_list (same i)) });
-                earlier = has.earlier;
-                place = has.place;
-                stored = has.stored;
-              });
-              to_panel = h.to_panel;
-              place = h.place;
-              openings = h.openings;
-              said = h.said;
-            }))
+            })) (sym (ap (λ o. line.change_at k o (line.withdraws answer_of after) n) c)) (sites_so h
+            (set (Sites l) k e u (line.withdraws answer_of after s) l.bus.devices.entries l.stations n.sites h.sites (controlled_so has
+            (subst (λ o. Controls o l.bus.greatest e.controller (line.withdraws answer_of after s).controller) (sym begun)
+            (withdrawn_same l.bus.greatest d.controller s.controller control))
+            ((λ i. line.freed_without (same i) (has.reserved i)) ∙ frees_same (bus.withdrawn_of d) d.reserved)
+            (λ i. record (has.account i) { removed = (has.account i).removed ++ map link.Withdrawn (option_to_list (same i)) })))))
         by_begun d t s a b c has (Some began) begun =
             let control : IsToOpen began l.bus.greatest d.controller s.controller = subst (λ o. Controls o l.bus.greatest d.controller s.controller) begun has.controller in
             let nothing : bus.withdrawn_of d ≡ None = ap (λ st. controllers.withdrawn_in st d.controller.waiting) control.quiet in
@@ -412,24 +372,11 @@ module _ {H : Type 0} where
               }) o l.bus;
             })) (sym a)
             (make_move answer_of after (Retargeted k address l) (Retarget k address) l1 n (inr (is, refl)) tt (λ s2 at2 ok. no_other k address l n h (free is))
-            (subst (IsNetOf l1) (sym next) (record {
-              sites = subst (λ ts. Match (Sites l1) 0 (slice_set l.bus.devices.entries k e) ts (changed k s1 n.sites)) (changed_same k t l.stations b)
-                  (set (Sites l) k e t s1 l.bus.devices.entries l.stations n.sites h.sites (record {
-                    controller = subst (λ o. Controls o l.bus.greatest e.controller s1.controller) (sym begun)
-                        (retargeted_same l.bus.greatest address d.controller s.controller control);
-                    reserved = refl;
-                    reader = has.reader;
-                    coming = has.coming;
-                    account = has.account;
-                    earlier = has.earlier;
-                    place = has.place;
-                    stored = has.stored;
-                  }));
-              to_panel = h.to_panel;
-              place = h.place;
-              openings = h.openings;
-              said = h.said;
-            })))
+            (subst (IsNetOf l1) (sym next) (sites_so h
+            (subst (λ ts. Match (Sites l1) 0 (slice_set l.bus.devices.entries k e) ts (changed k s1 n.sites)) (changed_same k t l.stations b)
+            (set (Sites l) k e t s1 l.bus.devices.entries l.stations n.sites h.sites (controlled_so has
+            (subst (λ o. Controls o l.bus.greatest e.controller s1.controller) (sym begun) (retargeted_same l.bus.greatest address d.controller s.controller control))
+            refl has.account))))))
 
         by_fault : (f : Option BusFault) → bus.retarget_refusal_at k address l.bus ≡ f
             → Makes answer_of after (Retargeted k address l) n (record l { bus = changed_unless f l.bus (bus.after_retarget_at k address l.bus) })

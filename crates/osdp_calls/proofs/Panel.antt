@@ -26,7 +26,7 @@ use Rattle.osdp_calls.proofs.Controllers.{config_same, controls_later, heard_sam
 use Rattle.osdp_calls.proofs.Losing.{Rests, lose_to_panel, with_panel}
 use Rattle.osdp_calls.proofs.Matching.{And, Done, Match, changed_same, matched, set}
 use Rattle.osdp_calls.proofs.Nexts.{each_at, rests_to}
-use Rattle.osdp_calls.proofs.Same.{Controls, IsNetOf, IsRightly, IsSame, IsSiteOf, IsToOpen}
+use Rattle.osdp_calls.proofs.Same.{Controls, IsNetOf, IsRightly, IsSame, IsSiteOf, IsToOpen, controlled_so, sites_so}
 use Rattle.osdp_calls.proofs.Stations.{Makes, RestsTo, Sites, make_move, make_none}
 
 -- ---- the address that is kept
@@ -41,22 +41,21 @@ module _ {H : Type 0} where
   -- ---- a moment is seen
 
   pub at_seen : (now : ℕ) (l : InUse H) (n : Net H) → IsNetOf l n → IsNetOf (record l { bus = seen now l.bus }) n
-  at_seen now l n h = record {
-    sites = matched (Sites l) (IsSiteOf l.openings l.said (max l.bus.greatest now)) 0 l.bus.devices.entries l.stations n.sites (λ j d t s is. record {
-      controller = controls_later t.begun l.bus.greatest (max l.bus.greatest now) d.controller s.controller (omega arith) is.controller;
-      reserved = is.reserved;
-      reader = is.reader;
-      coming = is.coming;
-      account = is.account;
-      earlier = is.earlier;
-      place = is.place;
-      stored = is.stored;
-    }) h.sites;
-    to_panel = h.to_panel;
-    place = h.place;
-    openings = h.openings;
-    said = h.said;
-  }
+  at_seen now l n h =
+      sites_so h (matched (Sites l) (IsSiteOf l.openings l.said (max l.bus.greatest now)) 0 l.bus.devices.entries l.stations n.sites
+      (λ j d t s is. controlled_so is (controls_later t.begun l.bus.greatest (max l.bus.greatest now) d.controller s.controller (omega arith) is.controller)
+      is.reserved is.account) h.sites)
+
+  -- .. by the controller of an entry alone
+  pub one_seen : (k : ℕ) (d : Device) (t : Station H) (s : Site H) (l : InUse H) (n : Net H) → IsNetOf l n → site_at k l.stations ≡ Some t
+      → site_at k n.sites ≡ Some s → Sites l k d t s → Match (Sites l) 0 (slice_set l.bus.devices.entries k
+      (record { controller = record d.controller { session = clocks.seen l.bus.greatest d.controller.session }; reserved = d.reserved })) l.stations n.sites
+  one_seen k d t s l n h b c is =
+      let e : Device = record { controller = record d.controller { session = clocks.seen l.bus.greatest d.controller.session }; reserved = d.reserved } in
+      subst (λ ts. Match (Sites l) 0 (slice_set l.bus.devices.entries k e) ts n.sites) (changed_same k t l.stations b)
+      (subst (λ ss. Match (Sites l) 0 (slice_set l.bus.devices.entries k e) (changed k t l.stations) ss) (changed_same k s n.sites c)
+      (set (Sites l) k e t s l.bus.devices.entries l.stations n.sites h.sites
+      (controlled_so is (saw t.begun l.bus.greatest d.controller s.controller is.controller) is.reserved is.account)))
 
   -- ---- who is at a packet's address
 
@@ -164,26 +163,8 @@ module _ {H : Type 0} where
             → Makes answer_of after (IsRead b l n (told_at k (hears p l.bus.greatest d.controller.session).report)) n (by_heard k d (hears p l.bus.greatest d.controller.session))
         ignored k d t s there c is nothing =
             subst (λ (heard : Heard). Makes answer_of after (IsRead b l n (told_at k heard.report)) n (by_heard k d heard)) (sym nothing)
-            (make_none answer_of after (IsRead b l n []) (by_heard k d (ignores (clocks.seen l.bus.greatest d.controller.session))) n (IsIgnored refl refl) (record {
-              sites =
-                  let e : Device = record { controller = record d.controller { session = clocks.seen l.bus.greatest d.controller.session }; reserved = d.reserved } in
-                  subst (λ ts. Match (Sites l) 0 (slice_set l.bus.devices.entries k e) ts n.sites) (changed_same k t l.stations there)
-                  (subst (λ ss. Match (Sites l) 0 (slice_set l.bus.devices.entries k e) (changed k t l.stations) ss) (changed_same k s n.sites c)
-                  (set (Sites l) k e t s l.bus.devices.entries l.stations n.sites h.sites (record {
-                    controller = saw t.begun l.bus.greatest d.controller s.controller is.controller;
-                    reserved = is.reserved;
-                    reader = is.reader;
-                    coming = is.coming;
-                    account = is.account;
-                    earlier = is.earlier;
-                    place = is.place;
-                    stored = is.stored;
-                  })));
-              to_panel = h.to_panel;
-              place = h.place;
-              openings = h.openings;
-              said = h.said;
-            }))
+            (make_none answer_of after (IsRead b l n []) (by_heard k d (ignores (clocks.seen l.bus.greatest d.controller.session))) n (IsIgnored refl refl)
+            (sites_so h (one_seen k d t s l n h there c is)))
 
         heard_by : (k : ℕ) (d : Device) (t : Station H) (s : Site H) → site_at k l.stations ≡ Some t → Sites l k d t s → t.begun ≡ None
             → p.reply ≡ true → first_gets p l.bus.greatest n.sites ≡ changed k (gets p l.bus.greatest s) n.sites
@@ -202,23 +183,12 @@ module _ {H : Type 0} where
             let u : Station H = record t { account = after_report heard.report t.account } in
             make_move answer_of after (IsRead b l n (told_at k heard.report)) (ToPanel Repeated top) (by_heard k d heard) n
             (IsHeard front.0 (h.to_panel ∙ front.1) refl) tt tt
-            (subst (IsNetOf (by_heard k d heard)) (sym next) (record {
-              sites = subst (λ ts. Match (Sites l) 0 (slice_set l.bus.devices.entries k e) ts (changed k (gets p top s) n.sites)) (sym (one_told k heard.report t l.stations there))
-                  (set (Sites l) k e u (gets p top s) l.bus.devices.entries l.stations n.sites h.sites (record {
-                    controller = subst (λ o. Controls o top e.controller (gets p top s).controller) (sym begun) (heard_same p top d.controller s.controller control);
-                    reserved = ap (λ (x : Heard). freed_by x.report s.reserved) same_heard ∙ ap (freed_by heard.report) is.reserved ∙ sym (freed_same heard.report d.reserved);
-                    reader = is.reader;
-                    coming = is.coming;
-                    account = ap (λ (x : Heard). after_report x.report s.account) same_heard ∙ ap (after_report heard.report) is.account;
-                    earlier = is.earlier;
-                    place = is.place;
-                    stored = is.stored;
-                  }));
-              to_panel = h.to_panel;
-              place = h.place;
-              openings = h.openings;
-              said = h.said;
-            }))
+            (subst (IsNetOf (by_heard k d heard)) (sym next) (sites_so h
+            (subst (λ ts. Match (Sites l) 0 (slice_set l.bus.devices.entries k e) ts (changed k (gets p top s) n.sites)) (sym (one_told k heard.report t l.stations there))
+            (set (Sites l) k e u (gets p top s) l.bus.devices.entries l.stations n.sites h.sites (controlled_so is
+            (subst (λ o. Controls o top e.controller (gets p top s).controller) (sym begun) (heard_same p top d.controller s.controller control))
+            (ap (λ (x : Heard). freed_by x.report s.reserved) same_heard ∙ ap (freed_by heard.report) is.reserved ∙ sym (freed_same heard.report d.reserved))
+            (ap (λ (x : Heard). after_report x.report s.account) same_heard ∙ ap (after_report heard.report) is.account))))))
           where
             not_panel : (x : Bool) → not x ≡ true → x ≡ false
             not_panel true e = absurd cc

@@ -26,7 +26,7 @@ use Rattle.osdp_calls.proofs.Controllers.{config_same, equal_same}
 use Rattle.osdp_calls.proofs.Matching.{And, Done, FoundAt, Match, Nobody, Somebody, found}
 use Rattle.osdp_calls.proofs.Nexts.{each_at}
 use Rattle.osdp_calls.proofs.Orders.{no_other}
-use Rattle.osdp_calls.proofs.Same.{Controls, IsNetOf, IsSiteOf}
+use Rattle.osdp_calls.proofs.Same.{Controls, IsNetOf, IsSiteOf, controlled_so, read_so, sites_so}
 use Rattle.osdp_calls.proofs.Stations.{Sites, both_change}
 use Rattle.osdp_calls.proofs.Steps.{StepsTo, by_own}
 
@@ -85,16 +85,9 @@ module _ {H : Type 0} where
     pub new_device_is : (k address : ℕ) (handler : H) (room gap : ℕ) (l : InUse H) (n : Net H) → IsNetOf l n
         → IsNetOf (on_station k (made_anew address handler room gap) l) (after_net answer_of after (RestartReader k address handler room) n)
     new_device_is k address handler room gap l n h =
-        both_change k (made_anew address handler room gap) (line.calls answer_of after (link.RestartReader address handler room)) l n h (λ d t s is. record {
-          controller = is.controller;
-          reserved = is.reserved;
-          reader = ap (λ (r : ReaderState H). new_reader (record r.config { address = address }) handler room) is.reader;
-          coming = is.coming;
-          account = ap link.reader_restarted is.account;
-          earlier = is.earlier;
-          place = is.place;
-          stored = tt;
-        })
+        both_change k (made_anew address handler room gap) (line.calls answer_of after (link.RestartReader address handler room)) l n h (λ d t s is.
+        read_so is (ap (λ (r : ReaderState H). new_reader (record r.config { address = address }) handler room) is.reader)
+        (ap link.reader_restarted is.account) tt)
 
     pub new_device_fits : (k address : ℕ) (handler : H) (room : ℕ) (l : InUse H) (n : Net H) → IsNetOf l n
         → ((t : Station H) → site_at k l.stations ≡ Some t → (t.reader.config.address ≡ address) ⊎ IsFreeFor k address t l)
@@ -144,20 +137,11 @@ module _ {H : Type 0} where
         ap settings (let e : i ≡ i + 0 = omega arith in e) ∙ set_so 0 a refl in
         And i (new_device a config) (Rattle.osdp_calls.specs.Calls.forgets (Some d) t) (restarts answer_of after (settings i) s)
         (map (λ b. new_device b config) xs) (all_forget ds ts) (all_restart answer_of after (suc i) settings ss)
-        (record {
-          controller = equal_same 0 (new_machine (controller_config a config) config.capacity) (new_machine (settings i).0 (settings i).1)
-              (λ x. new_machine (here x).0 (here x).1);
-          reserved = refl;
-          reader = is.reader;
-          coming = is.coming;
-          account = (λ x. record (is.account x) {
-            forgotten = (is.account x).forgotten ++ option_to_list (outstanding_same t.begun l.bus.greatest d.controller s.controller is.controller x);
-            removed = (is.account x).removed ++ map link.ThrownAway (waiting_too t.begun l.bus.greatest d.controller s.controller is.controller x);
-          });
-          earlier = is.earlier;
-          place = is.place;
-          stored = is.stored;
-        })
+        (controlled_so is (equal_same 0 (new_machine (controller_config a config) config.capacity) (new_machine (settings i).0 (settings i).1)
+        (λ x. new_machine (here x).0 (here x).1)) refl (λ x. record (is.account x) {
+          forgotten = (is.account x).forgotten ++ option_to_list (outstanding_same t.begun l.bus.greatest d.controller s.controller is.controller x);
+          removed = (is.account x).removed ++ map link.ThrownAway (waiting_too t.begun l.bus.greatest d.controller s.controller is.controller x);
+        }))
         (each_made config settings l (suc i) xs ds ts ss (omega (arith, same))
         (λ k b is2. ap settings (let e : suc i + k ≡ i + suc k = omega arith in e) ∙ set_so (suc k) b is2) rest)
 
@@ -176,13 +160,7 @@ module _ {H : Type 0} where
           are_settings config (address_at k xs) fits.0 (each_at (λ a. a < 127) k (address_at k xs) xs (each_of (λ a. a < 127) xs fits.1) (there_is k xs (count k s at))),
           λ j t other there. by_name k j other (there_is k xs (count k s at)) t there (found (Sites l) j l.bus.devices.entries l.stations n.sites h.sites),
         ))
-        (record {
-          sites = each_made config (settings_of config xs) l 0 xs l.bus.devices.entries l.stations n.sites fits.2 (set_at config [] xs) h.sites;
-          to_panel = h.to_panel;
-          place = h.place;
-          openings = h.openings;
-          said = h.said;
-        })
+        (sites_so h (each_made config (settings_of config xs) l 0 xs l.bus.devices.entries l.stations n.sites fits.2 (set_at config [] xs) h.sites))
       where
         count : (k : ℕ) (s : Site H) → site_at k n.sites ≡ Some s → k < length xs
         count k s at =

@@ -1,10 +1,15 @@
 -- A line in use as a net: the bus's controllers are those of the sites, what was said and may still be read is on its way.
 use Rattle.std.proofs.Common.{◌≡◌, ◌≤◌, ℕ, max, not, true, List, length, Option, Some, None, IfSome}
+use Rattle.osdp_frame.specs.Packet.{Packet}
 use Rattle.osdp_controller.specs.Machine.{Machine}
 use Rattle.osdp_controller.specs.Sessions.{later, seen}
 use Rattle.osdp_controller.specs.declared.state.State.TheVariants.{Closed, Quiet}
+use Rattle.osdp_bus.specs.Buses.{BusState}
 use Rattle.osdp_bus.specs.declared.device.Device.{Device}
+use Rattle.osdp_device.specs.Receiving.{Received}
+use Rattle.osdp_link_laws.specs.Link.{Account}
 use Rattle.osdp_link_laws.proofs.Stages.{Each}
+use Rattle.osdp_reader.specs.State.{ReaderState}
 use Rattle.osdp_shared_line.specs.Line.{Net, Site}
 use Rattle.osdp_calls.specs.Lines.{Burst, InUse, Opening, Station, ahead_of_device, ahead_of_panel}
 use Rattle.osdp_calls.proofs.Matching.{Match}
@@ -49,9 +54,61 @@ module _ {H : Type 0} where
     pub place : t.place ≤ length said
     pub stored : IfSome t.reader.stored (λ p. p.reply ≡ true)
 
+  -- the controller changes, what is kept for it and what is told of it: the device and what was said stay
+  pub controlled_so : {openings : List Opening} {said : List Burst} {old top i : ℕ} {d : Device} {t : Station H} {s : Site H} {begun : Option ℕ}
+      {m c : Machine} {kept reserved : Option ℕ} {a b : Account} → IsSiteOf openings said old i d t s → Controls begun top m c → reserved ≡ kept → b ≡ a
+      → IsSiteOf openings said top i (record { controller = m; reserved = kept }) (record t { begun = begun; account = a })
+      (record s { controller = c; reserved = reserved; account = b })
+  controlled_so is controller reserved account = record {
+    controller = controller;
+    reserved = reserved;
+    reader = is.reader;
+    coming = is.coming;
+    account = account;
+    earlier = is.earlier;
+    place = is.place;
+    stored = is.stored;
+  }
+
+  -- the device changes, and what is told of it
+  pub read_so : {openings : List Opening} {said : List Burst} {top i : ℕ} {d : Device} {t : Station H} {s : Site H} {r q : ReaderState H} {line : Received}
+      {a b : Account} → IsSiteOf openings said top i d t s → q ≡ r → b ≡ a → IfSome r.stored (λ p. p.reply ≡ true)
+      → IsSiteOf openings said top i d (record t { reader = r; line = line; account = a }) (record s { reader = q; account = b })
+  read_so is reader account stored = record {
+    controller = is.controller;
+    reserved = is.reserved;
+    reader = reader;
+    coming = is.coming;
+    account = account;
+    earlier = is.earlier;
+    place = is.place;
+    stored = stored;
+  }
+
+  -- what was said changes, or how far the device has read
+  pub placed_so : {openings more : List Opening} {said told : List Burst} {top i : ℕ} {d : Device} {t : Station H} {s : Site H} {place : ℕ}
+      {coming : List (ℕ × Packet)} → IsSiteOf openings said top i d t s → coming ≡ ahead_of_device i place more told → place ≤ length told
+      → IsSiteOf more told top i d (record t { place = place }) (record s { coming = coming })
+  placed_so is coming place = record {
+    controller = is.controller;
+    reserved = is.reserved;
+    reader = is.reader;
+    coming = coming;
+    account = is.account;
+    earlier = is.earlier;
+    place = place;
+    stored = is.stored;
+  }
+
   pub record IsNetOf (l : InUse H) (n : Net H) : Type 0 where
     pub sites : Match (IsSiteOf l.openings l.said l.bus.greatest) 0 l.bus.devices.entries l.stations n.sites
     pub to_panel : n.to_panel ≡ ahead_of_panel l.place l.openings l.said
     pub place : l.place ≤ length l.said
     pub openings : Each (λ (o : Opening). o.place ≤ length l.said) l.openings
     pub said : Each IsRightly l.said
+
+  -- the bus, its stations and the sites change, and what was said stays
+  pub sites_so : {l : InUse H} {n : Net H} {bus : BusState} {stations : List (Station H)} {sites : List (Site H)} → IsNetOf l n
+      → Match (IsSiteOf l.openings l.said bus.greatest) 0 bus.devices.entries stations sites
+      → IsNetOf (record l { bus = bus; stations = stations }) (record n { sites = sites })
+  sites_so h sites = record { sites = sites; to_panel = h.to_panel; place = h.place; openings = h.openings; said = h.said }

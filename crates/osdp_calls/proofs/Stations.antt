@@ -13,7 +13,7 @@ use Rattle.osdp_calls.specs.Calls.{changes_at, on_station}
 use Rattle.osdp_calls.specs.Lines.{InUse, Station}
 use Rattle.osdp_calls.proofs.Losing.{IsPlain, IsStill, Reaches, one_move, stays}
 use Rattle.osdp_calls.proofs.Matching.{FoundAt, Match, Nobody, Somebody, changed_same, found, set_station}
-use Rattle.osdp_calls.proofs.Same.{IsNetOf, IsSiteOf}
+use Rattle.osdp_calls.proofs.Same.{IsNetOf, IsSiteOf, read_so, sites_so}
 
 module _ {H : Type 0} where
   -- the sites of a line in use
@@ -27,14 +27,9 @@ module _ {H : Type 0} where
     where
       by_found : FoundAt (Sites l) k k l.bus.devices.entries l.stations n.sites → IsNetOf (on_station k change l) n
       by_found (Nobody a b c) = subst (λ o. IsNetOf (record l { stations = changes_at k change o l.stations }) n) (sym b) h
-      by_found (Somebody d t s a b c is) = subst (λ o. IsNetOf (record l { stations = changes_at k change o l.stations }) n) (sym b) (record {
-        sites = subst (λ ss. Match (Sites l) 0 l.bus.devices.entries (changed k (change t) l.stations) ss) (changed_same k s n.sites c)
-            (set_station (Sites l) k d (change t) s l.bus.devices.entries l.stations n.sites h.sites a (f d t s is));
-        to_panel = h.to_panel;
-        place = h.place;
-        openings = h.openings;
-        said = h.said;
-      })
+      by_found (Somebody d t s a b c is) = subst (λ o. IsNetOf (record l { stations = changes_at k change o l.stations }) n) (sym b) (sites_so h
+          (subst (λ ss. Match (Sites l) 0 l.bus.devices.entries (changed k (change t) l.stations) ss) (changed_same k s n.sites c)
+          (set_station (Sites l) k d (change t) s l.bus.devices.entries l.stations n.sites h.sites a (f d t s is))))
 
   -- both change
   pub both_change : (k : ℕ) (change : Station H → Station H) (changes : Site H → Site H) (l : InUse H) (n : Net H) → IsNetOf l n
@@ -49,13 +44,8 @@ module _ {H : Type 0} where
           (subst (λ o. IsNetOf l (line.change_at k o changes n)) (sym c) h)
       by_found (Somebody d t s a b c is) =
           subst (λ o. IsNetOf (record l { stations = changes_at k change o l.stations }) (line.change_at k (site_at k n.sites) changes n)) (sym b)
-          (subst (λ o. IsNetOf (record l { stations = changed k (change t) l.stations }) (line.change_at k o changes n)) (sym c) (record {
-            sites = set_station (Sites l) k d (change t) (changes s) l.bus.devices.entries l.stations n.sites h.sites a (f d t s is);
-            to_panel = h.to_panel;
-            place = h.place;
-            openings = h.openings;
-            said = h.said;
-          }))
+          (subst (λ o. IsNetOf (record l { stations = changed k (change t) l.stations }) (line.change_at k o changes n)) (sym c) (sites_so h
+          (set_station (Sites l) k d (change t) (changes s) l.bus.devices.entries l.stations n.sites h.sites a (f d t s is))))
 
   module _ (answer_of : H → Command → Answer) (after : H → Command → H) where
     -- what a call comes to: moves that fit
@@ -102,13 +92,4 @@ module _ {H : Type 0} where
     busying k busy l n h =
         make_move (Each IsStill) (SetBusy k busy) (on_station k (λ t. record t { reader = after_set_busy busy t.reader }) l) n (tt, tt) tt tt
         (both_change k (λ t. record t { reader = after_set_busy busy t.reader }) (line.calls answer_of after (link.SetBusy busy)) l n h
-        (λ d t s is. record {
-          controller = is.controller;
-          reserved = is.reserved;
-          reader = ap (after_set_busy busy) is.reader;
-          coming = is.coming;
-          account = is.account;
-          earlier = is.earlier;
-          place = is.place;
-          stored = is.stored;
-        }))
+        (λ d t s is. read_so is (ap (after_set_busy busy) is.reader) is.account is.stored))

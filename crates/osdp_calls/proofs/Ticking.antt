@@ -31,13 +31,13 @@ use Rattle.osdp_shared_line.proofs.Sites.{at_changed, some_same}
 use Rattle.osdp_calls.specs.Calls.{all_hear, begins_session, begins_with, begun_of, change_at, changes_at, panel_says, waiting_of}
 use Rattle.osdp_calls.specs.Lines.{InUse, Opening, Station}
 use Rattle.osdp_calls.proofs.Ahead.{device_quiet, from_panel, panel_quiet, panel_told_device, panel_told_panel}
-use Rattle.osdp_calls.proofs.Controllers.{equal_same, opened_ticks, saw, ticked_same, ticks_same}
+use Rattle.osdp_calls.proofs.Controllers.{equal_same, opened_ticks, ticked_same, ticks_same}
 use Rattle.osdp_calls.proofs.Losing.{IsStill, changed_twice, joins}
-use Rattle.osdp_calls.proofs.Matching.{FoundAt, Match, Nobody, Somebody, changed_same, found, matched_map, set}
+use Rattle.osdp_calls.proofs.Matching.{FoundAt, Match, Nobody, Somebody, found, matched_map, set}
 use Rattle.osdp_calls.proofs.Nexts.{within_more, length_more}
 use Rattle.osdp_calls.proofs.Opens.{opens}
-use Rattle.osdp_calls.proofs.Panel.{one_told}
-use Rattle.osdp_calls.proofs.Same.{Controls, IsNetOf, IsRightly, IsSiteOf, IsToOpen}
+use Rattle.osdp_calls.proofs.Panel.{one_seen, one_told}
+use Rattle.osdp_calls.proofs.Same.{Controls, IsNetOf, IsRightly, IsSiteOf, IsToOpen, controlled_so, placed_so, sites_so}
 use Rattle.osdp_calls.proofs.Stations.{Makes, Sites, make_move, make_none}
 
 -- ---- what a controller sends are commands
@@ -67,16 +67,9 @@ module _ {H : Type 0} where
       → IsNetOf (record l { said = l.said ++ from_panel k p ∷ [] }) (record n { sites = map (is_told ((k, p) ∷ [])) n.sites })
   panel_said k p l n command h = record {
     sites = matched_map (Sites l) (IsSiteOf l.openings (l.said ++ from_panel k p ∷ []) l.bus.greatest) 0 (is_told ((k, p) ∷ [])) l.bus.devices.entries l.stations
-        n.sites (λ j d t s at. record {
-          controller = at.controller;
-          reserved = at.reserved;
-          reader = at.reader;
-          coming = ap (λ qs. qs ++ (k, p) ∷ []) at.coming ∙ sym (panel_told_device j t.place k p l.openings l.said at.place h.openings);
-          account = at.account;
-          earlier = at.earlier;
-          place = let le = at.place in let more = length_more l.said (from_panel k p) in omega (arith, le, more);
-          stored = at.stored;
-        }) h.sites;
+        n.sites (λ j d t s at.
+        placed_so at (ap (λ qs. qs ++ (k, p) ∷ []) at.coming ∙ sym (panel_told_device j t.place k p l.openings l.said at.place h.openings))
+        (let le = at.place in let more = length_more l.said (from_panel k p) in omega (arith, le, more))) h.sites;
     to_panel = h.to_panel ∙ sym (panel_told_panel l.place k p l.openings l.said);
     place = let le = h.place in let more = length_more l.said (from_panel k p) in omega (arith, le, more);
     openings = within_more (length l.said) (length (l.said ++ from_panel k p ∷ [])) l.openings (let more = length_more l.said (from_panel k p) in omega (arith, more)) h.openings;
@@ -84,22 +77,9 @@ module _ {H : Type 0} where
   }
 
   pub nothing_said : (l : InUse H) (n : Net H) → IsNetOf l n → IsNetOf l (record n { sites = map (is_told []) n.sites })
-  nothing_said l n h = record {
-    sites = matched_map (Sites l) (Sites l) 0 (is_told []) l.bus.devices.entries l.stations n.sites (λ j d t s at. record {
-      controller = at.controller;
-      reserved = at.reserved;
-      reader = at.reader;
-      coming = append-nil s.coming ∙ at.coming;
-      account = at.account;
-      earlier = at.earlier;
-      place = at.place;
-      stored = at.stored;
-    }) h.sites;
-    to_panel = h.to_panel;
-    place = h.place;
-    openings = h.openings;
-    said = h.said;
-  }
+  nothing_said l n h =
+      sites_so h (matched_map (Sites l) (Sites l) 0 (is_told []) l.bus.devices.entries l.stations n.sites
+      (λ j d t s at. placed_so at (append-nil s.coming ∙ at.coming) at.place) h.sites)
 
   -- the bus, and what is told, after its controller of an entry has come to this
   abbrev pub ticked_bus : ℕ → Device → Ticked → InUse H → InUse H
@@ -152,26 +132,15 @@ module _ {H : Type 0} where
             let ctl = subst (λ o. Controls o l.bus.greatest d.controller s.controller) begun is.controller in
             let room : s.controller.capacity ≡ d.controller.capacity = ap (λ (m : Machine). m.capacity) ctl.same in
             let eq = ticks_same l.bus.greatest d.controller s.controller ctl in
-            record {
-              sites = subst (λ ts. Match (Sites l) 0 (slice_set l.bus.devices.entries k e) ts (changed k (line.ticks answer_of after l.bus.greatest s) n.sites))
-                  (sym (one_told k y.step.report t l.stations b))
-                  (set (Sites l) k e u (line.ticks answer_of after l.bus.greatest s) l.bus.devices.entries l.stations n.sites h.sites (record {
-                    controller = subst (λ o. Controls o l.bus.greatest e.controller (line.ticks answer_of after l.bus.greatest s).controller) (sym begun)
-                        (ticked_same l.bus.greatest d.controller s.controller y room eq);
-                    reserved = is.reserved ∙ sym (tick_so (λ r. reserved_after r d.reserved ≡ d.reserved) refl (λ o. refl) d.controller.session.state
-                        (clocks.seen l.bus.greatest d.controller.session) d.controller.waiting);
-                    reader = is.reader;
-                    coming = is.coming;
-                    account = ap (λ (z : Ticked). after_report z.step.report s.account) eq ∙ ap (after_report y.step.report) is.account;
-                    earlier = is.earlier;
-                    place = is.place;
-                    stored = is.stored;
-                  }));
-              to_panel = h.to_panel;
-              place = h.place;
-              openings = h.openings;
-              said = h.said;
-            }
+            sites_so h
+            (subst (λ ts. Match (Sites l) 0 (slice_set l.bus.devices.entries k e) ts (changed k (line.ticks answer_of after l.bus.greatest s) n.sites))
+            (sym (one_told k y.step.report t l.stations b))
+            (set (Sites l) k e u (line.ticks answer_of after l.bus.greatest s) l.bus.devices.entries l.stations n.sites h.sites (controlled_so is
+            (subst (λ o. Controls o l.bus.greatest e.controller (line.ticks answer_of after l.bus.greatest s).controller) (sym begun)
+            (ticked_same l.bus.greatest d.controller s.controller y room eq))
+            (is.reserved ∙ sym (tick_so (λ r. reserved_after r d.reserved ≡ d.reserved) refl (λ o. refl) d.controller.session.state
+            (clocks.seen l.bus.greatest d.controller.session) d.controller.waiting))
+            (ap (λ (z : Ticked). after_report z.step.report s.account) eq ∙ ap (after_report y.step.report) is.account))))
 
         next : after_net answer_of after (Tick k l.bus.greatest) n
             ≡ record n {
@@ -283,22 +252,16 @@ module _ {H : Type 0} where
         let u : Station H = begins_session d.controller.waiting t in
         let lb : InUse H = record (ticked_bus k d y lo) { stations = changed k u l.stations } in
         let before : IsNetOf lb (record m { sites = changed k s2 m.sites }) =
-        record {
-          sites = set (Sites lo) k e u s2 l.bus.devices.entries l.stations m.sites h.sites (record {
-            controller = equal_same g e.controller s2.controller (λ i. record { session = (eq i).session; waiting = (eq i).waiting; capacity = room i });
-            reserved = is.reserved;
-            reader = is.reader;
-            coming = is.coming;
-            account = ap (λ (z : Ticked). after_report z.step.report s1.account) eq ∙ (λ i. link.new_account (waiting i) (is.reader i).queue.events);
-            earlier = (λ i. is.account i ∷ is.earlier i);
-            place = is.place;
-            stored = is.stored;
-          });
-          to_panel = h.to_panel;
-          place = h.place;
-          openings = h.openings;
-          said = h.said;
-        } in
+        sites_so h (set (Sites lo) k e u s2 l.bus.devices.entries l.stations m.sites h.sites (record {
+          controller = equal_same g e.controller s2.controller (λ i. record { session = (eq i).session; waiting = (eq i).waiting; capacity = room i });
+          reserved = is.reserved;
+          reader = is.reader;
+          coming = is.coming;
+          account = ap (λ (z : Ticked). after_report z.step.report s1.account) eq ∙ (λ i. link.new_account (waiting i) (is.reader i).queue.events);
+          earlier = (λ i. is.account i ∷ is.earlier i);
+          place = is.place;
+          stored = is.stored;
+        })) in
         record {
           refines = record {
             net = m2;
@@ -363,25 +326,8 @@ module _ {H : Type 0} where
 
         waits : IsTicked (Some k) l n [] → Makes answer_of after (IsTicked (Some k) l n) n (ticked_line k d (ticking.stays (clocks.seen l.bus.greatest d.controller.session) d.controller.waiting) l)
         waits rests =
-            let e : Device = record { controller = record d.controller { session = clocks.seen l.bus.greatest d.controller.session }; reserved = d.reserved } in
-            make_none answer_of after (IsTicked (Some k) l n) (ticked_bus k d (ticking.stays (clocks.seen l.bus.greatest d.controller.session) d.controller.waiting) l) n rests (record {
-              sites = subst (λ ts. Match (Sites l) 0 (slice_set l.bus.devices.entries k e) ts n.sites) (changed_same k t l.stations b)
-                  (subst (λ ss. Match (Sites l) 0 (slice_set l.bus.devices.entries k e) (changed k t l.stations) ss) (changed_same k s n.sites c)
-                  (set (Sites l) k e t s l.bus.devices.entries l.stations n.sites h.sites (record {
-                    controller = saw t.begun l.bus.greatest d.controller s.controller is.controller;
-                    reserved = is.reserved;
-                    reader = is.reader;
-                    coming = is.coming;
-                    account = is.account;
-                    earlier = is.earlier;
-                    place = is.place;
-                    stored = is.stored;
-                  })));
-              to_panel = h.to_panel;
-              place = h.place;
-              openings = h.openings;
-              said = h.said;
-            })
+            make_none answer_of after (IsTicked (Some k) l n) (ticked_bus k d (ticking.stays (clocks.seen l.bus.greatest d.controller.session) d.controller.waiting) l) n rests
+            (sites_so h (one_seen k d t s l n h b c is))
 
         by_due : (x : Bool) → ticks l.bus.greatest d.controller.session d.controller.waiting
             ≡ cond x (opened d.controller l.bus.greatest) (ticking.stays (clocks.seen l.bus.greatest d.controller.session) d.controller.waiting)
