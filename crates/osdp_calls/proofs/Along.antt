@@ -60,36 +60,18 @@ module _ {H : Type 0} where
 
   rule_free : (move : NetMove H) (n : Net H) (notes : ℕ → Note) → IsFree move → KeepsRule move n notes
   rule_free (Submit k command) n notes free = absurd free
-  rule_free (Queue k event) n notes free = tt
-  rule_free (SetBusy k busy) n notes free = tt
-  rule_free (line.SetHandler k handler) n notes free = tt
-  rule_free (Withdraw k) n notes free = tt
   rule_free (Retarget k address) n notes free = absurd free
-  rule_free (Tick k now) n notes free = tt
-  rule_free (ToReader k how) n notes free = tt
-  rule_free (ToPanel how now) n notes free = tt
-  rule_free (LoseToReader k place) n notes free = tt
-  rule_free (LoseToPanel place) n notes free = tt
-  rule_free (Reopen k now) n notes free = tt
   rule_free (RestartReader k address handler room) n notes free = absurd free
   rule_free (RestartPanel settings) n notes free = absurd free
+  rule_free _ n notes free = tt
 
   module _ (answer_of : H → Command → Answer) (after : H → Command → H) where
     rest_free : (move : NetMove H) (n : Net H) → IsFree move → NetMoveFits answer_of after move n → RestFits answer_of after move n
     rest_free (Submit k command) n free fits = absurd free
-    rest_free (Queue k event) n free fits = fits
-    rest_free (SetBusy k busy) n free fits = fits
-    rest_free (line.SetHandler k handler) n free fits = fits
-    rest_free (Withdraw k) n free fits = fits
     rest_free (Retarget k address) n free fits = absurd free
-    rest_free (Tick k now) n free fits = fits
-    rest_free (ToReader k how) n free fits = fits
-    rest_free (ToPanel how now) n free fits = fits
-    rest_free (LoseToReader k place) n free fits = fits
-    rest_free (LoseToPanel place) n free fits = fits
-    rest_free (Reopen k now) n free fits = fits
     rest_free (RestartReader k address handler room) n free fits = absurd free
     rest_free (RestartPanel settings) n free fits = absurd free
+    rest_free _ n free fits = fits
 
     pub free_rule : (ms : List (NetMove H)) (n : Net H) (notes : ℕ → Note) → Each IsFree ms → NetMovesFit answer_of after ms n
         → KeepRule answer_of after ms n notes

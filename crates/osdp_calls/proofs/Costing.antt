@@ -63,19 +63,7 @@ module _ {H : Type 0} where
   keeps_reader k [] move keep is = absurd is
   keeps_reader k (step ∷ steps) move keep (inr is) = keeps_reader k steps move keep.1 is
   keeps_reader k (step ∷ steps) (RestartReader i address handler room) keep (inl is) = subst (KeepsDevice k) is.1 keep.0
-  keeps_reader k (step ∷ steps) (line.Submit i command) keep (inl is) = tt
-  keeps_reader k (step ∷ steps) (line.Queue i event) keep (inl is) = tt
-  keeps_reader k (step ∷ steps) (line.SetBusy i busy) keep (inl is) = tt
-  keeps_reader k (step ∷ steps) (line.SetHandler i handler) keep (inl is) = tt
-  keeps_reader k (step ∷ steps) (line.Withdraw i) keep (inl is) = tt
-  keeps_reader k (step ∷ steps) (line.Retarget i address) keep (inl is) = tt
-  keeps_reader k (step ∷ steps) (line.Tick i now) keep (inl is) = tt
-  keeps_reader k (step ∷ steps) (line.ToReader i how) keep (inl is) = tt
-  keeps_reader k (step ∷ steps) (line.ToPanel how now) keep (inl is) = tt
-  keeps_reader k (step ∷ steps) (line.LoseToReader i place) keep (inl is) = tt
-  keeps_reader k (step ∷ steps) (line.LoseToPanel place) keep (inl is) = tt
-  keeps_reader k (step ∷ steps) (line.Reopen i now) keep (inl is) = tt
-  keeps_reader k (step ∷ steps) (RestartPanel settings) keep (inl is) = tt
+  keeps_reader k (step ∷ steps) _ keep (inl is) = tt
 
   module _ (answer_of : H → Command → Answer) (after : H → Command → H) where
     made_at : (k address : ℕ) (handler : H) (room gap : ℕ) (t u : Station H) (ts : List (Station H)) → site_at k ts ≡ Some t

@@ -1,34 +1,30 @@
 -- A call of one end leaves the others as they are.
-use Rattle.std.proofs.Common.{◌≡◌, ◌≢◌, ℕ, zero, suc, max, Bool, true, false, cond, List, [], ◌∷◌, ◌++◌, length, map, Option, Some, None, refl, sym, subst, ap, ◌∙◌, inl, inr}
-use Rattle.std.proofs.lemmas.Bool.Decides.{eqb_tells}
+use Rattle.std.proofs.Common.{◌≡◌, ◌≢◌, ℕ, zero, suc, Bool, true, false, cond, List, [], ◌∷◌, ◌++◌, length, map, Option, Some, None, refl, sym, subst, ap, ◌∙◌}
 use Rattle.std.specs.Prelude.{◌==◌}
 use Rattle.osdp_msg.specs.declared.command.Command.{Command}
 use Rattle.osdp_msg.specs.declared.event.Event.{Event}
 use Rattle.osdp_frame.specs.Packet.{Packet}
-use Rattle.osdp_controller.specs.declared.report.Report.{Report}
-use Rattle.osdp_bus.specs.Buses.{BusState, device_of, new_bus}
-use Rattle.osdp_bus.specs.Machine.{begin_refusal_at, changed_unless, submit_refusal_at, withdrawal_at}
+use Rattle.osdp_bus.specs.Buses.{BusState, new_bus}
 use Rattle.osdp_bus.specs.Ticking.{bus_ticks}
 use Rattle.osdp_bus.specs.declared.device.Device.{Device}
-use Rattle.osdp_bus.specs.declared.fault.BusFault.{BusFault}
 use Rattle.osdp_bus_laws.specs.Calls as bus
 use Rattle.osdp_bus_laws.specs.Exchanges.{HasOneExchange}
-use Rattle.osdp_bus_laws.specs.Reports.{told_in}
 use Rattle.osdp_link_laws.proofs.Lines.{each_of}
 use Rattle.osdp_link_laws.proofs.Stages.{Each}
 use Rattle.osdp_device.specs.Deciding.{passed}
 use Rattle.osdp_device.specs.Receiving.{after_silence, after_take, after_tick}
 use Rattle.osdp_reader.specs.State.{after_set_busy, after_set_handler}
 use Rattle.osdp_reader.specs.declared.handler.Answer.{Answer}
-use Rattle.osdp_shared_line.specs.Line.{changed, site_at}
-use Rattle.osdp_shared_line.proofs.Sites.{at_changed, at_other, some_same}
-use Rattle.osdp_calls.specs.Calls.{Call, NewDevice, NewPanel, Next, OfPanel, Pending, SetBusy, SetHandler, Silence, Step, SubmitEvent, Take, TickDevice, after_call, after_calls, after_next, all_forget, all_hear, asked_at, begins_session, begins_with, begun_of, change_at, changes_at, forgets, hears_of, is_to_begin, issues, last_of, made_anew, nexts, noted, panel_says, queues, said_at, takes_back, waiting_of, withdrawn}
+use Rattle.osdp_shared_line.specs.Line.{site_at}
+use Rattle.osdp_shared_line.proofs.Sites.{some_same}
+use Rattle.osdp_calls.specs.Calls.{Call, NewDevice, NewPanel, Next, OfPanel, Pending, SetBusy, SetHandler, Silence, Step, SubmitEvent, Take, TickDevice, after_call, after_calls, after_next, all_forget, asked_at, begins_with, begun_of, change_at, changes_at, forgets, last_of, made_anew, nexts, noted, panel_says, queues, said_at}
 use Rattle.osdp_calls.specs.Ends.{BusIsReached, CanStand, GoByTheirOwn, IsThatOfABus, OneExchange, Held, KeepsPanel, device_after, device_after_all, held_by, is_of_device, one_panel_call, panel_calls, takes_event}
 use Rattle.osdp_calls.specs.Lines.{InUse, Station}
 use Rattle.osdp_calls.specs.Turning.{PanelTurnsByCalls, panel_turn_calls}
+use Rattle.osdp_calls.proofs.Places.{Stays, as_before, panel_so, station_so}
 use Rattle.osdp_calls.proofs.Sayings.{adds_make_the_bus}
 
-more_calls : (xs ys : List bus.Call) (b : BusState) → bus.after_calls (xs ++ ys) b ≡ bus.after_calls ys (bus.after_calls xs b)
+pub more_calls : (xs ys : List bus.Call) (b : BusState) → bus.after_calls (xs ++ ys) b ≡ bus.after_calls ys (bus.after_calls xs b)
 more_calls [] ys b = refl
 more_calls (x ∷ xs) ys b = more_calls xs ys (bus.after_call x b)
 
@@ -38,57 +34,15 @@ module _ {H : Type 0} where
   abbrev IsHeld : ℕ → Held H → List (Station H) → Type 0
   IsHeld k d ts = (u : Station H) × (site_at k ts ≡ Some u) × (held_by u ≡ d)
 
-  -- a change of stations that leaves their devices as they are
-  change_keeps : (k i : ℕ) (change : Station H → Station H) (d : Held H) (ts : List (Station H)) → ((t : Station H) → held_by (change t) ≡ held_by t)
-      → IsHeld k d ts → IsHeld k d (change_at i change ts)
-  change_keeps k i change d ts keeps is = by_station (site_at i ts) refl
-    where
-      by_station : (o : Option (Station H)) → site_at i ts ≡ o → IsHeld k d (changes_at i change o ts)
-      by_station None none = is
-      by_station (Some t) there = elim (eqb_tells k i) [
-        | inl here ↦
-            let at : site_at k ts ≡ Some t = subst (λ j. site_at j ts ≡ Some t) (sym here.1) there in (
-              change t,
-              subst (λ j. site_at k (changed j (change t) ts) ≡ Some (change t)) here.1 (at_changed k (change t) t ts at),
-              keeps t ∙ ap held_by (some_same t is.0 (sym at ∙ is.1)) ∙ is.2,
-            )
-        | inr differs ↦ (is.0, at_other k i (change t) ts differs.1 ∙ is.1, is.2)
-      ]
-
-  hear_keeps : (k : ℕ) (told : List (ℕ × Report)) (d : Held H) (ts : List (Station H)) → IsHeld k d ts → IsHeld k d (all_hear told ts)
-  hear_keeps k [] d ts is = is
-  hear_keeps k (said ∷ more) d ts is =
-      hear_keeps k more d (change_at said.0 (hears_of said.1) ts)
-      (change_keeps k said.0 (hears_of said.1) d ts (λ t. refl) is)
-
-  unless_keeps : (k i : ℕ) (fault : Option BusFault) (change : Station H → Station H) (d : Held H) (ts : List (Station H))
-      → ((t : Station H) → held_by (change t) ≡ held_by t) → IsHeld k d ts → IsHeld k d (changed_unless fault ts (change_at i change ts))
-  unless_keeps k i None change d ts keeps is = change_keeps k i change d ts keeps is
-  unless_keeps k i (Some fault) change d ts keeps is = is
-
-  noted_keeps : (k : ℕ) (call : bus.Call) (b : BusState) (d : Held H) (ts : List (Station H)) → IsHeld k d ts → IsHeld k d (noted call b ts)
-  noted_keeps k (bus.Begin entry now) b d ts is =
-      unless_keeps k entry (begin_refusal_at entry b) (is_to_begin (max b.greatest now)) d ts (λ t. refl) is
-  noted_keeps k (bus.Submit entry command) b d ts is =
-      unless_keeps k entry (submit_refusal_at entry command b) (issues command) d ts (λ t. refl) is
-  noted_keeps k (bus.Withdraw entry) b d ts is =
-      change_keeps k entry (takes_back (withdrawn (withdrawal_at entry b))) d ts (λ t. refl) is
-  noted_keeps k (bus.Add address) b d ts is = is
-  noted_keeps k (bus.Retarget entry address) b d ts is = is
-  noted_keeps k (bus.OnBytes bytes now) b d ts is = hear_keeps k (told_in (bus.OnBytes bytes now) b) d ts is
-  noted_keeps k (bus.OnSilence now) b d ts is = hear_keeps k (told_in (bus.OnSilence now) b) d ts is
-  noted_keeps k (bus.Tick now) b d ts is = hear_keeps k (told_in (bus.Tick now) b) d ts is
-  noted_keeps k bus.NextReport b d ts is = is
-
-  begins_keeps : (k entry : ℕ) (p : Packet) (o : Option ℕ) (d : Held H) (l : InUse H) → IsHeld k d l.stations → IsHeld k d (begins_with entry p o l).stations
-  begins_keeps k entry p None d l is = is
-  begins_keeps k entry p (Some moment) d l is =
-      change_keeps k entry (begins_session (waiting_of (device_of entry l.bus))) d l.stations (λ t. refl) is
-
-  says_keeps : (k : ℕ) (o : Option ℕ) (p : Option Packet) (d : Held H) (l : InUse H) → IsHeld k d l.stations → IsHeld k d (panel_says o p l).stations
-  says_keeps k None p d l is = is
-  says_keeps k (Some entry) None d l is = is
-  says_keeps k (Some entry) (Some p) d l is = begins_keeps k entry p (begun_of (site_at entry l.stations)) d l is
+  -- whatever the panel does
+  stays_held : (d : Held H) → Stays {H = H} as_before (λ x t. held_by t ≡ d)
+  stays_held d = record {
+    begins_so = λ moment x t is. is;
+    issues_so = λ command x t is. is;
+    takes_so = λ commands x t is. is;
+    hears_so = λ said x t is. is;
+    opens_so = λ waiting x t is. is;
+  }
 
   forget_keeps : (k : ℕ) (d : Held H) (es : List Device) (ts : List (Station H)) → IsHeld k d ts → IsHeld k d (all_forget es ts)
   forget_keeps k d es [] is = absurd (let e = is.1 in cc)
@@ -100,23 +54,10 @@ module _ {H : Type 0} where
 
   device_keeps : (k i : ℕ) (change : Station H → Station H) (f : Held H → Held H) (d : Held H) (ts : List (Station H))
       → ((t : Station H) → held_by (change t) ≡ f (held_by t)) → IsHeld k d ts → IsHeld k (cond (i == k) (f d) d) (change_at i change ts)
-  device_keeps k i change f d ts keeps is = elim (eqb_tells i k) [
-    | inl here ↦
-        let at : site_at i ts ≡ Some is.0 = subst (λ j. site_at j ts ≡ Some is.0) (sym here.1) is.1 in (
-          change is.0,
-          subst (λ j. site_at j (change_at i change ts) ≡ Some (change is.0)) here.1
-              (ap (λ o. site_at i (changes_at i change o ts)) at ∙ at_changed i (change is.0) is.0 ts at),
-          keeps is.0 ∙ ap f is.2 ∙ sym (ap (λ b. cond b (f d) d) here.0),
-        )
-    | inr differs ↦
-        subst (λ b. IsHeld k (cond b (f d) d) (change_at i change ts)) (sym differs.0) (other (site_at i ts) (λ e. differs.1 (sym e)))
-  ]
-    where
-      other : (o : Option (Station H)) → k ≢ i → IsHeld k d (changes_at i change o ts)
-      other None differs = is
-      other (Some t) differs = (is.0, at_other k i (change t) ts differs ∙ is.1, is.2)
+  device_keeps k i change f d ts keeps is =
+      station_so (λ b t. held_by t ≡ cond b (f d) d) k i change ts (λ t at same. keeps t ∙ ap f same) is
 
-  queue_held : (full : Bool) (event : Event) (t : Station H) → held_by (queues full event t) ≡ takes_event full event (held_by t)
+  pub queue_held : (full : Bool) (event : Event) (t : Station H) → held_by (queues full event t) ≡ takes_event full event (held_by t)
   queue_held true event t = refl
   queue_held false event t = refl
 
@@ -134,17 +75,6 @@ module _ {H : Type 0} where
   said_bus (bus.Tick now) b l = says_bus (asked_at now b) (bus_ticks now b).sent l
   said_bus _ b l = refl
 
-  said_keeps : (k : ℕ) (call : bus.Call) (b : BusState) (d : Held H) (l : InUse H) → IsHeld k d l.stations → IsHeld k d (said_at call b l).stations
-  said_keeps k (bus.Tick now) b d l is = says_keeps k (asked_at now b) (bus_ticks now b).sent d l is
-  said_keeps k (bus.Add address) b d l is = is
-  said_keeps k (bus.Begin entry now) b d l is = is
-  said_keeps k (bus.Submit entry command) b d l is = is
-  said_keeps k (bus.Withdraw entry) b d l is = is
-  said_keeps k (bus.Retarget entry address) b d l is = is
-  said_keeps k (bus.OnBytes bytes now) b d l is = is
-  said_keeps k (bus.OnSilence now) b d l is = is
-  said_keeps k bus.NextReport b d l is = is
-
   module _ (answer_of : H → Command → Answer) (after : H → Command → H) where
     pub next_stations : (i : ℕ) (places : List ℕ) (o : Option (Station H)) (l : InUse H)
         → changes_at i (nexts answer_of after places) o l.stations ≡ (after_next answer_of after i places o l).stations
@@ -153,12 +83,7 @@ module _ {H : Type 0} where
 
     step_keeps : (k : ℕ) (call : Call H) (places : List ℕ) (d : Held H) (l : InUse H) → IsHeld k d l.stations
         → IsHeld k (cond (is_of_device k call) (device_after answer_of after call d) d) (after_call answer_of after call places l).stations
-    step_keeps k (OfPanel call) places d l is =
-        said_keeps k call l.bus d (record l {
-          bus = bus.after_call call l.bus;
-          stations = noted call l.bus l.stations;
-          place = last_of places l.place;
-        }) (noted_keeps k call l.bus d l.stations is)
+    step_keeps k (OfPanel call) places d l is = panel_so {H = H} as_before (λ x t. held_by t ≡ d) (stays_held d) k call places tt l is
     step_keeps k (SubmitEvent i event) places d l is =
         device_keeps k i (λ t. queues (length t.reader.queue.events == t.reader.queue.capacity) event t) (device_after answer_of after (SubmitEvent i event)) d
         l.stations (λ t. queue_held (length t.reader.queue.events == t.reader.queue.capacity) event t) is
@@ -200,16 +125,9 @@ module _ {H : Type 0} where
       stations = noted call l.bus l.stations;
       place = last_of places l.place;
     })
-    one_bus (SubmitEvent i event) places l keeps = refl
-    one_bus (SetBusy i busy) places l keeps = refl
-    one_bus (SetHandler i handler) places l keeps = refl
-    one_bus (Take i bytes now) places l keeps = refl
-    one_bus (TickDevice i now) places l keeps = refl
-    one_bus (Silence i now) places l keeps = refl
     one_bus (Next i) places l keeps = next_bus i places (site_at i l.stations) l
-    one_bus (Pending i) places l keeps = refl
-    one_bus (NewDevice i address handler room gap) places l keeps = refl
     one_bus (NewPanel config addresses) places l keeps = absurd keeps
+    one_bus _ places l keeps = refl
 
     all_bus : (steps : List (Step H)) (l : InUse H) → Each (λ (step : Step H). KeepsPanel step.call) steps
         → (after_calls answer_of after steps l).bus ≡ bus.after_calls (panel_calls steps) l.bus
@@ -246,16 +164,7 @@ module _ {H : Type 0} where
       calls = map bus.Add addresses;
       is = sym (adds_make_the_bus config addresses can.1);
     }
-    step_reached (OfPanel call) places l can is = goes_on (OfPanel call) places l tt is
-    step_reached (SubmitEvent i event) places l can is = goes_on (SubmitEvent i event) places l tt is
-    step_reached (SetBusy i busy) places l can is = goes_on (SetBusy i busy) places l tt is
-    step_reached (SetHandler i handler) places l can is = goes_on (SetHandler i handler) places l tt is
-    step_reached (Take i bytes now) places l can is = goes_on (Take i bytes now) places l tt is
-    step_reached (TickDevice i now) places l can is = goes_on (TickDevice i now) places l tt is
-    step_reached (Silence i now) places l can is = goes_on (Silence i now) places l tt is
-    step_reached (Next i) places l can is = goes_on (Next i) places l tt is
-    step_reached (Pending i) places l can is = goes_on (Pending i) places l tt is
-    step_reached (NewDevice i address handler room gap) places l can is = goes_on (NewDevice i address handler room gap) places l tt is
+    step_reached call places l can is = goes_on call places l tt is
 
     all_reached : (steps : List (Step H)) (l : InUse H) → Each (λ (step : Step H). CanStand step.call) steps
         → IsThatOfABus l.bus → IsThatOfABus (after_calls answer_of after steps l).bus

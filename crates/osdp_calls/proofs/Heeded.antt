@@ -20,7 +20,7 @@ use Rattle.osdp_reader.specs.declared.handler.Answer.{Answer}
 use Rattle.osdp_shared_line.specs.Addresses.{IsSetUp, NobodyElseHears}
 use Rattle.osdp_shared_line.specs.Line.{Net, Submit, Retarget, site_at}
 use Rattle.osdp_shared_line.specs.Programs.{KeepRule, Note, RuleSuffices, also_at, two_addresses}
-use Rattle.osdp_calls.specs.Calls.{Call, Next, NewDevice, NewPanel, OfPanel, Pending, SetBusy, SetHandler, Silence, SubmitEvent, Take, TickDevice, after_call, all_hear, asked_at, begins_session, begins_with, begun_of, change_at, issues, last_of, panel_says, read_by, waiting_of}
+use Rattle.osdp_calls.specs.Calls.{Call, NewDevice, NewPanel, OfPanel, after_call, all_hear, asked_at, begins_session, begins_with, begun_of, change_at, issues, last_of, panel_says, read_by, waiting_of}
 use Rattle.osdp_calls.specs.Handing.{told_by_all}
 use Rattle.osdp_calls.specs.Lines.{Burst, InUse, Opening, Station, ahead_of_panel}
 use Rattle.osdp_calls.specs.Premises.{Addresses, InOrder, InRange, PanelAddresses, QuietOpening}
@@ -135,16 +135,9 @@ module _ {H : Type 0} where
 
       pub call_addresses : (call : Call H) → KeepsRule call l notes → InRange answer_of after call l → Addresses call l
       call_addresses (OfPanel call) rule range = panel_addresses call rule range
-      call_addresses (SubmitEvent k event) rule range = tt
-      call_addresses (SetBusy k busy) rule range = tt
-      call_addresses (SetHandler k handler) rule range = tt
-      call_addresses (Take k bytes now) rule range = tt
-      call_addresses (TickDevice k now) rule range = tt
-      call_addresses (Silence k now) rule range = tt
-      call_addresses (Next k) rule range = tt
-      call_addresses (Pending k) rule range = tt
       call_addresses (NewDevice k address handler room gap) rule range = λ t at. inl (rule t at)
       call_addresses (NewPanel config xs) rule range = panel_premise answer_of after suffices n0 up l n notes noted h path agree config xs range rule
+      call_addresses _ rule range = tt
 
       -- ---- what a call comes to
 

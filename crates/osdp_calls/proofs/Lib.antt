@@ -19,10 +19,11 @@ mod Powers
 mod Setting
 mod Holding
 mod Costing
-mod Sayings
+pub mod Sayings
 mod Handing
 mod Turning
-mod Ends
+pub mod Places
+pub mod Ends
 mod Refusing
 mod OneDevice
 mod Undisturbed

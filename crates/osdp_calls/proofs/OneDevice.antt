@@ -21,18 +21,7 @@ module _ {H : Type 0} where
   keeps_device k (step ∷ steps) move keep (inr is) = keeps_device k steps move keep.1 is
   keeps_device k (step ∷ steps) (RestartReader i address handler room) keep (inl is) = subst (KeepsHandler k) is.1 keep.0
   keeps_device k (step ∷ steps) (line.SetHandler i handler) keep (inl is) = subst (KeepsHandler k) is keep.0
-  keeps_device k (step ∷ steps) (line.Submit i command) keep (inl is) = tt
-  keeps_device k (step ∷ steps) (line.Queue i event) keep (inl is) = tt
-  keeps_device k (step ∷ steps) (line.SetBusy i busy) keep (inl is) = tt
-  keeps_device k (step ∷ steps) (line.Withdraw i) keep (inl is) = tt
-  keeps_device k (step ∷ steps) (line.Retarget i address) keep (inl is) = tt
-  keeps_device k (step ∷ steps) (line.Tick i now) keep (inl is) = tt
-  keeps_device k (step ∷ steps) (line.ToReader i how) keep (inl is) = tt
-  keeps_device k (step ∷ steps) (line.ToPanel how now) keep (inl is) = tt
-  keeps_device k (step ∷ steps) (line.LoseToReader i place) keep (inl is) = tt
-  keeps_device k (step ∷ steps) (line.LoseToPanel place) keep (inl is) = tt
-  keeps_device k (step ∷ steps) (line.Reopen i now) keep (inl is) = tt
-  keeps_device k (step ∷ steps) (RestartPanel settings) keep (inl is) = tt
+  keeps_device k (step ∷ steps) _ keep (inl is) = tt
 
   pub one_device : (answer_of : H → Command → Answer) (after : H → Command → H) → EachOfOneHandlerHoldsOnce answer_of after
       → OneDeviceHoldsOnce answer_of after

@@ -154,14 +154,9 @@ module _ {H : Type 0} (answer_of : H → Command → Answer) (after : H → Comm
       by_test false is rest = more (first_answered r (read_up_to r parts)) is rest
 
   -- silent packets leave the reader as it is
-  silent_stays : (r : ReaderState H) (p : Packet) (k : Kind) → speaks k ≡ false → (outcome answer_of after k r p).reader ≡ r
+  pub silent_stays : (r : ReaderState H) (p : Packet) (k : Kind) → speaks k ≡ false → (outcome answer_of after k r p).reader ≡ r
   silent_stays r p kind.Silent is = refl
-  silent_stays r p kind.Secured is = absurd cc
-  silent_stays r p kind.Zero is = absurd cc
-  silent_stays r p kind.Repeat is = absurd cc
-  silent_stays r p kind.Taken is = absurd cc
-  silent_stays r p kind.Busy is = absurd cc
-  silent_stays r p kind.Wrong is = absurd cc
+  silent_stays r p _ is = absurd cc
 
   hears_each : (parts : List RunItem) (r : ReaderState H)
       → after_hearing answer_of after (read_up_to r parts) r ≡ reader_with answer_of after (first_answered r (read_up_to r parts)) r

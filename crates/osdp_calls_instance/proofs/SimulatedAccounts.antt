@@ -1,6 +1,5 @@
 -- What the account of each reader of a run tells is what the calls tell that the run is.
-use Rattle.std.proofs.Common.{◌≡◌, ◌≢◌, ℕ, zero, suc, ◌<◌, Bool, true, false, cond, List, [], ◌∷◌, ◌++◌, length, map, Option, Some, None, refl, sym, subst, ap, ◌∙◌, arith, append_assoc, append-nil, inl, inr}
-use Rattle.std.proofs.lemmas.Bool.Decides.{eqb_tells}
+use Rattle.std.proofs.Common.{◌≡◌, ◌≢◌, ℕ, zero, suc, ◌<◌, Bool, true, false, cond, List, [], ◌∷◌, ◌++◌, length, map, Option, Some, None, refl, sym, subst, ap, ◌∙◌, arith, append_assoc, append-nil}
 use Rattle.std.specs.Prelude.{◌==◌, ◌-◌, is_some, option_to_list, slice_get, slice_set}
 use Rattle.std.specs.Option.{option_map_or}
 use Rattle.osdp_msg.specs.declared.command.Command.{Command}
@@ -29,13 +28,15 @@ use Rattle.osdp_sim_bus.specs.Laws.{HasAnAccountEach, TellsAtOnce}
 use Rattle.osdp_sim_bus.specs.Runs.{is_well, run}
 use Rattle.osdp_sim_bus.specs.State.{Given, LineState, ReaderSite, address_of, new_site, set_up}
 use Rattle.osdp_sim_bus.specs.Steps.{after_step, all_hear_each, changed_site, changes_site, fault_of, hears_run, is_there, issued, reopened, report_told, site_begins, site_hears, site_is_busy, site_is_told, site_issues, site_queues, site_queues_unless, takes_report, waited}
-use Rattle.osdp_calls.specs.Calls.{Call, NewDevice, NewPanel, Next, OfPanel, Pending, SetBusy, SetHandler, Silence, Step, SubmitEvent, Take, TickDevice, after_call}
+use Rattle.osdp_calls.specs.Calls.{Call, NewPanel, OfPanel, Step, after_call}
 use Rattle.osdp_calls.specs.Ends.{GoByTheirOwn, KeepsPanel, one_panel_call, panel_calls}
 use Rattle.osdp_calls.specs.Lines.{InUse}
 use Rattle.osdp_calls.specs.Sayings.{AddsMakeTheBus}
+use Rattle.osdp_calls.proofs.Ends.{more_calls}
+use Rattle.osdp_calls.proofs.Places.{IsAt, one_so}
 use Rattle.osdp_calls_instance.proofs.SimulatedBus.{Follows, Here, all_follow, begins_so, goes, joined, step_follows, well_first}
 use Rattle.osdp_calls_instance.proofs.SimulatedEnds.{sim_devices_are}
-use Rattle.osdp_calls_instance.proofs.SimulatedReports.{IsTold, all_told, both_same, more_reports, with_one, with_those}
+use Rattle.osdp_calls_instance.proofs.SimulatedReports.{IsTold, all_told, both_same, more_reports, more_told, with_one, with_those}
 use Rattle.osdp_calls_instance.specs.OwnCalls.{AtDevice, AtPanel, IsOfDevice, all_calls, calls_at}
 use Rattle.osdp_calls_instance.specs.SimulatedBus.{Begins, DeviceStep, HandsBytes, HearsRun, IsBusy, Queues, SimCall, Submits, Waits, all_hear, begin_calls, line_at_first, new_station, panel_step_calls, programs_at_first, schedule_calls, sim_device, sim_panel, step_calls}
 use Rattle.osdp_calls_instance.specs.SimulatedReports.{RunTellsTheSame, Told, told_in_run, told_to}
@@ -43,10 +44,6 @@ use Rattle.osdp_calls_instance.specs.SimulatedReports.{RunTellsTheSame, Told, to
 -- nothing is told
 abbrev nothing : Told
 nothing = record { settled = []; unsettled = []; reported = [] }
-
-more_bus : (xs ys : List bus.Call) (b : BusState) → bus.after_calls (xs ++ ys) b ≡ bus.after_calls ys (bus.after_calls xs b)
-more_bus [] ys b = refl
-more_bus (x ∷ xs) ys b = more_bus xs ys (bus.after_call x b)
 
 more_taken : (xs ys : List bus.Call) (b : BusState) → taken_along (xs ++ ys) b ≡ taken_along xs b ++ taken_along ys (bus.after_calls xs b)
 more_taken [] ys b = refl
@@ -61,12 +58,6 @@ adds_take (address ∷ addresses) b = adds_take addresses (bus.after_call (bus.A
 adds_tell : (addresses : List ℕ) (b : BusState) → told_along (map bus.Add addresses) b ≡ []
 adds_tell [] b = refl
 adds_tell (address ∷ addresses) b = adds_tell addresses (bus.after_call (bus.Add address) b)
-
-more_told : (xs ys : List bus.Call) (b : BusState) → told_along (xs ++ ys) b ≡ told_along xs b ++ told_along ys (bus.after_calls xs b)
-more_told [] ys b = refl
-more_told (x ∷ xs) ys b =
-    ap (λ l. Rattle.osdp_bus_laws.specs.Reports.told_in x b ++ l) (more_told xs ys (bus.after_call x b))
-    ∙ sym (append_assoc (Rattle.osdp_bus_laws.specs.Reports.told_in x b) (told_along xs (bus.after_call x b)) (told_along ys (bus.after_calls xs (bus.after_call x b))))
 
 none_waits : (o : Option (ℕ × Report)) → is_some o ≡ false → option_to_list o ≡ []
 none_waits None is = refl
@@ -93,23 +84,27 @@ module _ {H : Type 0} where
   abbrev pub changed_by : ℕ → (ReaderSite H → ReaderSite H) → Option (ReaderSite H) → List (ReaderSite H) → List (ReaderSite H)
   changed_by i change o us = option_map_or (λ u. slice_set us i (change u)) o us
 
+  site_here : (i : ℕ) (change : ReaderSite H → ReaderSite H) (us : List (ReaderSite H)) (u : ReaderSite H) → slice_get us i ≡ Some u
+      → slice_get (changed_site i change us) i ≡ Some (change u)
+  site_here i change us u at = ap (λ o. slice_get (changed_by i change o us) i) at ∙ get_set i u (change u) us at
+
+  site_other : (k i : ℕ) (change : ReaderSite H → ReaderSite H) (us : List (ReaderSite H)) → k ≢ i → slice_get (changed_site i change us) k ≡ slice_get us k
+  site_other k i change us differs = by_site (slice_get us i)
+    where
+      by_site : (o : Option (ReaderSite H)) → slice_get (changed_by i change o us) k ≡ slice_get us k
+      by_site None = refl
+      by_site (Some u) = get_other k i (change u) us differs
+
+  -- what holds of the site at a place, where one changes
+  pub site_so : (R : Bool → ReaderSite H → Type 0) (k i : ℕ) (change : ReaderSite H → ReaderSite H) (us : List (ReaderSite H))
+      → ((u : ReaderSite H) → R false u → R true (change u))
+      → IsAt (λ j vs. slice_get vs j) (R false) k us → IsAt (λ j vs. slice_get vs j) (R (i == k)) k (changed_site i change us)
+  site_so R k i change us goes is =
+      one_so (λ j vs. slice_get vs j) R k i change us (changed_site i change us) (site_here i change us) (site_other k i change us) (λ u at. goes u) is
+
   change_site : (k i : ℕ) (change : ReaderSite H → ReaderSite H) (f : Told → Told) (y : Told) (us : List (ReaderSite H))
       → ((u : ReaderSite H) → told_in_run (change u) ≡ f (told_in_run u)) → IsSite k y us → IsSite k (cond (i == k) (f y) y) (changed_site i change us)
-  change_site k i change f y us keeps is = elim (eqb_tells i k) [
-    | inl here ↦
-        let at : slice_get us i ≡ Some is.0 = subst (λ j. slice_get us j ≡ Some is.0) (sym here.1) is.1 in (
-          change is.0,
-          subst (λ j. slice_get (changed_site i change us) j ≡ Some (change is.0)) here.1
-              (ap (λ o. slice_get (changed_by i change o us) i) at ∙ get_set i is.0 (change is.0) us at),
-          keeps is.0 ∙ ap f is.2 ∙ sym (ap (λ b. cond b (f y) y) here.0),
-        )
-    | inr differs ↦
-        subst (λ b. IsSite k (cond b (f y) y) (changed_site i change us)) (sym differs.0) (other (slice_get us i) (λ e. differs.1 (sym e)))
-  ]
-    where
-      other : (o : Option (ReaderSite H)) → k ≢ i → IsSite k y (changed_by i change o us)
-      other None differs = is
-      other (Some u) differs = (is.0, get_other k i (change u) us differs ∙ is.1, is.2)
+  change_site k i change f y us keeps is = site_so (λ b u. told_in_run u ≡ cond b (f y) y) k i change us (λ u same. keeps u ∙ ap f same) is
 
   keep_site : (k i : ℕ) (change : ReaderSite H → ReaderSite H) (y : Told) (us : List (ReaderSite H))
       → ((u : ReaderSite H) → told_in_run (change u) ≡ told_in_run u) → IsSite k y us → IsSite k y (changed_site i change us)
@@ -175,16 +170,7 @@ module _ {H : Type 0} where
 
   no_bus : (k : ℕ) (call : Call H) → IsOfDevice k call → one_panel_call call ≡ []
   no_bus k (OfPanel call) is = absurd (let e = is in cc)
-  no_bus k (SubmitEvent i event) is = refl
-  no_bus k (SetBusy i busy) is = refl
-  no_bus k (SetHandler i handler) is = refl
-  no_bus k (Take i bytes now) is = refl
-  no_bus k (TickDevice i now) is = refl
-  no_bus k (Silence i now) is = refl
-  no_bus k (Next i) is = refl
-  no_bus k (Pending i) is = refl
-  no_bus k (NewDevice i address handler room gap) is = refl
-  no_bus k (NewPanel config addresses) is = refl
+  no_bus k _ is = refl
 
   bus_of_device : (k : ℕ) (calls rest : List (Call H)) → Each (IsOfDevice k) calls → bus_of (calls ++ rest) ≡ bus_of rest
   bus_of_device k [] rest are = refl
@@ -195,17 +181,8 @@ module _ {H : Type 0} where
   Keeps call = KeepsPanel call
 
   keeps_own : (k : ℕ) (call : Call H) → IsOfDevice k call → KeepsPanel call
-  keeps_own k (OfPanel call) is = tt
-  keeps_own k (SubmitEvent i event) is = tt
-  keeps_own k (SetBusy i busy) is = tt
-  keeps_own k (SetHandler i handler) is = tt
-  keeps_own k (Take i bytes now) is = tt
-  keeps_own k (TickDevice i now) is = tt
-  keeps_own k (Silence i now) is = tt
-  keeps_own k (Next i) is = tt
-  keeps_own k (Pending i) is = tt
-  keeps_own k (NewDevice i address handler room gap) is = tt
   keeps_own k (NewPanel config addresses) is = absurd (let e = is in cc)
+  keeps_own k _ is = tt
 
   keep_panels : (calls : List bus.Call) (rest : List (Call H)) → Each Keeps rest → Each Keeps (map OfPanel calls ++ rest)
   keep_panels [] rest keep = keep
@@ -263,7 +240,7 @@ module _ {H : Type 0} where
     panel_goes : (own : List (SimCall answer_of after)) (w : Here answer_of after) → (goes answer_of after own w).panel ≡ bus.after_calls (bus_part own) w.panel
     panel_goes [] w = refl
     panel_goes (AtPanel step ∷ more) w =
-        panel_goes more (goes answer_of after (AtPanel step ∷ []) w) ∙ sym (more_bus (panel_step_calls step) (bus_part more) w.panel)
+        panel_goes more (goes answer_of after (AtPanel step ∷ []) w) ∙ sym (more_calls (panel_step_calls step) (bus_part more) w.panel)
     panel_goes (AtDevice k own ∷ more) w = panel_goes more (goes answer_of after (AtDevice k own ∷ []) w)
 
     -- ---- step by step
@@ -392,7 +369,7 @@ module _ {H : Type 0} where
         ∙ ap (λ x. x ++ taken_along (bus_part taken) (bus.after_calls (bus_part begin) l.bus)) (begins_take 0 readers l.bus)
         ∙ ap (taken_along (bus_part taken)) (sym (panel_goes begin w)) in
         let ends : bus.after_calls (added ++ part) (new_bus config) ≡ last.bus =
-        more_bus added part (new_bus config) ∙ ap (bus.after_calls part) bus_is ∙ sym (panel_goes (begin ++ taken) w)
+        more_calls added part (new_bus config) ∙ ap (bus.after_calls part) bus_is ∙ sym (panel_goes (begin ++ taken) w)
         ∙ (joined answer_of after begin taken last w starts.fit (all_follow answer_of after steps first w1 well fits starts.follows)).follows.bus in
         let waits : option_to_list (bus.after_calls (added ++ part) (new_bus config)).devices.report ≡ [] =
         ap (λ b. option_to_list b.devices.report) ends ∙ none_waits last.bus.devices.report (at_once config readers steps) in

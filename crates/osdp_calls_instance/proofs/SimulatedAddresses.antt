@@ -17,7 +17,7 @@ use Rattle.osdp_sim.specs.declared.step.SimStep.{SimStep}
 use Rattle.osdp_sim.specs.declared.step.SimStep.TheVariants.{Busy, Issue, Queue, Reopen, ToController, ToReader, Wait}
 use Rattle.osdp_sim_bus.specs.State.{Given, LineState, set_up}
 use Rattle.osdp_sim_bus.specs.Steps.{after_step, is_there}
-use Rattle.osdp_calls.specs.Calls.{Call, NewDevice, NewPanel, Next, OfPanel, Pending, SetBusy, SetHandler, Silence, Step, SubmitEvent, Take, TickDevice, after_call}
+use Rattle.osdp_calls.specs.Calls.{Call, NewDevice, NewPanel, OfPanel, Step, after_call}
 use Rattle.osdp_calls.specs.Ends.{Held}
 use Rattle.osdp_calls.specs.Lines.{InUse}
 use Rattle.osdp_calls.specs.Premises.{Addresses}
@@ -47,23 +47,9 @@ module _ {H : Type 0} where
   none_given : (call : Call H) (l : InUse H) → GivesNone call → Addresses call l
   none_given (OfPanel (bus.Submit k command)) l none = λ fine asked is. absurd (let e = sym none ∙ is in cc)
   none_given (OfPanel (bus.Retarget k address)) l none = absurd none
-  none_given (OfPanel (bus.Add address)) l none = tt
-  none_given (OfPanel (bus.Begin k now)) l none = tt
-  none_given (OfPanel (bus.Withdraw k)) l none = tt
-  none_given (OfPanel (bus.OnBytes bytes now)) l none = tt
-  none_given (OfPanel (bus.OnSilence now)) l none = tt
-  none_given (OfPanel (bus.Tick now)) l none = tt
-  none_given (OfPanel bus.NextReport) l none = tt
-  none_given (SubmitEvent k event) l none = tt
-  none_given (SetBusy k busy) l none = tt
-  none_given (SetHandler k handler) l none = tt
-  none_given (Take k bytes now) l none = tt
-  none_given (TickDevice k now) l none = tt
-  none_given (Silence k now) l none = tt
-  none_given (Next k) l none = tt
-  none_given (Pending k) l none = tt
   none_given (NewDevice k address handler room gap) l none = absurd none
   none_given (NewPanel config addresses) l none = absurd none
+  none_given _ l none = tt
 
 nexts_give : (H : Type 0) (k n : ℕ) → Each (GivesNone {H = H}) (nexts k n)
 nexts_give H k zero = (tt, tt)

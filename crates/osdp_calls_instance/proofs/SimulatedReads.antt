@@ -18,12 +18,11 @@ use Rattle.osdp_device.specs.Saying.{Said, after_item, said_of, speaks}
 use Rattle.osdp_device.specs.Telling.{after_items, items_of, next_told, said_to_all, told_by, told_or}
 use Rattle.osdp_link_laws.proofs.Stages.{Each}
 use Rattle.osdp_reader.specs.State.{ReaderState}
-use Rattle.osdp_reader.specs.Table.{hears, kind_of, outcome}
+use Rattle.osdp_reader.specs.Table.{hears, kind_of}
 use Rattle.osdp_reader.specs.declared.handler.Answer.{Answer}
-use Rattle.osdp_reader.specs.declared.kind.Kind.{Kind}
-use Rattle.osdp_reader.specs.declared.kind.Kind.TheVariants as kind
 use Rattle.osdp_calls.specs.Calls.{Call, NewDevice, NewPanel, Next, OfPanel, Silence, read_up_to}
 use Rattle.osdp_calls.specs.Ends.{Held, device_after}
+use Rattle.osdp_calls.proofs.Sayings.{silent_stays}
 use Rattle.osdp_calls_instance.proofs.LinePrograms.{hands, holding}
 use Rattle.osdp_calls_instance.proofs.SimulatedEnds.{all_read_of, first_read, quiet, quiet_is, silent_same}
 use Rattle.osdp_calls_instance.specs.LinePrograms.{handing, nexts, unless_done}
@@ -54,16 +53,6 @@ module _ {H : Type 0} (answer_of : H → Command → Answer) (after : H → Comm
       ∙ drop_all (frame.taken_count new_run (b ∷ bytes)) (b ∷ bytes) (room (b ∷ bytes) short)
 
 module _ {H : Type 0} (answer_of : H → Command → Answer) (after : H → Command → H) (Good : ReaderState H → Packet → Type 0) where
-  -- silent packets leave the reader as it is
-  silent_stays : (r : ReaderState H) (p : Packet) (k : Kind) → speaks k ≡ false → (outcome answer_of after k r p).reader ≡ r
-  silent_stays r p kind.Silent is = refl
-  silent_stays r p kind.Secured is = absurd cc
-  silent_stays r p kind.Zero is = absurd cc
-  silent_stays r p kind.Repeat is = absurd cc
-  silent_stays r p kind.Taken is = absurd cc
-  silent_stays r p kind.Busy is = absurd cc
-  silent_stays r p kind.Wrong is = absurd cc
-
   -- each of these packets is good, as the reader hears it after those before it
   abbrev pub AllGood : List Packet → ReaderState H → Type 0
   AllGood [] r = Unit {0}
@@ -82,7 +71,7 @@ module _ {H : Type 0} (answer_of : H → Command → Answer) (after : H → Comm
       by_test : (x : Bool) → speaks (kind_of r p) ≡ x → (PartsGood parts r → Each (Good r) (read_up_to r parts))
           → Each (Good r) (cond x [] (read_up_to r parts))
       by_test true is rest = tt
-      by_test false is rest = rest (subst (PartsGood parts) (silent_stays r p (kind_of r p) is) fits.1)
+      by_test false is rest = rest (subst (PartsGood parts) (silent_stays answer_of after r p (kind_of r p) is) fits.1)
 
   rest_good : (part : RunItem) (parts : List RunItem) (r : ReaderState H) → PartsGood (part ∷ parts) r → PartsGood parts (after_item answer_of after part r)
   rest_good (PacketItem p) parts r fits = fits.1

@@ -1,6 +1,5 @@
 -- What a run tells of each reader is what its calls tell of the reader's entry.
-use Rattle.std.proofs.Common.{◌≡◌, ◌≢◌, ℕ, max, Bool, true, false, cond, List, [], ◌∷◌, ◌++◌, length, Option, Some, None, refl, sym, subst, ap, ◌∙◌, append_assoc, append-nil, inl, inr}
-use Rattle.std.proofs.lemmas.Bool.Decides.{eqb_tells}
+use Rattle.std.proofs.Common.{◌≡◌, ◌≢◌, ℕ, Bool, true, false, cond, List, [], ◌∷◌, ◌++◌, length, Option, Some, None, refl, sym, subst, ap, ◌∙◌, append_assoc, append-nil}
 use Rattle.std.specs.Prelude.{◌==◌, option_to_list}
 use Rattle.osdp_msg.specs.declared.command.Command.{Command}
 use Rattle.osdp_msg.specs.declared.command.Command.TheVariants.{Poll}
@@ -10,10 +9,7 @@ use Rattle.osdp_msg.specs.declared.reply.Reply.TheVariants as reply
 use Rattle.osdp_frame.specs.Packet.{Packet}
 use Rattle.osdp_controller.specs.declared.report.Report.{Report}
 use Rattle.osdp_controller.specs.declared.report.Report.TheVariants as report
-use Rattle.osdp_bus.specs.Buses.{BusState, device_of}
-use Rattle.osdp_bus.specs.Machine.{begin_refusal_at, changed_unless, submit_refusal_at, withdrawal_at}
-use Rattle.osdp_bus.specs.Ticking.{bus_ticks}
-use Rattle.osdp_bus.specs.declared.fault.BusFault.{BusFault}
+use Rattle.osdp_bus.specs.Buses.{BusState}
 use Rattle.osdp_bus_laws.specs.Calls as bus
 use Rattle.osdp_bus_laws.specs.Reports.{told_along, told_in}
 use Rattle.osdp_link_laws.specs.Link.{front_of, taken, taken_command}
@@ -23,11 +19,11 @@ use Rattle.osdp_reader.specs.declared.handler.Answer.{Answer}
 use Rattle.osdp_reader.specs.declared.kind.Kind.{Kind}
 use Rattle.osdp_reader.specs.declared.kind.Kind.TheVariants as kind
 use Rattle.osdp_shared_line.specs.Line.{site_at}
-use Rattle.osdp_shared_line.proofs.Sites.{at_changed, at_other}
-use Rattle.osdp_calls.specs.Calls.{Call, NewDevice, NewPanel, Next, OfPanel, Pending, SetBusy, SetHandler, Silence, Step, SubmitEvent, Take, TickDevice, after_call, after_calls, after_next, all_hear, answers, asked_at, begins_session, begins_with, begun_of, change_at, changes_at, first_answered, hears_of, is_to_begin, issues, last_of, nexts, noted, panel_says, queues, read_up_to, said_at, takes_back, waiting_of, withdrawn}
+use Rattle.osdp_calls.specs.Calls.{Call, NewDevice, NewPanel, Next, OfPanel, Pending, SetBusy, SetHandler, Silence, Step, SubmitEvent, Take, TickDevice, after_call, after_calls, after_next, after_panel, answers, begins_session, change_at, changes_at, first_answered, hears_of, nexts, queues, read_up_to}
 use Rattle.osdp_calls.specs.Ends.{KeepsPanel, one_panel_call, panel_calls}
 use Rattle.osdp_calls.specs.Lines.{InUse, Station}
 use Rattle.osdp_device.specs.Telling.{items_of}
+use Rattle.osdp_calls.proofs.Places.{Stays, panel_so, station_so, those}
 use Rattle.osdp_calls_instance.specs.SimulatedReports.{Told, in_all, told_to}
 
 -- ---- what reports add
@@ -43,12 +39,17 @@ with_one (report.Lost cause command) y = record y { unsettled = y.unsettled ++ o
 
 -- of these reports those of an entry
 abbrev pub with_those : ℕ → List (ℕ × Report) → Told → Told
-with_those k [] y = y
-with_those k (said ∷ more) y = with_those k more (cond (said.0 == k) (with_one said.1 y) y)
+with_those k said y = those with_one k said y
 
 pub more_reports : (k : ℕ) (xs ys : List (ℕ × Report)) (y : Told) → with_those k (xs ++ ys) y ≡ with_those k ys (with_those k xs y)
 more_reports k [] ys y = refl
 more_reports k (x ∷ xs) ys y = more_reports k xs ys (cond (x.0 == k) (with_one x.1 y) y)
+
+pub more_told : (xs ys : List bus.Call) (b : BusState) → told_along (xs ++ ys) b ≡ told_along xs b ++ told_along ys (bus.after_calls xs b)
+more_told [] ys b = refl
+more_told (x ∷ xs) ys b =
+    ap (λ l. told_in x b ++ l) (more_told xs ys (bus.after_call x b))
+    ∙ sym (append_assoc (told_in x b) (told_along xs (bus.after_call x b)) (told_along ys (bus.after_calls xs (bus.after_call x b))))
 
 pub both_same : (b : Bool) (y : Told) → cond b y y ≡ y
 both_same true y = refl
@@ -75,52 +76,13 @@ module _ {H : Type 0} where
 
   change_told : (k i : ℕ) (change : Station H → Station H) (f : Told → Told) (y : Told) (ts : List (Station H))
       → ((t : Station H) → told_to (change t) ≡ f (told_to t)) → IsTold k y ts → IsTold k (cond (i == k) (f y) y) (change_at i change ts)
-  change_told k i change f y ts keeps is = elim (eqb_tells i k) [
-    | inl here ↦
-        let at : site_at i ts ≡ Some is.0 = subst (λ j. site_at j ts ≡ Some is.0) (sym here.1) is.1 in (
-          change is.0,
-          subst (λ j. site_at j (change_at i change ts) ≡ Some (change is.0)) here.1
-              (ap (λ o. site_at i (changes_at i change o ts)) at ∙ at_changed i (change is.0) is.0 ts at),
-          keeps is.0 ∙ ap f is.2 ∙ sym (ap (λ b. cond b (f y) y) here.0),
-        )
-    | inr differs ↦
-        subst (λ b. IsTold k (cond b (f y) y) (change_at i change ts)) (sym differs.0) (other (site_at i ts) (λ e. differs.1 (sym e)))
-  ]
-    where
-      other : (o : Option (Station H)) → k ≢ i → IsTold k y (changes_at i change o ts)
-      other None differs = is
-      other (Some t) differs = (is.0, at_other k i (change t) ts differs ∙ is.1, is.2)
+  change_told k i change f y ts keeps is =
+      station_so (λ b t. told_to t ≡ cond b (f y) y) k i change ts (λ t at same. keeps t ∙ ap f same) is
 
   keep_told : (k i : ℕ) (change : Station H → Station H) (y : Told) (ts : List (Station H)) → ((t : Station H) → told_to (change t) ≡ told_to t)
       → IsTold k y ts → IsTold k y (change_at i change ts)
   keep_told k i change y ts keeps is =
       subst (λ z. IsTold k z (change_at i change ts)) (both_same (i == k) y) (change_told k i change (λ z. z) y ts keeps is)
-
-  all_hear_told : (k : ℕ) (said : List (ℕ × Report)) (y : Told) (ts : List (Station H)) → IsTold k y ts → IsTold k (with_those k said y) (all_hear said ts)
-  all_hear_told k [] y ts is = is
-  all_hear_told k (x ∷ more) y ts is =
-      all_hear_told k more (cond (x.0 == k) (with_one x.1 y) y) (change_at x.0 (hears_of x.1) ts)
-      (change_told k x.0 (hears_of x.1) (with_one x.1) y ts (hears_told x.1) is)
-
-  unless_told : (k i : ℕ) (fault : Option BusFault) (change : Station H → Station H) (y : Told) (ts : List (Station H))
-      → ((t : Station H) → told_to (change t) ≡ told_to t) → IsTold k y ts → IsTold k y (changed_unless fault ts (change_at i change ts))
-  unless_told k i None change y ts keeps is = keep_told k i change y ts keeps is
-  unless_told k i (Some fault) change y ts keeps is = is
-
-  noted_told : (k : ℕ) (call : bus.Call) (b : BusState) (y : Told) (ts : List (Station H)) → IsTold k y ts
-      → IsTold k (with_those k (told_in call b) y) (noted call b ts)
-  noted_told k (bus.Begin entry now) b y ts is =
-      unless_told k entry (begin_refusal_at entry b) (is_to_begin (max b.greatest now)) y ts (λ t. refl) is
-  noted_told k (bus.Submit entry command) b y ts is =
-      unless_told k entry (submit_refusal_at entry command b) (issues command) y ts (λ t. refl) is
-  noted_told k (bus.Withdraw entry) b y ts is =
-      keep_told k entry (takes_back (withdrawn (withdrawal_at entry b))) y ts (λ t. refl) is
-  noted_told k (bus.Add address) b y ts is = is
-  noted_told k (bus.Retarget entry address) b y ts is = is
-  noted_told k (bus.OnBytes bytes now) b y ts is = all_hear_told k (told_in (bus.OnBytes bytes now) b) y ts is
-  noted_told k (bus.OnSilence now) b y ts is = all_hear_told k (told_in (bus.OnSilence now) b) y ts is
-  noted_told k (bus.Tick now) b y ts is = all_hear_told k (told_in (bus.Tick now) b) y ts is
-  noted_told k bus.NextReport b y ts is = is
 
   -- a session that begins has told nothing yet
   begins_told : (waiting : List Command) (t : Station H) → told_to (begins_session waiting t) ≡ told_to t
@@ -131,26 +93,15 @@ module _ {H : Type 0} where
         reported = append-nil (in_all (λ a. a.reported) (t.account ∷ t.earlier)) i;
       })
 
-  opens_told : (k entry : ℕ) (p : Packet) (o : Option ℕ) (y : Told) (l : InUse H) → IsTold k y l.stations → IsTold k y (begins_with entry p o l).stations
-  opens_told k entry p None y l is = is
-  opens_told k entry p (Some moment) y l is =
-      keep_told k entry (begins_session (waiting_of (device_of entry l.bus))) y l.stations (begins_told (waiting_of (device_of entry l.bus))) is
-
-  says_told : (k : ℕ) (o : Option ℕ) (p : Option Packet) (y : Told) (l : InUse H) → IsTold k y l.stations → IsTold k y (panel_says o p l).stations
-  says_told k None p y l is = is
-  says_told k (Some entry) None y l is = is
-  says_told k (Some entry) (Some p) y l is = opens_told k entry p (begun_of (site_at entry l.stations)) y l is
-
-  said_told : (k : ℕ) (call : bus.Call) (b : BusState) (y : Told) (l : InUse H) → IsTold k y l.stations → IsTold k y (said_at call b l).stations
-  said_told k (bus.Tick now) b y l is = says_told k (asked_at now b) (bus_ticks now b).sent y l is
-  said_told k (bus.Add address) b y l is = is
-  said_told k (bus.Begin entry now) b y l is = is
-  said_told k (bus.Submit entry command) b y l is = is
-  said_told k (bus.Withdraw entry) b y l is = is
-  said_told k (bus.Retarget entry address) b y l is = is
-  said_told k (bus.OnBytes bytes now) b y l is = is
-  said_told k (bus.OnSilence now) b y l is = is
-  said_told k bus.NextReport b y l is = is
+  -- whatever the panel does, reports add what they tell
+  stays_told : Stays {H = H} with_one (λ y t. told_to t ≡ y)
+  stays_told = record {
+    begins_so = λ moment y t is. is;
+    issues_so = λ command y t is. is;
+    takes_so = λ commands y t is. is;
+    hears_so = λ said y t is. hears_told said t ∙ ap (with_one said) is;
+    opens_so = λ waiting y t is. begins_told waiting t ∙ is;
+  }
 
   queue_told : (full : Bool) (event : Event) (t : Station H) → told_to (queues full event t) ≡ told_to t
   queue_told true event t = refl
@@ -189,9 +140,8 @@ module _ {H : Type 0} where
     step_told : (k : ℕ) (call : Call H) (places : List ℕ) (y : Told) (l : InUse H) → KeepsPanel call → IsTold k y l.stations
         → IsTold k (with_those k (told_of_call call l.bus) y) (after_call answer_of after call places l).stations
     step_told k (OfPanel call) places y l keeps is =
-        let noted_line : InUse H = record l { bus = bus.after_call call l.bus; stations = noted call l.bus l.stations; place = last_of places l.place } in
-        subst (λ said. IsTold k (with_those k said y) (said_at call l.bus noted_line).stations) (sym (append-nil (told_in call l.bus)))
-        (said_told k call l.bus (with_those k (told_in call l.bus) y) noted_line (noted_told k call l.bus y l.stations is))
+        subst (λ said. IsTold k (with_those k said y) (after_panel call places l).stations) (sym (append-nil (told_in call l.bus)))
+        (panel_so {H = H} with_one (λ x t. told_to t ≡ x) stays_told k call places y l is)
     step_told k (SubmitEvent i event) places y l keeps is =
         keep_told k i (λ t. queues (length t.reader.queue.events == t.reader.queue.capacity) event t) y l.stations
         (λ t. queue_told (length t.reader.queue.events == t.reader.queue.capacity) event t) is
@@ -204,11 +154,6 @@ module _ {H : Type 0} where
     step_told k (Pending i) places y l keeps is = keep_told k i _ y l.stations (λ t. refl) is
     step_told k (NewDevice i address handler room gap) places y l keeps is = keep_told k i _ y l.stations (λ t. refl) is
     step_told k (NewPanel config addresses) places y l keeps is = absurd keeps
-
-    more_told : (xs ys : List bus.Call) (b : BusState) → told_along (xs ++ ys) b ≡ told_along xs b ++ told_along ys (bus.after_calls xs b)
-    more_told [] ys b = refl
-    more_told (x ∷ xs) ys b =
-        ap (λ l. told_in x b ++ l) (more_told xs ys (bus.after_call x b)) ∙ sym (append_assoc (told_in x b) (told_along xs (bus.after_call x b)) (told_along ys (bus.after_calls xs (bus.after_call x b))))
 
     pub all_told : ((call : Call H) (places : List ℕ) (l : InUse H) → KeepsPanel call
         → (after_call answer_of after call places l).bus ≡ bus.after_calls (one_panel_call call) l.bus)

@@ -1,7 +1,7 @@
 -- The commands that the account of each reader of a run has as taken are those that its device takes.
 use Rattle.std.proofs.Common.{◌≡◌, ◌≢◌, ◌⊎◌, ℕ, zero, suc, ◌+◌, ◌<◌, ◌≤◌, Bool, true, false, cond, List, [], ◌∷◌, ◌++◌, length, map, Option, Some, None, refl, sym, subst, ap, ◌∙◌, arith, append_assoc, append-nil, inl, inr}
 use Rattle.std.proofs.lemmas.Bool.Decides.{eqb_tells}
-use Rattle.std.specs.Prelude.{◌==◌, ◌-◌, slice_get, slice_set}
+use Rattle.std.specs.Prelude.{◌==◌, ◌-◌, slice_get}
 use Rattle.osdp_msg.specs.declared.command.Command.{Command}
 use Rattle.osdp_msg.specs.declared.event.Event.{Event}
 use Rattle.osdp_frame.specs.Items.{packets_in, whole_packets}
@@ -34,7 +34,7 @@ use Rattle.osdp_calls.specs.Lines.{InUse}
 use Rattle.osdp_calls.specs.Sayings.{SaysWhatGoesOut}
 use Rattle.osdp_calls_instance.proofs.LinePrograms.{own_device}
 use Rattle.osdp_calls_instance.proofs.OwnCalls.{others}
-use Rattle.osdp_calls_instance.proofs.SimulatedAccounts.{account_count, all_keep_panel, changed_by, first_within, get_other, get_set, keep_steps, Keeps}
+use Rattle.osdp_calls_instance.proofs.SimulatedAccounts.{account_count, all_keep_panel, first_within, keep_steps, Keeps}
 use Rattle.osdp_calls_instance.proofs.SimulatedBus.{Follows, Here, all_follow, at_both, begins_so, fits_all, goes, more_fit, step_follows, well_first}
 use Rattle.osdp_calls_instance.proofs.SimulatedEnds.{IsSound, sim_devices_are}
 use Rattle.osdp_calls_instance.proofs.SimulatedTakes.{IsTaking, all_take, other_chunk, own_chunk, taken_after, taken_to, takes_each}
@@ -54,19 +54,7 @@ module _ {H : Type 0} where
 
   keep_taken : (k i : ℕ) (change : ReaderSite H → ReaderSite H) (y : List Command) (us : List (ReaderSite H))
       → ((u : ReaderSite H) → (change u).account.taken ≡ u.account.taken) → IsTakenSite k y us → IsTakenSite k y (changed_site i change us)
-  keep_taken k i change y us keeps is = by_site (slice_get us i) refl
-    where
-      by_site : (o : Option (ReaderSite H)) → slice_get us i ≡ o → IsTakenSite k y (changed_by i change o us)
-      by_site None at = is
-      by_site (Some u) at = elim (eqb_tells k i) [
-        | inl here ↦
-            let there : slice_get us k ≡ Some u = subst (λ j. slice_get us j ≡ Some u) (sym here.1) at in (
-              change u,
-              subst (λ j. slice_get (slice_set us j (change u)) k ≡ Some (change u)) here.1 (get_set k u (change u) us there),
-              keeps u ∙ ap (λ (x : ReaderSite H). x.account.taken) (some_same u is.0 (sym there ∙ is.1)) ∙ is.2,
-            )
-        | inr differs ↦ (is.0, get_other k i (change u) us differs.1 ∙ is.1, is.2)
-      ]
+  keep_taken k i change y us keeps is = site_so (λ b u. u.account.taken ≡ y) k i change us (λ u same. keeps u ∙ same) is
 
   report_taken : (k : ℕ) (o : Option (ℕ × Report)) (y : List Command) (s : LineState H) → IsTakenSite k y s.sites → IsTakenSite k y (report_told o s).sites
   report_taken k None y s is = is

@@ -1,18 +1,11 @@
 -- What the device of an entry takes goes by its own calls.
-use Rattle.std.proofs.Common.{◌≡◌, ◌≢◌, ℕ, max, Bool, true, false, cond, List, [], ◌∷◌, ◌++◌, length, map, Option, Some, None, refl, sym, subst, ap, ◌∙◌, append_assoc, append-nil, inl, inr}
-use Rattle.std.proofs.lemmas.Bool.Decides.{eqb_tells}
+use Rattle.std.proofs.Common.{◌≡◌, ◌≢◌, ℕ, Bool, true, false, cond, List, [], ◌∷◌, ◌++◌, length, map, Option, Some, None, refl, sym, subst, ap, ◌∙◌, append_assoc, append-nil}
 use Rattle.std.specs.Prelude.{◌==◌}
 use Rattle.osdp_msg.specs.declared.command.Command.{Command}
 use Rattle.osdp_msg.specs.declared.event.Event.{Event}
 use Rattle.osdp_frame.specs.Packet.{Packet}
 use Rattle.osdp_controller.specs.declared.report.Report.{Report}
 use Rattle.osdp_controller.specs.declared.report.Report.TheVariants as report
-use Rattle.osdp_bus.specs.Buses.{BusState, device_of}
-use Rattle.osdp_bus.specs.Machine.{begin_refusal_at, changed_unless, submit_refusal_at, withdrawal_at}
-use Rattle.osdp_bus.specs.Ticking.{bus_ticks}
-use Rattle.osdp_bus.specs.declared.fault.BusFault.{BusFault}
-use Rattle.osdp_bus_laws.specs.Calls as bus
-use Rattle.osdp_bus_laws.specs.Reports.{told_in}
 use Rattle.osdp_device.specs.Deciding.{passed}
 use Rattle.osdp_device.specs.Receiving.{after_silence, after_take, after_tick}
 use Rattle.osdp_device.specs.Telling.{items_of, next_told}
@@ -20,12 +13,13 @@ use Rattle.osdp_link_laws.specs.Link as link
 use Rattle.osdp_link_laws.proofs.Stages.{Each}
 use Rattle.osdp_reader.specs.State.{after_set_busy, after_set_handler}
 use Rattle.osdp_reader.specs.declared.handler.Answer.{Answer}
-use Rattle.osdp_shared_line.specs.Line.{changed, site_at}
-use Rattle.osdp_shared_line.proofs.Sites.{at_changed, at_other, some_same}
-use Rattle.osdp_calls.specs.Calls.{Call, NewDevice, NewPanel, Next, OfPanel, Pending, SetBusy, SetHandler, Silence, Step, SubmitEvent, Take, TickDevice, after_call, after_calls, after_next, all_hear, answers, asked_at, begins_session, begins_with, begun_of, change_at, changes_at, first_answered, hears_of, is_to_begin, issues, last_of, made_anew, nexts, noted, panel_says, queues, read_up_to, said_at, takes_back, waiting_of, withdrawn}
-use Rattle.osdp_calls.specs.Ends.{Held, KeepsPanel, device_after, held_by, is_of_device, takes_event}
+use Rattle.osdp_shared_line.specs.Line.{site_at}
+use Rattle.osdp_calls.specs.Calls.{Call, NewDevice, NewPanel, Next, OfPanel, Pending, SetBusy, SetHandler, Silence, Step, SubmitEvent, Take, TickDevice, after_call, after_calls, answers, begins_session, change_at, first_answered, hears_of, made_anew, nexts, queues, read_up_to}
+use Rattle.osdp_calls.specs.Ends.{Held, KeepsPanel, device_after, held_by, is_of_device}
 use Rattle.osdp_calls.specs.Lines.{InUse, Station}
 use Rattle.osdp_calls.specs.Sayings.{SaysWhatGoesOut, acted_on}
+use Rattle.osdp_calls.proofs.Ends.{next_stations, queue_held}
+use Rattle.osdp_calls.proofs.Places.{Stays, as_before, panel_so, station_so}
 use Rattle.osdp_calls_instance.specs.OwnCalls.{IsOfDevice, device_after_each}
 use Rattle.osdp_calls_instance.specs.SimulatedReports.{in_all}
 
@@ -40,105 +34,29 @@ module _ {H : Type 0} where
   change_one : (k i : ℕ) (change : Station H → Station H) (f : Held H → Held H) (g : Held H → List Command) (d : Held H) (y : List Command)
       (ts : List (Station H)) → ((t : Station H) → held_by (change t) ≡ f (held_by t)) → ((t : Station H) → site_at i ts ≡ Some t → taken_to (change t) ≡ taken_to t ++ g (held_by t))
       → IsTaking k d y ts → IsTaking k (cond (i == k) (f d) d) (cond (i == k) (y ++ g d) y) (change_at i change ts)
-  change_one k i change f g d y ts keeps takes is = elim (eqb_tells i k) [
-    | inl here ↦
-        let at : site_at i ts ≡ Some is.0 = subst (λ j. site_at j ts ≡ Some is.0) (sym here.1) is.1 in (
-          change is.0,
-          subst (λ j. site_at j (change_at i change ts) ≡ Some (change is.0)) here.1
-              (ap (λ o. site_at i (changes_at i change o ts)) at ∙ at_changed i (change is.0) is.0 ts at),
-          keeps is.0 ∙ ap f is.2 ∙ sym (ap (λ b. cond b (f d) d) here.0),
-          takes is.0 at ∙ ap (λ x. x ++ g (held_by is.0)) is.3 ∙ ap (λ x. y ++ g x) is.2 ∙ sym (ap (λ b. cond b (y ++ g d) y) here.0),
-        )
-    | inr differs ↦
-        subst (λ b. IsTaking k (cond b (f d) d) (cond b (y ++ g d) y) (change_at i change ts)) (sym differs.0)
-        (other (site_at i ts) (λ e. differs.1 (sym e)))
-  ]
-    where
-      other : (o : Option (Station H)) → k ≢ i → IsTaking k d y (changes_at i change o ts)
-      other None differs = is
-      other (Some t) differs = (is.0, at_other k i (change t) ts differs ∙ is.1, is.2, is.3)
-
-  -- a change that leaves the device and what it took
-  leave_one : (k i : ℕ) (change : Station H → Station H) (d : Held H) (y : List Command) (ts : List (Station H))
-      → ((t : Station H) → held_by (change t) ≡ held_by t) → ((t : Station H) → taken_to (change t) ≡ taken_to t)
-      → IsTaking k d y ts → IsTaking k d y (change_at i change ts)
-  leave_one k i change d y ts keeps takes is = by_station (site_at i ts) refl
-    where
-      by_station : (o : Option (Station H)) → site_at i ts ≡ o → IsTaking k d y (changes_at i change o ts)
-      by_station None at = is
-      by_station (Some t) at = elim (eqb_tells k i) [
-        | inl here ↦
-            let there : site_at k ts ≡ Some t = subst (λ j. site_at j ts ≡ Some t) (sym here.1) at in
-            let same : t ≡ is.0 = some_same t is.0 (sym there ∙ is.1) in (
-              change t,
-              subst (λ j. site_at k (changed j (change t) ts) ≡ Some (change t)) here.1 (at_changed k (change t) t ts there),
-              keeps t ∙ ap held_by same ∙ is.2,
-              takes t ∙ ap taken_to same ∙ is.3,
-            )
-        | inr differs ↦ (is.0, at_other k i (change t) ts differs.1 ∙ is.1, is.2, is.3)
-      ]
+  change_one k i change f g d y ts keeps takes is =
+      station_so (λ b t. (held_by t ≡ cond b (f d) d) × (taken_to t ≡ cond b (y ++ g d) y)) k i change ts
+      (λ t at same. (
+        keeps t ∙ ap f same.0,
+        takes t at ∙ ap (λ x. x ++ g (held_by t)) same.1 ∙ ap (λ x. y ++ g x) same.0,
+      )) is
 
   hears_takes : (said : Report) (t : Station H) → taken_to (hears_of said t) ≡ taken_to t
   hears_takes (report.Opened id) t = refl
   hears_takes _ t = refl
 
-  all_hear_takes : (k : ℕ) (said : List (ℕ × Report)) (d : Held H) (y : List Command) (ts : List (Station H)) → IsTaking k d y ts
-      → IsTaking k d y (all_hear said ts)
-  all_hear_takes k [] d y ts is = is
-  all_hear_takes k (x ∷ more) d y ts is =
-      all_hear_takes k more d y (change_at x.0 (hears_of x.1) ts) (leave_one k x.0 (hears_of x.1) d y ts (λ t. refl) (hears_takes x.1) is)
-
-  unless_takes : (k i : ℕ) (fault : Option BusFault) (change : Station H → Station H) (d : Held H) (y : List Command) (ts : List (Station H))
-      → ((t : Station H) → held_by (change t) ≡ held_by t) → ((t : Station H) → taken_to (change t) ≡ taken_to t)
-      → IsTaking k d y ts → IsTaking k d y (changed_unless fault ts (change_at i change ts))
-  unless_takes k i None change d y ts keeps takes is = leave_one k i change d y ts keeps takes is
-  unless_takes k i (Some fault) change d y ts keeps takes is = is
-
-  noted_takes : (k : ℕ) (call : bus.Call) (b : BusState) (d : Held H) (y : List Command) (ts : List (Station H)) → IsTaking k d y ts
-      → IsTaking k d y (noted call b ts)
-  noted_takes k (bus.Begin entry now) b d y ts is =
-      unless_takes k entry (begin_refusal_at entry b) (is_to_begin (max b.greatest now)) d y ts (λ t. refl) (λ t. refl) is
-  noted_takes k (bus.Submit entry command) b d y ts is =
-      unless_takes k entry (submit_refusal_at entry command b) (issues command) d y ts (λ t. refl) (λ t. refl) is
-  noted_takes k (bus.Withdraw entry) b d y ts is =
-      leave_one k entry (takes_back (withdrawn (withdrawal_at entry b))) d y ts (λ t. refl) (λ t. refl) is
-  noted_takes k (bus.Add address) b d y ts is = is
-  noted_takes k (bus.Retarget entry address) b d y ts is = is
-  noted_takes k (bus.OnBytes bytes now) b d y ts is = all_hear_takes k (told_in (bus.OnBytes bytes now) b) d y ts is
-  noted_takes k (bus.OnSilence now) b d y ts is = all_hear_takes k (told_in (bus.OnSilence now) b) d y ts is
-  noted_takes k (bus.Tick now) b d y ts is = all_hear_takes k (told_in (bus.Tick now) b) d y ts is
-  noted_takes k bus.NextReport b d y ts is = is
-
   begins_takes : (waiting : List Command) (t : Station H) → taken_to (begins_session waiting t) ≡ taken_to t
   begins_takes waiting t = append-nil (taken_to t)
 
-  opens_takes : (k entry : ℕ) (p : Packet) (o : Option ℕ) (d : Held H) (y : List Command) (l : InUse H) → IsTaking k d y l.stations
-      → IsTaking k d y (begins_with entry p o l).stations
-  opens_takes k entry p None d y l is = is
-  opens_takes k entry p (Some moment) d y l is =
-      leave_one k entry (begins_session (waiting_of (device_of entry l.bus))) d y l.stations (λ t. refl) (begins_takes (waiting_of (device_of entry l.bus))) is
-
-  says_takes : (k : ℕ) (o : Option ℕ) (p : Option Packet) (d : Held H) (y : List Command) (l : InUse H) → IsTaking k d y l.stations
-      → IsTaking k d y (panel_says o p l).stations
-  says_takes k None p d y l is = is
-  says_takes k (Some entry) None d y l is = is
-  says_takes k (Some entry) (Some p) d y l is = opens_takes k entry p (begun_of (site_at entry l.stations)) d y l is
-
-  said_takes : (k : ℕ) (call : bus.Call) (b : BusState) (d : Held H) (y : List Command) (l : InUse H) → IsTaking k d y l.stations
-      → IsTaking k d y (said_at call b l).stations
-  said_takes k (bus.Tick now) b d y l is = says_takes k (asked_at now b) (bus_ticks now b).sent d y l is
-  said_takes k (bus.Add address) b d y l is = is
-  said_takes k (bus.Begin entry now) b d y l is = is
-  said_takes k (bus.Submit entry command) b d y l is = is
-  said_takes k (bus.Withdraw entry) b d y l is = is
-  said_takes k (bus.Retarget entry address) b d y l is = is
-  said_takes k (bus.OnBytes bytes now) b d y l is = is
-  said_takes k (bus.OnSilence now) b d y l is = is
-  said_takes k bus.NextReport b d y l is = is
-
-  queue_held : (full : Bool) (event : Event) (t : Station H) → held_by (queues full event t) ≡ takes_event full event (held_by t)
-  queue_held true event t = refl
-  queue_held false event t = refl
+  -- whatever the panel does
+  stays_taking : (d : Held H) (y : List Command) → Stays {H = H} as_before (λ x t. (held_by t ≡ d) × (taken_to t ≡ y))
+  stays_taking d y = record {
+    begins_so = λ moment x t is. is;
+    issues_so = λ command x t is. is;
+    takes_so = λ commands x t is. is;
+    hears_so = λ said x t is. (is.0, hears_takes said t ∙ is.1);
+    opens_so = λ waiting x t is. (is.0, begins_takes waiting t ∙ is.1);
+  }
 
   queue_takes : (full : Bool) (event : Event) (t : Station H) → taken_to (queues full event t) ≡ taken_to t
   queue_takes true event t = refl
@@ -153,11 +71,6 @@ module _ {H : Type 0} where
     answers_earlier : (o : Option Packet) (t : Station H) → (answers answer_of after o t).earlier ≡ t.earlier
     answers_earlier None t = refl
     answers_earlier (Some p) t = refl
-
-    next_stations : (i : ℕ) (places : List ℕ) (o : Option (Station H)) (l : InUse H)
-        → changes_at i (nexts answer_of after places) o l.stations ≡ (after_next answer_of after i places o l).stations
-    next_stations i places None l = refl
-    next_stations i places (Some t) l = refl
 
     module _ (says : (l : InUse H) → SaysWhatGoesOut answer_of after l) where
       next_takes : (i : ℕ) (places : List ℕ) (l : InUse H) (t : Station H) → site_at i l.stations ≡ Some t
@@ -175,8 +88,7 @@ module _ {H : Type 0} where
           → IsTaking k (cond (is_of_device k call) (device_after answer_of after call d) d) (cond (is_of_device k call) (y ++ takes_by call d) y)
           (after_call answer_of after call places l).stations
       step_takes k (OfPanel call) places d y l keeps is =
-          said_takes k call l.bus d y (record l { bus = bus.after_call call l.bus; stations = noted call l.bus l.stations; place = last_of places l.place })
-          (noted_takes k call l.bus d y l.stations is)
+          panel_so {H = H} as_before (λ x t. (held_by t ≡ d) × (taken_to t ≡ y)) (stays_taking d y) k call places tt l is
       step_takes k (SubmitEvent i event) places d y l keeps is =
           change_one k i (λ t. queues (length t.reader.queue.events == t.reader.queue.capacity) event t) (device_after answer_of after (SubmitEvent i event)) (λ x. []) d y
           l.stations (λ t. queue_held (length t.reader.queue.events == t.reader.queue.capacity) event t)
@@ -198,7 +110,7 @@ module _ {H : Type 0} where
           (λ t. refl) (λ t at. silent t _ refl) is
       step_takes k (Next i) places d y l keeps is =
           subst (IsTaking k (cond (i == k) (device_after answer_of after (Next i) d) d) (cond (i == k) (y ++ takes_by (Next i) d) y))
-          (next_stations i places (site_at i l.stations) l)
+          (next_stations answer_of after i places (site_at i l.stations) l)
           (change_one k i (nexts answer_of after places) (device_after answer_of after (Next i)) (takes_by (Next i)) d y l.stations (λ t. refl)
           (next_takes i places l) is)
       step_takes k (Pending i) places d y l keeps is =
