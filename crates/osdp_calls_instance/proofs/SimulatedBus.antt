@@ -163,7 +163,7 @@ module _ {H : Type 0} (answer_of : H → Command → Answer) (after : H → Comm
 
   -- ---- a burst that all readers hear
 
-  count_sites : (ds : List (Held H)) (us : List (ReaderSite H)) → held_readers ds ≡ site_readers us → length us ≡ length ds
+  pub count_sites : (ds : List (Held H)) (us : List (ReaderSite H)) → held_readers ds ≡ site_readers us → length us ≡ length ds
   count_sites [] [] are = refl
   count_sites [] (u ∷ us) are = absurd (let e = are in cc)
   count_sites (d ∷ ds) [] are = absurd (let e = are in cc)

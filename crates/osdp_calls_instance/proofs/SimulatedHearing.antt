@@ -35,9 +35,9 @@ use Rattle.osdp_sim_bus_laws.proofs.Reading.{read_by, said_from, says_by}
 use Rattle.osdp_sim_bus_laws.proofs.Sites.{same_count}
 use Rattle.osdp_sim_laws.specs.Moves.{delivery}
 use Rattle.osdp_calls.specs.Calls.{asked_at}
-use Rattle.osdp_calls.specs.Ends.{GoByTheirOwn, Held}
+use Rattle.osdp_calls.specs.Ends.{GoByTheirOwn}
 use Rattle.osdp_calls.specs.Lines.{InUse, Station}
-use Rattle.osdp_calls_instance.proofs.SimulatedBus.{Follows, Here, held_readers, site_readers}
+use Rattle.osdp_calls_instance.proofs.SimulatedBus.{Follows, Here, count_sites, site_readers}
 use Rattle.osdp_calls_instance.proofs.SimulatedLine.{Ahead, IsAwayFrom, Placed, Stands, ahead_again, ahead_less, ahead_read, burst_of}
 use Rattle.osdp_calls_instance.proofs.SimulatedLists.{at_each, each_place, one_place}
 use Rattle.osdp_calls_instance.proofs.SimulatedNet.{gets_from}
@@ -117,12 +117,6 @@ module _ {H : Type 0} (answer_of : H → Command → Answer) (after : H → Comm
   again_is k p [] = refl
   again_is k p (t ∷ ts) = ap (λ l. tagged k (option_to_list (hears answer_of after t.reader p).reply) ++ l) (again_is (suc k) p ts)
 
-  held_count : (ds : List (Held H)) (us : List (ReaderSite H)) → held_readers answer_of after ds ≡ site_readers answer_of after us → length us ≡ length ds
-  held_count [] [] are = refl
-  held_count [] (u ∷ us) are = absurd (let e = are in cc)
-  held_count (d ∷ ds) [] are = absurd (let e = are in cc)
-  held_count (d ∷ ds) (u ∷ us) are = let tails : held_readers answer_of after ds ≡ site_readers answer_of after us = cc in ap suc (held_count ds us tails)
-
   -- ---- a burst comes to the readers
 
   module _ (own : (l : InUse H) → GoByTheirOwn answer_of after l) (given : OneBus answer_of after) where
@@ -145,7 +139,7 @@ module _ {H : Type 0} (answer_of : H → Command → Answer) (after : H → Comm
         subst (λ rs. AreRead answer_of after i (Hearing s bytes) w l (replied_from answer_of after 0 (packets_in bytes) rs))
         (h.follows.readers ∙ net_readers s.sites n.sites h.sites.sites)
         (all_read answer_of after own packets i bytes s.clock w.panel fits short ones [] w.devices 0 (length s.sites) refl
-        (held_count w.devices s.sites h.follows.readers) l h.line source since)
+        (count_sites answer_of after w.devices s.sites h.follows.readers) l h.line source since)
 
     -- nothing is read, and what is on the way for the readers may be gone
     hear_none : (i : ℕ) (bytes : List ℕ) (s : LineState H) (n m : Net H) (w : Here answer_of after) (l : InUse H) (pending : List (ℕ × Packet)) (asked_at : List ℕ)

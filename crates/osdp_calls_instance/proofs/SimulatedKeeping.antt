@@ -28,7 +28,7 @@ use Rattle.osdp_calls.specs.Ends.{GoByTheirOwn, Held, device_after, held_by}
 use Rattle.osdp_calls.specs.Lines.{InUse, Station}
 use Rattle.osdp_calls.specs.Premises.{InRange, NextInRange}
 use Rattle.osdp_calls_instance.proofs.OwnCalls.{call_the_line, of_device, splits}
-use Rattle.osdp_calls_instance.proofs.SimulatedBus.{Follows, Here, begins_so, fits_all, goes, held_readers, more_fit, site_readers, stations_are, step_follows, well_first, all_follow}
+use Rattle.osdp_calls_instance.proofs.SimulatedBus.{Follows, Here, begins_so, count_sites, fits_all, goes, held_readers, more_fit, site_readers, stations_are, step_follows, well_first, all_follow}
 use Rattle.osdp_calls_instance.proofs.SimulatedEnds.{sim_devices_are, sim_panels_are}
 use Rattle.osdp_calls_instance.proofs.SimulatedLists.{at_first, changed_first, longer, same_number}
 use Rattle.osdp_calls_instance.proofs.SimulatedRanges.{AnswerFits, CallFits, CallsFit, OwnFitsIn, own_fits}
@@ -210,13 +210,6 @@ module _ {H : Type 0} (answer_of : H → Command → Answer) (after : H → Comm
     held_fit packets [] fits = tt
     held_fit packets (d ∷ ds) fits = (fits.0, held_fit packets ds fits.1)
 
-    count_sites : (ds : List (Held H)) (us : List (ReaderSite H)) → held_readers answer_of after ds ≡ site_readers answer_of after us → length us ≡ length ds
-    count_sites [] [] are = refl
-    count_sites [] (u ∷ us) are = absurd (let e = are in cc)
-    count_sites (d ∷ ds) [] are = absurd (let e = are in cc)
-    count_sites (d ∷ ds) (u ∷ us) are =
-        let tails : held_readers answer_of after ds ≡ site_readers answer_of after us = cc in ap suc (count_sites ds us tails)
-
     step_range : (step : SimStep) (s : LineState H) (w : Here answer_of after) → StepFits answer_of after step s → HandsShort step s → Follows answer_of after s w
         → AllRange (step_calls answer_of after step s) w
     step_range (Issue number command) s w fits short follows = there_fits (is_there number s) (AtPanel (Submits (number - 1) command)) w fits
@@ -227,7 +220,7 @@ module _ {H : Type 0} (answer_of : H → Command → Answer) (after : H → Comm
     step_range (Wait wait) s w fits short follows = (tt, tt)
     step_range (ToReader move) s w fits short follows =
         let packets = packets_in (handed move s.to_readers) in
-        hear_range (handed move s.to_readers) s.clock short w.panel [] w.devices 0 (length s.sites) refl (count_sites w.devices s.sites follows.readers)
+        hear_range (handed move s.to_readers) s.clock short w.panel [] w.devices 0 (length s.sites) refl (count_sites answer_of after w.devices s.sites follows.readers)
         (held_fit packets w.devices (subst (Each (λ (r : ReaderState H). SaysFit answer_of after packets r)) (sym follows.readers)
         (sites_fit packets s.sites (each_of (λ (u : ReaderSite H). SaysFit answer_of after packets u.reader) s.sites fits))))
     step_range (ToController move) s w fits short follows = (tt, tt)

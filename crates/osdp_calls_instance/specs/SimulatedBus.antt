@@ -190,12 +190,16 @@ module _ {H : Type 0} (answer_of : H → Command → Answer) (after : H → Comm
   abbrev pub programs_at_first : BusConfig → ℕ → List (Given H) → Programs sim_panel sim_device
   programs_at_first config gap readers = record { panel = bus_with config (map address_of readers); devices = map (new_held gap) readers }
 
-  -- Of each schedule none of whose steps is refused: the calls that begin the first sessions, and then those of its steps, bring the line that is set
-  -- up to the bus and the readers of the run, whichever places they have.
+  -- the calls that a run of a schedule is, whichever places they have: those that begin the first sessions, and then those of its steps
+  abbrev pub AreItsCalls : BusConfig → List (Given H) → List SimStep → ℕ → List (Step H) → Type 0
+  AreItsCalls config readers steps gap calls =
+      map (λ (step : Step H). step.call) calls
+      ≡ all_calls sim_panel sim_device (begin_calls 0 readers ++ schedule_calls steps (set_up config readers)) (programs_at_first config gap readers)
+
+  -- Of each schedule none of whose steps is refused: its calls bring the line that is set up to the bus and the readers of the run.
   abbrev pub RunIsCalls : Type 0
   RunIsCalls = (config : BusConfig) (readers : List (Given H)) (steps : List SimStep) (gap : ℕ) (calls : List (Step H))
       → 1 ≤ gap → is_well answer_of after steps (set_up config readers) ≡ true
       → HoldsAlong (after_step answer_of after) HandsBytes steps (set_up config readers)
-      → map (λ (step : Step H). step.call) calls
-      ≡ all_calls sim_panel sim_device (begin_calls 0 readers ++ schedule_calls steps (set_up config readers)) (programs_at_first config gap readers)
+      → AreItsCalls config readers steps gap calls
       → HasTheEndsOf (run answer_of after steps (set_up config readers)) (after_calls answer_of after calls (line_at_first config gap readers))

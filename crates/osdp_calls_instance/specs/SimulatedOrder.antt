@@ -1,5 +1,5 @@
 -- The places of what a run of a schedule over a bus reads: the calls that it is keep order and quiet openings, and so the promises hold of it.
-use Rattle.std.specs.Prelude.{◌≡◌, ℕ, ◌≤◌, true, All, List, [], ◌∷◌, ◌++◌, map, Some, slice_get}
+use Rattle.std.specs.Prelude.{◌≡◌, ℕ, ◌≤◌, true, All, List, [], ◌∷◌, Some, slice_get}
 use Rattle.osdp_msg.specs.declared.command.Command.{Command}
 use Rattle.osdp_bus.specs.Buses.{device_of}
 use Rattle.osdp_bus.specs.declared.config.BusConfig.{BusConfig}
@@ -17,8 +17,7 @@ use Rattle.osdp_calls.specs.Lines.{InUse, Station}
 use Rattle.osdp_calls.specs.Premises.{AllKeep, InOrder, QuietOpening}
 use Rattle.osdp_calls.specs.Programs.{KeepsRule, first_notes, notes_after}
 use Rattle.osdp_calls.specs.Promises.{HoldsPromises}
-use Rattle.osdp_calls_instance.specs.OwnCalls.{all_calls}
-use Rattle.osdp_calls_instance.specs.SimulatedBus.{HandsBytes, begin_calls, line_at_first, programs_at_first, schedule_calls, sim_device, sim_panel}
+use Rattle.osdp_calls_instance.specs.SimulatedBus.{AreItsCalls, HandsBytes, line_at_first}
 use Rattle.osdp_calls_instance.specs.SimulatedPremises.{HandsShort, OrdersNoComset}
 use Rattle.osdp_calls_instance.specs.SimulatedReports.{in_all, told_in_run, told_to}
 
@@ -48,18 +47,11 @@ module _ {H : Type 0} where
       pub short : HoldsAlong (after_step answer_of after) HandsShort steps (set_up config readers)
       pub fits : FitAlong answer_of after steps (set_up config readers)
 
-    -- the calls that such a schedule is, whichever places they have
-    abbrev pub AreItsCalls : BusConfig → List (Given H) → List SimStep → ℕ → List (Step H) → Type 0
-    AreItsCalls config readers steps gap calls =
-        map (λ (step : Step H). step.call) calls
-        ≡ all_calls sim_panel (sim_device answer_of after) (begin_calls answer_of after 0 readers ++ schedule_calls answer_of after steps (set_up config readers))
-        (programs_at_first answer_of after config gap readers)
-
-    -- Each packet that they read has a place in what was said. With these places the calls keep order and quiet openings; all premises, where no step
+    -- Each packet that its calls read has a place in what was said. With these places the calls keep order and quiet openings; all premises, where no step
     -- orders a COMSET; and so where programs keep to the rule.
     pub record KeepsOrder (config : BusConfig) (readers : List (Given H)) (steps : List SimStep) (gap : ℕ) : Type 0 where
       pub calls : List (Step H)
-      pub are : AreItsCalls config readers steps gap calls
+      pub are : AreItsCalls answer_of after config readers steps gap calls
       pub ordered : AllOrdered calls (line_at_first config gap readers)
       pub plain : All OrdersNoComset steps → AllKeep answer_of after calls (line_at_first config gap readers)
       pub ruled : AllRuled calls (line_at_first config gap readers) (first_notes (line_at_first config gap readers))
@@ -84,7 +76,7 @@ module _ {H : Type 0} where
 
     abbrev pub RunsHoldOnce : Type 0
     RunsHoldOnce = (config : BusConfig) (readers : List (Given H)) (steps : List SimStep) (gap : ℕ) (calls : List (Step H)) → 1 ≤ gap
-        → IsTaken config readers steps → AreItsCalls config readers steps gap calls
+        → IsTaken config readers steps → AreItsCalls answer_of after config readers steps gap calls
         → AllKeep answer_of after calls (line_at_first config gap readers)
         → (k : ℕ) (u : ReaderSite H) → slice_get (run answer_of after steps (set_up config readers)).sites k ≡ Some u
         → HoldsOnceInRun config readers steps gap calls k u

@@ -1,5 +1,5 @@
 -- Which premises the calls keep that a run of a schedule over a bus is.
-use Rattle.std.specs.Prelude.{◌≡◌, ℕ, ◌≤◌, true, All, List, [], ◌∷◌, ◌++◌, length, map, None}
+use Rattle.std.specs.Prelude.{◌≡◌, ℕ, ◌≤◌, true, All, List, [], ◌∷◌, length, None}
 use Rattle.osdp_frame.specs.Packet.{largest}
 use Rattle.osdp_msg.specs.declared.command.Command.{Command}
 use Rattle.osdp_controller.specs.Hearing.{comset_of}
@@ -15,8 +15,7 @@ use Rattle.osdp_sim_bus.specs.Steps.{after_step}
 use Rattle.osdp_calls.specs.Calls.{Step, after_call}
 use Rattle.osdp_calls.specs.Lines.{InUse}
 use Rattle.osdp_calls.specs.Premises.{Addresses, InRange}
-use Rattle.osdp_calls_instance.specs.OwnCalls.{all_calls}
-use Rattle.osdp_calls_instance.specs.SimulatedBus.{HandsBytes, begin_calls, line_at_first, programs_at_first, schedule_calls, sim_device, sim_panel}
+use Rattle.osdp_calls_instance.specs.SimulatedBus.{AreItsCalls, HandsBytes, line_at_first}
 
 -- no step orders a COMSET
 abbrev pub OrdersNoComset : SimStep → Type 0
@@ -46,17 +45,11 @@ module _ {H : Type 0} where
         → 1 ≤ gap → is_well answer_of after steps (set_up config readers) ≡ true
         → HoldsAlong (after_step answer_of after) HandsBytes steps (set_up config readers)
         → HoldsAlong (after_step answer_of after) HandsShort steps (set_up config readers)
-        → FitAlong answer_of after steps (set_up config readers)
-        → map (λ (step : Step H). step.call) calls
-        ≡ all_calls sim_panel (sim_device answer_of after) (begin_calls answer_of after 0 readers ++ schedule_calls answer_of after steps (set_up config readers))
-        (programs_at_first answer_of after config gap readers)
+        → FitAlong answer_of after steps (set_up config readers) → AreItsCalls answer_of after config readers steps gap calls
         → AllInRange calls (line_at_first config gap readers)
 
     -- Where none orders a COMSET, they keep the premise on addresses.
     abbrev pub RunKeepsAddresses : Type 0
     RunKeepsAddresses = (config : BusConfig) (readers : List (Given H)) (steps : List SimStep) (gap : ℕ) (calls : List (Step H))
-        → All OrdersNoComset steps
-        → map (λ (step : Step H). step.call) calls
-        ≡ all_calls sim_panel (sim_device answer_of after) (begin_calls answer_of after 0 readers ++ schedule_calls answer_of after steps (set_up config readers))
-        (programs_at_first answer_of after config gap readers)
+        → All OrdersNoComset steps → AreItsCalls answer_of after config readers steps gap calls
         → AllAtAddresses calls (line_at_first config gap readers)

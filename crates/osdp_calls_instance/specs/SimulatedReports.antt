@@ -17,8 +17,7 @@ use Rattle.osdp_sim_bus.specs.Steps.{after_step}
 use Rattle.osdp_calls.specs.Calls.{Step, after_calls}
 use Rattle.osdp_calls.specs.Lines.{Station}
 use Rattle.osdp_calls.specs.Sayings.{NoneRefused}
-use Rattle.osdp_calls_instance.specs.OwnCalls.{all_calls}
-use Rattle.osdp_calls_instance.specs.SimulatedBus.{HandsBytes, begin_calls, line_at_first, programs_at_first, schedule_calls, sim_device, sim_panel}
+use Rattle.osdp_calls_instance.specs.SimulatedBus.{AreItsCalls, HandsBytes, line_at_first}
 
 -- what the panel was told of a reader, over all sessions: commands with their answers, commands without, and events
 pub record Told : Type 0 where
@@ -49,9 +48,7 @@ module _ {H : Type 0} where
   RunTellsTheSame answer_of after = (config : BusConfig) (readers : List (Given H)) (steps : List SimStep) (gap : ℕ) (calls : List (Step H))
       → IsBusConfig config → NoneRefused (map address_of readers) (new_bus config) → is_well answer_of after steps (set_up config readers) ≡ true
       → HoldsAlong (after_step answer_of after) HandsBytes steps (set_up config readers)
-      → map (λ (step : Step H). step.call) calls
-      ≡ all_calls sim_panel (sim_device answer_of after) (begin_calls answer_of after 0 readers ++ schedule_calls answer_of after steps (set_up config readers))
-      (programs_at_first answer_of after config gap readers)
+      → AreItsCalls answer_of after config readers steps gap calls
       → (k : ℕ) (u : ReaderSite H) (t : Station H) → slice_get (run answer_of after steps (set_up config readers)).sites k ≡ Some u
       → site_at k (after_calls answer_of after calls (line_at_first config gap readers)).stations ≡ Some t
       → told_to t ≡ told_in_run u
@@ -61,9 +58,7 @@ module _ {H : Type 0} where
   RunTakesTheSame answer_of after = (config : BusConfig) (readers : List (Given H)) (steps : List SimStep) (gap : ℕ) (calls : List (Step H))
       → 1 ≤ gap → is_well answer_of after steps (set_up config readers) ≡ true
       → HoldsAlong (after_step answer_of after) HandsBytes steps (set_up config readers)
-      → map (λ (step : Step H). step.call) calls
-      ≡ all_calls sim_panel (sim_device answer_of after) (begin_calls answer_of after 0 readers ++ schedule_calls answer_of after steps (set_up config readers))
-      (programs_at_first answer_of after config gap readers)
+      → AreItsCalls answer_of after config readers steps gap calls
       → (k : ℕ) (u : ReaderSite H) (t : Station H) → slice_get (run answer_of after steps (set_up config readers)).sites k ≡ Some u
       → site_at k (after_calls answer_of after calls (line_at_first config gap readers)).stations ≡ Some t
       → in_all (λ a. a.taken) (t.account ∷ t.earlier) ≡ u.account.taken
