@@ -64,22 +64,22 @@ asked_says now b = by_report (has_report b)
 
 -- ---- entries
 
-adds_after : (config : BusConfig) (xs ys : List ℕ) → NoneRefused xs (bus_with config ys)
-    → bus.after_calls (map bus.Add xs) (bus_with config ys) ≡ bus_with config (ys ++ xs)
-adds_after config [] ys none = ap (bus_with config) (sym (append-nil ys))
-adds_after config (a ∷ xs) ys none =
-    let added : after_add a (bus_with config ys) ≡ bus_with config (ys ++ a ∷ []) = one ys in
-    ap (λ f. bus.after_calls (map bus.Add xs) (changed_unless f (bus_with config ys) (after_add a (bus_with config ys)))) none.0
-    ∙ ap (bus.after_calls (map bus.Add xs)) added
-    ∙ adds_after config xs (ys ++ a ∷ []) (subst (NoneRefused xs) added none.1)
-    ∙ ap (bus_with config) (append_assoc ys (a ∷ []) xs)
+pub added : (config : BusConfig) (before : List ℕ) (a : ℕ) → after_add a (bus_with config before) ≡ bus_with config (before ++ a ∷ [])
+added config before a = ap (λ l. record (new_bus config) { devices = record { entries = l; report = None } }) (entries before)
   where
     entries : (ys : List ℕ) → map (λ b. new_device b config) ys ++ new_device a config ∷ [] ≡ map (λ b. new_device b config) (ys ++ a ∷ [])
     entries [] = refl
     entries (y ∷ ys) = ap (λ l. new_device y config ∷ l) (entries ys)
 
-    one : (ys : List ℕ) → after_add a (bus_with config ys) ≡ bus_with config (ys ++ a ∷ [])
-    one ys = ap (λ l. record (new_bus config) { devices = record { entries = l; report = None } }) (entries ys)
+adds_after : (config : BusConfig) (xs ys : List ℕ) → NoneRefused xs (bus_with config ys)
+    → bus.after_calls (map bus.Add xs) (bus_with config ys) ≡ bus_with config (ys ++ xs)
+adds_after config [] ys none = ap (bus_with config) (sym (append-nil ys))
+adds_after config (a ∷ xs) ys none =
+    let one : after_add a (bus_with config ys) ≡ bus_with config (ys ++ a ∷ []) = added config ys a in
+    ap (λ f. bus.after_calls (map bus.Add xs) (changed_unless f (bus_with config ys) (after_add a (bus_with config ys)))) none.0
+    ∙ ap (bus.after_calls (map bus.Add xs)) one
+    ∙ adds_after config xs (ys ++ a ∷ []) (subst (NoneRefused xs) one none.1)
+    ∙ ap (bus_with config) (append_assoc ys (a ∷ []) xs)
 
 pub adds_make_the_bus : AddsMakeTheBus
 adds_make_the_bus config xs none = adds_after config xs [] none

@@ -4,6 +4,7 @@ mod RuleKept
 mod OwnCalls
 mod LinePrograms
 mod CPrograms
+mod SimulatedLists
 mod SimulatedEnds
 mod SimulatedBus
 mod SimSetUp
@@ -16,7 +17,6 @@ mod SimulatedAddresses
 mod SimulatedReads
 mod SimulatedRanges
 mod SimulatedKeeping
-mod SimulatedLists
 mod SimulatedReplies
 mod SimulatedPlaces
 mod SimulatedHeard

@@ -70,10 +70,6 @@ module _ {H : Type 0} where
     abbrev pub read_out : ReaderState H → Received → Held H
     read_out r l = holding (reads_all answer_of after r l).reader (reads_all answer_of after r l).line
 
-    abbrev Reads : ℕ → ℕ → ReaderState H → Received → Type 0
-    Reads k n r l = length (said_to_all answer_of after (items_of l.held) r) ≡ n
-        → device_after_each answer_of after (nexts k n) (holding r l) ≡ read_out r l
-
     abbrev pub line_told : ReaderState H → Received → Received
     line_told r l = record l { held = (next_told answer_of after r l.held).held }
 
@@ -98,50 +94,57 @@ module _ {H : Type 0} where
         (with_held l t.held (after_all l.held (items_of l.held)) (sym (tell.left ∙ ap (λ parts. after_all t.held parts) (tell.all none))))
 
     -- something is said, and then the rest is read
-    reads_some : (k n : ℕ) (r : ReaderState H) (l : Received) (said : Said) → (next_told answer_of after r l.held).said ≡ Some said
-        → ((q : ReaderState H) (m : Received) → Reads k n q m)
-        → length (said_to_all answer_of after (items_of l.held) r) ≡ suc n
+    reads_some : (k n : ℕ) (r : ReaderState H) (l : Received)
+        → device_after_each answer_of after (nexts k n) (holding (next_told answer_of after r l.held).reader (line_told r l))
+        ≡ read_out (next_told answer_of after r l.held).reader (line_told r l)
         → device_after_each answer_of after (nexts k (suc n)) (holding r l) ≡ read_out r l
-    reads_some k n r l said some more count =
+    reads_some k n r l rest =
         let t = next_told answer_of after r l.held in
         let tell = tells_in_turn answer_of after r l.held in
-        let one_more : suc (length (said_to_all answer_of after (items_of t.held) t.reader)) ≡ suc n =
-        sym (ap length (first_said r l (Some said) some)) ∙ count in
-        let rest : length (said_to_all answer_of after (items_of t.held) t.reader) ≡ n = omega (arith, one_more) in
-        more t.reader (line_told r l) rest
+        rest
         ∙ same_device (after_items answer_of after (items_of t.held) t.reader) (reads_all answer_of after r l).reader
         (record l { held = after_all t.held (items_of t.held) }) (reads_all answer_of after r l).line
         (sym tell.reader) (with_held l (after_all t.held (items_of t.held)) (after_all l.held (items_of l.held)) (sym tell.left))
 
-    none_counted : (r : ReaderState H) (l : Received) → (next_told answer_of after r l.held).said ≡ None
-        → length (said_to_all answer_of after (items_of l.held) r) ≡ 0
-    none_counted r l none =
+    pub nothing_said : (r : ReaderState H) (l : Received) → (next_told answer_of after r l.held).said ≡ None
+        → said_to_all answer_of after (items_of l.held) r ≡ []
+    nothing_said r l none =
         let t = next_told answer_of after r l.held in
-        ap length (first_said r l None none ∙ ap (λ parts. said_to_all answer_of after parts t.reader) ((tells_in_turn answer_of after r l.held).all none))
+        first_said r l None none ∙ ap (λ parts. said_to_all answer_of after parts t.reader) ((tells_in_turn answer_of after r l.held).all none)
 
-    some_counted : (r : ReaderState H) (l : Received) (said : Said) → (next_told answer_of after r l.held).said ≡ Some said
-        → 1 ≤ length (said_to_all answer_of after (items_of l.held) r)
-    some_counted r l said some =
-        let rest = said_to_all answer_of after (items_of (next_told answer_of after r l.held).held) (next_told answer_of after r l.held).reader in
-        let count : length (said_to_all answer_of after (items_of l.held) r) ≡ suc (length rest) = ap length (first_said r l (Some said) some) in
-        omega (arith, count)
+    -- one `next` after the other, as often as something is said: what holds where nothing is, and before one where it does after it
+    module _ (P : ℕ → ReaderState H → Received → Type 0)
+        (last : (r : ReaderState H) (l : Received) → (next_told answer_of after r l.held).said ≡ None → P 0 r l)
+        (more : (n : ℕ) (r : ReaderState H) (l : Received) (said : Said) → (next_told answer_of after r l.held).said ≡ Some said
+        → P n (next_told answer_of after r l.held).reader (line_told r l) → P (suc n) r l) where
+      nexts_end : (r : ReaderState H) (l : Received) (o : Option Said) → (next_told answer_of after r l.held).said ≡ o
+          → length (said_to_all answer_of after (items_of l.held) r) ≡ 0 → P 0 r l
+      nexts_end r l None none count = last r l none
+      nexts_end r l (Some said) some count =
+          let t = next_told answer_of after r l.held in
+          absurd (let e : suc (length (said_to_all answer_of after (items_of t.held) t.reader)) ≡ 0 = sym (ap length (first_said r l (Some said) some)) ∙ count in
+          omega (arith, e))
 
-    reads_at_0 : (k : ℕ) (r : ReaderState H) (l : Received) (o : Option Said) → (next_told answer_of after r l.held).said ≡ o → Reads k 0 r l
-    reads_at_0 k r l None none count = reads_none k r l none
-    reads_at_0 k r l (Some said) some count = absurd (let one = some_counted r l said some in omega (arith, one, count))
+      nexts_go : (n : ℕ) (r : ReaderState H) (l : Received) (o : Option Said) → (next_told answer_of after r l.held).said ≡ o
+          → ((q : ReaderState H) (m : Received) → length (said_to_all answer_of after (items_of m.held) q) ≡ n → P n q m)
+          → length (said_to_all answer_of after (items_of l.held) r) ≡ suc n → P (suc n) r l
+      nexts_go n r l None none rest count =
+          absurd (let e : 0 ≡ suc n = sym (ap length (nothing_said r l none)) ∙ count in omega (arith, e))
+      nexts_go n r l (Some said) some rest count =
+          let t = next_told answer_of after r l.held in
+          let one_more : suc (length (said_to_all answer_of after (items_of t.held) t.reader)) ≡ suc n =
+          sym (ap length (first_said r l (Some said) some)) ∙ count in
+          more n r l said some (rest t.reader (line_told r l) (omega (arith, one_more)))
 
-    reads_at : (k n : ℕ) (r : ReaderState H) (l : Received) (o : Option Said) → (next_told answer_of after r l.held).said ≡ o
-        → ((q : ReaderState H) (m : Received) → Reads k n q m) → Reads k (suc n) r l
-    reads_at k n r l None none more count = absurd (let none_is = none_counted r l none in omega (arith, none_is, count))
-    reads_at k n r l (Some said) some more count = reads_some k n r l said some more count
-
-    reads_so : (k n : ℕ) (r : ReaderState H) (l : Received) → Reads k n r l
-    reads_so k zero r l = reads_at_0 k r l (next_told answer_of after r l.held).said refl
-    reads_so k (suc n) r l = reads_at k n r l (next_told answer_of after r l.held).said refl (λ q m. reads_so k n q m)
+      pub by_nexts : (n : ℕ) (r : ReaderState H) (l : Received) → length (said_to_all answer_of after (items_of l.held) r) ≡ n → P n r l
+      by_nexts zero r l count = nexts_end r l (next_told answer_of after r l.held).said refl count
+      by_nexts (suc n) r l count = nexts_go n r l (next_told answer_of after r l.held).said refl (λ q m. by_nexts n q m) count
 
     pub reading_is : (k : ℕ) (r : ReaderState H) (l : Received)
         → device_after_each answer_of after (reading answer_of after k r l) (holding r l) ≡ read_out r l
-    reading_is k r l = reads_so k (length (said_to_all answer_of after (items_of l.held) r)) r l refl
+    reading_is k r l =
+        by_nexts (λ n q m. device_after_each answer_of after (nexts k n) (holding q m) ≡ read_out q m) (λ q m none. reads_none k q m none)
+        (λ n q m said some rest. reads_some k n q m rest) (length (said_to_all answer_of after (items_of l.held) r)) r l refl
 
     -- ---- what holds at all times of what has come
 

@@ -8,7 +8,6 @@ use Rattle.osdp_msg.specs.ReplyTable.{reply_at, reply_fault, reply_of}
 use Rattle.osdp_msg.specs.declared.command.Command.{Command}
 use Rattle.osdp_msg.specs.declared.command_fields.Communication.{Communication}
 use Rattle.osdp_bus.specs.Devices.{address_of}
-use Rattle.osdp_bus.specs.Machine.{new_device}
 use Rattle.osdp_bus.specs.declared.device.Device.{Device}
 use Rattle.osdp_reader.specs.declared.handler.Answer.{Answer}
 use Rattle.osdp_shared_line.specs.Addresses.{Somewhere}
@@ -19,28 +18,20 @@ use Rattle.osdp_calls.specs.Calls.{OfPanel, Step, after_call}
 use Rattle.osdp_calls.specs.Lines.{InUse}
 use Rattle.osdp_calls.specs.Premises.{AllKeep}
 use Rattle.osdp_calls.specs.Programs.{AllKeepRule, IsKnown, KeepsRule, first_notes, notes_after}
-use Rattle.osdp_calls_instance.specs.Instance.{away, settings}
+use Rattle.osdp_calls_instance.specs.Instance.{away}
 use Rattle.osdp_calls_instance.specs.Rule.{TwoCallsKeepRule}
 use Rattle.osdp_calls_instance.specs.TwoEntries.{two_after, two_calls, two_set_up}
-use Rattle.osdp_calls_instance.proofs.TwoCalls.{two_keep}
+use Rattle.osdp_calls_instance.proofs.TwoCalls.{first_device, second_device, two_keep}
 
 abbrev asked_for : Communication
 asked_for = record { address = 5; baud_rate = 9600 }
 
-abbrev first_entry : List Device → Device
-first_entry [] = new_device 0 settings
-first_entry (d ∷ ds) = d
-
-abbrev second_entry : List Device → Device
-second_entry [] = new_device 0 settings
-second_entry (d ∷ ds) = first_entry ds
-
 -- entry 1 is at address 1, and no other address is noted of it
-two_free : (es : List Device) (notes : ℕ → Note) → es ≡ first_entry es ∷ second_entry es ∷ [] → address_of (second_entry es) ≡ 1
+two_free : (es : List Device) (notes : ℕ → Note) → es ≡ first_device es ∷ second_device es ∷ [] → address_of (second_device es) ≡ 1
     → (notes 1).addresses ≡ 1 ∷ [] → (a : ℕ) → a ≡ 5 → (j : ℕ) (d : Device) → j ≢ 0 → slice_get es j ≡ Some d → IsKnown a d (notes j) → ⊥
 two_free es notes are here noted a five zero d other at known = other refl
 two_free es notes are here noted a five (suc zero) d other at (inl is) =
-    let second : second_entry es ≡ d = some_same (second_entry es) d (ap (λ xs. slice_get xs 1) (sym are) ∙ at) in
+    let second : second_device es ≡ d = some_same (second_device es) d (ap (λ xs. slice_get xs 1) (sym are) ∙ at) in
     let far : 1 ≡ 5 = sym here ∙ ap address_of second ∙ is ∙ five in absurd (omega (arith, far))
 two_free es notes are here noted a five (suc zero) d other at (inr is) = by_one (subst (Somewhere (λ b. b ≡ a)) noted is)
   where

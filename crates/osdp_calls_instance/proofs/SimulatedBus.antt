@@ -39,6 +39,7 @@ use Rattle.osdp_calls.specs.Ends.{GoByTheirOwn, Held, held_by, takes_event}
 use Rattle.osdp_calls.specs.Lines.{InUse, Station}
 use Rattle.osdp_calls.specs.Sayings.{after_hearing}
 use Rattle.osdp_calls_instance.proofs.OwnCalls.{call_the_line}
+use Rattle.osdp_calls_instance.proofs.SimulatedLists.{at_first, changed_first, longer}
 use Rattle.osdp_calls_instance.specs.OwnCalls.{AllFit, AtDevice, AtPanel, FitsAt, IsLineOf, Programs, after_each, after_own, devices_after}
 use Rattle.osdp_calls_instance.specs.SimulatedBus.{Begins, BurstFits, DeviceStep, HandsBytes, HearsBurst, HearsRun, IsBusy, Queues, RunIsCalls, SimCall, Submits, Waits, after_device_step, all_hear, begin_calls, hears_burst, line_at_first, new_held, new_station, panel_step_calls, programs_at_first, schedule_calls, sim_device, sim_panel, step_calls}
 use Rattle.osdp_calls_instance.proofs.SimulatedEnds.{IsSound, sim_devices_are, sim_panels_are}
@@ -169,14 +170,6 @@ module _ {H : Type 0} (answer_of : H → Command → Answer) (after : H → Comm
   count_sites (d ∷ ds) [] are = absurd (let e = are in cc)
   count_sites (d ∷ ds) (u ∷ us) are = let tails : held_readers ds ≡ site_readers us = cc in ap suc (count_sites ds us tails)
 
-  at_first : (before : List (Held H)) (d : Held H) (ds : List (Held H)) → site_at (length before) (before ++ d ∷ ds) ≡ Some d
-  at_first [] d ds = refl
-  at_first (x ∷ before) d ds = at_first before d ds
-
-  changed_first : (before : List (Held H)) (d e : Held H) (ds : List (Held H)) → changed (length before) e (before ++ d ∷ ds) ≡ before ++ e ∷ ds
-  changed_first [] d e ds = refl
-  changed_first (x ∷ before) d e ds = ap (λ l. x ∷ l) (changed_first before d e ds)
-
   abbrev each_hears : List ℕ → ℕ → List (Held H) → List (Held H)
   each_hears bytes now ds = map (hears_burst answer_of after bytes now) ds
 
@@ -205,10 +198,6 @@ module _ {H : Type 0} (answer_of : H → Command → Answer) (after : H → Comm
           subst (λ (l : List (Held H)). fits_all (all_hear answer_of after (suc k) n bytes now) (record { panel = panel; devices = l })) (sym (one ∙ next)) more.fit,
         );
       }
-    where
-      longer : (before : List (Held H)) (e : Held H) → length (before ++ e ∷ []) ≡ suc (length before)
-      longer [] e = refl
-      longer (x ∷ before) e = ap suc (longer before e)
 
   burst_reader : (bytes : List ℕ) (now : ℕ) (d : Held H) → (hears_burst answer_of after bytes now d).reader ≡ after_hearing answer_of after (packets_in bytes) d.reader
   burst_reader [] now d = ap (λ parts. after_hearing answer_of after (whole_packets parts) d.reader) (sym (items_nothing true))
@@ -413,10 +402,6 @@ module _ {H : Type 0} (answer_of : H → Command → Answer) (after : H → Comm
             ∙ ap (λ l. to (entries_of config l)) (append_assoc before (e ∷ []) (map (begun_device config) readers)),
         (tt, subst (λ b. fits_all (begin_calls answer_of after (suc k) readers) (to b)) (sym moves) more.1),
       )
-    where
-      longer : (before : List Device) (e : Device) → length (before ++ e ∷ []) ≡ suc (length before)
-      longer [] e = refl
-      longer (x ∷ before) e = ap suc (longer before e)
 
   new_readers : (gap : ℕ) (readers : List (Given H)) → held_readers (map (new_held gap) readers) ≡ site_readers (map new_site readers)
   new_readers gap [] = refl

@@ -1,19 +1,16 @@
 -- The bus and the readers of a run over a simulated bus are called by calls of a line in use.
-use Rattle.std.proofs.Common.{◌≡◌, ℕ, suc, max, Bool, true, false, cond, List, [], ◌∷◌, ◌++◌, drop, length, map, refl, sym, subst, ap, ◌∙◌, arith}
+use Rattle.std.proofs.Common.{◌≡◌, ℕ, suc, max, Bool, true, false, cond, List, [], ◌∷◌, ◌++◌, length, map, refl, sym, subst, ap, ◌∙◌, arith}
 use Rattle.std.specs.Prelude.{not, ◌==◌}
 use Rattle.osdp_msg.specs.declared.command.Command.{Command}
 use Rattle.osdp_msg.specs.declared.event.Event.{Event}
-use Rattle.osdp_frame.proofs.Head.{AreBytes-drop}
 use Rattle.osdp_frame.specs.Bytes.{AreBytes}
 use Rattle.osdp_frame.specs.Held as frame
 use Rattle.osdp_frame.specs.Held.{new_run}
 use Rattle.osdp_frame.specs.Items.{items, left_over, packets_in, reading, whole_packets}
-use Rattle.osdp_frame.specs.Reading.{RunItem, PacketItem, SkippedItem, RefusedItem, IsReading, item_size}
-use Rattle.osdp_frame_laws.proofs.LeftOver.{gap_items, items_nothing, left_bytes, reading_split, some_ended}
-use Rattle.osdp_frame_laws.proofs.OneByOne.{still_ended}
-use Rattle.osdp_frame_laws.proofs.Readings.{decided_nothing, is_reading}
+use Rattle.osdp_frame.specs.Reading.{RunItem, PacketItem, SkippedItem, RefusedItem}
+use Rattle.osdp_frame_laws.proofs.LeftOver.{gap_items, items_nothing, left_bytes, reading_split}
+use Rattle.osdp_frame_laws.proofs.Readings.{decided_nothing}
 use Rattle.osdp_device.proofs.Receipt.{no_bytes}
-use Rattle.osdp_device.proofs.Turning.{splits}
 use Rattle.osdp_device.specs.Hearing.{Heard, IsAllRead, hears_bytes, reads_all, then_reads, turns_left}
 use Rattle.osdp_device.specs.Receiving as device
 use Rattle.osdp_device.specs.Receiving.{IsReceived, Received, ends_run, ends_silent, is_silent, seen}
@@ -23,6 +20,7 @@ use Rattle.osdp_link_laws.proofs.Stages.{Each}
 use Rattle.osdp_reader.specs.State.{ReaderState}
 use Rattle.osdp_reader.specs.Table.{hears}
 use Rattle.osdp_reader.specs.declared.handler.Answer.{Answer}
+use Rattle.osdp_device.proofs.Pieces.{after_ended}
 use Rattle.osdp_calls.specs.Calls.{OfPanel, Silence}
 use Rattle.osdp_calls.specs.Ends.{Held, takes_event}
 use Rattle.osdp_calls.specs.Sayings.{after_hearing}
@@ -31,21 +29,6 @@ use Rattle.osdp_calls_instance.specs.LinePrograms.{handing}
 use Rattle.osdp_calls_instance.specs.LinePrograms as lines
 use Rattle.osdp_calls_instance.specs.OwnCalls.{AreDeviceCalls, ArePanelCalls, IsOfDevice, IsOfPanel, device_after_each}
 use Rattle.osdp_calls_instance.specs.SimulatedBus.{BurstFits, DeviceStep, HearsBurst, IsBusy, Queues, after_device_step, burst_calls, device_step_calls, hears_burst, panel_step_calls, run_over, sim_device, sim_panel}
-
--- ---- a run that is over leaves nothing
-
-after_ended : (parts : List RunItem) (bytes : List ℕ) → AreBytes bytes → items true bytes ≡ parts
-    → after_all (record { bytes = bytes; ended = not (length bytes == 0) }) parts ≡ new_run
-after_ended [] bytes fits are =
-    let nil : bytes ≡ [] = subst (λ l. IsReading bytes l) are (is_reading bytes fits) in
-    ap (λ (l : List ℕ). record { bytes = l; ended = not (length l == 0) }) nil
-after_ended (part ∷ parts) [] fits are = absurd (let e = sym (items_nothing true) ∙ are in cc)
-after_ended (part ∷ parts) (b ∷ bytes) fits are =
-    let rest = drop (item_size part) (b ∷ bytes) in
-    let others : items true rest ≡ parts =
-    sym (still_ended true rest) ∙ splits (record { bytes = b ∷ bytes; ended = true }) part parts are in
-    ap (λ (e : Bool). after_all (record { bytes = b ∷ bytes; ended = e }) (part ∷ parts)) (some_ended b bytes)
-    ∙ after_ended parts rest (AreBytes-drop (item_size part) (b ∷ bytes) fits) others
 
 -- a line of which nothing is held
 abbrev pub quiet : Received → Received

@@ -7,7 +7,7 @@ use Rattle.std.specs.Prelude.{not, ◌==◌, ◌&&◌, ◌||◌, nat_le, nat_lt}
 use Rattle.osdp_msg.specs.declared.command.Command.{Command}
 use Rattle.osdp_bus.specs.Buses.{device_of, new_bus}
 use Rattle.osdp_bus.specs.Devices.{takes_up}
-use Rattle.osdp_bus.specs.Machine.{after_add, most_devices, new_device}
+use Rattle.osdp_bus.specs.Machine.{most_devices, new_device}
 use Rattle.osdp_bus.specs.declared.config.BusConfig.{BusConfig}
 use Rattle.osdp_bus.specs.declared.fault.BusFault.TheVariants.{AddressTaken, OutOfRange, TooMany}
 use Rattle.osdp_link_laws.proofs.Stages.{Each}
@@ -21,6 +21,7 @@ use Rattle.osdp_calls.specs.Accepted.{all_accepted, all_queued}
 use Rattle.osdp_calls.specs.Lines.{bus_with}
 use Rattle.osdp_calls.specs.Promises.{CallsHoldOnce, HoldsPromises}
 use Rattle.osdp_calls.specs.Sayings.{NoneRefused}
+use Rattle.osdp_calls.proofs.Sayings.{added}
 use Rattle.osdp_calls_instance.proofs.SimSetUp.{both, is_not, neither, not_equal, runs_from_a_set_up}
 use Rattle.osdp_calls_instance.proofs.SimulatedAccounts.{account_count, first_within}
 use Rattle.osdp_calls_instance.proofs.SimulatedLists.{other_number}
@@ -40,13 +41,6 @@ no_refusal false true false a b c = refl
 count_devices : (config : BusConfig) (before : List ℕ) → length (map (λ a. new_device a config) before) ≡ length before
 count_devices config [] = refl
 count_devices config (a ∷ before) = ap suc (count_devices config before)
-
-added : (config : BusConfig) (before : List ℕ) (a : ℕ) → after_add a (bus_with config before) ≡ bus_with config (before ++ a ∷ [])
-added config before a = ap (λ l. record (new_bus config) { devices = record { entries = l; report = None } }) (entries before)
-  where
-    entries : (ys : List ℕ) → map (λ b. new_device b config) ys ++ new_device a config ∷ [] ≡ map (λ b. new_device b config) (ys ++ a ∷ [])
-    entries [] = refl
-    entries (y ∷ ys) = ap (λ l. new_device y config ∷ l) (entries ys)
 
 module _ {H : Type 0} where
   -- none of these readers is at an address that was given before

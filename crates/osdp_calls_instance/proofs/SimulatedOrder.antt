@@ -1,13 +1,10 @@
 -- The calls of a run keep order and quiet openings, and with that all premises, where addresses are given as they may be.
-use Rattle.std.proofs.Common.{◌≡◌, ◌-◌, ℕ, suc, Bool, true, false, cond, List, [], ◌∷◌, ◌++◌, length, map, Some, None, refl, sym, subst, ap, ◌∙◌, arith, append_assoc, append-nil}
-use Rattle.std.specs.Prelude.{◌==◌, ◌&&◌, not}
-use Rattle.std.proofs.lemmas.Bool.{ne_eqb}
+use Rattle.std.proofs.Common.{◌≡◌, ◌-◌, ℕ, suc, Bool, true, false, cond, List, [], ◌∷◌, ◌++◌, length, map, None, refl, sym, subst, ap, ◌∙◌, arith, append_assoc, append-nil}
+use Rattle.std.specs.Prelude.{◌==◌, ◌&&◌}
 use Rattle.std.proofs.lemmas.List.{map-append}
-use Rattle.osdp_frame.specs.Packet.{Packet}
-use Rattle.osdp_frame.specs.Spelling.{spelling}
 use Rattle.osdp_msg.specs.declared.command.Command.{Command}
 use Rattle.osdp_bus_links.proofs.Sufficing.{net_run_more}
-use Rattle.osdp_bus_links.specs.Links.{IsBusOf, packets_on, tick_moves}
+use Rattle.osdp_bus_links.specs.Links.{IsBusOf, tick_moves}
 use Rattle.osdp_bus_links.specs.Premises.{NoneIsKept}
 use Rattle.osdp_link_laws.specs.Peers.{ReadsWhatIsAsked}
 use Rattle.osdp_link_laws.proofs.Lines.{each_of}
@@ -22,7 +19,6 @@ use Rattle.osdp_sim.proofs.Schedules.{holds_on, runs_on, well_on}
 use Rattle.osdp_sim.specs.Line.{handed}
 use Rattle.osdp_sim.specs.Schedules.{HoldsAlong}
 use Rattle.osdp_sim.specs.Steps.{SaysFit, moment_after}
-use Rattle.osdp_sim.specs.declared.fault.Cause.TheVariants.{NotQuiet}
 use Rattle.osdp_sim.specs.declared.step.SimStep.{SimStep}
 use Rattle.osdp_sim.specs.declared.step.SimStep.TheVariants.{Busy, Issue, Queue, Reopen, ToController, ToReader, Wait}
 use Rattle.osdp_sim_bus.specs.Runs.{FitAlong, is_well, run}
@@ -31,6 +27,7 @@ use Rattle.osdp_sim_bus.specs.Steps.{StepFits, after_step, fault_of, is_ended, i
 use Rattle.osdp_sim_bus_laws.specs.Moves.{BeginsAsSites, FollowsSites, OneBus, SchedulesAreMoves, moment_of, moves_for, moves_of}
 use Rattle.osdp_sim_bus_laws.proofs.Scheduling.{moves_more}
 use Rattle.osdp_frame.specs.Items.{packets_in}
+use Rattle.osdp_sim_bus_laws.proofs.Stepping.{all_true, none_on, quiet_where}
 use Rattle.osdp_calls.specs.Calls.{Step, after_call, after_calls}
 use Rattle.osdp_calls.specs.Ends.{GoByTheirOwn}
 use Rattle.osdp_calls.specs.Handing.{HandsOver}
@@ -54,22 +51,6 @@ use Rattle.osdp_calls_instance.specs.OwnCalls.{AtDevice, AtPanel, IsLineOf, all_
 use Rattle.osdp_calls_instance.specs.SimulatedBus.{Begins, HandsBytes, HearsRun, IsBusy, Queues, SimCall, Submits, begin_calls, line_at_first, programs_at_first, schedule_calls, sim_device, sim_panel, step_calls}
 use Rattle.osdp_calls_instance.specs.SimulatedOrder.{AllOrdered, AllRuled, RunKeepsOrder}
 use Rattle.osdp_calls_instance.specs.SimulatedPremises.{AllAtAddresses, AllInRange, HandsShort}
-
--- ---- a line that is quiet
-
-quiet_where : (there quiet : Bool) → cond (there && not quiet) (Some NotQuiet) None ≡ None → there ≡ true → quiet ≡ true
-quiet_where true true e is = refl
-quiet_where true false e is = absurd cc
-quiet_where false quiet e is = absurd cc
-
-both_clear : (a b c : Bool) → (a && b && c) ≡ true → (a ≡ true) × (b ≡ true)
-both_clear true true c e = (refl, refl)
-both_clear true false c e = absurd cc
-both_clear false b c e = absurd cc
-
-none_on : (ps : List (ℕ × Packet)) → (length (map spelling (packets_on ps)) == 0) ≡ true → ps ≡ []
-none_on [] e = refl
-none_on (p ∷ ps) e = absurd (let some = ne_eqb (length (map spelling (packets_on (p ∷ ps)))) 0 (λ h. omega (arith, h)) in cc)
 
 module _ {H : Type 0} (answer_of : H → Command → Answer) (after : H → Command → H) where
   -- ---- own calls after own calls
@@ -124,7 +105,7 @@ module _ {H : Type 0} (answer_of : H → Command → Answer) (after : H → Comm
     step_taken (Reopen number) s n w l h fault fits bytes short =
         let k = number - 1 in
         there_taken (is_there number s) (AtPanel (Begins k s.clock)) (line.Reopen k (moment_of s)) w l n h.stands (λ t.
-        let clear = both_clear (length s.to_readers == 0) (length s.to_bus == 0) (is_ended k s.bus) (quiet_where (is_there number s) (is_quiet k s) fault t) in
+        let clear = all_true (length s.to_readers == 0) (length s.to_bus == 0) (is_ended k s.bus) (quiet_where (is_there number s) (is_quiet k s) fault t) in
         let said : h.sites.said ≡ [] = none_on h.sites.said (subst (λ l. (length l == 0) ≡ true) h.sites.to_readers clear.0) in
         let back : n.to_panel ≡ [] = none_on n.to_panel (subst (λ l. (length l == 0) ≡ true) h.sites.to_bus clear.1) in
         let keeps = reopen_keeps answer_of after k (moment_of s) n in

@@ -1,5 +1,5 @@
 -- What a device says to a burst, by the calls that hand it over: what its reader answers to each packet of the burst, in their order.
-use Rattle.std.proofs.Common.{◌≡◌, ◌≤◌, ℕ, zero, suc, Bool, true, false, cond, List, [], ◌∷◌, ◌++◌, drop, length, Option, Some, None, refl, sym, subst, ap, ◌∙◌, arith, append_assoc, append-nil}
+use Rattle.std.proofs.Common.{◌≡◌, ◌≤◌, ℕ, suc, Bool, true, false, cond, List, [], ◌∷◌, ◌++◌, drop, length, Option, Some, None, refl, sym, subst, ap, ◌∙◌, arith, append_assoc, append-nil}
 use Rattle.std.specs.Prelude.{option_to_list}
 use Rattle.osdp_msg.specs.declared.command.Command.{Command}
 use Rattle.osdp_frame.specs.Bytes.{AreBytes}
@@ -13,7 +13,7 @@ use Rattle.osdp_device.proofs.Turning.{splits, tells_in_turn}
 use Rattle.osdp_device.specs.Hearing.{Heard, hears_bytes, reads_all, then_reads, turns_left}
 use Rattle.osdp_device.specs.Receiving as device
 use Rattle.osdp_device.specs.Receiving.{IsReceived, Received, after_take, count_taken}
-use Rattle.osdp_device.specs.Saying.{Said, said_to, speaks, unless_silent}
+use Rattle.osdp_device.specs.Saying.{said_to, speaks, unless_silent}
 use Rattle.osdp_device.specs.Telling.{Told, after_items, items_of, next_told, said_to_all, told_by, told_or}
 use Rattle.osdp_reader.specs.State.{ReaderState}
 use Rattle.osdp_reader.specs.Table.{hears, kind_of, outcome}
@@ -22,7 +22,7 @@ use Rattle.osdp_reader.specs.declared.kind.Kind.{Kind}
 use Rattle.osdp_reader.specs.declared.kind.Kind.TheVariants as kind
 use Rattle.osdp_calls.specs.Calls.{Call, Next, Silence, first_answered, read_up_to, reply_to}
 use Rattle.osdp_calls.specs.Ends.{Held, device_after}
-use Rattle.osdp_calls_instance.proofs.LinePrograms.{first_said, hands, holding, line_told}
+use Rattle.osdp_calls_instance.proofs.LinePrograms.{by_nexts, hands, holding, line_told}
 use Rattle.osdp_calls_instance.proofs.SimulatedEnds.{all_read_of, first_read, quiet, quiet_is}
 use Rattle.osdp_calls_instance.proofs.SimulatedReads.{all_taken, taken_is}
 use Rattle.osdp_calls_instance.specs.LinePrograms.{handing, nexts, unless_done}
@@ -107,40 +107,24 @@ module _ {H : Type 0} (answer_of : H → Command → Answer) (after : H → Comm
       by_kind kind.Busy rest = answered (option_to_list (outcome answer_of after kind.Busy r p).reply) (outcome answer_of after kind.Busy r p).reader
       by_kind kind.Wrong rest = answered (option_to_list (outcome answer_of after kind.Wrong r p).reply) (outcome answer_of after kind.Wrong r p).reader
 
-  abbrev Says : ℕ → ℕ → ReaderState H → Received → Type 0
-  Says k n r l = length (said_to_all answer_of after (items_of l.held) r) ≡ n → replies_each (nexts k n) (holding r l) ≡ parts_replied (items_of l.held) r
-
-  says_by : (k n : ℕ) (r : ReaderState H) (l : Received) (o : Option Said) → (next_told answer_of after r l.held).said ≡ o
-      → ((q : ReaderState H) (m : Received) → Says k n q m) → Says k (suc n) r l
-  says_by k n r l None none more count =
-      let t = next_told answer_of after r l.held in
-      let nothing : said_to_all answer_of after (items_of l.held) r ≡ [] =
-      first_said answer_of after r l None none ∙ ap (λ parts. said_to_all answer_of after parts t.reader) ((tells_in_turn answer_of after r l.held).all none) in
-      absurd (let e : 0 ≡ suc n = sym (ap length nothing) ∙ count in omega (arith, e))
-  says_by k n r l (Some said) some more count =
-      let t = next_told answer_of after r l.held in
-      let first = first_said answer_of after r l (Some said) some in
-      let one_more : suc (length (said_to_all answer_of after (items_of t.held) t.reader)) ≡ suc n = sym (ap length first) ∙ count in
-      ap (λ x. replies_by (Next k) (holding r l) ++ x) (more t.reader (line_told answer_of after r l) (omega (arith, one_more)))
-      ∙ sym (next_replied (items_of l.held) r l.held refl)
-
-  says_last : (k : ℕ) (r : ReaderState H) (l : Received) (o : Option Said) → (next_told answer_of after r l.held).said ≡ o → Says k 0 r l
-  says_last k r l None none count =
+  says_last : (k : ℕ) (r : ReaderState H) (l : Received) → (next_told answer_of after r l.held).said ≡ None
+      → replies_each (nexts k 0) (holding r l) ≡ parts_replied (items_of l.held) r
+  says_last k r l none =
       let t = next_told answer_of after r l.held in
       ap (λ x. replies_by (Next k) (holding r l) ++ x) (sym (ap (λ parts. parts_replied parts t.reader) ((tells_in_turn answer_of after r l.held).all none)))
       ∙ sym (next_replied (items_of l.held) r l.held refl)
-  says_last k r l (Some said) some count =
-      let t = next_told answer_of after r l.held in
-      absurd (let e : suc (length (said_to_all answer_of after (items_of t.held) t.reader)) ≡ 0 = sym (ap length (first_said answer_of after r l (Some said) some)) ∙ count in
-      omega (arith, e))
 
-  says_so : (k n : ℕ) (r : ReaderState H) (l : Received) → Says k n r l
-  says_so k zero r l = says_last k r l (next_told answer_of after r l.held).said refl
-  says_so k (suc n) r l = says_by k n r l (next_told answer_of after r l.held).said refl (λ q m. says_so k n q m)
+  says_more : (k n : ℕ) (r : ReaderState H) (l : Received) → let t = next_told answer_of after r l.held in
+      replies_each (nexts k n) (holding t.reader (line_told answer_of after r l)) ≡ parts_replied (items_of t.held) t.reader
+      → replies_each (nexts k (suc n)) (holding r l) ≡ parts_replied (items_of l.held) r
+  says_more k n r l rest = ap (λ x. replies_by (Next k) (holding r l) ++ x) rest ∙ sym (next_replied (items_of l.held) r l.held refl)
 
   reading_replied : (k : ℕ) (r : ReaderState H) (l : Received)
       → replies_each (lines.reading answer_of after k r l) (holding r l) ≡ parts_replied (items_of l.held) r
-  reading_replied k r l = says_so k (length (said_to_all answer_of after (items_of l.held) r)) r l refl
+  reading_replied k r l =
+      by_nexts answer_of after (λ n q m. replies_each (nexts k n) (holding q m) ≡ parts_replied (items_of m.held) q)
+      (λ q m none. says_last k q m none) (λ n q m said some rest. says_more k n q m rest)
+      (length (said_to_all answer_of after (items_of l.held) r)) r l refl
 
   -- ---- a burst
 

@@ -17,7 +17,6 @@ use Rattle.osdp_device.specs.Receiving.{IsReceived, Received, after_take, count_
 use Rattle.osdp_device.specs.Saying as saying
 use Rattle.osdp_device.specs.Saying.{Said, after_item, but_poll, said_of, said_to, unless_silent}
 use Rattle.osdp_device.specs.Telling.{after_items, items_of, listed, next_told, said_to_all}
-use Rattle.osdp_device.proofs.Turning.{tells_in_turn}
 use Rattle.osdp_reader.specs.State.{ReaderState}
 use Rattle.osdp_reader.specs.Table.{hears, kind_of}
 use Rattle.osdp_reader.specs.declared.handler.Answer.{Answer}
@@ -27,7 +26,7 @@ use Rattle.osdp_sim.specs.Account as sim
 use Rattle.osdp_calls.specs.Calls.{Silence}
 use Rattle.osdp_calls.specs.Ends.{Held}
 use Rattle.osdp_calls.specs.Sayings.{acted_on}
-use Rattle.osdp_calls_instance.proofs.LinePrograms.{first_said, hands, holding, line_told, reading_is, received_read, received_take}
+use Rattle.osdp_calls_instance.proofs.LinePrograms.{by_nexts, first_said, hands, holding, line_told, nothing_said, reading_is, received_read, received_take}
 use Rattle.osdp_calls_instance.proofs.SimulatedEnds.{all_read_of, first_read, quiet_is}
 use Rattle.osdp_calls_instance.proofs.SimulatedTakes.{more_takes, takes_each}
 use Rattle.osdp_calls_instance.specs.LinePrograms.{handing, nexts, unless_done}
@@ -81,43 +80,26 @@ module _ {H : Type 0} (answer_of : H → Command → Answer) (after : H → Comm
 
   -- ---- what is held is read
 
-  abbrev Acts : ℕ → ℕ → ReaderState H → Received → Type 0
-  Acts k n r l = length (said_to_all answer_of after (items_of l.held) r) ≡ n
-      → takes_each answer_of after (nexts k n) (holding r l) ≡ acted_on_all (said_to_all answer_of after (items_of l.held) r)
+  acts_last : (k : ℕ) (r : ReaderState H) (l : Received) → (next_told answer_of after r l.held).said ≡ None
+      → takes_each answer_of after (nexts k 0) (holding r l) ≡ acted_on_all (said_to_all answer_of after (items_of l.held) r)
+  acts_last k r l none = ap (λ o. acted_on o ++ []) none ∙ sym (ap acted_on_all (nothing_said answer_of after r l none))
 
-  acts_by : (k n : ℕ) (r : ReaderState H) (l : Received) (o : Option Said) → (next_told answer_of after r l.held).said ≡ o
-      → ((q : ReaderState H) (m : Received) → Acts k n q m) → Acts k (suc n) r l
-  acts_by k n r l None none more count =
+  acts_more : (k n : ℕ) (r : ReaderState H) (l : Received) (said : Said) → (next_told answer_of after r l.held).said ≡ Some said
+      → let t = next_told answer_of after r l.held in
+      takes_each answer_of after (nexts k n) (holding t.reader (line_told answer_of after r l)) ≡ acted_on_all (said_to_all answer_of after (items_of t.held) t.reader)
+      → takes_each answer_of after (nexts k (suc n)) (holding r l) ≡ acted_on_all (said_to_all answer_of after (items_of l.held) r)
+  acts_more k n r l said some rest =
       let t = next_told answer_of after r l.held in
-      let nothing : said_to_all answer_of after (items_of l.held) r ≡ [] =
-      first_said answer_of after r l None none ∙ ap (λ parts. said_to_all answer_of after parts t.reader) ((tells_in_turn answer_of after r l.held).all none) in
-      absurd (let e : 0 ≡ suc n = sym (ap length nothing) ∙ count in omega (arith, e))
-  acts_by k n r l (Some said) some more count =
-      let t = next_told answer_of after r l.held in
-      let first = first_said answer_of after r l (Some said) some in
-      let one_more : suc (length (said_to_all answer_of after (items_of t.held) t.reader)) ≡ suc n = sym (ap length first) ∙ count in
       ap (λ o. acted_on o ++ takes_each answer_of after (nexts k n) (holding t.reader (line_told answer_of after r l))) some
-      ∙ ap (λ x. acted_on (Some said) ++ x) (more t.reader (line_told answer_of after r l) (omega (arith, one_more)))
-      ∙ ap acted_on_all (sym first)
-
-  acts_last : (k : ℕ) (r : ReaderState H) (l : Received) (o : Option Said) → (next_told answer_of after r l.held).said ≡ o → Acts k 0 r l
-  acts_last k r l None none count =
-      let t = next_told answer_of after r l.held in
-      let nothing : said_to_all answer_of after (items_of l.held) r ≡ [] =
-      first_said answer_of after r l None none ∙ ap (λ parts. said_to_all answer_of after parts t.reader) ((tells_in_turn answer_of after r l.held).all none) in
-      ap (λ o. acted_on o ++ []) none ∙ sym (ap acted_on_all nothing)
-  acts_last k r l (Some said) some count =
-      let t = next_told answer_of after r l.held in
-      absurd (let e : suc (length (said_to_all answer_of after (items_of t.held) t.reader)) ≡ 0 = sym (ap length (first_said answer_of after r l (Some said) some)) ∙ count in
-      omega (arith, e))
-
-  acts_so : (k n : ℕ) (r : ReaderState H) (l : Received) → Acts k n r l
-  acts_so k zero r l = acts_last k r l (next_told answer_of after r l.held).said refl
-  acts_so k (suc n) r l = acts_by k n r l (next_told answer_of after r l.held).said refl (λ q m. acts_so k n q m)
+      ∙ ap (λ x. acted_on (Some said) ++ x) rest ∙ ap acted_on_all (sym (first_said answer_of after r l (Some said) some))
 
   reading_acts : (k : ℕ) (r : ReaderState H) (l : Received)
       → takes_each answer_of after (lines.reading answer_of after k r l) (holding r l) ≡ acted_on_all (said_to_all answer_of after (items_of l.held) r)
-  reading_acts k r l = acts_so k (length (said_to_all answer_of after (items_of l.held) r)) r l refl
+  reading_acts k r l =
+      by_nexts answer_of after
+      (λ n q m. takes_each answer_of after (nexts k n) (holding q m) ≡ acted_on_all (said_to_all answer_of after (items_of m.held) q))
+      (λ q m none. acts_last k q m none) (λ n q m said some rest. acts_more k n q m said some rest)
+      (length (said_to_all answer_of after (items_of l.held) r)) r l refl
 
   -- ---- bytes are handed over
 

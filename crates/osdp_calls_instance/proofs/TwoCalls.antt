@@ -24,8 +24,8 @@ use Rattle.osdp_shared_line.specs.Line.{site_at}
 use Rattle.osdp_shared_line.proofs.Sites.{some_same}
 use Rattle.osdp_calls.specs.Lines.{InUse, Station, ahead_of_device, is_past_for_device, is_past_for_panel}
 use Rattle.osdp_calls.specs.Premises.{IsAsked, IsNoOthers, IsSaid, IsSetUp, IsThere, unended_of}
-use Rattle.osdp_calls_instance.specs.Instance.{settings}
-use Rattle.osdp_calls_instance.specs.TwoEntries.{TwoCallsKeep, once, station_at, two_after, two_set_up}
+use Rattle.osdp_calls_instance.specs.Instance.{settings, station_at}
+use Rattle.osdp_calls_instance.specs.TwoEntries.{TwoCallsKeep, once, two_after, two_set_up}
 use Rattle.osdp_calls_instance.proofs.Keeping.{id_fits, none_read, one_fits, one_read}
 
 abbrev five : Communication
@@ -56,11 +56,11 @@ none_mine a [] all is = absurd is
 none_mine a (q ∷ qs) all (inl is) = let far : 0 ≡ 1 = sym all.0 ∙ is.0 in absurd (omega (arith, far))
 none_mine a (q ∷ qs) all (inr is) = none_mine a qs all.1 is
 
-abbrev first_device : List Device → Device
+abbrev pub first_device : List Device → Device
 first_device [] = new_device 0 settings
 first_device (d ∷ ds) = d
 
-abbrev second_device : List Device → Device
+abbrev pub second_device : List Device → Device
 second_device [] = new_device 0 settings
 second_device (d ∷ ds) = first_device ds
 

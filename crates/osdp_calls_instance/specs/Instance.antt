@@ -43,15 +43,18 @@ module _ {H : Type 0} where
   abbrev pub calls : Call H → List ℕ → Step H
   calls call places = record { call = call; places = places }
 
-  abbrev pub station : H → Station H
-  station handler = record {
-    reader = new_reader device handler 4;
+  abbrev pub station_at : ℕ → H → Station H
+  station_at address handler = record {
+    reader = new_reader (record device { address = address }) handler 4;
     line = new_line 20;
     place = 0;
     begun = None;
     account = new_account [] [];
     earlier = [];
   }
+
+  abbrev pub station : H → Station H
+  station handler = station_at 0 handler
 
   abbrev pub set_up : H → InUse H
   set_up handler = record {

@@ -42,6 +42,13 @@ module _ {H : Type 0} where
   abbrev pub told_in_run : ReaderSite H → Told
   told_in_run u = record { settled = u.account.settled; unsettled = u.account.unsettled; reported = u.account.reported }
 
+  -- this holds of each reader of the run, and of the station of its entry after calls
+  abbrev pub OfEachReader : (H → Command → Answer) → (H → Command → H) → BusConfig → List (Given H) → List SimStep → ℕ → List (Step H)
+      → (ReaderSite H → Station H → Type 0) → Type 0
+  OfEachReader answer_of after config readers steps gap calls Same = (k : ℕ) (u : ReaderSite H) (t : Station H)
+      → slice_get (run answer_of after steps (set_up config readers)).sites k ≡ Some u
+      → site_at k (after_calls answer_of after calls (line_at_first config gap readers)).stations ≡ Some t → Same u t
+
   -- After a schedule none of whose steps is refused, over a bus to which its entries can be added, and the calls that it is: the account of each
   -- reader and the sessions of its entry tell the same.
   abbrev pub RunTellsTheSame : (H → Command → Answer) → (H → Command → H) → Type 0
@@ -49,9 +56,7 @@ module _ {H : Type 0} where
       → IsBusConfig config → NoneRefused (map address_of readers) (new_bus config) → is_well answer_of after steps (set_up config readers) ≡ true
       → HoldsAlong (after_step answer_of after) HandsBytes steps (set_up config readers)
       → AreItsCalls answer_of after config readers steps gap calls
-      → (k : ℕ) (u : ReaderSite H) (t : Station H) → slice_get (run answer_of after steps (set_up config readers)).sites k ≡ Some u
-      → site_at k (after_calls answer_of after calls (line_at_first config gap readers)).stations ≡ Some t
-      → told_to t ≡ told_in_run u
+      → OfEachReader answer_of after config readers steps gap calls (λ u t. told_to t ≡ told_in_run u)
 
   -- .. and the commands that its device has taken are those of the account
   abbrev pub RunTakesTheSame : (H → Command → Answer) → (H → Command → H) → Type 0
@@ -59,6 +64,4 @@ module _ {H : Type 0} where
       → 1 ≤ gap → is_well answer_of after steps (set_up config readers) ≡ true
       → HoldsAlong (after_step answer_of after) HandsBytes steps (set_up config readers)
       → AreItsCalls answer_of after config readers steps gap calls
-      → (k : ℕ) (u : ReaderSite H) (t : Station H) → slice_get (run answer_of after steps (set_up config readers)).sites k ≡ Some u
-      → site_at k (after_calls answer_of after calls (line_at_first config gap readers)).stations ≡ Some t
-      → in_all (λ a. a.taken) (t.account ∷ t.earlier) ≡ u.account.taken
+      → OfEachReader answer_of after config readers steps gap calls (λ u t. in_all (λ a. a.taken) (t.account ∷ t.earlier) ≡ u.account.taken)

@@ -1,18 +1,16 @@
 -- A list of calls with two entries that keeps the premises: a packet that is for another device, an order that is settled, a COMSET that is lost and
 -- told unsettled, two retargets, and a second opening while that COMSET is unread.
-use Rattle.std.specs.Prelude.{◌≡◌, ℕ, List, [], ◌∷◌, map, take, None}
+use Rattle.std.specs.Prelude.{◌≡◌, ℕ, List, [], ◌∷◌, map, take}
 use Rattle.osdp_msg.specs.declared.command.Command.{Command}
 use Rattle.osdp_msg.specs.declared.command.Command.TheVariants.{Cap}
 use Rattle.osdp_bus.specs.declared.config.BusConfig.{BusConfig}
 use Rattle.osdp_bus_laws.specs.Calls as bus
-use Rattle.osdp_device.specs.Receiving.{new_line}
-use Rattle.osdp_link_laws.specs.Link.{Account, new_account}
-use Rattle.osdp_reader.specs.State.{new_reader}
+use Rattle.osdp_link_laws.specs.Link.{Account}
 use Rattle.osdp_reader.specs.declared.handler.Answer.{Answer}
 use Rattle.osdp_calls.specs.Calls.{Next, OfPanel, Step, Take, after_calls}
 use Rattle.osdp_calls.specs.Lines.{InUse, Opening, Station, bus_with}
 use Rattle.osdp_calls.specs.Premises.{AllKeep, IsSetUp}
-use Rattle.osdp_calls_instance.specs.Instance.{away, calls, device, settings}
+use Rattle.osdp_calls_instance.specs.Instance.{away, calls, settings, station_at}
 
 -- a bus with two entries, at addresses 0 and 1, whose controllers send each packet once
 abbrev pub once : BusConfig
@@ -23,16 +21,6 @@ module _ {H : Type 0} where
   abbrev pub first_of : List (Station H) → List Account
   first_of [] = []
   first_of (t ∷ ts) = t.account ∷ take 1 t.earlier
-
-  abbrev pub station_at : ℕ → H → Station H
-  station_at address handler = record {
-    reader = new_reader (record device { address = address }) handler 4;
-    line = new_line 20;
-    place = 0;
-    begun = None;
-    account = new_account [] [];
-    earlier = [];
-  }
 
   abbrev pub two_set_up : H → InUse H
   two_set_up handler = record {

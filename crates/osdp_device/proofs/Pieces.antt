@@ -32,7 +32,7 @@ after_open (part ∷ parts) bytes =
 all_after_items : (bytes : List ℕ) → after_all (record { bytes = bytes; ended = false }) (items false bytes) ≡ record { bytes = left_over bytes; ended = false }
 all_after_items bytes = after_open (items false bytes) bytes ∙ ap (λ (l : List ℕ). record { bytes = l; ended = false }) (left_is bytes)
 
-after_ended : (parts : List RunItem) (bytes : List ℕ) → AreBytes bytes → items true bytes ≡ parts
+pub after_ended : (parts : List RunItem) (bytes : List ℕ) → AreBytes bytes → items true bytes ≡ parts
     → after_all (record { bytes = bytes; ended = not (length bytes == 0) }) parts ≡ new_run
 after_ended [] bytes fits are =
     let nil : bytes ≡ [] = subst (λ l. IsReading bytes l) are (is_reading bytes fits) in

@@ -46,18 +46,18 @@ use Rattle.osdp_sim_bus_laws.proofs.Sites.{one_changes}
 
 -- ---- a line that is quiet
 
-quiet_where : (there quiet : Bool) → (if there && not quiet then Some NotQuiet else None) ≡ None → there ≡ true → quiet ≡ true
+pub quiet_where : (there quiet : Bool) → (if there && not quiet then Some NotQuiet else None) ≡ None → there ≡ true → quiet ≡ true
 quiet_where true true e is = refl
 quiet_where true false e is = absurd cc
 quiet_where false quiet e is = absurd cc
 
-all_true : (a b c : Bool) → (a && b && c) ≡ true → (a ≡ true) × (b ≡ true) × (c ≡ true)
+pub all_true : (a b c : Bool) → (a && b && c) ≡ true → (a ≡ true) × (b ≡ true) × (c ≡ true)
 all_true true true true e = (refl, refl, refl)
 all_true true true false e = absurd cc
 all_true true false c e = absurd cc
 all_true false b c e = absurd cc
 
-none_on : (ps : List (ℕ × Packet)) → (length (map spelling (packets_on ps)) == 0) ≡ true → ps ≡ []
+pub none_on : (ps : List (ℕ × Packet)) → (length (map spelling (packets_on ps)) == 0) ≡ true → ps ≡ []
 none_on [] e = refl
 none_on (p ∷ ps) e = absurd (let some = ne_eqb (length (map spelling (packets_on (p ∷ ps)))) 0 (λ h. omega (arith, h)) in cc)
 
