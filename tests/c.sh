@@ -5,15 +5,7 @@
 # with no crate from outside, also without the archive as far as nothing is linked. Where a compiler, cargo or another tool isn't there, it fails and names it.
 set -u
 cd "$(dirname "$0")/.." || exit 1
-CC=${CC:-cc}
-work=$(mktemp -d)
-trap 'rm -rf "$work"' EXIT
-failed=0
-
-fail() {
-  echo "c.sh: $1"
-  failed=1
-}
+. tests/passes.bash
 
 for tool in rt "$CC" nm python3 cargo; do
   command -v "$tool" >/dev/null || fail "$tool is missing"
@@ -27,14 +19,6 @@ build() {
   "$CC" -std=c11 -Wall -Wextra -Werror -pedantic -O2 -g -Iinclude -o "$work/$name" "$@" 2>"$work/said" && return
   cat "$work/said"
   fail "$name was not built"
-  return 1
-}
-
-# The rest: a program with its words, which must end well. The status tells whether it did, since in a subshell `fail` sets nothing out here.
-passes() {
-  "$@" >"$work/said" 2>&1 && return
-  cat "$work/said"
-  fail "${*//$work\//} has failed"
   return 1
 }
 

@@ -5,23 +5,7 @@
 # is that which `c.sh` has built.
 set -u
 cd "$(dirname "$0")/.." || exit 1
-CC=${CC:-cc}
-work=$(mktemp -d)
-trap 'rm -rf "$work"' EXIT
-failed=0
-
-fail() {
-  echo "install.sh: $1"
-  failed=1
-}
-
-# The rest: a command that must end well.
-passes() {
-  "$@" >"$work/said" 2>&1 && return
-  cat "$work/said"
-  fail "${*//$work\//} has failed"
-  return 1
-}
+. tests/passes.bash
 
 there=$work/there
 passes ./install --check

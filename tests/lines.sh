@@ -18,17 +18,7 @@ fault() {
   failed=1
 }
 
-# $1: what is tried; $2: the status that is wanted; $3: standard output; $4: standard error; then the words of the program.
-# Standard input is the caller's.
-expect() {
-  local name=$1 status=$2 out=$3 err=$4
-  shift 4
-  "$program" "$@" >"$work/out" 2>"$work/err"
-  local got=$?
-  [ "$got" -eq "$status" ] || fault "$name: status $got, wanted $status"
-  printf '%s' "$out" | cmp -s - "$work/out" || fault "$name: other text on standard output: $(head -c 200 "$work/out")"
-  printf '%s' "$err" | cmp -s - "$work/err" || fault "$name: other text on standard error: $(head -c 200 "$work/err")"
-}
+. "$folder/expect.bash"
 
 # $1: what is tried; then the words of the program. Standard input is a table: a row is a line of its input, ` > `, and its answer,
 # whose lines are parted by `;`.

@@ -5,16 +5,9 @@
 # the account then with that of the steps before; one that needs the memory fails, but where a row says that it goes on without it. Needs a C compiler.
 set -u
 cd "$(dirname "$0")/.." || exit 1
-work=$(mktemp -d)
-trap 'rm -rf "$work"' EXIT
-failed=0
+. tests/passes.bash
 
-fail() {
-  echo "machines_memory.sh: $1"
-  failed=1
-}
-
-"${CC:-cc}" -O1 -shared -fPIC -o "$work/refuse.so" tests/refuse.c || exit 1
+"$CC" -O1 -shared -fPIC -o "$work/refuse.so" tests/refuse.c || exit 1
 
 # The program of a crate's tests. Where none was left it is made.
 tests_of() {

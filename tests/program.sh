@@ -7,22 +7,7 @@ work=$(mktemp -d)
 trap 'rm -rf "$work"' EXIT
 failed=0
 
-# $1: what is tried; $2: the status that is wanted; $3: standard output; $4: standard error; then the words.
-# Standard input is the caller's.
-expect() {
-  local name=$1 status=$2 out=$3 err=$4
-  shift 4
-  "$program" "$@" >"$work/out" 2>"$work/err"
-  local got=$?
-  printf '%s' "$out" >"$work/wanted_out"
-  printf '%s' "$err" >"$work/wanted_err"
-  if [ "$got" -ne "$status" ] || ! cmp -s "$work/out" "$work/wanted_out" || ! cmp -s "$work/err" "$work/wanted_err"; then
-    echo "$name: status $got, wanted $status"
-    diff "$work/wanted_out" "$work/out"
-    diff "$work/wanted_err" "$work/err"
-    failed=1
-  fi
-}
+. "$(dirname "$0")/expect.bash"
 
 poll=$'1:0 cmd 0 seq 0 sum POLL\n'
 

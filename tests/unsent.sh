@@ -56,11 +56,8 @@ pub fn a_panel_drops(panel: &mut Panel, now: u64) {
 pub fn a_panel_leaves(panel: &mut Panel, bytes: &[u8], now: u64) -> Option<u8> {
     let mut turn = osdp_panel::Turn::new();
     let unsent = panel.turn(bytes, now, &mut turn);
-    let first = bytes.first()?;
-    match unsent {
-        Some(unsent) => unsent.bytes(&turn).first().copied(),
-        None => Some(*first),
-    }
+    bytes.first()?;
+    unsent?.bytes(&turn).first().copied()
 }
 
 pub fn a_device_drops(device: &mut Device<ProgramAnswers>, now: u64) {
@@ -71,11 +68,8 @@ pub fn a_device_drops(device: &mut Device<ProgramAnswers>, now: u64) {
 pub fn a_device_leaves(device: &mut Device<ProgramAnswers>, bytes: &[u8], now: u64) -> Option<u8> {
     let mut turn = osdp_device::Turn::new();
     let unsent = device.turn(bytes, now, &mut turn);
-    let first = bytes.first()?;
-    match unsent {
-        Some(unsent) => unsent.bytes(&turn).first().copied(),
-        None => Some(*first),
-    }
+    bytes.first()?;
+    unsent?.bytes(&turn).first().copied()
 }
 CODE
 

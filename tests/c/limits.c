@@ -1,30 +1,9 @@
 /* What just fits and what is one more: capacities, addresses, states and texts; any number but 0 as busy; and each kind of report with each of its fields.
  * Each struct is filled with a pattern before the call that writes it. Packets are worked out here from the standard's tables, with a checksum. */
-#include <stdio.h>
-#include <stdlib.h>
 #include <string.h>
 
+#include "demands.h"
 #include "osdp.h"
-
-#define PATTERN 0xA5
-
-#define demand(holds) ((holds) ? (void)0 : fail(__LINE__, #holds))
-
-static void fail(int where, const char *what)
-{
-    printf("limits.c:%d: %s\n", where, what);
-    exit(1);
-}
-
-static bool is_pattern(const uint8_t *bytes, size_t count)
-{
-    for (size_t i = 0; i < count; i++) {
-        if (bytes[i] != PATTERN) {
-            return false;
-        }
-    }
-    return true;
-}
 
 /* The packet with this address, number, code and data. */
 static size_t packet(uint8_t *bytes, uint8_t address, uint8_t number, uint8_t code, const uint8_t *data, size_t length)
@@ -123,7 +102,7 @@ static const struct osdp_burst *answer_to(struct osdp_device *reader, uint8_t co
     static struct osdp_answer answer;
     uint8_t asked[8];
     size_t taken, length = packet(asked, 6, 0, code, asked, 0);
-    memset(&answer, PATTERN, sizeof answer);
+    memset(&answer, pattern, sizeof answer);
     demand(osdp_device_step(reader, asked, length, 0, &taken, &answer) == OSDP_OK && taken == length);
     if (answer.kind == OSDP_SAID_PENDING) {
         demand(osdp_device_step(reader, asked, 0, 0, &taken, &answer) == OSDP_OK && taken == 0);
@@ -199,14 +178,14 @@ static void text_fits(text_call *call, uint8_t code, const uint8_t *data, size_t
 {
     static char text[6144];
     size_t told = 0;
-    memset(text, PATTERN, sizeof text);
+    memset(text, pattern, sizeof text);
     demand(call(code, data, length, text, wanted - 1, &told) == OSDP_TOO_SMALL && told == wanted);
-    demand(is_pattern((const uint8_t *)text, sizeof text));
+    demand(is_pattern(text, sizeof text));
     told = 0;
     demand(call(code, data, length, text, wanted, &told) == OSDP_OK && told == wanted);
-    demand(is_pattern((const uint8_t *)text + wanted, sizeof text - wanted));
+    demand(is_pattern(text + wanted, sizeof text - wanted));
     demand(call(code, data, length, text, wanted + 1, &told) == OSDP_OK && told == wanted && strlen(text) == wanted);
-    demand(is_pattern((const uint8_t *)text + wanted + 1, sizeof text - wanted - 1));
+    demand(is_pattern(text + wanted + 1, sizeof text - wanted - 1));
 }
 
 static void texts(void)
@@ -250,11 +229,11 @@ static bool is_message(const struct osdp_message *message, struct wanted wanted)
 static void is_told(uint32_t kind, uint32_t detail, struct wanted command, struct wanted reply)
 {
     static struct osdp_report report;
-    memset(&report, PATTERN, sizeof report);
+    memset(&report, pattern, sizeof report);
     demand(osdp_panel_next_report(&panel, &report) == OSDP_OK);
     demand(report.kind == kind && report.entry == 1 && report.detail == detail);
     demand(is_message(&report.command, command) && is_message(&report.reply, reply));
-    memset(&report, PATTERN, sizeof report);
+    memset(&report, pattern, sizeof report);
     demand(osdp_panel_next_report(&panel, &report) == OSDP_OK);
     demand(report.kind == OSDP_REPORT_NONE && report.entry == 0 && report.detail == 0);
     demand(is_message(&report.command, none) && is_message(&report.reply, none));
@@ -305,36 +284,40 @@ static void polls(void)
     asks(50, 0x60, out, 0);
 }
 
+/* A POLL is answered so with its number, and this is told of it; or an OUT is, with this number. */
+static void polled(struct wanted answer, uint32_t kind, uint32_t detail, struct wanted reply)
+{
+    polls();
+    answers(number, answer.code, answer.data, answer.length);
+    is_told(kind, detail, none, reply);
+}
+
+static void ordered(uint8_t with, struct wanted answer, uint32_t kind, uint32_t detail, struct wanted reply)
+{
+    orders();
+    answers(with, answer.code, answer.data, answer.length);
+    is_told(kind, detail, is_out, reply);
+}
+
 /* A session that settles, is told events and other answers, and is lost since its number is refused. */
 static void long_session(void)
 {
     const uint8_t keys[] = { 0, 1, '7' }, caps[] = { 2, 1, 8 }, wrong[] = { 4 };
-    const struct wanted ack = { 0x40, NULL, 0 }, keypad = { 0x53, keys, 3 }, pdcap = { 0x46, caps, 3 };
+    const struct wanted ack = { 0x40, out, 0 }, keypad = { 0x53, keys, 3 }, pdcap = { 0x46, caps, 3 };
+    const struct wanted short_id = { 0x45, id, 11 }, unknown = { 0x55, out, 4 }, nak = { 0x41, wrong, 1 };
     opens();
-    orders();
-    answers(number, 0x40, out, 0);
-    is_told(OSDP_REPORT_SETTLED, 0, is_out, ack);
-    polls();
-    answers(number, 0x53, keys, 3);
-    is_told(OSDP_REPORT_EVENT, 0, none, keypad);
-    polls();
-    answers(number, 0x46, caps, 3);
-    is_told(OSDP_REPORT_ANSWERED, 0, none, pdcap);
-    polls();
-    answers(number, 0x45, id, 11);
-    is_told(OSDP_REPORT_UNREAD, 0x45, none, none);
-    orders();
-    answers(number, 0x55, out, 4);
-    is_told(OSDP_REPORT_UNREAD, 0x55, is_out, none);
-    polls();
-    answers(number, 0x41, wrong, 1);
-    is_told(OSDP_REPORT_LOST, OSDP_LOST_NUMBER_REFUSED, none, none);
+    ordered(1, ack, OSDP_REPORT_SETTLED, 0, ack);
+    polled(keypad, OSDP_REPORT_EVENT, 0, keypad);
+    polled(pdcap, OSDP_REPORT_ANSWERED, 0, pdcap);
+    polled(short_id, OSDP_REPORT_UNREAD, 0x45, none);
+    ordered(2, unknown, OSDP_REPORT_UNREAD, 0x55, none);
+    polled(nak, OSDP_REPORT_LOST, OSDP_LOST_NUMBER_REFUSED, none);
 }
 
 static void reports(void)
 {
     const uint8_t set[] = { 9, 0x00, 0x4B, 0, 0 };
-    const struct wanted comset = { 0x6E, set, 5 }, com = { 0x54, set, 5 };
+    const struct wanted comset = { 0x6E, set, 5 }, com = { 0x54, set, 5 }, busy_reply = { 0x79, out, 0 };
     struct osdp_panel_config config = panel_config();
     struct osdp_burst burst;
     size_t entry;
@@ -344,9 +327,7 @@ static void reports(void)
     demand(osdp_panel_add(&panel, 5, &entry) == OSDP_OK && osdp_panel_add(&panel, 6, &entry) == OSDP_OK && entry == 1);
     long_session();
     opens();
-    orders();
-    answers(0, 0x79, out, 0);
-    is_told(OSDP_REPORT_LOST, OSDP_LOST_TOO_BUSY, is_out, none);
+    ordered(0, busy_reply, OSDP_REPORT_LOST, OSDP_LOST_TOO_BUSY, none);
     opens();
     orders();
     demand(osdp_panel_tick(&panel, now += 200, &burst) == OSDP_OK && burst.length == 0);

@@ -1,32 +1,12 @@
 /* A clock that fails: the first moment may be any; one that lies more than the limit after the greatest one seen is refused, changes nothing and writes nothing;
  * and one that is set outright is seen. The limits are a second and, where none is set, a day. */
-#include <stdio.h>
-#include <stdlib.h>
 #include <string.h>
 
+#include "demands.h"
 #include "osdp.h"
 
 #define BEGIN UINT64_C(1000000000000) /* the first moment */
 #define DAY 86400000
-#define PATTERN 0xA5
-
-#define demand(holds) ((holds) ? (void)0 : fail(__LINE__, #holds))
-
-static void fail(int where, const char *what)
-{
-    printf("moments.c:%d: %s\n", where, what);
-    exit(1);
-}
-
-static bool is_pattern(const void *bytes, size_t count)
-{
-    for (size_t i = 0; i < count; i++) {
-        if (((const uint8_t *)bytes)[i] != PATTERN) {
-            return false;
-        }
-    }
-    return true;
-}
 
 static osdp_panel new_panel(uint32_t limit)
 {
@@ -61,7 +41,7 @@ static void refuses(osdp_panel *panel, uint64_t now)
 {
     static struct osdp_burst burst;
     const uint8_t byte[] = { 0x53 };
-    memset(&burst, PATTERN, sizeof burst);
+    memset(&burst, pattern, sizeof burst);
     demand(osdp_panel_begin(panel, 0, now) == OSDP_MOMENT_TOO_FAR);
     demand(osdp_panel_bytes(panel, byte, 1, now) == OSDP_MOMENT_TOO_FAR);
     demand(osdp_panel_bytes(panel, NULL, 0, now) == OSDP_MOMENT_TOO_FAR);
@@ -108,7 +88,7 @@ static void devices(void)
     size_t taken = 9;
     osdp_device device = new_device(1000);
     demand(osdp_device_tick(&device, BEGIN, &answer) == OSDP_OK);
-    memset(&answer, PATTERN, sizeof answer);
+    memset(&answer, pattern, sizeof answer);
     demand(osdp_device_step(&device, byte, 1, BEGIN + 1001, &taken, &answer) == OSDP_MOMENT_TOO_FAR && taken == 9);
     demand(osdp_device_tick(&device, BEGIN + 1001, &answer) == OSDP_MOMENT_TOO_FAR);
     demand(osdp_device_silence(&device, UINT64_MAX, &answer) == OSDP_MOMENT_TOO_FAR && is_pattern(&answer, sizeof answer));

@@ -3,10 +3,9 @@
  * as it was. All of this is done with four patterns, so no field has its value by chance.
  *
  * The packets that are expected are written down from the standard's tables, with a CRC that is computed here bit by bit. */
-#include <stdio.h>
-#include <stdlib.h>
 #include <string.h>
 
+#include "demands.h"
 #include "osdp.h"
 
 _Static_assert(sizeof(struct osdp_message) == 1436 && sizeof(struct osdp_burst) == 1444, "messages and bursts");
@@ -28,26 +27,6 @@ struct place {
 };
 
 static struct place panel_place, reader_place, first_place, second_place;
-static uint8_t pattern;
-
-#define demand(holds) ((holds) ? (void)0 : fail(__LINE__, #holds))
-
-static void fail(int where, const char *what)
-{
-    printf("structs.c:%d: with the pattern %02X: %s\n", where, (unsigned)pattern, what);
-    exit(1);
-}
-
-/* Whether each of so many bytes is the pattern. */
-static bool is_pattern(const uint8_t *bytes, size_t count)
-{
-    for (size_t i = 0; i < count; i++) {
-        if (bytes[i] != pattern) {
-            return false;
-        }
-    }
-    return true;
-}
 
 /* A struct of this size, filled with the pattern as the bytes around it are. */
 static void *filled(struct place *place, size_t size)
@@ -491,15 +470,15 @@ static void texts(void)
     demand_untouched(&first_place);
     demand_around(&second_place);
     demand(osdp_command_text(0x68, out, 4, text, 10, length) == OSDP_OK && *length == 10 && memcmp(text, "OUT 1:5:30", 10) == 0);
-    demand(is_pattern((uint8_t *)text + 10, MOST - 10));
+    demand(is_pattern(text + 10, MOST - 10));
     demand_around(&first_place);
     demand(osdp_command_text(0x68, out, 4, text, MOST, length) == OSDP_OK && strcmp(text, "OUT 1:5:30") == 0);
-    demand(is_pattern((uint8_t *)text + 11, MOST - 11));
+    demand(is_pattern(text + 11, MOST - 11));
 
     text = filled(&first_place, MOST);
     length = filled(&second_place, sizeof *length);
     demand(osdp_reply_text(0x53, keys, 4, text, MOST, length) == OSDP_OK && *length == 13 && memcmp(text, "KEYPAD 0 3432", 13) == 0);
-    demand(text[13] == 0 && is_pattern((uint8_t *)text + 14, MOST - 14));
+    demand(text[13] == 0 && is_pattern(text + 14, MOST - 14));
     demand_around(&first_place);
     demand_around(&second_place);
 }
@@ -514,10 +493,10 @@ static void longest_texts(void)
     memset(data, 255, sizeof data);
     demand(osdp_command_text(0x69, data, 1428, text, MOST, length) == OSDP_OK);
     demand(*length == 3 + 102 * (1 + 12 * 4 + 5) && memcmp(text, "LED 255:255:", 12) == 0);
-    demand(text[*length] == 0 && is_pattern((uint8_t *)text + *length + 1, MOST - *length - 1));
+    demand(text[*length] == 0 && is_pattern(text + *length + 1, MOST - *length - 1));
     demand(osdp_reply_text(0x46, data, 1431, text, MOST, length) == OSDP_OK);
     demand(*length == 5729 && memcmp(text, "PDCAP 255:255:255 ", 18) == 0);
-    demand(text[*length] == 0 && is_pattern((uint8_t *)text + *length + 1, MOST - *length - 1));
+    demand(text[*length] == 0 && is_pattern(text + *length + 1, MOST - *length - 1));
     demand_around(&first_place);
     demand_around(&second_place);
 }
