@@ -5,11 +5,10 @@ use Rattle.std.proofs.lemmas.Bool.{eqb-false, leb-true}
 use Rattle.std.proofs.lemmas.List.Elements.{All-cons, All-nil}
 use Rattle.osdp_msg.specs.declared.command.Command.{Command}
 use Rattle.osdp_msg.specs.declared.command.Command.TheVariants.{Poll, Id, Cap, LocalStatus, InputStatus, OutputStatus, ReaderStatus, Output, Led, Buzzer, Text, Comset, Maker}
-use Rattle.osdp_msg.specs.declared.leds.LedRecord.{LedRecord}
-use Rattle.osdp_msg.specs.declared.outputs.OutputRecord.{OutputRecord}
-use Rattle.osdp_msg.specs.CommandFields.{LedFits, OutputFits}
+use Rattle.osdp_msg.specs.CommandFields.{LedFits, OutputFits, led_at, output_at}
 use Rattle.osdp_msg.specs.CommandTable.{CommandFits, IsCommand, command_code, command_counts_agree, command_data, command_fault, command_length_allowed}
 use Rattle.osdp_msg.proofs.Bytes.{IsBytes-each, IsBytes-nil}
+use Rattle.osdp_msg.proofs.CommandRows.{leds, outputs}
 use Rattle.osdp_msg.proofs.Commands.{commands}
 use Rattle.osdp_msg.proofs.Table.{by_codes, some_is}
 use Rattle.osdp_msg_laws.specs.Faults.{CommandCounts, FaultsHaveCauses}
@@ -19,47 +18,12 @@ known : (m : Command) → CommandFits m → ((len : ℕ) → command_length_allo
     → IsNoneOrKnown IsCommand command_length_allowed (command_code m)
 known m fits some = inr ((command_data m, (m, record { code_is = refl; data_is = refl; fits = fits })), some)
 
-output : OutputRecord
-output = record { output = 0; control = 0; timer = 0 }
+-- records that are read of nothing, all zeros
+no_output : OutputFits (output_at [])
+no_output = outputs.fits [] IsBytes-nil
 
-output_fits : OutputFits output
-unfolding output
-output_fits = record { output = lit< tt; control = lit< tt; timer = lit< tt }
-
-led : LedRecord
-led = record {
-  reader = 0;
-  led = 0;
-  temporary_control = 0;
-  temporary_on_time = 0;
-  temporary_off_time = 0;
-  temporary_on_color = 0;
-  temporary_off_color = 0;
-  timer = 0;
-  permanent_control = 0;
-  permanent_on_time = 0;
-  permanent_off_time = 0;
-  permanent_on_color = 0;
-  permanent_off_color = 0;
-}
-
-led_fits : LedFits led
-unfolding led
-led_fits = record {
-  reader = lit< tt;
-  led = lit< tt;
-  temporary_control = lit< tt;
-  temporary_on_time = lit< tt;
-  temporary_off_time = lit< tt;
-  temporary_on_color = lit< tt;
-  temporary_off_color = lit< tt;
-  timer = lit< tt;
-  permanent_control = lit< tt;
-  permanent_on_time = lit< tt;
-  permanent_off_time = lit< tt;
-  permanent_on_color = lit< tt;
-  permanent_off_color = lit< tt;
-}
+no_led : LedFits (led_at [])
+no_led = leds.fits [] IsBytes-nil
 
 knows_text : IsNoneOrKnown IsCommand command_length_allowed 0x6B
 knows_text =
@@ -90,9 +54,9 @@ codes code =
                 (
                   known ReaderStatus tt (λ len e. (cc)),
                   (
-                    known (Output (output ∷ [])) (lit< tt, lit≤ tt, All-cons OutputFits output [] output_fits (All-nil OutputFits)) (λ len e. (cc)),
+                    known (Output (output_at [] ∷ [])) (lit< tt, lit≤ tt, All-cons OutputFits (output_at []) [] no_output (All-nil OutputFits)) (λ len e. (cc)),
                     (
-                      known (Led (led ∷ [])) (lit< tt, lit≤ tt, All-cons LedFits led [] led_fits (All-nil LedFits)) (λ len e. (cc)),
+                      known (Led (led_at [] ∷ [])) (lit< tt, lit≤ tt, All-cons LedFits (led_at []) [] no_led (All-nil LedFits)) (λ len e. (cc)),
                       (
                         known (Buzzer (record { reader = 0; tone = 0; on_time = 0; off_time = 0; count = 0 })) (lit< tt, lit< tt, lit< tt, lit< tt, lit< tt) (λ len e. (cc)),
                         (knows_text, (known (Comset (record { address = 0; baud_rate = 0 })) (lit< tt, lit< tt) (λ len e. (cc)), (knows_maker, tt))),

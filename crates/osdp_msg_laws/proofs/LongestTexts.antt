@@ -15,7 +15,7 @@ use Rattle.osdp_msg.specs.declared.leds.LedRecord.{LedRecord}
 use Rattle.osdp_msg.specs.declared.outputs.OutputRecord.{OutputRecord}
 use Rattle.osdp_msg.specs.declared.reply.Reply.{Reply}
 use Rattle.osdp_msg.specs.declared.reply.Reply.TheVariants.{Ack, Nak, PdId, PdCap, LocalState, Inputs, Outputs, Readers, Raw, Formatted, Keypad, Com, Busy, MakerReply}
-use Rattle.osdp_msg.specs.CommandFields.{LedFits, OutputFits, led_word, output_word}
+use Rattle.osdp_msg.specs.CommandFields.{LedFits, OutputFits, led_at, led_word, output_word}
 use Rattle.osdp_msg.specs.CommandTable.{CommandFits}
 use Rattle.osdp_msg.specs.CommandText.{command_text}
 use Rattle.osdp_msg.specs.Events.{EventFits, event_text}
@@ -24,6 +24,7 @@ use Rattle.osdp_msg.specs.Raw.{RawCard}
 use Rattle.osdp_msg.specs.ReplyFields.{CapabilityFits, capability_word, detail_words}
 use Rattle.osdp_msg.specs.ReplyTable.{ReplyFits}
 use Rattle.osdp_msg.specs.ReplyText.{reply_text}
+use Rattle.osdp_msg.proofs.CommandRows.{leds}
 use Rattle.osdp_msg.proofs.ReplyRows.{reason_byte}
 use Rattle.osdp_msg_laws.specs.Laws.{HasLongestText}
 use Rattle.osdp_msg_laws.proofs.TextLengths.{byte_digits, bytes_digits, rate_digits, record_within, records_exactly, records_length, rest_of, rest_within, text_length, timer_digits, word_more}
@@ -149,40 +150,17 @@ events_within (events.Keypad a) h = omega (arith, keypad_within a h)
 
 -- ---- one is as long
 
+same_bytes : (b n : ℕ) → b < 256 → IsBytes (replicate n b)
+same_bytes b zero h k = omega arith
+same_bytes b (suc n) h zero = h
+same_bytes b (suc n) h (suc k) = same_bytes b n h k
+
 longest_led : LedRecord
-longest_led = record {
-  reader = 255;
-  led = 255;
-  temporary_control = 255;
-  temporary_on_time = 255;
-  temporary_off_time = 255;
-  temporary_on_color = 255;
-  temporary_off_color = 255;
-  timer = 65535;
-  permanent_control = 255;
-  permanent_on_time = 255;
-  permanent_off_time = 255;
-  permanent_on_color = 255;
-  permanent_off_color = 255;
-}
+longest_led = led_at (replicate 14 255)
 
 led_fits : LedFits longest_led
 unfolding longest_led
-led_fits = record {
-  reader = lit< tt;
-  led = lit< tt;
-  temporary_control = lit< tt;
-  temporary_on_time = lit< tt;
-  temporary_off_time = lit< tt;
-  temporary_on_color = lit< tt;
-  temporary_off_color = lit< tt;
-  timer = lit< tt;
-  permanent_control = lit< tt;
-  permanent_on_time = lit< tt;
-  permanent_off_time = lit< tt;
-  permanent_on_color = lit< tt;
-  permanent_off_color = lit< tt;
-}
+led_fits = leds.fits (replicate 14 255) (same_bytes 255 14 (lit< tt))
 
 led_length : length (printed (led_word longest_led)) ≡ 53
 unfolding longest_led digits
@@ -233,15 +211,10 @@ unfolding card reply_text digits
 card_length b bs e =
     omega (arith, e, length-encode_with upper_digits (b ∷ bs), length-append (codes " " ++ printed (bytes (b ∷ bs))) [])
 
-zeros : (n : ℕ) → IsBytes (replicate n 0)
-zeros zero k = omega arith
-zeros (suc n) zero = omega arith
-zeros (suc n) (suc k) = zeros n k
-
 event_reached : (e : Event) × (EventFits e × (length (event_text e) ≡ 2874))
 event_reached =
     let e = length-replicate {A = ℕ} 1428 0 in
-    (events.Raw (card (replicate 1428 0)), (card_fits (replicate 1428 0) e (zeros 1428), card_length 0 (replicate 1427 0) e))
+    (events.Raw (card (replicate 1428 0)), (card_fits (replicate 1428 0) e (same_bytes 0 1428 (lit< tt)), card_length 0 (replicate 1427 0) e))
 
 -- ---- the laws
 
