@@ -1,4 +1,4 @@
-/* Through C: POLL exchanges for a second of processor time, and the stack that each call takes. `exchange COUNT ROUNDS`
+/* Through C: POLL exchanges for a second of processor time, and the stack that each call takes, beside what is wanted. `exchange COUNT ROUNDS`
  *
  * An exchange is the panel's tick with its burst, the reader's step over it with its answer, and that answer's bytes to the panel: the calls that a
  * program makes. The stack is measured as what a call changes of a stack that was filled with a pattern, less what is changed where
@@ -123,9 +123,9 @@ static size_t changed(void (*call)(void))
     return sizeof stack - untouched;
 }
 
-static void print_depth(const char *name, void (*call)(void))
+static void print_depth(const char *name, void (*call)(void), unsigned wanted)
 {
-    printf("stack of %-24s %6zu bytes\n", name, changed(call) - changed(nothing));
+    printf("stack of %-24s %6zu bytes, wanted %6u\n", name, changed(call) - changed(nothing), wanted);
 }
 
 /* One exchange, whose moments go on by the poll interval. */
@@ -162,8 +162,8 @@ static double best(long count, long rounds)
 int main(int count, char **words)
 {
     long exchanges = count > 1 ? atol(words[1]) : 200000, rounds = count > 2 ? atol(words[2]) : 5;
-    print_depth("osdp_panel_new and add", new_panel);
-    print_depth("osdp_device_new", new_reader);
+    print_depth("osdp_panel_new and add", new_panel, 24000);
+    print_depth("osdp_device_new", new_reader, 24000);
     demand(osdp_panel_begin(&panel, 0, now) == OSDP_OK, "no session");
     now = 400;
     tick();
@@ -174,16 +174,16 @@ int main(int count, char **words)
     double spent = best(exchanges, rounds);
     printf("POLL exchanges %10.0f for a second, %.2f microseconds each\n", 1 / spent, spent * 1e6);
 
-    print_depth("osdp_panel_submit_text", submit);
-    print_depth("osdp_device_event_text", event);
+    print_depth("osdp_panel_submit_text", submit, 16000);
+    print_depth("osdp_device_event_text", event, 16000);
     now += 50;
-    print_depth("osdp_panel_tick", tick);
-    print_depth("osdp_device_step", step);
-    print_depth("osdp_panel_bytes", bytes);
-    print_depth("osdp_panel_next_report", next_report);
-    print_depth("osdp_panel_next_deadline", next_deadline);
+    print_depth("osdp_panel_tick", tick, 12000);
+    print_depth("osdp_device_step", step, 12000);
+    print_depth("osdp_panel_bytes", bytes, 12000);
+    print_depth("osdp_panel_next_report", next_report, 12000);
+    print_depth("osdp_panel_next_deadline", next_deadline, 12000);
     message = answer.command;
     demand(report.kind == OSDP_REPORT_SETTLED && message.code == 0x68, "the order was not settled");
-    print_depth("osdp_command_text", text);
+    print_depth("osdp_command_text", text, 16000);
     return 0;
 }

@@ -2,7 +2,7 @@
 """How many exchanges, repeats, packets and so on for a second: `bench/machines.py [SECONDS [ROUNDS]]`, 0.5 and 3 if left out.
 
 It runs `osdp_bench` and the yardstick in turn, each for some SECONDS, and prints for each kind of work how often it is done for a
-second of processor time by both, the best of the rounds, and the ratio. Both print how often the work came out as it should: each time."""
+second of processor time by both, the best of the rounds, the ratio, and the ratio that is wanted, if any. Both print how often the work came out as it should: each time."""
 import os
 import subprocess
 import sys
@@ -10,10 +10,12 @@ import tempfile
 
 HERE = os.path.dirname(os.path.abspath(__file__))
 PROGRAM = os.path.join(HERE, "..", "crates", "osdp_bench", "out", "osdp_bench")
-KINDS = [
-    "poll", "poll_into", "out", "out_into", "turn_into", "repeat", "poll_heard", "out_heard", "repeat_heard", "ignored", "idle", "idle_into",
-    "encode", "encode_to", "framer_sum", "framer_crc", "crc", "session_poll", "session_out",
-]
+# Each kind of work, with the ratio that is wanted.
+WANTED = {
+    "poll": 0.2, "poll_into": 0.5, "out": 0.2, "out_into": 0.6, "turn_into": None, "repeat": None, "poll_heard": None, "out_heard": None,
+    "repeat_heard": 0.5, "ignored": 0.5, "idle": None, "idle_into": 0.5, "encode": None, "encode_to": 0.9, "framer_sum": 0.7,
+    "framer_crc": 0.9, "crc": 0.9, "session_poll": 1.0, "session_out": 0.7,
+}
 
 
 def run(words, kind, count):
@@ -46,14 +48,14 @@ def main():
         manifest = os.path.join(HERE, "yardstick", "Cargo.toml")
         subprocess.run(["cargo", "build", "--quiet", "--release", "--offline", "--manifest-path", manifest, "--target-dir", folder], check=True)
         sides = [[PROGRAM], [os.path.join(folder, "release", "yardstick"), "machines"]]
-        print(f"{'work':12} {'osdp':>12} {'yardstick':>12} {'ratio':>6}")
-        for kind in KINDS:
+        print(f"{'work':12} {'osdp':>12} {'yardstick':>12} {'ratio':>6} {'wanted':>6}")
+        for kind, wanted in WANTED.items():
             counts = [count_for(side, kind, seconds) for side in sides]
             best = [0.0, 0.0]
             for _ in range(rounds):
                 for place, side in enumerate(sides):
                     best[place] = max(best[place], counts[place] / run(side, kind, counts[place]))
-            print(f"{kind:12} {best[0]:12.0f} {best[1]:12.0f} {best[0] / best[1]:6.2f}", flush=True)
+            print(f"{kind:12} {best[0]:12.0f} {best[1]:12.0f} {best[0] / best[1]:6.2f} {wanted or '':>6}", flush=True)
 
 
 main()
