@@ -313,7 +313,10 @@ impl MakerMessage {
         ensures { ReadsWords maker_words MakerFits fields.entry result }
     {
         let vendor = fields.vendor()?;
-        let bytes = fields.byte_list()?;
+        let mut bytes = ArrayVec::new();
+        if !fields.read_byte_list(&mut bytes) {
+            return None;
+        }
         fields.is_empty().then_some(MakerMessage { vendor, bytes })
     }
 }

@@ -53,9 +53,9 @@ impl Event {
         ensures value { IfOk result (λ e. AllStandFor (event_words e) (texts words.now) × EventFits e) }
         ensures only { (e : Event) → EventFits e → AllStandFor (event_words e) (texts words.now) → result ≡ Ok e }
     {
-        match Reply::parse(words)?.to_event() {
-            Ok(event) => Ok(event),
-            Err(_) => Err(BadWords),
+        match Reply::parse(words) {
+            Ok(reply) => event_of(reply),
+            Err(fault) => Err(fault),
         }
     }
 
@@ -64,9 +64,9 @@ impl Event {
         ensures value { IfOk result (λ e. AllStandFor (event_words e) (words_in line.now) × EventFits e) }
         ensures only { (e : Event) → EventFits e → AllStandFor (event_words e) (words_in line.now) → result ≡ Ok e }
     {
-        match Reply::parse_line(line)?.to_event() {
-            Ok(event) => Ok(event),
-            Err(_) => Err(BadWords),
+        match Reply::parse_line(line) {
+            Ok(reply) => event_of(reply),
+            Err(fault) => Err(fault),
         }
     }
 
@@ -75,6 +75,19 @@ impl Event {
         ensures { result ≡ self.now }
     {
         self.to_reply().to_event().unwrap()
+    }
+}
+
+/// The event that a reply tells, if it tells one.
+// It stands by itself, since it has places for several messages, which are not to stand beside those of reading a text.
+#[inline(never)]
+fn event_of(reply: Reply) -> Result<Event, BadWords>
+    ensures event { IfOk result (λ e. reply ≡ event_reply e) }
+    ensures only { (e : Event) → reply ≡ event_reply e → result ≡ Ok e }
+{
+    match reply.to_event() {
+        Ok(event) => Ok(event),
+        Err(_) => Err(BadWords),
     }
 }
 

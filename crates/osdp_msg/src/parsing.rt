@@ -43,7 +43,10 @@ pub(crate) fn parse_numbers_and_list<const N: usize, const ROOM: usize>(
 pub(crate) fn parse_states(mut fields: Fields<'_>) -> Option<ArrayVec<u8, MAX_DATA>>
     ensures { ReadsWords (λ states. bytes states.items ∷ []) (λ states. StatesFit states.items) fields.entry result }
 {
-    let states = fields.byte_list()?;
+    let mut states = ArrayVec::new();
+    if !fields.read_byte_list(&mut states) {
+        return None;
+    }
     fields.is_empty().then_some(states)
 }
 

@@ -134,7 +134,10 @@ impl Raw {
     {
         let [reader, format] = fields.numbers_u8::<2>()?;
         let bits = fields.number_u16()?;
-        let bytes: ArrayVec<u8, MAX_CARD_BYTES> = fields.byte_list()?;
+        let mut bytes = ArrayVec::new();
+        if !fields.read_byte_list(&mut bytes) {
+            return None;
+        }
         if !fields.is_empty() {
             return None;
         }

@@ -78,7 +78,10 @@ impl Nak {
                 detail: ArrayVec::new(),
             });
         }
-        let detail: ArrayVec<u8, MAX_DETAIL> = fields.byte_list()?;
+        let mut detail = ArrayVec::new();
+        if !fields.read_byte_list(&mut detail) {
+            return None;
+        }
         if !fields.is_empty() {
             return None;
         }

@@ -1,10 +1,11 @@
 -- Hexadecimal words: for which bytes a text stands, as the decoder answers it.
-use Rattle.std.proofs.Common.{◌≡◌, ℕ, ◌*◌, ◌/◌, ◌<◌, ◌≤◌, inl, inr, List, [], ◌∷◌, length, codes, Option, Some, None, Result, Ok, Err, refl, sym, ap, ◌∙◌, arith}
+use Rattle.std.proofs.Common.{◌≡◌, ℕ, ◌+◌, ◌*◌, ◌/◌, ◌<◌, ◌≤◌, inl, inr, Bool, true, false, List, [], ◌∷◌, ◌++◌, length, codes, Option, Some, None, Result, Ok, Err, refl, sym, ap, ◌∙◌, arith}
 use Rattle.std.proofs.lemmas.Bool.{cases_lt}
 use Rattle.std.proofs.lemmas.List.{length-map, nil_from_length}
-use Rattle.std.specs.Prelude.{IfSome, ◌⊎◌, MatchResult, option_map}
+use Rattle.std.specs.Prelude.{IfSome, ◌⊎◌, ◌↔◌, MatchResult, option_map}
+use Rattle.std.specs.Bool.{then_some}
 use Rattle.std.specs.Char.{to_ascii_uppercase}
-use Rattle.std.specs.Result.{result_ok}
+use Rattle.std.specs.Result.{IsOk, OnOk, is_err, is_ok, result_ok}
 use Rattle.std.specs.Str.{str_to_ascii_uppercase}
 use Rattle.hex.specs.Hex.{IsBytes, decode_sized, encode_upper, upper_digits}
 use Rattle.hex.specs.declared.error.FromHexError.{FromHexError}
@@ -140,8 +141,20 @@ pub taken_reads : (cap : ℕ) (text : List ℕ) (n : ℕ) (d : Result Unit FromH
 taken_reads cap text n d out r other count some room h e same =
     list_reads cap text n r other count some room (of_decoded (decode_sized text n) d out h ∙ ap (option_map (λ _. out)) e ∙ sym same)
 
--- what a list made of bytes that fit it holds
-pub listed : {E : Type 0} (cap : ℕ) (out : List ℕ) (t : Result (ArrayVec ℕ) E) → length out ≤ cap
-    → MatchResult t (λ v. (v.items ≡ out) × (length out ≤ cap)) (λ _. cap < length out) → option_map items_of (result_ok t) ≡ Some out
-listed cap out (Ok v) fits h = ap Some h.0
-listed cap out (Err e) fits h = absurd (omega arith)
+-- what an emptied list holds after bytes that fit it were put into it
+pub extended : {E : Type 0} (room : ℕ) (out : List ℕ) (t : Result Unit E) (before after : ArrayVec ℕ) (done : Bool) → before.items ≡ [] → length out ≤ room → done ≡ is_ok t
+    → IsOk t ↔ (array_vec_len before + length out ≤ room) → OnOk t (after.items ≡ before.items ++ out) → option_map items_of (then_some done after) ≡ Some out
+extended room out (Ok x) before after done empty fits is variant h = rw is (ap Some (h ∙ ap (λ (items : List ℕ). items ++ out) empty))
+extended room out (Err e) before after done empty fits is variant h =
+    let none : length before.items ≡ 0 = ap length empty in
+    let ok = variant.1 (omega (arith, none, fits)) in
+    cc ok
+
+-- what a decoder answered
+pub was_refused : (d : Result Unit FromHexError) → is_err d ≡ true → result_ok d ≡ None
+was_refused (Ok x) e = cc e
+was_refused (Err x) e = refl
+
+pub was_decoded : (d : Result Unit FromHexError) → is_err d ≡ false → result_ok d ≡ Some tt
+was_decoded (Ok x) e = refl
+was_decoded (Err x) e = cc e

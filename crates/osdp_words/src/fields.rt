@@ -1,12 +1,13 @@
 //! The words of a text, taken from its front one after another.
 
 ghost use Rattle.std.specs.Prelude.{◌≡◌, ◌<◌, ◌≤◌, ◌^◌, ◌↔◌, ◌∷◌, [], length, map, IsTrue, MatchOption};
+ghost use Rattle.std.specs.Bool.{then_some};
 ghost use Rattle.arrayvec.specs.ArrayVec.{array_vec_len};
 ghost use Rattle.hex.specs.Hex.{IsBytes};
 ghost use Rattle.osdp_words.specs.Reading.{Takes};
 ghost use Rattle.osdp_words.specs.Word.{AreWithin, bytes, number, numbers, texts, words_in};
 
-use crate::byte_lists::{byte_list, vendor};
+use crate::byte_lists::{byte_list, read_byte_list, vendor};
 use crate::numbers::{number_u8, number_u16, number_u32};
 use crate::records::record;
 use crate::splitting::first_word;
@@ -95,6 +96,16 @@ impl<'a> Fields<'a> {
         ensures { Takes (λ list. bytes list.items ∷ []) (λ list. (array_vec_len list ≤ CAP) × IsBytes list.items) self.old self.new result }
     {
         byte_list(self.word()?)
+    }
+
+    /// Puts a list of at most `CAP` bytes in place of those of `list`. Whether there is such a list; else some bytes may stand there.
+    pub fn read_byte_list<const CAP: usize>(&mut self, list: &mut ArrayVec<u8, CAP>) -> bool
+        ensures { Takes (λ read. bytes read.items ∷ []) (λ read. (array_vec_len read ≤ CAP) × IsBytes read.items) self.old self.new (then_some result list.new) }
+    {
+        match self.word() {
+            Some(word) => read_byte_list(word, list),
+            None => false,
+        }
     }
 
     /// The three bytes of a vendor.
