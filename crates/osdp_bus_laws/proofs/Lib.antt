@@ -13,6 +13,7 @@ pub mod Fairness
 pub mod Sending
 pub mod Resending
 pub mod Holding
+pub mod Staying
 pub mod Silences
 pub mod Reports
 pub mod Rooms

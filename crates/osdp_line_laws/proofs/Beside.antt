@@ -1,21 +1,21 @@
 -- What is heard beside a bus agrees with the bus, line by line.
 use Rattle.std.proofs.Common.{◌≡◌, ◌∙◌, ap, sym, subst, refl, ℕ, zero, suc, Bool, false, max, List, [], ◌∷◌, ◌++◌, length, replicate, Option, Some, None, arith}
-use Rattle.std.specs.Prelude.{◌↔◌, slice_set}
-use Rattle.std.specs.Option.{option_map_or}
+use Rattle.std.specs.Prelude.{◌↔◌}
 use Rattle.osdp_controller.proofs.Choices.{either_way}
 use Rattle.osdp_bus.specs.declared.config.BusConfig.{BusConfig}
 use Rattle.osdp_bus.specs.declared.device.Device.{Device}
 use Rattle.osdp_bus.specs.declared.fault.BusFault.{BusFault}
-use Rattle.osdp_bus.specs.Buses.{BusState, device_of, has_report, holder, is_silent, seen}
-use Rattle.osdp_bus.specs.Hearing.{after_bytes, ends_run, ends_silent}
-use Rattle.osdp_bus.specs.Machine.{add_refusal, after_add, after_begin_at, after_next_report, after_retarget_at, after_submit_at, begin_refusal_at, changed_unless, changes_device, device_begins, device_retargets, device_submits, device_withdraws, retarget_refusal_at, submit_refusal_at}
+use Rattle.osdp_bus.specs.Buses.{BusState, device_of, seen}
+use Rattle.osdp_bus.specs.Hearing.{after_bytes, ends_run}
+use Rattle.osdp_bus.specs.Machine.{add_refusal, after_begin_at, after_next_report, begin_refusal_at, changed_unless, device_retargets, device_submits, retarget_refusal_at, submit_refusal_at}
 use Rattle.osdp_bus.specs.Settings.{IsBusConfig}
-use Rattle.osdp_bus.specs.Ticking.{BusTicked, bus_ticks, is_due_at, next_due, stays, ticks_at, ticks_by, ticks_held, ticks_on, ticks_with}
+use Rattle.osdp_bus.specs.Ticking.{bus_ticks}
 use Rattle.osdp_bus_laws.specs.Calls.{Call, Add as AddCall, Begin as BeginCall, Submit as SubmitCall, Withdraw as WithdrawCall, Retarget as RetargetCall, OnBytes, Tick as TickCall, NextReport, after_call, after_calls}
 use Rattle.osdp_bus_laws.proofs.Calling.{sound_call, sound_calls, sound_new}
 use Rattle.osdp_bus_laws.proofs.Moments.{moments_are_seen}
 use Rattle.osdp_bus_laws.proofs.Silences.{silences_end_runs}
-use Rattle.osdp_bus_laws.proofs.Sound.{SoundBus, either_held}
+use Rattle.osdp_bus_laws.proofs.Sound.{SoundBus}
+use Rattle.osdp_bus_laws.proofs.Staying.{BringsNothing, stays_begin, stays_call, stays_silent, stays_tick}
 use Rattle.osdp_line_calls.specs.declared.panel_call.PanelCall.{PanelCall}
 use Rattle.osdp_line_calls.specs.declared.panel_call.PanelCall.TheVariants.{At, Add, Begin, Submit, Withdraw, Retarget, Bytes, Silence, Tick}
 use Rattle.osdp_line_calls.specs.Passing.{Listening, Overheard, hears_begin, hears_bytes, hears_end, hears_nothing, hears_silence, is_open, sees}
@@ -50,73 +50,26 @@ silence_as ds l =
     (λ h. record { gap = refl; last = refl; greatest = refl; opened = refl })
     (λ h. record { gap = refl; last = refl; greatest = refl; opened = refl })
 
--- ---- the settings of a bus stay
-
-abbrev SameConfig : BusState → BusState → Type 0
-SameConfig b c = c.config ≡ b.config
-
-config_unless : (f : Option BusFault) (b c : BusState) → SameConfig b c → SameConfig b (changed_unless f b c)
-config_unless None b c same = same
-config_unless (Some fault) b c same = refl
-
-config_changed : (entry : ℕ) (change : Device → Device) (b : BusState) → SameConfig b (changes_device entry change b)
-config_changed entry change b = by_device (device_of entry b)
-  where
-    by_device : (o : Option Device)
-        → SameConfig b (option_map_or (λ d. record b { devices = record b.devices { entries = slice_set b.devices.entries entry (change d) } }) o b)
-    by_device None = refl
-    by_device (Some d) = refl
-
-config_silent : (b : BusState) → SameConfig b (ends_silent b)
-config_silent b = either_way (SameConfig b) (is_silent b) (ends_run b) b (λ h. refl) (λ h. refl)
-
-config_bytes : (bytes : List ℕ) (now : ℕ) (b : BusState) → SameConfig b (after_bytes bytes now b)
+config_bytes : (bytes : List ℕ) (now : ℕ) (b : BusState) → (after_bytes bytes now b).config ≡ b.config
 config_bytes [] now b = refl
-config_bytes (byte ∷ bytes) now b = config_silent (seen now b)
-
-abbrev TickConfig : BusState → BusTicked → Type 0
-TickConfig b t = SameConfig b t.bus
-
-config_with : (entry : ℕ) (o : Option Device) (b : BusState) → TickConfig b (ticks_with entry o b)
-config_with entry None b = refl
-config_with entry (Some d) b = refl
-
-config_at : (o : Option ℕ) (b : BusState) → TickConfig b (ticks_at o b)
-config_at None b = refl
-config_at (Some entry) b = config_with entry (device_of entry b) b
-
-config_by : (o : Option ℕ) (b : BusState) → TickConfig b (ticks_by o b)
-config_by None b =
-    let e = ends_run b in
-    either_way (TickConfig b) (has_report e) (stays e) (ticks_at (next_due e) e) (λ h. refl) (λ h. config_at (next_due e) e)
-config_by (Some entry) b =
-    let e = ends_run b in
-    either_way (TickConfig b) (is_due_at entry b) (ticks_held entry e) (stays b)
-    (λ h. either_held (TickConfig b) entry e refl (λ none d at stands. config_at (Some entry) e)) (λ h. refl)
-
-config_tick : (now : ℕ) (b : BusState) → TickConfig b (bus_ticks now b)
-config_tick now b =
-    let e = ends_silent (seen now b) in
-    either_way (TickConfig b) (has_report b) (stays (seen now b)) (ticks_on e) (λ h. refl) (λ h. config_by (holder e) e ∙ config_silent (seen now b))
+config_bytes (byte ∷ bytes) now b = (stays_silent (seen now b)).config
 
 -- ---- one line
 
 -- a call that brings neither bytes nor a moment
-module _ (b c : BusState) (l : Listening) (is : HearsAs l b) (config : SameConfig b c) where
-  hears_on : c.last ≡ b.last → c.greatest ≡ b.greatest → HearsAs l c
-  hears_on last greatest = record {
-    gap = is.gap ∙ sym (ap (λ (x : BusConfig). x.gap) config);
-    last = is.last ∙ sym last;
-    greatest = is.greatest ∙ sym greatest;
-  }
+hears_on : (call : Call) (b : BusState) (l : Listening) → BringsNothing call → HearsAs l b → HearsAs l (after_call call b)
+hears_on call b l none is =
+    let same = stays_call call b none in
+    record { gap = is.gap ∙ sym (ap (λ (x : BusConfig). x.gap) same.config); last = is.last ∙ sym same.last; greatest = is.greatest ∙ sym same.greatest }
 
-  -- one that brings a moment alone
-  hears_moment : (now : ℕ) → c.last ≡ b.last → c.greatest ≡ max b.greatest now → HearsAs (sees now l) c
-  hears_moment now last greatest = record {
-    gap = is.gap ∙ sym (ap (λ (x : BusConfig). x.gap) config);
-    last = is.last ∙ sym last;
-    greatest = ap (λ g. max g now) is.greatest ∙ sym greatest;
-  }
+-- one that brings a moment alone
+hears_moment : (b c : BusState) (l : Listening) → HearsAs l b → c.config ≡ b.config → (now : ℕ) → c.last ≡ b.last → c.greatest ≡ max b.greatest now
+    → HearsAs (sees now l) c
+hears_moment b c l is config now last greatest = record {
+  gap = is.gap ∙ sym (ap (λ (x : BusConfig). x.gap) config);
+  last = is.last ∙ sym last;
+  greatest = ap (λ g. max g now) is.greatest ∙ sym greatest;
+}
 
 as_heard : (l k : Listening) (b : BusState) → IsAs l k → HearsAs l b → HearsAs k b
 as_heard l k b like is = record { gap = like.gap ∙ is.gap; last = like.last ∙ is.last; greatest = like.greatest ∙ is.greatest }
@@ -128,7 +81,7 @@ by_begin entry s None ok sound is =
     let b = s.bus in
     let c = after_begin_at entry s.now b in
     let after : after_call (BeginCall entry s.now) b ≡ c = ap (λ f. changed_unless f b c) ok in
-    hears_moment b c s.listening is (config_changed entry (device_begins (max b.greatest s.now)) (seen s.now b)) s.now
+    hears_moment b c s.listening is (stays_begin entry s.now b).config s.now
     (sym (ap (λ (x : BusState). x.last) after) ∙ (silences_end_runs b sound).kept (BeginCall entry s.now) (λ byte now bytes. λ h. cc))
     (sym (ap (λ (x : BusState). x.greatest) after) ∙ (moments_are_seen b).brought (BeginCall entry s.now) s.now (ok, refl))
 
@@ -154,36 +107,18 @@ by_tick s sound is =
     let l = sees s.now s.listening in
     let c = (bus_ticks s.now b).bus in
     as_heard l (hears_silence b.devices.entries l).after c (silence_as b.devices.entries l)
-    (hears_moment b c s.listening is (config_tick s.now b) s.now
+    (hears_moment b c s.listening is (stays_tick s.now b).config s.now
     ((silences_end_runs b sound).kept (TickCall s.now) (λ byte now bytes. λ h. cc))
     ((moments_are_seen b).brought (TickCall s.now) s.now refl))
 
 heard_as : (call : PanelCall) (s : Session) → SoundBus s.bus → HearsAs s.listening s.bus
     → HearsAs (overhears call s).after (after_calls (ordered call s.now) s.bus)
 heard_as (At later) s sound is = is
-heard_as (Add address) s sound is =
-    let c = after_call (AddCall address) s.bus in
-    hears_on s.bus c s.listening is (config_unless (add_refusal address s.bus) s.bus (after_add address s.bus) refl)
-    ((silences_end_runs s.bus sound).kept (AddCall address) (λ byte now bytes. λ h. cc)) ((moments_are_seen s.bus).kept (AddCall address) (λ now. λ h. h))
+heard_as (Add address) s sound is = hears_on (AddCall address) s.bus s.listening tt is
 heard_as (Begin entry) s sound is = by_begin entry s (begin_refusal_at entry s.bus) refl sound is
-heard_as (Submit entry command) s sound is =
-    let c = after_call (SubmitCall entry command) s.bus in
-    hears_on s.bus c s.listening is
-    (config_unless (submit_refusal_at entry command s.bus) s.bus (after_submit_at entry command s.bus) (config_changed entry (device_submits command) s.bus))
-    ((silences_end_runs s.bus sound).kept (SubmitCall entry command) (λ byte now bytes. λ h. cc))
-    ((moments_are_seen s.bus).kept (SubmitCall entry command) (λ now. λ h. h))
-heard_as (Withdraw entry) s sound is =
-    let c = after_call (WithdrawCall entry) s.bus in
-    hears_on s.bus c s.listening is (config_changed entry device_withdraws s.bus)
-    ((silences_end_runs s.bus sound).kept (WithdrawCall entry) (λ byte now bytes. λ h. cc))
-    ((moments_are_seen s.bus).kept (WithdrawCall entry) (λ now. λ h. h))
-heard_as (Retarget entry address) s sound is =
-    let c = after_call (RetargetCall entry address) s.bus in
-    hears_on s.bus c s.listening is
-    (config_unless (retarget_refusal_at entry address s.bus) s.bus (after_retarget_at entry address s.bus)
-    (config_changed entry (device_retargets address) s.bus))
-    ((silences_end_runs s.bus sound).kept (RetargetCall entry address) (λ byte now bytes. λ h. cc))
-    ((moments_are_seen s.bus).kept (RetargetCall entry address) (λ now. λ h. h))
+heard_as (Submit entry command) s sound is = hears_on (SubmitCall entry command) s.bus s.listening tt is
+heard_as (Withdraw entry) s sound is = hears_on (WithdrawCall entry) s.bus s.listening tt is
+heard_as (Retarget entry address) s sound is = hears_on (RetargetCall entry address) s.bus s.listening tt is
 heard_as (Bytes list) s sound is = by_bytes list.items s sound is
 heard_as Silence s sound is =
     let seen_as = hears_moment s.bus (ends_run (seen s.now s.bus)) s.listening is refl s.now refl refl in
