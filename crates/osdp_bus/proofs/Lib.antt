@@ -1,3 +1,4 @@
 pub mod Runs
 pub mod Sent
 pub mod Waiting
+pub mod Defaults

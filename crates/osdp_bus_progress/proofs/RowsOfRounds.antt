@@ -1,6 +1,8 @@
 -- Three rounds: the exact law of clean schedules, at these numbers.
 use Rattle.std.proofs.Common.{◌≡◌, ◌∙◌, ap, subst, sym, ℕ, ◌-◌, All, List, [], ◌∷◌, ◌++◌, length, take, Ok, refl, arith}
 use Rattle.std.proofs.lemmas.List.Elements.{All-cons, All-nil}
+use Rattle.osdp_frame.specs.declared.check_kind.CheckKind.TheVariants.{Crc}
+use Rattle.osdp_bus.proofs.Defaults.{controller_in_range}
 use Rattle.osdp_controller.specs.Settings.{IsConfig}
 use Rattle.osdp_link_laws.specs.OneHandler.{with_answers}
 use Rattle.osdp_link_laws.specs.Progress.{SetsNoAddress}
@@ -16,15 +18,7 @@ use Rattle.osdp_sim_laws.specs.Clean.{GoesInTurn, IsInTurn, IsOrder}
 use Rattle.osdp_bus_progress.specs.RowsOfRounds.{ThreeRoundsSettleTwoAndReportOne, buz, config, first_key, orders, out, second_key}
 
 is_config : IsConfig config.controller
-is_config = record {
-  address = omega arith;
-  reply_wait = (omega arith, omega arith);
-  poll_interval = (omega arith, omega arith);
-  busy_wait = (omega arith, omega arith);
-  quiet_wait = (omega arith, omega arith);
-  sends = (omega arith, omega arith);
-  busy_limit = omega arith;
-}
+is_config = controller_in_range 5 Crc 3 (omega arith) (omega arith, omega arith)
 
 is_set : AreSettings config
 is_set = record {

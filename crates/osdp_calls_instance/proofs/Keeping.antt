@@ -15,6 +15,7 @@ use Rattle.osdp_msg.specs.ReplyTable.{ReplyFits}
 use Rattle.osdp_calls.specs.Premises.{AreNotPast, IsAsked, IsNoOthers, IsSaid, IsSetUp, IsThere, PanelIsApart}
 use Rattle.osdp_bus.specs.Settings.{IsBusConfig}
 use Rattle.osdp_bus.specs.declared.device.Device.{Device}
+use Rattle.osdp_bus.proofs.Defaults.{bus_in_range}
 use Rattle.osdp_msg.specs.ReplyFields.{PdIdFits}
 use Rattle.osdp_frame.specs.Packet.{Packet}
 use Rattle.osdp_link_laws.specs.Link.{new_account}
@@ -49,22 +50,7 @@ pub one_fits : (P : Packet → Type 0) (p : Packet) → P p → All P (p ∷ [])
 one_fits P p is = each_all P (p ∷ []) (is, tt)
 
 in_time : IsBusConfig settings
-in_time = record {
-  controllers = record {
-    config_in_range = record {
-      address = omega arith;
-      reply_wait = (omega arith, omega arith);
-      poll_interval = (omega arith, omega arith);
-      busy_wait = (omega arith, omega arith);
-      quiet_wait = (omega arith, omega arith);
-      sends = (omega arith, omega arith);
-      busy_limit = omega arith;
-    };
-    room = omega arith;
-    limit = omega arith;
-  };
-  gap = (omega arith, omega arith);
-}
+in_time = bus_in_range Sum 4 3 (omega arith, omega arith) (omega arith, omega arith)
 
 vendor_bytes : (i : ℕ) → slice_index (1 ∷ 2 ∷ 3 ∷ []) i < 256
 vendor_bytes zero = omega arith

@@ -14,6 +14,7 @@ use Rattle.osdp_msg.specs.declared.command_fields.Communication.{Communication}
 use Rattle.osdp_bus.specs.Machine.{new_device}
 use Rattle.osdp_bus.specs.Settings.{IsBusConfig}
 use Rattle.osdp_bus.specs.declared.device.Device.{Device}
+use Rattle.osdp_bus.proofs.Defaults.{bus_in_range}
 use Rattle.osdp_link_laws.specs.Link.{new_account}
 use Rattle.osdp_link_laws.proofs.Lines.{each_all}
 use Rattle.osdp_link_laws.proofs.Stages.{Each}
@@ -32,22 +33,7 @@ abbrev five : Communication
 five = record { address = 5; baud_rate = 9600 }
 
 once_in_time : IsBusConfig once
-once_in_time = record {
-  controllers = record {
-    config_in_range = record {
-      address = omega arith;
-      reply_wait = (omega arith, omega arith);
-      poll_interval = (omega arith, omega arith);
-      busy_wait = (omega arith, omega arith);
-      quiet_wait = (omega arith, omega arith);
-      sends = (omega arith, omega arith);
-      busy_limit = omega arith;
-    };
-    room = omega arith;
-    limit = omega arith;
-  };
-  gap = (omega arith, omega arith);
-}
+once_in_time = bus_in_range Sum 4 1 (omega arith, omega arith) (omega arith, omega arith)
 
 -- of what a device may still read nothing is its own
 none_mine : (a : ℕ) (qs : List (ℕ × Packet)) → Each (λ (q : ℕ × Packet). q.0 ≡ 0) qs

@@ -1,8 +1,10 @@
 -- Settings within their ranges keep what is set within them.
 use Rattle.std.proofs.Common.{◌≡◌, Bool, true, false, refl, subst, arith, Some, None}
 use Rattle.std.specs.Prelude.{if◌then◌else◌}
+use Rattle.osdp_frame.specs.declared.check_kind.CheckKind.TheVariants.{Crc}
 use Rattle.osdp_bus.specs.declared.config.BusConfig.{BusConfig}
 use Rattle.osdp_bus.specs.Settings.{IsBusConfig}
+use Rattle.osdp_bus.proofs.Defaults as by_default
 use Rattle.osdp_controller.specs.Settings.{IsConfig}
 use Rattle.osdp_line_calls.specs.declared.panel_command.PanelSetting.{PanelSetting}
 use Rattle.osdp_line_calls.specs.declared.panel_command.PanelSetting.TheVariants.{Check, ReplyWait, PollInterval, Sends, BusyWait, BusyLimit, QuietWait, Gap, Capacity}
@@ -76,22 +78,7 @@ put_in_range (reader.Gap n) r e fits is h = subst of_reader.AreInRange (some_sam
 
 -- what is set without settings
 pub bus_in_range : IsBusConfig panel.defaults
-bus_in_range = record {
-  controllers = record {
-    config_in_range = record {
-      address = omega arith;
-      reply_wait = (omega arith, omega arith);
-      poll_interval = (omega arith, omega arith);
-      busy_wait = (omega arith, omega arith);
-      quiet_wait = (omega arith, omega arith);
-      sends = (omega arith, omega arith);
-      busy_limit = omega arith;
-    };
-    room = omega arith;
-    limit = omega arith;
-  };
-  gap = (omega arith, omega arith);
-}
+bus_in_range = by_default.bus_in_range Crc 64 3 (omega arith, omega arith) (omega arith, omega arith)
 
 pub reader_in_range : of_reader.AreInRange of_reader.defaults
 reader_in_range = record { address = omega arith; room = (omega arith, omega arith); gap = (omega arith, omega arith) }

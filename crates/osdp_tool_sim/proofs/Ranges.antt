@@ -4,6 +4,7 @@ use Rattle.std.specs.Global.{Vec}
 use Rattle.std.specs.List.{All, list_all, list_any}
 use Rattle.std.proofs.lemmas.Bool.{and_from, le-leb, ne_eqb}
 use Rattle.std.proofs.lemmas.List.Elements.{All-head, All-tail}
+use Rattle.osdp_bus.proofs.Defaults.{bus_in_range}
 use Rattle.osdp_bus.specs.Settings.{IsBusConfig, default_config}
 use Rattle.osdp_frame.specs.declared.check_kind.CheckKind.{CheckKind}
 use Rattle.osdp_script.specs.declared.script.Script.{Script}
@@ -23,22 +24,7 @@ use Rattle.osdp_tool_sim.specs.Several.{readers_from}
 use Rattle.osdp_tool_sim.proofs.Accounts.{Ends}
 
 bus_set : (check : CheckKind) → IsBusConfig (default_config check 64)
-bus_set check = record {
-  controllers = record {
-    config_in_range = record {
-      address = omega arith;
-      reply_wait = (omega arith, omega arith);
-      poll_interval = (omega arith, omega arith);
-      busy_wait = (omega arith, omega arith);
-      quiet_wait = (omega arith, omega arith);
-      sends = (omega arith, omega arith);
-      busy_limit = omega arith;
-    };
-    room = omega arith;
-    limit = omega arith;
-  };
-  gap = (omega arith, omega arith);
-}
+bus_set check = bus_in_range check 64 3 (omega arith, omega arith) (omega arith, omega arith)
 
 as_many : (number : ℕ) (readers : List (ℕ × ℕ)) → length (readers_from number readers) ≡ length readers
 as_many number [] = refl
