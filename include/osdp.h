@@ -19,8 +19,8 @@
  *             nothing that it would have written, except where it says so.
  * Writing.    A struct is written whole but for its arrays: of an array as many bytes as its length says are written, and the
  *             others stay as they were. Nothing beyond a struct is written. No struct that a call reads or writes has padding.
- * Heap.       `osdp_panel_new` takes 14,952 bytes in two blocks, and `osdp_panel_add` 1,768, and 1,648 for each command that may
- *             wait, in two. `osdp_device_new` takes 20,384 bytes, and 1,456 for each event that may wait, in two blocks. `free`
+ * Heap.       `osdp_panel_new` takes 5,464 bytes in two blocks, and `osdp_panel_add` 1,768, and 1,648 for each command that may
+ *             wait, in two. `osdp_device_new` takes 10,896 bytes, and 1,456 for each event that may wait, in two blocks. `free`
  *             gives all back. No other call takes memory. Where there is none, a call says so, and nothing has changed.
  * Stack.      `osdp_device_event_text` takes 68 KiB of stack, `osdp_panel_submit_text` 55, each other call at most 40 KiB, as measured
  *             and counted on 64-bit x86.
