@@ -23,7 +23,7 @@ use Rattle.osdp_shared_line.specs.Line.{Net, NetMove, RestartPanel, RestartReade
 use Rattle.osdp_shared_line.specs.Line as line
 use Rattle.osdp_shared_line.specs.Programs.{KeepRule, Note, RuleSuffices, no_notes, noted_at}
 use Rattle.osdp_shared_line.specs.Programs as programs
-use Rattle.osdp_calls.specs.Calls.{Call, Next, NewDevice, NewPanel, OfPanel, Pending, SetBusy, SetHandler, Silence, Step, SubmitEvent, Take, TickDevice, after_call, after_next, answers, begun_of, first_answered, made_anew, nexts, queues, read_up_to}
+use Rattle.osdp_calls.specs.Calls.{Call, Next, NewDevice, NewPanel, OfPanel, Pending, SetBusy, SetHandler, Silence, Step, SubmitEvent, Take, TickDevice, after_call, after_next, answers, begun_of, first_answered, made_anew, nexts, on_station, queues, read_up_to}
 use Rattle.osdp_calls.specs.Lines.{InUse, Station}
 use Rattle.osdp_calls.specs.Premises as premises
 use Rattle.osdp_calls.specs.Premises.{InOrder, InRange, QuietOpening}
@@ -89,6 +89,14 @@ module _ {H : Type 0} where
           → next.bus.devices.entries ≡ l.bus.devices.entries → ((j : ℕ) → begun_of (site_at j next.stations) ≡ begun_of (site_at j l.stations))
           → ((j : ℕ) (d : Device) → noted_of j (Some d) call l (notes j) ≡ notes j) → Ruled answer_of after n0 next (notes_after call l notes)
       rests call next s still entries begun mine = by_rest answer_of after suffices nobody reads n0 up l n notes noted h path agree call next s still entries begun mine
+
+      -- a call that changes a station alone, and not the moment at which its session was to begin
+      station_ruled : (call : Call H) (k : ℕ) (change : Station H → Station H) → ((t : Station H) → (change t).begun ≡ t.begun)
+          → ((j : ℕ) (d : Device) → noted_of j (Some d) call l (notes j) ≡ notes j) → (s : StepsTo answer_of after call l n (on_station k change l))
+          → ((made : StepsTo answer_of after call l n (on_station k change l)) → Each IsStill made.moves)
+          → Ruled answer_of after n0 (on_station k change l) (notes_after call l notes)
+      station_ruled call k change begun mine s still =
+          rests call (on_station k change l) s (still s) refl (λ j. begun_change j k change l.stations begun) mine
 
       panel_ruled : (call : panel.Call) (places : List ℕ) → InOrder (OfPanel call) places l → QuietOpening (OfPanel call) places l
           → KeepsRule (OfPanel call) l notes → InRange answer_of after (OfPanel call) l
@@ -174,38 +182,30 @@ module _ {H : Type 0} where
           → Ruled answer_of after n0 (after_call answer_of after call places l) (notes_after call l notes)
       call_ruled (OfPanel call) places order quiet rule range = panel_ruled call places order quiet rule range
       call_ruled (SubmitEvent k event) places order quiet rule range =
-          let s = steps_to (SubmitEvent k event) places order quiet rule range in
-          rests (SubmitEvent k event) (after_call answer_of after (SubmitEvent k event) places l) s s.made refl
-          (λ j. begun_change j k (λ t. queues (length t.reader.queue.events == t.reader.queue.capacity) event t) l.stations
-          (λ t. queues_begun (length t.reader.queue.events == t.reader.queue.capacity) event t)) (λ j d. refl)
+          station_ruled (SubmitEvent k event) k (λ t. queues (length t.reader.queue.events == t.reader.queue.capacity) event t) (λ t. queues_begun (length t.reader.queue.events == t.reader.queue.capacity) event t) (λ j d. refl)
+          (steps_to (SubmitEvent k event) places order quiet rule range) (λ s. s.made)
       call_ruled (SetBusy k busy) places order quiet rule range =
-          let s = steps_to (SetBusy k busy) places order quiet rule range in
-          rests (SetBusy k busy) (after_call answer_of after (SetBusy k busy) places l) s s.made refl
-          (λ j. begun_change j k (λ t. record t { reader = after_set_busy busy t.reader }) l.stations (λ t. refl)) (λ j d. refl)
+          station_ruled (SetBusy k busy) k (λ t. record t { reader = after_set_busy busy t.reader }) (λ t. refl) (λ j d. refl)
+          (steps_to (SetBusy k busy) places order quiet rule range) (λ s. s.made)
       call_ruled (SetHandler k handler) places order quiet rule range =
-          let s = steps_to (SetHandler k handler) places order quiet rule range in
-          rests (SetHandler k handler) (after_call answer_of after (SetHandler k handler) places l) s s.made refl
-          (λ j. begun_change j k (λ t. record t { reader = after_set_handler handler t.reader }) l.stations (λ t. refl)) (λ j d. refl)
+          station_ruled (SetHandler k handler) k (λ t. record t { reader = after_set_handler handler t.reader }) (λ t. refl) (λ j d. refl)
+          (steps_to (SetHandler k handler) places order quiet rule range) (λ s. s.made)
       call_ruled (Take k bytes now) places order quiet rule range =
-          let s = steps_to (Take k bytes now) places order quiet rule range in
-          rests (Take k bytes now) (after_call answer_of after (Take k bytes now) places l) s s.made refl
-          (λ j. begun_change j k (λ t. record t { line = after_take bytes now t.line }) l.stations (λ t. refl)) (λ j d. refl)
+          station_ruled (Take k bytes now) k (λ t. record t { line = after_take bytes now t.line }) (λ t. refl) (λ j d. refl)
+          (steps_to (Take k bytes now) places order quiet rule range) (λ s. s.made)
       call_ruled (TickDevice k now) places order quiet rule range =
-          let s = steps_to (TickDevice k now) places order quiet rule range in
-          rests (TickDevice k now) (after_call answer_of after (TickDevice k now) places l) s s.made refl
-          (λ j. begun_change j k (λ t. record t { line = after_tick now t.line }) l.stations (λ t. refl)) (λ j d. refl)
+          station_ruled (TickDevice k now) k (λ t. record t { line = after_tick now t.line }) (λ t. refl) (λ j d. refl)
+          (steps_to (TickDevice k now) places order quiet rule range) (λ s. s.made)
       call_ruled (Silence k now) places order quiet rule range =
-          let s = steps_to (Silence k now) places order quiet rule range in
-          rests (Silence k now) (after_call answer_of after (Silence k now) places l) s s.made refl
-          (λ j. begun_change j k (λ t. record t { line = after_silence now t.line }) l.stations (λ t. refl)) (λ j d. refl)
+          station_ruled (Silence k now) k (λ t. record t { line = after_silence now t.line }) (λ t. refl) (λ j d. refl)
+          (steps_to (Silence k now) places order quiet rule range) (λ s. s.made)
       call_ruled (Next k) places order quiet rule range =
           let s = steps_to (Next k) places order quiet rule range in
           rests (Next k) (after_call answer_of after (Next k) places l) s s.made (next_entries k places (site_at k l.stations) l)
           (λ j. next_begun j k places (site_at k l.stations) l refl) (λ j d. refl)
       call_ruled (Pending k) places order quiet rule range =
-          let s = steps_to (Pending k) places order quiet rule range in
-          rests (Pending k) (after_call answer_of after (Pending k) places l) s s.made refl
-          (λ j. begun_change j k (λ t. record t { line = record t.line { held = passed t.reader t.line.held } }) l.stations (λ t. refl)) (λ j d. refl)
+          station_ruled (Pending k) k (λ t. record t { line = record t.line { held = passed t.reader t.line.held } }) (λ t. refl) (λ j d. refl)
+          (steps_to (Pending k) places order quiet rule range) (λ s. s.made)
       call_ruled (NewDevice k address handler room gap) places order quiet rule range =
           device_ruled k address handler room gap places rule (steps_to (NewDevice k address handler room gap) places order quiet rule range)
       call_ruled (NewPanel config xs) places order quiet rule range =
