@@ -1,4 +1,5 @@
 pub mod Cutting
+pub mod Keeping
 pub mod Rows
 pub mod Lines
 pub mod Judging

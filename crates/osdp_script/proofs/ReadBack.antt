@@ -11,7 +11,7 @@ use Rattle.osdp_script.specs.declared.script.ScriptLine.{ScriptLine}
 use Rattle.osdp_script.specs.declared.script.ScriptLine.TheVariants.{Check, Reader, Step, Clean}
 use Rattle.osdp_script.specs.Lines.{IsSetting, LineFits, StepFits}
 use Rattle.osdp_script.specs.Reading.{AreRead, IsFree, IsInPlace, IsRead, IsScriptOf}
-use Rattle.osdp_script.specs.Script.{Plan, line_of, no_plan, with_line}
+use Rattle.osdp_script.specs.Script.{Plan, no_plan, with_line}
 use Rattle.osdp_script.specs.Settings.{AreApart, AreReaders}
 use Rattle.osdp_script.proofs.InTurn.{read_in_turn}
 use Rattle.osdp_script.proofs.Settings.{readers_named}
@@ -158,7 +158,7 @@ below_lines readers (line ∷ rest) h =
 
 record HasLines (script : Script) : Type 0 where
   pub readers : AreReaders script.readers.items
-  pub below : All (StandsBelow (length script.readers.items)) (map line_of script.steps.items)
+  pub below : All (StandsBelow (length script.readers.items)) script.lines
 
 had_lines : (bytes : List ℕ) (script : Script) → IsScriptOf bytes script → HasLines script
 unfolding AllBelow
@@ -171,17 +171,17 @@ had_lines bytes script (p, means, is) = record {
 }
 
 in_pieces : (script : Script) → texts (script_lines script)
-    ≡ plain_text (Check script.check) ∷ (texts (map reader_line script.readers.items) ++ texts (map line_of script.steps.items))
+    ≡ plain_text (Check script.check) ∷ (texts (map reader_line script.readers.items) ++ texts script.lines)
 in_pieces script =
     ap (λ (l : List (List ℕ)). plain_text (Check script.check) ∷ l)
-    (map-append plain_text (map reader_line script.readers.items) (map line_of script.steps.items))
+    (map-append plain_text (map reader_line script.readers.items) script.lines)
 
 lines_read : (script : Script) → HasLines script
-    → AreRead no_plan (texts (script_lines script)) (plan (Some script.check) script.readers.items (map line_of script.steps.items))
+    → AreRead no_plan (texts (script_lines script)) (plan (Some script.check) script.readers.items script.lines)
 lines_read script has =
     let check = Some script.check in
     let readers = script.readers.items in
-    let steps = map line_of script.steps.items in
+    let steps = script.lines in
     let first = is_read no_plan (Check script.check) tt (record { once = refl; before = refl }) in
     let named = readers_read check [] readers has.readers.most has.readers.each has.readers.apart in
     let below = below_read check readers [] steps has.below in
@@ -193,13 +193,13 @@ each_line : (script : Script) → HasLines script → AllByRecursion IsLine (tex
 each_line script has =
     subst (λ (lines : List (List ℕ)). AllByRecursion IsLine lines) (sym (in_pieces script)) (
       is_line 0 (Check script.check) tt,
-      all_lines (texts (map reader_line script.readers.items)) (texts (map line_of script.steps.items)) (reader_lines script.readers.items has.readers.each)
-          (below_lines (length script.readers.items) (map line_of script.steps.items) has.below),
+      all_lines (texts (map reader_line script.readers.items)) (texts script.lines) (reader_lines script.readers.items has.readers.each)
+          (below_lines (length script.readers.items) script.lines has.below),
     )
 
 read_again : (script : Script) → HasLines script → IsScriptOf (script_text script) script
 read_again script has =
-    let p = plan (Some script.check) script.readers.items (map line_of script.steps.items) in
+    let p = plan (Some script.check) script.readers.items script.lines in
     let lines = sym (lines_again (script_lines script) (each_line script has)) in (
       p,
       record { good = subst (λ (l : List (List ℕ)). AreRead no_plan l p) lines (lines_read script has); some = has.readers.some },

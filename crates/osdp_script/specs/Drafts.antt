@@ -1,15 +1,15 @@
 -- How the code keeps what the lines so far say, and judges the next.
-use Rattle.std.specs.Prelude.{◌≡◌, ℕ, ◌≤◌, Bool, true, false, List, length, map}
+use Rattle.std.specs.Prelude.{◌≡◌, ℕ, ◌≤◌, Bool, true, false, List, length}
 use Rattle.osdp_tool_streams.specs.Cut.{lines_of}
 use Rattle.osdp_script.specs.declared.fault.ScriptFault.{ScriptFault}
 use Rattle.osdp_script.specs.declared.fault.ScriptFault.TheVariants.{BadLine, NoMemory}
 use Rattle.osdp_script.specs.declared.draft.Draft.{Draft}
 use Rattle.osdp_script.specs.Reading.{AreRead, IsBad, IsFirstBad, IsRead, IsTold, SaysNothing}
-use Rattle.osdp_script.specs.Script.{Plan, line_of, no_plan}
+use Rattle.osdp_script.specs.Script.{Plan, no_plan}
 
 -- what the lines so far say
 abbrev pub plan_of : Draft → Plan
-plan_of d = record { check = d.check; readers = d.readers.items; below = map line_of d.steps.items }
+plan_of d = record { check = d.check; readers = d.readers.items; below = d.lines }
 
 -- a text is good, or bad
 abbrev pub JudgesText : Bool → Plan → List ℕ → Plan → Type 0

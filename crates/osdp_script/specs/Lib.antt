@@ -1,5 +1,6 @@
 pub mod Words
 pub mod Lines
+pub mod Kept
 pub mod Script
 pub mod Reading
 pub mod Schedule

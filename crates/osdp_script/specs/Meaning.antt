@@ -1,14 +1,13 @@
 -- A script's meaning is determined by its bytes.
-use Rattle.std.specs.Prelude.{◌≡◌, ℕ, List, map}
+use Rattle.std.specs.Prelude.{◌≡◌, ℕ, List}
 use Rattle.osdp_script.specs.declared.script.Script.{Script}
 use Rattle.osdp_script.specs.Reading.{IsBadLine, IsScriptOf}
-use Rattle.osdp_script.specs.Script.{line_of}
 
 -- two scripts say the same, wherever they are kept
 pub record SaySame (a b : Script) : Type 0 where
   pub check : a.check ≡ b.check
   pub readers : a.readers.items ≡ b.readers.items
-  pub below : map line_of a.steps.items ≡ map line_of b.steps.items
+  pub below : a.lines ≡ b.lines
 
 -- bytes are one script at most, or have one first bad line at most, and never both
 pub record MeansOne (bytes : List ℕ) : Type 0 where

@@ -7,7 +7,6 @@ use Rattle.osdp_script.specs.declared.script.ScriptLine.{ScriptLine}
 use Rattle.osdp_script.specs.declared.script.ScriptLine.TheVariants.{Check, Reader}
 use Rattle.osdp_script.specs.Lines.{line_words}
 use Rattle.osdp_script.specs.Reading.{IsScriptOf}
-use Rattle.osdp_script.specs.Script.{line_of}
 use Rattle.osdp_script.specs.Meaning.{SaySame}
 
 -- a line: its words as they are printed, with one space between each two, and a line feed after them
@@ -19,7 +18,7 @@ abbrev pub reader_line : ℕ × ℕ → ScriptLine
 reader_line (address, room) = Reader address room
 
 abbrev pub script_lines : Script → List ScriptLine
-script_lines script = Check script.check ∷ (map reader_line script.readers.items ++ map line_of script.steps.items)
+script_lines script = Check script.check ∷ (map reader_line script.readers.items ++ script.lines)
 
 -- these lines, one after the other
 abbrev pub script_text : Script → List ℕ

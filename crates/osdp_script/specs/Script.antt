@@ -1,20 +1,13 @@
 -- What a script says: settings, and the lines below those of the readers.
-use Rattle.std.specs.Prelude.{◌≡◌, ℕ, List, [], ◌∷◌, ◌++◌, map, flat_map, Option, Some, None}
+use Rattle.std.specs.Prelude.{◌≡◌, ℕ, List, [], ◌∷◌, ◌++◌, flat_map, Option, Some, None}
 use Rattle.std.specs.Option.{unwrap_or}
 use Rattle.osdp_frame.specs.declared.check_kind.CheckKind.{CheckKind}
 use Rattle.osdp_frame.specs.declared.check_kind.CheckKind.TheVariants.{Crc}
-use Rattle.osdp_sim.specs.declared.step.Move.{Move}
-use Rattle.osdp_sim.specs.declared.step.Move.TheVariants as moves
 use Rattle.osdp_sim.specs.declared.step.SimStep.{SimStep}
-use Rattle.osdp_sim.specs.declared.step.SimStep.TheVariants as steps
 use Rattle.osdp_sim.specs.Rounds.{clean}
 use Rattle.osdp_script.specs.declared.script.Script.{Script}
 use Rattle.osdp_script.specs.declared.script.ScriptLine.{ScriptLine}
 use Rattle.osdp_script.specs.declared.script.ScriptLine.TheVariants.{Check, Reader, Step, Clean}
-use Rattle.osdp_script.specs.declared.script.ScriptStep.{ScriptStep}
-use Rattle.osdp_script.specs.declared.script.ScriptStep.TheVariants as kept
-use Rattle.osdp_script.specs.declared.script.Way.{Way}
-use Rattle.osdp_script.specs.declared.script.Way.TheVariants as ways
 
 -- what the lines of a script say together: the check, where a line says it; each reader's address and room for events; and the lines
 -- below those of the readers
@@ -34,30 +27,11 @@ with_line (Reader address room) p = record p { readers = p.readers ++ (address, 
 with_line (Step step) p = record p { below = p.below ++ Step step ∷ [] }
 with_line (Clean n) p = record p { below = p.below ++ Clean n ∷ [] }
 
--- ---- how the code keeps them
-
-abbrev pub move_of : Way → Move
-move_of ways.Deliver = moves.Deliver
-move_of ways.Drop = moves.Drop
-move_of ways.Repeat = moves.Repeat
-move_of (ways.Damage bytes) = moves.Damage bytes.value
-
--- the line that is kept as this step
-abbrev pub line_of : ScriptStep → ScriptLine
-line_of (kept.Issue reader command) = Step (steps.Issue reader command.value)
-line_of (kept.Queue reader event) = Step (steps.Queue reader event.value)
-line_of (kept.Busy reader busy) = Step (steps.Busy reader busy)
-line_of (kept.Wait time) = Step (steps.Wait time)
-line_of (kept.ToReader way) = Step (steps.ToReader (move_of way))
-line_of (kept.ToController way) = Step (steps.ToController (move_of way))
-line_of (kept.Reopen reader) = Step (steps.Reopen reader)
-line_of (kept.Clean n) = Clean n
-
 -- a script says what its lines say; its packets end with a CRC where no line says which check
 pub record IsScript (p : Plan) (s : Script) : Type 0 where
   pub check : s.check ≡ unwrap_or p.check Crc
   pub readers : s.readers.items ≡ p.readers
-  pub below : map line_of s.steps.items ≡ p.below
+  pub below : s.lines ≡ p.below
 
 -- ---- the steps
 
@@ -74,4 +48,4 @@ lines_steps lines = flat_map line_steps lines
 
 -- the schedule of a script
 abbrev pub steps_of : Script → List SimStep
-steps_of s = lines_steps (map line_of s.steps.items)
+steps_of s = lines_steps s.lines

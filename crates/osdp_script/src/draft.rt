@@ -5,9 +5,10 @@ ghost use Rattle.osdp_script.specs.Drafts.{Judges, JudgesText, plan_of};
 ghost use Rattle.osdp_script.specs.Reading.{IsFree, IsInPlace};
 ghost use Rattle.osdp_script.specs.Script.{IsScript, no_plan, with_line};
 
+use crate::kept::KeptLines;
 use crate::line::{characters, is_passed_over};
 use crate::parse::parse_line;
-use crate::script::{Script, ScriptLine, ScriptStep};
+use crate::script::{Script, ScriptLine};
 use osdp_frame::{Address, CheckKind};
 use osdp_words::all_words_in;
 use std::alloc::{AllocError, Global};
@@ -21,7 +22,7 @@ pub(crate) struct Draft {
     /// The readers.
     pub readers: Vec<(Address, usize)>,
     /// The lines below those of the readers.
-    pub steps: Vec<ScriptStep>,
+    pub lines: KeptLines,
 }
 
 /// Whether no reader is at this address.
@@ -39,7 +40,7 @@ impl Draft {
         Draft {
             check: None,
             readers: Vec::new(alloc),
-            steps: Vec::new(alloc),
+            lines: KeptLines::new(alloc),
         }
     }
 
@@ -50,7 +51,7 @@ impl Draft {
         match line {
             ScriptLine::Check(_) => self.check.is_none() && self.readers.is_empty(),
             ScriptLine::Reader(address, _) => {
-                self.steps.is_empty() && self.readers.len() < 16 && is_free(*address, &self.readers)
+                self.lines.is_empty() && self.readers.len() < 16 && is_free(*address, &self.readers)
             }
             ScriptLine::Step(_) => true,
             ScriptLine::Clean(_) => self.readers.len() == 1,
@@ -58,14 +59,14 @@ impl Draft {
     }
 
     /// Adds what a line says.
-    fn add(&mut self, alloc: Global, line: ScriptLine) -> Result<(), AllocError>
-        ensures { OnOk result (plan_of self.new ≡ with_line line (plan_of self.old)) }
+    fn add(&mut self, line: &ScriptLine) -> Result<(), AllocError>
+        ensures { OnOk result (plan_of self.new ≡ with_line line.now (plan_of self.old)) }
     {
         match line {
-            ScriptLine::Check(kind) => self.check = Some(kind),
-            ScriptLine::Reader(address, room) => self.readers.push((address, room))?,
-            ScriptLine::Step(step) => self.steps.push(ScriptStep::new(alloc, step)?)?,
-            ScriptLine::Clean(count) => self.steps.push(ScriptStep::Clean(count))?,
+            ScriptLine::Check(kind) => self.check = Some(*kind),
+            ScriptLine::Reader(address, room) => self.readers.push((*address, *room))?,
+            ScriptLine::Step(step) => self.lines.push(step)?,
+            ScriptLine::Clean(count) => self.lines.push_clean(*count)?,
         }
         Ok(())
     }
@@ -83,7 +84,7 @@ impl Draft {
         if !self.is_in_place(&line) {
             return Ok(false);
         }
-        self.add(alloc, line)?;
+        self.add(&line)?;
         Ok(true)
     }
 
@@ -108,7 +109,7 @@ impl Draft {
         Script {
             check: self.check.unwrap_or(CheckKind::Crc),
             readers: self.readers,
-            steps: self.steps,
+            lines: self.lines,
         }
     }
 }

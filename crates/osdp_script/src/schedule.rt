@@ -2,9 +2,12 @@
 
 ghost use Rattle.std.specs.Prelude.{◌≡◌, ◌∷◌, ◌++◌, MatchOption};
 ghost use Rattle.osdp_script.specs.Schedule.{steps_left};
-ghost use Rattle.osdp_script.specs.Script.{line_of, line_steps, steps_of};
+ghost use Rattle.osdp_script.specs.Kept.{line_of};
+ghost use Rattle.osdp_script.specs.Script.{line_steps, steps_of};
 
-use crate::script::{Script, ScriptStep};
+use crate::kept::LinesLeft;
+use crate::script::Script;
+use crate::step::{ScriptStep, issue, queue};
 use osdp_sim::{Move, Schedule, SimStep};
 
 /// What of a round without losses is still to come.
@@ -26,7 +29,7 @@ pub struct ScriptSteps<'a> {
     /// How many rounds follow it.
     rounds: usize,
     /// The lines after them.
-    rest: &'a [ScriptStep],
+    rest: LinesLeft<'a>,
 }
 
 impl Script {
@@ -37,29 +40,29 @@ impl Script {
         ScriptSteps {
             phase: Phase::Over,
             rounds: 0,
-            rest: &self.steps,
+            rest: self.lines.left(),
         }
     }
 }
 
 impl ScriptSteps<'_> {
-    /// The first step of a line; where the line stands for more, these are still to come.
-    fn begin(&mut self, line: &ScriptStep) -> SimStep
+    /// The first step of a line, which is kept as this one with these bytes. Where the line stands for more, these are still to come.
+    fn begin(&mut self, line: ScriptStep, own: &[u8]) -> SimStep
         requires over { self.old.phase ≡ Phase.Over }
         requires none { self.old.rounds ≡ 0 }
-        ensures { line_steps (line_of line.now) ++ steps_left self.old ≡ result ∷ steps_left self.new }
+        ensures { line_steps (line_of line own.now) ++ steps_left self.old ≡ result ∷ steps_left self.new }
     {
         match line {
-            ScriptStep::Issue(reader, command) => SimStep::Issue(*reader, command.copy()),
-            ScriptStep::Queue(reader, event) => SimStep::Queue(*reader, event.copy()),
-            ScriptStep::Busy(reader, busy) => SimStep::Busy(*reader, *busy),
-            ScriptStep::Wait(time) => SimStep::Wait(*time),
-            ScriptStep::ToReader(way) => SimStep::ToReader(way.to_move()),
-            ScriptStep::ToController(way) => SimStep::ToController(way.to_move()),
-            ScriptStep::Reopen(reader) => SimStep::Reopen(*reader),
+            ScriptStep::Issue(reader, _) => issue(reader, own),
+            ScriptStep::Queue(reader, _) => queue(reader, own),
+            ScriptStep::Busy(reader, busy) => SimStep::Busy(reader, busy),
+            ScriptStep::Wait(time) => SimStep::Wait(time),
+            ScriptStep::ToReader(way) => SimStep::ToReader(way.to_move(own)),
+            ScriptStep::ToController(way) => SimStep::ToController(way.to_move(own)),
+            ScriptStep::Reopen(reader) => SimStep::Reopen(reader),
             ScriptStep::Clean(count) => {
                 self.phase = Phase::ToReader;
-                self.rounds = *count;
+                self.rounds = count;
                 SimStep::Wait(400)
             }
         }
@@ -98,8 +101,7 @@ impl Schedule for ScriptSteps<'_> {
         if let Some(step) = self.go_on() {
             return Some(step);
         }
-        let (first, rest) = self.rest.split_first()?;
-        self.rest = rest;
-        Some(self.begin(first))
+        let (first, own) = self.rest.take_first()?;
+        Some(self.begin(first, own))
     }
 }

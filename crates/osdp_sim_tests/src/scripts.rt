@@ -1,7 +1,9 @@
 //! A script, read with ample memory and where memory is refused.
 
 use osdp_frame::CheckKind;
-use osdp_script::{Script, ScriptFault, ScriptStep, Way, read_script};
+use osdp_msg::{Command, Event};
+use osdp_script::{Script, ScriptFault, read_script};
+use osdp_sim::{Move, Schedule, SimStep};
 use std::process::Abort;
 
 /// Two readers, and a step of each kind that takes memory.
@@ -17,12 +19,19 @@ to-reader damage 00FF
 /// It is read as the script says.
 fn is_read(rt: &impl Abort, script: &Script) {
     assert_eq!(rt; script.check, CheckKind::Sum);
-    assert_eq!(rt; (script.readers.len(), script.steps.len()), (2, 3));
+    assert_eq!(rt; script.readers.len(), 2);
     assert_eq!(rt; script.readers[0].0.get(), 5);
     assert_eq!(rt; (script.readers[0].1, script.readers[1].1), (4, 1024));
-    assert!(rt; matches!(script.steps[0], ScriptStep::Issue(2, _)));
-    assert!(rt; matches!(script.steps[1], ScriptStep::Queue(1, _)));
-    assert!(rt; matches!(script.steps[2], ScriptStep::ToReader(Way::Damage(_))));
+    has_steps(rt, script);
+}
+
+/// Its steps are those of its lines.
+fn has_steps(rt: &impl Abort, script: &Script) {
+    let mut steps = script.schedule();
+    assert!(rt; matches!(steps.next(), Some(SimStep::Issue(2, Command::Output(_)))));
+    assert!(rt; matches!(steps.next(), Some(SimStep::Queue(1, Event::Keypad(_)))));
+    assert!(rt; matches!(steps.next(), Some(SimStep::ToReader(Move::Damage(_)))));
+    assert!(rt; steps.next().is_none());
 }
 
 /// Where memory is refused, as `tests/machines_memory.sh` has it, that is the answer.
@@ -47,5 +56,6 @@ fn no_check_is_a_crc(rt: HostRuntime) {
     let script = read_script(rt.alloc(), "reader 126 1\n".as_bytes());
     let script = script.ok().expect(&rt, "a script");
     assert_eq!(rt; script.check, CheckKind::Crc);
-    assert_eq!(rt; (script.readers.len(), script.steps.len()), (1, 0));
+    assert_eq!(rt; script.readers.len(), 1);
+    assert!(rt; script.schedule().next().is_none());
 }
