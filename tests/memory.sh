@@ -1,8 +1,8 @@
 #!/usr/bin/env bash
 # Refuses each request for memory of the program in turn, by a library preloaded into it: whichever is refused, the
 # program ends with status 4, and all that it has printed is a beginning of what it prints with ample memory. Each
-# is refused twice: alone, and with all that follow it. Takes the path of the program, which is linked with the C
-# library as a shared one; needs a C compiler.
+# is refused twice: alone, and with all that follow it. Then counts what the program holds at most on long scripts.
+# Takes the path of the program, which is linked with the C library as a shared one; needs a C compiler.
 set -u
 program=$1
 work=$(mktemp -d)
@@ -10,6 +10,7 @@ trap 'rm -rf "$work"' EXIT
 folder=$(cd "$(dirname "$0")" && pwd)
 
 "${CC:-cc}" -O1 -shared -fPIC -o "$work/refuse.so" "$folder/refuse.c" || exit 1
+"${CC:-cc}" -O1 -shared -fPIC -o "$work/held.so" "$folder/held.c" || exit 1
 
 # Tells a fault. It is kept in a file, since a case that is fed by a pipe runs in a shell of its own.
 fault() {
@@ -109,5 +110,31 @@ two_readers() {
 two_readers | refuse_each 'sim, two readers' 30 sim
 { two_readers; echo 'to-controller damage 53000700006046'; } | refuse_each 'sim, two readers, damage' 30 sim
 refuse_each 'bad words' 1 show --all </dev/null
+
+# $1: how many lines; $2: what they say. Tells how many bytes the program holds at most on a script of a reader and these lines.
+held() {
+  { echo 'reader 5 4'; yes "$2" | head -n "$1"; } >"$work/in"
+  rm -f "$work/held"
+  LD_PRELOAD="$work/held.so" HELD_MARK="$work/held" "$program" sim <"$work/in" >"$work/out" || fault "sim: a script of lines '$2' fails"
+  cat "$work/held"
+}
+
+# $1: what the lines of a script say. Each takes 100 bytes at most beside twice its own length, since the text of the script grows by doubling.
+hold_few() {
+  local lines=20000 short long most
+  short=$(held 1 "$1")
+  long=$(held "$lines" "$1")
+  most=$((short + lines * (100 + 2 * ${#1})))
+  if [ "$long" -gt "$most" ]; then
+    fault "sim: $lines lines '$1' take $long bytes, and at most $most are wanted"
+  fi
+  echo "sim: a line '$1' takes $(((long - short) / lines)) bytes"
+}
+
+hold_few 'wait 0'
+hold_few 'issue 1 ID 0'
+hold_few 'issue 1 TEXT 0 1 0 1 1 48454C4C4F'
+hold_few 'queue 1 KEYPAD 0 31'
+hold_few 'to-reader damage 0001020304050607'
 
 [ ! -e "$work/faults" ]
