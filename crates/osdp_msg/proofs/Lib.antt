@@ -13,3 +13,4 @@ pub mod RecordWordRows
 pub mod RowTexts
 pub mod CommandTextRows
 pub mod ReplyTextRows
+pub mod EventTextRows

@@ -1,16 +1,19 @@
 //! Events: what a reader tells when it is polled.
 
-ghost use Rattle.std.specs.Prelude.{◌≡◌, Some, None, Ok, IfOk, MatchResult};
+ghost use Rattle.std.specs.Prelude.{◌≡◌, ◌∷◌, Some, None, Ok, IfOk, MatchResult};
+ghost use Rattle.osdp_words.specs.Reading.{ReadsWords};
 ghost use Rattle.osdp_words.specs.Word.{AllStandFor, texts, words_in};
 ghost use Rattle.osdp_msg.specs.Events.{EventFits, event_in, event_reply, event_text, event_words};
 
 use crate::fault::BadWords;
 use crate::limits::MAX_DATA;
+use crate::parsing::parse_states;
 use crate::raw::Raw;
 use crate::reply::Reply;
 use crate::reply_fields::{Formatted, Keypad, LocalState};
 use crate::spelling::list_of;
 use arrayvec::ArrayVec;
+use osdp_words::Fields;
 use std::fmt;
 
 /// What happened at a reader: the seven replies to a POLL that tell something.
@@ -30,6 +33,31 @@ pub enum Event {
     Formatted(Formatted),
     /// Pressed keys.
     Keypad(Keypad),
+}
+
+/// The event whose text begins with a name and goes on with these fields.
+// These are rows of the table of replies. They stand here too, so that no whole reply has to stand beside the event on the stack.
+fn parse_row(name: &str, fields: Fields<'_>) -> Option<Event>
+    ensures { ReadsWords event_words EventFits (name.now ∷ fields.entry) result }
+{
+    match name {
+        "LSTATR" => LocalState::parse(fields).map(Event::LocalState),
+        "ISTATR" => parse_states(fields).map(Event::Inputs),
+        "OSTATR" => parse_states(fields).map(Event::Outputs),
+        "RSTATR" => parse_states(fields).map(Event::Readers),
+        "RAW" => Raw::parse(fields).map(Event::Raw),
+        "FMT" => Formatted::parse(fields).map(Event::Formatted),
+        "KEYPAD" => Keypad::parse(fields).map(Event::Keypad),
+        _ => None,
+    }
+}
+
+/// The event whose text has these words.
+fn parse_fields(mut fields: Fields<'_>) -> Option<Event>
+    ensures { ReadsWords event_words EventFits fields.entry result }
+{
+    let name = fields.word()?;
+    parse_row(name, fields)
 }
 
 impl Event {
@@ -53,10 +81,7 @@ impl Event {
         ensures value { IfOk result (λ e. AllStandFor (event_words e) (texts words.now) × EventFits e) }
         ensures only { (e : Event) → EventFits e → AllStandFor (event_words e) (texts words.now) → result ≡ Ok e }
     {
-        match Reply::parse(words) {
-            Ok(reply) => event_of(reply),
-            Err(fault) => Err(fault),
-        }
+        parse_fields(Fields::new(words)).ok_or(BadWords)
     }
 
     /// The event whose text a line is. Its words have one or more spaces between each two.
@@ -64,10 +89,7 @@ impl Event {
         ensures value { IfOk result (λ e. AllStandFor (event_words e) (words_in line.now) × EventFits e) }
         ensures only { (e : Event) → EventFits e → AllStandFor (event_words e) (words_in line.now) → result ≡ Ok e }
     {
-        match Reply::parse_line(line) {
-            Ok(reply) => event_of(reply),
-            Err(fault) => Err(fault),
-        }
+        parse_fields(Fields::of_line(line)).ok_or(BadWords)
     }
 
     /// An equal event.
@@ -75,19 +97,6 @@ impl Event {
         ensures { result ≡ self.now }
     {
         self.to_reply().to_event().unwrap()
-    }
-}
-
-/// The event that a reply tells, if it tells one.
-// It stands by itself, since it has places for several messages, which are not to stand beside those of reading a text.
-#[inline(never)]
-fn event_of(reply: Reply) -> Result<Event, BadWords>
-    ensures event { IfOk result (λ e. reply ≡ event_reply e) }
-    ensures only { (e : Event) → reply ≡ event_reply e → result ≡ Ok e }
-{
-    match reply.to_event() {
-        Ok(event) => Ok(event),
-        Err(_) => Err(BadWords),
     }
 }
 
