@@ -1,5 +1,5 @@
 -- An event that goes by this name is made of a value that is read after it.
-use Rattle.std.proofs.Common.{◌≡◌, ℕ, List, codes, refl}
+use Rattle.std.proofs.Common.{ℕ, List, codes, refl}
 use Rattle.osdp_words.specs.Word.{Word}
 use Rattle.osdp_msg.specs.declared.event.Event.{Event}
 use Rattle.osdp_msg.specs.declared.event.Event.TheVariants.{LocalState}
