@@ -1,7 +1,7 @@
 -- What is read of a POLL and of an ACK, by their codes alone.
 use Rattle.std.specs.Prelude.{slice_index}
 use Rattle.std.proofs.Common.{◌≡◌, ◌↔◌, ◌∙◌, ℕ, Bool, List, [], ◌∷◌, drop, length, is_some, nat_eq, true, false, Option, Some, None, Result, Ok, Err, refl, sym, ap, arith}
-use Rattle.std.proofs.lemmas.Bool.{eqb-true}
+use Rattle.std.proofs.lemmas.Bool.{eqb-true, false≢true}
 use Rattle.osdp_msg.specs.CommandTable.{command_of, command_fault, command_at, command_counts_agree, command_length_allowed}
 use Rattle.osdp_msg.specs.Refusal.{refusal, unless_fault}
 use Rattle.osdp_msg.specs.declared.command.Command.{Command}
@@ -11,53 +11,96 @@ use Rattle.osdp_msg.specs.declared.reply.Reply.{Reply}
 use Rattle.osdp_msg.specs.declared.reply.Reply.TheVariants.{Ack}
 use Rattle.osdp_msg.specs.ReplyTable.{reply_of, reply_fault, reply_at, reply_counts_agree, reply_length_allowed}
 
--- ---- a POLL
+-- ---- a message without data that is read of one code alone
 
-abbrev is_poll : Result Command MsgFault → Bool
-is_poll (Ok Poll) = true
+-- what a table makes of a code and data
+abbrev read_by : {M : Type 0} → (ℕ → ℕ → Option Bool) → (ℕ → List ℕ → Bool) → (ℕ → List ℕ → M) → ℕ → List ℕ → Result M MsgFault
+read_by allowed agree at code bytes = unless_fault (refusal (allowed code (length bytes)) (length bytes) (agree code bytes)) (at code bytes)
+
+-- it is read
+abbrev reads : {M : Type 0} → (M → Bool) → Result M MsgFault → Bool
+reads is_bare (Ok m) = is_bare m
+reads is_bare (Err fault) = false
+
+-- it has this code in the table, and no row with another code is it
+record IsBare {M : Type 0} (allowed : ℕ → ℕ → Option Bool) (agree : ℕ → List ℕ → Bool) (at : ℕ → List ℕ → M) (own : ℕ) (bare : M) (is_bare : M → Bool) : Type 0 where
+  told : (m : M) → is_bare m ≡ true → m ≡ bare
+  same : is_bare bare ≡ true
+  alone : (bytes : List ℕ) → nat_eq (length bytes) 0 ≡ reads is_bare (read_by allowed agree at own bytes)
+  other : (code len : ℕ) (bytes : List ℕ) → nat_eq code own ≡ false → is_some (allowed code len) ≡ true → is_bare (at code bytes) ≡ false
+
+module _ {M : Type 0} (allowed : ℕ → ℕ → Option Bool) (agree : ℕ → List ℕ → Bool) (at : ℕ → List ℕ → M) (own : ℕ) (bare : M) (is_bare : M → Bool) (row : IsBare allowed agree at own bare is_bare) where
+  read_told : (read : Result M MsgFault) → reads is_bare read ≡ true → read ≡ Ok bare
+  read_told (Ok m) h = ap Ok (row.told m h)
+  read_told (Err fault) h = absurd (false≢true h)
+
+  bare_has : (read : Result M MsgFault) (b : Bool) → b ≡ reads is_bare read → (b ≡ true) ↔ (read ≡ Ok bare)
+  bare_has read b is = (λ h. read_told read (sym is ∙ h), λ e. is ∙ ap (reads is_bare) e ∙ row.same)
+
+  faulty : (fault : Option MsgFault) (m : M) → is_bare m ≡ false → reads is_bare (unless_fault fault m) ≡ false
+  faulty None m h = h
+  faulty (Some e) m h = refl
+
+  not_bare : (code : ℕ) (bytes : List ℕ) → nat_eq code own ≡ false → reads is_bare (read_by allowed agree at code bytes) ≡ false
+  not_bare code bytes other = by_row (allowed code (length bytes)) refl
+    where
+      by_row : (may : Option Bool) → allowed code (length bytes) ≡ may → reads is_bare (read_by allowed agree at code bytes) ≡ false
+      by_row None e = rw e refl
+      by_row (Some may) e =
+          faulty (refusal (allowed code (length bytes)) (length bytes) (agree code bytes)) (at code bytes) (row.other code (length bytes) bytes other (ap is_some e))
+
+  -- its code, and then its length
+  bare_then : (code : ℕ) (bytes : List ℕ) → code ≡ own → (nat_eq (length bytes) 0 ≡ true) ↔ (read_by allowed agree at code bytes ≡ Ok bare)
+  bare_then code bytes is =
+      bare_has (read_by allowed agree at code bytes) (nat_eq (length bytes) 0) (row.alone bytes ∙ ap (λ n. reads is_bare (read_by allowed agree at n bytes)) (sym is))
+
+  bare_else : (code : ℕ) (bytes : List ℕ) → nat_eq code own ≡ false → (nat_eq code own ≡ true) ↔ (read_by allowed agree at code bytes ≡ Ok bare)
+  bare_else code bytes other = bare_has (read_by allowed agree at code bytes) (nat_eq code own) (other ∙ sym (not_bare code bytes other))
+
+-- ---- a POLL and an ACK
+
+abbrev is_poll : Command → Bool
+is_poll Poll = true
 is_poll _ = false
 
-poll_told : (read : Result Command MsgFault) → is_poll read ≡ true → read ≡ Ok Poll
-poll_told (Ok Poll) h = refl
-poll_told (Ok command) h = cc
-poll_told (Err fault) h = cc
+abbrev is_ack : Reply → Bool
+is_ack Ack = true
+is_ack _ = false
 
-poll_has : (read : Result Command MsgFault) (b : Bool) → b ≡ is_poll read → (b ≡ true) ↔ (read ≡ Ok Poll)
-poll_has read b is = (λ h. poll_told read (sym is ∙ h), λ e. is ∙ ap is_poll e)
+poll_told : (m : Command) → is_poll m ≡ true → m ≡ Poll
+poll_told Poll h = refl
+poll_told m h = cc
 
-poll_alone : (bytes : List ℕ) → nat_eq (length bytes) 0 ≡ is_poll (command_of 0x60 bytes)
-unfolding command_of command_fault command_at
-poll_alone bytes = grind arith
+ack_told : (m : Reply) → is_ack m ≡ true → m ≡ Ack
+ack_told Ack h = refl
+ack_told m h = cc
 
-other_command : (code len : ℕ) (bytes : List ℕ) → nat_eq code 0x60 ≡ false → is_some (command_length_allowed code len) ≡ true
-    → is_poll (Ok (command_at code bytes)) ≡ false
+poll : IsBare command_length_allowed command_counts_agree command_at 0x60 Poll is_poll
 unfolding command_at
-other_command code len bytes other row = grind arith
+poll = record { told = poll_told; same = refl; alone = λ bytes. grind arith; other = λ code len bytes other row. grind arith }
 
-faulty_command : (fault : Option MsgFault) (c : Command) → is_poll (Ok c) ≡ false → is_poll (unless_fault fault c) ≡ false
-faulty_command None c h = h
-faulty_command (Some e) c h = refl
+ack : IsBare reply_length_allowed reply_counts_agree reply_at 0x40 Ack is_ack
+unfolding reply_at
+ack = record { told = ack_told; same = refl; alone = λ bytes. grind arith; other = λ code len bytes other row. grind arith }
 
-no_poll : (code : ℕ) (bytes : List ℕ) → nat_eq code 0x60 ≡ false → is_poll (command_of code bytes) ≡ false
-unfolding command_of command_fault
-no_poll code bytes other = by_row (command_length_allowed code (length bytes)) refl
-  where
-    by_row : (row : Option Bool) → command_length_allowed code (length bytes) ≡ row
-        → is_poll (unless_fault (refusal (command_length_allowed code (length bytes)) (length bytes) (command_counts_agree code bytes)) (command_at code bytes)) ≡ false
-    by_row None e = rw e refl
-    by_row (Some allowed) e =
-        faulty_command (refusal (command_length_allowed code (length bytes)) (length bytes) (command_counts_agree code bytes)) (command_at code bytes)
-        (other_command code (length bytes) bytes other (ap is_some e))
-
--- its code, and then its length
 pub poll_then : (code : ℕ) (bytes : List ℕ) → code ≡ 0x60 → (nat_eq (length bytes) 0 ≡ true) ↔ (command_of code bytes ≡ Ok Poll)
-poll_then code bytes is =
-    poll_has (command_of code bytes) (nat_eq (length bytes) 0) (poll_alone bytes ∙ ap (λ n. is_poll (command_of n bytes)) (sym is))
+unfolding command_of command_fault
+poll_then = bare_then command_length_allowed command_counts_agree command_at 0x60 Poll is_poll poll
+
+pub ack_then : (code : ℕ) (bytes : List ℕ) → code ≡ 0x40 → (nat_eq (length bytes) 0 ≡ true) ↔ (reply_of code bytes ≡ Ok Ack)
+unfolding reply_of reply_fault
+ack_then = bare_then reply_length_allowed reply_counts_agree reply_at 0x40 Ack is_ack ack
 
 pub poll_else : (code : ℕ) (bytes : List ℕ) → nat_eq code 0x60 ≡ false → (nat_eq code 0x60 ≡ true) ↔ (command_of code bytes ≡ Ok Poll)
-poll_else code bytes other = poll_has (command_of code bytes) (nat_eq code 0x60) (other ∙ sym (no_poll code bytes other))
+unfolding command_of command_fault
+poll_else = bare_else command_length_allowed command_counts_agree command_at 0x60 Poll is_poll poll
 
--- of a whole body: its length, and then its code
+pub ack_else : (code : ℕ) (bytes : List ℕ) → nat_eq code 0x40 ≡ false → (nat_eq code 0x40 ≡ true) ↔ (reply_of code bytes ≡ Ok Ack)
+unfolding reply_of reply_fault
+ack_else = bare_else reply_length_allowed reply_counts_agree reply_at 0x40 Ack is_ack ack
+
+-- ---- a POLL by its whole body: its length, and then its code
+
 pub body_then : (body : List ℕ) → length body ≡ 1
     → (nat_eq (slice_index body 0) 0x60 ≡ true) ↔ (command_of (slice_index body 0) (drop 1 body) ≡ Ok Poll)
 body_then [] one = absurd (omega arith)
@@ -71,60 +114,16 @@ body_then (b ∷ c ∷ bytes) one = absurd (omega arith)
 has_data : (b : ℕ) (bytes : List ℕ) → nat_eq (length (b ∷ bytes)) 0 ≡ false
 has_data b bytes = grind arith
 
-long_body : (body : List ℕ) → nat_eq (length body) 1 ≡ false → is_poll (command_of (slice_index body 0) (drop 1 body)) ≡ false
-long_body [] other = no_poll 0 [] refl
-long_body (b ∷ []) other = absurd cc
-long_body (b ∷ c ∷ bytes) other = by_code (nat_eq b 0x60) refl
+-- a longer one, and none, is no POLL
+long_body : (body : List ℕ) → nat_eq (length body) 1 ≡ false → command_of (slice_index body 0) (drop 1 body) ≡ Ok Poll → ⊥
+long_body [] other e = false≢true ((poll_else 0 [] refl).1 e)
+long_body (b ∷ []) other e = absurd cc
+long_body (b ∷ c ∷ bytes) other e = by_code (nat_eq b 0x60) refl
   where
-    by_code : (is : Bool) → nat_eq b 0x60 ≡ is → is_poll (command_of b (c ∷ bytes)) ≡ false
-    by_code true e = ap (λ n. is_poll (command_of n (c ∷ bytes))) (eqb-true b 0x60 e) ∙ sym (poll_alone (c ∷ bytes)) ∙ has_data c bytes
-    by_code false e = no_poll b (c ∷ bytes) e
+    by_code : (is : Bool) → nat_eq b 0x60 ≡ is → ⊥
+    by_code true is = false≢true (sym (has_data c bytes) ∙ (poll_then b (c ∷ bytes) (eqb-true b 0x60 is)).1 e)
+    by_code false is = false≢true (sym is ∙ (poll_else b (c ∷ bytes) is).1 e)
 
 pub body_else : (body : List ℕ) → nat_eq (length body) 1 ≡ false
     → (nat_eq (length body) 1 ≡ true) ↔ (command_of (slice_index body 0) (drop 1 body) ≡ Ok Poll)
-body_else body other = poll_has (command_of (slice_index body 0) (drop 1 body)) (nat_eq (length body) 1) (other ∙ sym (long_body body other))
-
--- ---- an ACK
-
-abbrev is_ack : Result Reply MsgFault → Bool
-is_ack (Ok Ack) = true
-is_ack _ = false
-
-ack_told : (read : Result Reply MsgFault) → is_ack read ≡ true → read ≡ Ok Ack
-ack_told (Ok Ack) h = refl
-ack_told (Ok reply) h = cc
-ack_told (Err fault) h = cc
-
-ack_has : (read : Result Reply MsgFault) (b : Bool) → b ≡ is_ack read → (b ≡ true) ↔ (read ≡ Ok Ack)
-ack_has read b is = (λ h. ack_told read (sym is ∙ h), λ e. is ∙ ap is_ack e)
-
-ack_alone : (bytes : List ℕ) → nat_eq (length bytes) 0 ≡ is_ack (reply_of 0x40 bytes)
-unfolding reply_of reply_fault reply_at
-ack_alone bytes = grind arith
-
-other_reply : (code len : ℕ) (bytes : List ℕ) → nat_eq code 0x40 ≡ false → is_some (reply_length_allowed code len) ≡ true
-    → is_ack (Ok (reply_at code bytes)) ≡ false
-unfolding reply_at
-other_reply code len bytes other row = grind arith
-
-faulty_reply : (fault : Option MsgFault) (r : Reply) → is_ack (Ok r) ≡ false → is_ack (unless_fault fault r) ≡ false
-faulty_reply None r h = h
-faulty_reply (Some e) r h = refl
-
-no_ack : (code : ℕ) (bytes : List ℕ) → nat_eq code 0x40 ≡ false → is_ack (reply_of code bytes) ≡ false
-unfolding reply_of reply_fault
-no_ack code bytes other = by_row (reply_length_allowed code (length bytes)) refl
-  where
-    by_row : (row : Option Bool) → reply_length_allowed code (length bytes) ≡ row
-        → is_ack (unless_fault (refusal (reply_length_allowed code (length bytes)) (length bytes) (reply_counts_agree code bytes)) (reply_at code bytes)) ≡ false
-    by_row None e = rw e refl
-    by_row (Some allowed) e =
-        faulty_reply (refusal (reply_length_allowed code (length bytes)) (length bytes) (reply_counts_agree code bytes)) (reply_at code bytes)
-        (other_reply code (length bytes) bytes other (ap is_some e))
-
-pub ack_then : (code : ℕ) (bytes : List ℕ) → code ≡ 0x40 → (nat_eq (length bytes) 0 ≡ true) ↔ (reply_of code bytes ≡ Ok Ack)
-ack_then code bytes is =
-    ack_has (reply_of code bytes) (nat_eq (length bytes) 0) (ack_alone bytes ∙ ap (λ n. is_ack (reply_of n bytes)) (sym is))
-
-pub ack_else : (code : ℕ) (bytes : List ℕ) → nat_eq code 0x40 ≡ false → (nat_eq code 0x40 ≡ true) ↔ (reply_of code bytes ≡ Ok Ack)
-ack_else code bytes other = ack_has (reply_of code bytes) (nat_eq code 0x40) (other ∙ sym (no_ack code bytes other))
+body_else body other = (λ h. absurd (false≢true (sym other ∙ h)), λ e. absurd (long_body body other e))

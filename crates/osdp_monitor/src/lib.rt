@@ -18,4 +18,4 @@ mod said;
 pub use accusation::Accusation;
 pub use found::{Found, Notice};
 pub use monitor::Monitor;
-pub use said::Said;
+pub use said::{Said, is_poll};

@@ -23,7 +23,7 @@ pub enum Said {
 
 /// Whether a packet to a device is a POLL: its code and its length tell.
 #[tactic(auto, using(crate::proofs::Bare::poll_then, crate::proofs::Bare::poll_else))]
-pub(crate) fn is_poll(packet: &FrameView<'_>) -> bool
+pub fn is_poll(packet: &FrameView<'_>) -> bool
     ensures { (result ≡ true) ↔ (asked packet.now ≡ Ok Command.Poll) }
 {
     packet.code() == 0x60 && packet.payload().len() == 0

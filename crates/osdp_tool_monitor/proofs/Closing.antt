@@ -1,7 +1,8 @@
 -- How the command ends.
-use Rattle.std.proofs.Common.{◌≡◌, ℕ, ◌+◌, ◌*◌, ◌^◌, ◌≤◌, Bool, true, false, cond, inl, inr, List, [], ◌∷◌, ◌++◌, length, take, Option, Some, None, Ok, Err, refl, sym, subst, ap, ◌∙◌, arith, append-nil}
+use Rattle.std.proofs.Common.{◌≡◌, ℕ, ◌+◌, ◌*◌, ◌^◌, ◌≤◌, Bool, true, false, cond, inl, inr, List, [], ◌∷◌, ◌++◌, length, take, Option, Some, None, Result, Ok, Err, IsErrAnd, refl, sym, subst, ap, ◌∙◌, arith, append-nil}
 use Rattle.std.proofs.KnownBytes.{Appends-kept, Appends-nil}
 use Rattle.std.specs.Io.KnownBytes.{Appends, IsAtEnd, Keeps}
+use Rattle.osdp_tool_streams.proofs.Answered.{on_err}
 use Rattle.osdp_tool_streams.specs.declared.fault.ToolFault.{ToolFault}
 use Rattle.osdp_tool_streams.specs.declared.fault.ToolFault.TheVariants.{NotHex, TooLong, ReadFailed, WriteFailed, NoMemory}
 use Rattle.osdp_tool_monitor.specs.declared.open_line.OpenLine.{OpenLine}
@@ -180,3 +181,57 @@ module _ {M : Type 0} (tells : M → ℕ → M → Type 0) (mode : MonitorMode) 
   read_failed own ReadFailed same is r = subst (λ m. HasRead tells m first last i0 i2 start now s × (input_failed ≡ true) × (failed ≡ false)) same r
   read_failed own fault same is r = subst (λ m. HasRead tells m first last i0 i2 start now s × (input_failed ≡ true) × (failed ≡ false)) same
       (subst (λ f. ReadsAll tells own first last i0 i2 input_failed start now failed s (Err f)) is r)
+
+-- ---- how the command ends, by what was read, and then by what was written
+
+module _ {M : Type 0} (tells : M → ℕ → M → Type 0) (mode : MonitorMode) (first last : M) (i0 i2 start now after : Option (List ℕ)) (input_failed was failed : Bool)
+    (s : Session) (own : MonitorMode) (same : own ≡ mode) where
+  pub ends_well : (b : Bool) → b ≡ true → ReadsAll tells own first last i0 i2 input_failed start now was s (Ok b) → (next : Session) (good wrong : Bool)
+      → TellsEvents {T = Bool} (end_events s.mode.hex (cut_of s)) s next now after failed (Ok good) → bad_at_end s.mode.hex (cut_of s) ≡ cond good None (Some next.ended)
+      → good ≡ true → wrong ≡ is_wrong (listening_of next.line.listener) → Ends tells mode first last i0 i2 input_failed start after failed (Ok wrong)
+  ends_well b is read next good wrong told bad well wrong_is =
+      let r = read_well tells mode first last i0 i2 start now input_failed was s own b same is read in
+      closed_well tells mode first last i0 i2 start now after s next input_failed failed good wrong r.0 r.1 told bad well wrong_is r.2
+
+  pub ends_bad : (b : Bool) → b ≡ true → ReadsAll tells own first last i0 i2 input_failed start now was s (Ok b) → (next : Session) (good : Bool)
+      → TellsEvents {T = Bool} (end_events s.mode.hex (cut_of s)) s next now after failed (Ok good) → bad_at_end s.mode.hex (cut_of s) ≡ cond good None (Some next.ended)
+      → good ≡ false → Ends tells mode first last i0 i2 input_failed start after failed (Err (NotHex next.ended))
+  ends_bad b is read next good told bad ill =
+      let r = read_well tells mode first last i0 i2 start now input_failed was s own b same is read in
+      closed_bad tells mode first last i0 i2 start now after s next input_failed failed good r.0 r.1 told bad ill r.2
+
+  pub ends_stopped : (b : Bool) → b ≡ true → ReadsAll tells own first last i0 i2 input_failed start now was s (Ok b) → (next : Session) (fault : ToolFault)
+      → TellsEvents {T = Bool} (end_events s.mode.hex (cut_of s)) s next now after failed (Err fault) → (answer : Result Bool ToolFault) → IsErrAnd answer (λ x. x ≡ fault)
+      → Ends tells mode first last i0 i2 input_failed start after failed answer
+  ends_stopped b is read next fault told answer answer_is =
+      let r = read_well tells mode first last i0 i2 start now input_failed was s own b same is read in
+      on_err (λ a. Ends tells mode first last i0 i2 input_failed start after failed a) answer fault answer_is
+      (closed_stops tells mode first last i0 i2 start now after s next input_failed failed fault r.0 told r.2)
+
+  pub breaks_well : (b : Bool) → b ≡ false → ReadsAll tells own first last i0 i2 input_failed start now was s (Ok b)
+      → TellsEvents {T = Unit {0}} (TableDue ∷ []) s s now after failed (Ok tt) → Ends tells mode first last i0 i2 input_failed start after failed (Err (NotHex s.ended))
+  breaks_well b is read told =
+      let r = read_bad tells mode first last i0 i2 start now input_failed was s own b same is read in
+      broken_well tells mode first last i0 i2 start now after s input_failed failed r.0 told r.1
+
+  pub breaks_stopped : (b : Bool) → b ≡ false → ReadsAll tells own first last i0 i2 input_failed start now was s (Ok b) → (fault : ToolFault)
+      → TellsEvents {T = Unit {0}} (TableDue ∷ []) s s now after failed (Err fault) → (answer : Result Bool ToolFault) → IsErrAnd answer (λ x. x ≡ fault)
+      → Ends tells mode first last i0 i2 input_failed start after failed answer
+  breaks_stopped b is read fault told answer answer_is =
+      let r = read_bad tells mode first last i0 i2 start now input_failed was s own b same is read in
+      on_err (λ a. Ends tells mode first last i0 i2 input_failed start after failed a) answer fault answer_is
+      (broken_stops tells mode first last i0 i2 start now after s input_failed failed fault r.0 told r.1)
+
+  pub fails_well : (why : ToolFault) → why ≡ ReadFailed → ReadsAll tells own first last i0 i2 input_failed start now was s (Err why)
+      → TellsEvents {T = Unit {0}} (TableDue ∷ []) s s now after failed (Ok tt) → Ends tells mode first last i0 i2 input_failed start after failed (Err ReadFailed)
+  fails_well why is read told =
+      let r = read_failed tells mode first last i0 i2 start now input_failed was s own why same is read in
+      failed_well tells mode first last i0 i2 start now after s input_failed failed r.0 told r.1
+
+  pub fails_by : (why : ToolFault) → why ≡ ReadFailed → ReadsAll tells own first last i0 i2 input_failed start now was s (Err why) → (fault final : ToolFault)
+      → TellsEvents {T = Unit {0}} (TableDue ∷ []) s s now after failed (Err fault) → final ≡ after_failed_read fault
+      → Ends tells mode first last i0 i2 input_failed start after failed (Err final)
+  fails_by why is read fault final told final_is =
+      let r = read_failed tells mode first last i0 i2 start now input_failed was s own why same is read in
+      subst (λ f. Ends tells mode first last i0 i2 input_failed start after failed (Err f)) (sym final_is)
+      (failed_by tells mode first last i0 i2 start now after s input_failed failed fault r.0 told r.1)

@@ -1,20 +1,18 @@
 -- Open lines: items that are taken off one by one, and pieces of a run one after the other.
-use Rattle.std.proofs.Common.{◌≡◌, ◌≢◌, cond, ℕ, ◌+◌, ◌-◌, ◌*◌, ◌<◌, ◌≤◌, ◌==◌, ◌&&◌, not, Bool, true, false, List, [], ◌∷◌, ◌++◌, length, take, drop, Some, None, Result, Ok, Err, IfErr, OnOk, refl, sym, subst, ap, ◌∙◌, arith, append_assoc, append-nil, length-append, length-drop}
-use Rattle.std.proofs.Math.Seq.{drop-drop, take-add}
-use Rattle.std.proofs.lemmas.Bool.{eqb-false, ne_eqb}
+use Rattle.std.proofs.Common.{◌≡◌, ℕ, ◌+◌, ◌-◌, ◌*◌, ◌<◌, ◌≤◌, ◌==◌, not, Bool, true, false, List, [], ◌∷◌, ◌++◌, length, take, drop, Some, None, Result, Ok, Err, IfErr, OnOk, refl, sym, subst, ap, ◌∙◌, arith, append_assoc, append-nil, length-append, length-drop}
+use Rattle.std.proofs.Math.Seq.{take-add}
 use Rattle.std.proofs.lemmas.List.{drop_all, take-take, length-take}
 use Rattle.osdp_frame.specs.Bytes.{AreBytes}
-use Rattle.osdp_frame.specs.Held.{Held, decided, after_advance, after_first, after_push, later, taken_count}
+use Rattle.osdp_frame.specs.Held.{Held, decided, after_advance, after_push, taken_count}
 use Rattle.osdp_frame.specs.Items.{items, left_over}
 use Rattle.osdp_frame.specs.Reading.{RunItem, item_size, total_size}
 use Rattle.osdp_frame.proofs.Head.{AreBytes-drop, AreBytes-take}
-use Rattle.osdp_frame.proofs.Decided.{undecided_none, undecided_ended}
 use Rattle.osdp_frame_laws.proofs.LawsOfSpellings.{AreBytes-append}
-use Rattle.osdp_frame_laws.proofs.LeftOver.{left_is, left_over-append, reading_split, total_size-append}
-use Rattle.osdp_frame_laws.proofs.Readings.{decided_nothing, is_reading, item_size-positive, item_size-decided, items-append, items_decided, items_undecided, sizes_reading}
-use Rattle.osdp_tool_show.specs.Tally.{after_run, counted}
-use Rattle.osdp_tool_show.specs.declared.tally.Tally.{Tally}
-use Rattle.osdp_tool_show.proofs.Lines.{counted-tally_after}
+use Rattle.osdp_frame_laws.proofs.LeftOver.{gap_items, left_is, left_over-append, reading_split, total_size-append}
+use Rattle.osdp_frame_laws.proofs.Readings.{is_reading, item_size-positive, item_size-decided, items-append, items_undecided, sizes_reading}
+use Rattle.osdp_tool_show.specs.Tally.{counted}
+use Rattle.osdp_tool_show.proofs.Lines.{counted-after_run, counted-tally_after}
+use Rattle.osdp_tool_show.proofs.Taking.{Taking, next_bytes, taken_all, taking_start, taking_step}
 use Rattle.osdp_tool_monitor.specs.declared.listener.Listener.{Listener}
 use Rattle.osdp_tool_monitor.specs.declared.open_line.OpenLine.{OpenLine}
 use Rattle.osdp_tool_monitor.specs.Hearing.{Come, Drained, Hearing, Hears, HearsItems, IsOpen, LineEvent, RunEnds, TableDue, after_event, after_events, event_report, events_report, hearing_of, load, prints_all}
@@ -83,76 +81,39 @@ counted_items l (part ∷ parts) = omega (arith, counted_items (heard_item l par
 pub record Draining (start now : Held) (old new : Listener) (before after : List ℕ) : Type 0 where
   pub parts : List RunItem
   pub hears : HearsItems parts old new before after
-  pub whole : items start.ended start.bytes ≡ parts ++ items now.ended now.bytes
-  pub rest : drop (total_size (items now.ended now.bytes)) now.bytes ≡ drop (total_size (items start.ended start.bytes)) start.bytes
-  pub bytes : AreBytes now.bytes
-  pub some : now.ended ≡ true → 0 < length now.bytes
+  pub taking : Taking start now parts
   pub size : total_size parts + length now.bytes ≡ length start.bytes
-
--- of a run that has ended nothing but its end is left where no byte is
-still_ended : (ended : Bool) (rest : List ℕ) → items (ended && not (length rest == 0)) rest ≡ items ended rest
-still_ended ended [] = items_undecided (ended && false) [] (decided_nothing (ended && false)) ∙ sym (items_undecided ended [] (decided_nothing ended))
-still_ended true (b ∷ rest) = ap (λ t. items (true && not t) (b ∷ rest)) (ne_eqb (length (b ∷ rest)) 0 (λ h. omega arith))
-still_ended false (b ∷ rest) = refl
-
-ended_some : (ended : Bool) (rest : List ℕ) → (ended && not (length rest == 0)) ≡ true → 0 < length rest
-ended_some true [] h = cc
-ended_some false [] h = cc
-ended_some ended (b ∷ rest) h = omega arith
 
 pub draining_start : (start : Held) (old : Listener) (before : List ℕ) → AreBytes start.bytes → (start.ended ≡ true → 0 < length start.bytes)
     → Draining start start old old before before
 draining_start start old before fits some =
-    record { parts = []; hears = hears_none old before; whole = refl; rest = refl; bytes = fits; some = some; size = omega arith }
+    record { parts = []; hears = hears_none old before; taking = taking_start start fits some; size = omega arith }
 
 pub draining_step : (start now next : Held) (old mid new : Listener) (before middle after : List ℕ) (part : RunItem)
     → Draining start now old mid before middle → decided now.ended now.bytes ≡ Some part → next ≡ after_advance now
     → HearsItem part mid new middle after → Draining start next old new before after
 draining_step start now next old mid new before middle after part d is advanced hears =
-    let n = item_size part in
-    let short : n ≤ length now.bytes = item_size-decided now.ended now.bytes part d.bytes is in
-    let left = drop n now.bytes in
-    let here : next ≡ later now part = advanced ∙ ap (after_first now) is in
-    let first : items now.ended now.bytes ≡ part ∷ items now.ended left = items_decided now.ended now.bytes part d.bytes is in
-    let same : items next.ended next.bytes ≡ items now.ended left =
-    ap (λ (h : Held). items h.ended h.bytes) here ∙ still_ended now.ended left in
-    let bytes_are : next.bytes ≡ left = ap (λ (h : Held). h.bytes) here in
-    let lengths : length next.bytes ≡ length left = ap length bytes_are in
+    let short = item_size-decided now.ended now.bytes part d.taking.bytes is in
+    let lengths : length next.bytes ≡ length (drop (item_size part) now.bytes) = ap length (next_bytes now next part is advanced) in
     let sizes = d.size in
     record {
       parts = d.parts ++ part ∷ [];
       hears = hears_more d.parts (part ∷ []) old mid new before middle after d.hears (hears_one part mid new middle after hears);
-      whole = d.whole ∙ ap (λ l. d.parts ++ l) (first ∙ ap (λ l. part ∷ l) (sym same)) ∙ sym (append_assoc d.parts (part ∷ []) (items next.ended next.bytes));
-      rest = ap (λ l. drop (total_size l) next.bytes) same ∙ ap (λ l. drop (total_size (items now.ended left)) l) bytes_are
-          ∙ drop-drop (total_size (items now.ended left)) n now.bytes ∙ sym (ap (λ l. drop (total_size l) now.bytes) first) ∙ d.rest;
-      bytes = subst AreBytes (sym bytes_are) (AreBytes-drop n now.bytes d.bytes);
-      some = λ e. subst (λ (l : List ℕ). 0 < length l) (sym bytes_are) (ended_some now.ended left (sym (ap (λ (h : Held). h.ended) here) ∙ e));
-      size = omega (arith, total_size-append d.parts (part ∷ []), length-drop n now.bytes);
+      taking = taking_step start now next d.parts part d.taking is advanced;
+      size = omega (arith, total_size-append d.parts (part ∷ []), length-drop (item_size part) now.bytes);
     }
 
 pub draining_end : (start now : Held) (old new : Listener) (before after : List ℕ) → Draining start now old new before after
     → decided now.ended now.bytes ≡ None → Drained start now old new before after
 draining_end start now old new before after d is =
-    let none : items now.ended now.bytes ≡ [] = items_undecided now.ended now.bytes is in
-    let whole : items start.ended start.bytes ≡ d.parts = d.whole ∙ ap (λ l. d.parts ++ l) none ∙ append-nil d.parts in
-    let bytes_are : now.bytes ≡ drop (total_size (items start.ended start.bytes)) start.bytes =
-    sym (ap (λ l. drop (total_size l) now.bytes) none) ∙ d.rest in
-    let open_ended : now.ended ≡ false = goes_on now.ended refl in
+    let t = taken_all start now d.parts d.taking is in
     record {
-      hears = subst (λ l. HearsItems l old new before after) (sym whole) d.hears;
-      left = bytes_are;
-      goes_on = open_ended;
-      none = ap (λ e. decided e now.bytes) (sym open_ended) ∙ is;
-      bytes = d.bytes;
+      hears = subst (λ l. HearsItems l old new before after) (sym t.whole) d.hears;
+      left = t.left;
+      goes_on = t.goes_on;
+      none = t.none;
+      bytes = d.taking.bytes;
     }
-  where
-    goes_on : (e : Bool) → now.ended ≡ e → now.ended ≡ false
-    goes_on false h = h
-    goes_on true h =
-        let bytes_none : now.bytes ≡ [] = undecided_ended now.bytes (undecided_none true now.bytes (ap (λ e. decided e now.bytes) (sym h) ∙ is)) in
-        let some = d.some h in
-        let none : length now.bytes ≡ 0 = ap length bytes_none in
-        absurd (omega arith)
 
 -- where one more is too many
 pub draining_long : (start now : Held) (old mid : Listener) (before middle : List ℕ) → Draining start now old mid before middle
@@ -321,15 +282,6 @@ run_heard run old new before after none same is_open tells heard text =
 
 -- ---- the end of a run
 
--- the bytes held, as a run that has ended where there are any
-pub gap_items : (bytes : List ℕ) → items (not (length bytes == 0)) bytes ≡ items true bytes
-gap_items [] = items_undecided (not (length {A = ℕ} [] == 0)) [] (decided_nothing (not (length {A = ℕ} [] == 0))) ∙ sym (items_undecided true [] (decided_nothing true))
-gap_items (b ∷ bytes) = ap (λ t. items (not t) (b ∷ bytes)) (ne_eqb (length (b ∷ bytes)) 0 (λ h. omega arith))
-
-pub gap_some : (bytes : List ℕ) → not (length bytes == 0) ≡ true → 0 < length bytes
-gap_some [] e = absurd cc
-gap_some (b ∷ bytes) e = omega arith
-
 -- nothing is left of it
 all_taken : (bytes : List ℕ) → AreBytes bytes → drop (total_size (items true bytes)) bytes ≡ []
 all_taken bytes fits = drop_all (total_size (items true bytes)) bytes (omega (arith, sizes_reading bytes (items true bytes) (is_reading bytes fits)))
@@ -402,19 +354,12 @@ load_gapped old gapped now mid before after is_open is d =
     ap (λ (h : Held). total_size (items h.ended h.bytes)) is ∙ ap total_size (gap_items held) ∙ sizes_reading held (items true held) (is_reading held is_open.bytes) in
     omega (arith, counted_items (listening_of old.listener) (items gapped.ended gapped.bytes))
 
-counted_run : (tally : Tally) → counted (after_run tally) ≤ counted tally
-counted_run tally = by_place (tally.place == 0) refl
-  where
-    by_place : (none : Bool) → (tally.place == 0) ≡ none → counted (cond none tally (record tally { runs = tally.runs + 1; place = 0 })) ≤ counted tally
-    by_place true e = omega arith
-    by_place false e = let some : tally.place ≢ 0 = eqb-false tally.place 0 e in omega arith
-
 load_end : (h : Hearing) (bytes : List ℕ) → AreBytes (h.held ++ bytes) → load (after_event h (RunEnds bytes)) ≤ load h + 5 * length bytes
 load_end h bytes fits =
     let parts = items true (h.held ++ bytes) in
     omega (
       arith,
-      counted_run (heard_items h.heard parts).tally,
+      counted-after_run (heard_items h.heard parts).tally,
       counted_items h.heard parts,
       sizes_reading (h.held ++ bytes) parts (is_reading (h.held ++ bytes) fits),
       length-append h.held bytes,

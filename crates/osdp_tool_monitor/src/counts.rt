@@ -6,7 +6,7 @@ ghost use Rattle.osdp_monitor.specs.Saying.{asked, reply_told};
 ghost use Rattle.osdp_tool_monitor.specs.Counts.{is_poll, kind_of_reply, more_if};
 
 use osdp_frame::FrameView;
-use osdp_monitor::{Found, Notice};
+use osdp_monitor::{Found, Notice, is_poll};
 use osdp_msg::{MsgFault, Reply};
 
 /// What is counted of an address. A count stays at the greatest number of 64 bits.
@@ -54,12 +54,12 @@ pub(crate) fn more_if(test: bool, count: u64) -> u64
     }
 }
 
-/// Whether a packet to a device is a POLL: its code and its length tell.
-#[tactic(auto, using(crate::proofs::ByCode::poll_then, crate::proofs::ByCode::poll_else))]
-fn is_poll(packet: &FrameView<'_>) -> bool
+/// Whether a packet to a device is a POLL.
+#[tactic(auto, using(crate::proofs::ByCode::poll_is))]
+fn counts_as_poll(packet: &FrameView<'_>) -> bool
     ensures { result ≡ is_poll (asked packet.now) }
 {
-    packet.code() == 0x60 && packet.payload().len() == 0
+    is_poll(packet)
 }
 
 /// How a reply is counted. Of most kinds the code tells, and nothing is read.
@@ -145,7 +145,7 @@ impl Counts {
         ensures { self.new ≡ after_sent packet.now copy found.now self.old }
     {
         self.asked = more_if(true, self.asked);
-        self.polls = more_if(is_poll(packet), self.polls);
+        self.polls = more_if(counts_as_poll(packet), self.polls);
         if !copy && found.accusation.is_none() {
             return;
         }

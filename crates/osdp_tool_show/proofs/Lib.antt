@@ -1,6 +1,7 @@
 pub mod Beginnings
 pub mod Reports
 pub mod AfterReads
+pub mod Taking
 pub mod Drains
 pub mod Standing
 pub mod WholeItems
