@@ -67,10 +67,14 @@ impl Monitor {
             self.pass(packet);
             return Ok(NOTHING);
         }
-        if packet.is_reply() {
-            return Ok(self.hear_reply(packet, expected));
+        if !packet.is_reply() {
+            return self.hear_sent(packet, expected);
         }
-        self.hear_sent(packet, expected)
+        // Most replies are an ACK, of which nothing is read.
+        if is_ack(packet) {
+            return Ok(self.hear_ack(packet, expected));
+        }
+        Ok(self.hear_other(packet, expected))
     }
 
     /// Whether a packet to a device is the last one to its address once more, as far as that is known.
@@ -91,22 +95,6 @@ impl Monitor {
     {
         self.devices.forget(packet.address());
         self.skipped = 0;
-    }
-
-    /// Takes a reply of a device. Most are an ACK, of which nothing is read.
-    fn hear_reply(&mut self, packet: &FrameView<'_>, expected: &mut Burst) -> Found
-        requires device { packet.now.address < 127 }
-        requires reply { packet.now.reply ≡ true }
-        requires open { packet.now.block ≡ false }
-        requires none { expected.old.items ≡ [] }
-        ensures found { result ≡ found_in (knowledge_of self.old) packet.now }
-        ensures expected { IsSpelledIf (expected_in (knowledge_of self.old) packet.now) expected.new.items }
-        ensures after { knowledge_of self.new ≡ after_packet (knowledge_of self.old) packet.now }
-    {
-        if is_ack(packet) {
-            return self.hear_ack(packet, expected);
-        }
-        self.hear_other(packet, expected)
     }
 
     /// Takes an ACK. Most answer a POLL in turn.
