@@ -34,7 +34,7 @@ use Rattle.osdp_calls.specs.Lines.{InUse}
 use Rattle.osdp_calls.specs.Sayings.{SaysWhatGoesOut}
 use Rattle.osdp_calls_instance.proofs.LinePrograms.{own_device}
 use Rattle.osdp_calls_instance.proofs.OwnCalls.{others}
-use Rattle.osdp_calls_instance.proofs.SimulatedAccounts.{account_count, all_keep_panel, first_within, keep_steps, Keeps}
+use Rattle.osdp_calls_instance.proofs.SimulatedAccounts.{account_count, all_keep_panel, first_within, keep_steps, site_so, Keeps}
 use Rattle.osdp_calls_instance.proofs.SimulatedBus.{Follows, Here, all_follow, at_both, begins_so, fits_all, goes, more_fit, step_follows, well_first}
 use Rattle.osdp_calls_instance.proofs.SimulatedEnds.{IsSound, sim_devices_are}
 use Rattle.osdp_calls_instance.proofs.SimulatedTakes.{IsTaking, all_take, other_chunk, own_chunk, taken_after, taken_to, takes_each}
