@@ -7,7 +7,7 @@ ghost use Rattle.osdp_script.specs.Kept.{line_of, own_size};
 
 use crate::step::{ScriptStep, Way, bytes_of};
 use osdp_msg::{Command, Event};
-use osdp_sim::{Move, SimStep};
+use osdp_sim::SimStep;
 use std::alloc::{AllocError, Global};
 use std::marker::Model;
 
