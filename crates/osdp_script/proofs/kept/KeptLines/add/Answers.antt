@@ -1,5 +1,5 @@
 use Rattle.std.proofs.Common.{◌≡◌, ◌++◌, ◌∷◌, [], length, ap, sym, ◌∙◌, arith, length-append}
-use Rattle.osdp_script.specs.Kept.{line_of, lines_kept, own_size, sizes}
+use Rattle.osdp_script.specs.Kept.{line_of, lines_kept, sizes}
 use Rattle.osdp_script.proofs.Keeping.{lines_more, sizes_more}
 use Rattle.osdp_script.proofs.kept.KeptLines.add.Goals as goal
 
