@@ -1,16 +1,18 @@
 -- A packet after one that was answered, and an ACK that answers a POLL in turn: nothing is found in them.
-use Rattle.std.proofs.Common.{◌≡◌, ◌≢◌, ◌==◌, ◌||◌, ℕ, Bool, true, false, Option, Some, None, Result, Ok, Err, refl, subst, arith}
+use Rattle.std.proofs.Common.{◌≡◌, ◌≢◌, ◌==◌, ◌||◌, ◌<◌, ℕ, Bool, true, false, List, Option, Some, None, Result, Ok, Err, refl, ap, subst, arith}
+use Rattle.std.proofs.lemmas.Bool.{ne_eqb}
 use Rattle.osdp_frame.specs.Packet.{Packet, next_sequence}
 use Rattle.osdp_msg.specs.declared.command.Command.{Command}
 use Rattle.osdp_msg.specs.declared.command.Command.TheVariants.{Comset, Poll}
 use Rattle.osdp_msg.specs.declared.fault.MsgFault.{MsgFault}
 use Rattle.osdp_msg.specs.declared.reply.Reply.TheVariants.{Ack}
+use Rattle.osdp_monitor.specs.declared.found.Found.{Found}
 use Rattle.osdp_monitor.specs.Known.{Known, same_check, same_packet}
-use Rattle.osdp_monitor.specs.Line.{Knowledge, after_reply_if, found_in_reply, found_in_sent, moves_to, nothing_found}
+use Rattle.osdp_monitor.specs.Line.{Knowledge, after_packet, after_reply_if, devices_after, devices_after_reply, devices_after_sent, expected_if, expected_in, found_in, found_in_reply, found_in_sent, moves_to, nothing_found}
 use Rattle.osdp_monitor.specs.Panel.{after_sent}
-use Rattle.osdp_monitor.specs.Private.{AnswersPoll, IsNext, IsPollTo, is_next, number_of}
+use Rattle.osdp_monitor.specs.Private.{AnswersPoll, IsNext, IsPollTo, IsSpelledIf, is_next, number_of}
 use Rattle.osdp_monitor.specs.Reader.{after_reply}
-use Rattle.osdp_monitor.specs.Saying.{asked, moved_by, reply_told}
+use Rattle.osdp_monitor.specs.Saying.{asked, is_foreign, moved_by, reply_told}
 
 -- the number is not the one taken last
 other_number : (t n : ℕ) → (next_sequence t == n) ≡ true → (t == n) ≡ false
@@ -110,9 +112,38 @@ is_sent k p n = next_sent k.last k p refl n.next n.replied
 
 -- ---- where nothing is known anew
 
-abbrev line_of : (ℕ → Known) → ℕ → Knowledge
+abbrev pub line_of : (ℕ → Known) → ℕ → Knowledge
 line_of devices skipped = record { devices = devices; skipped = skipped }
 
 -- what holds of what is known holds still
 pub on_same : (P : Knowledge → Type 0) (devices others : ℕ → Known) (skipped : ℕ) → devices ≡ others → P (line_of devices skipped) → P (line_of others skipped)
 on_same P devices others skipped same holds = subst (λ d. P (line_of d skipped)) same holds
+
+-- ---- what is found in a packet of a device, and what is known after it
+
+module _ (devices : ℕ → Known) (skipped : ℕ) (p : Packet) (device : p.address < 127) (own : is_foreign p ≡ false) where
+  not_all : (p.address == 127) ≡ false
+  not_all = ne_eqb p.address 127 (λ h. omega arith)
+
+  pub reply_found : p.reply ≡ true → found_in (line_of devices skipped) p ≡ found_in_reply (devices p.address).last (devices p.address) p
+  reply_found reply = rw (not_all, own, reply) refl
+
+  pub reply_after : p.reply ≡ true → devices_after p devices ≡ devices_after_reply p devices
+  reply_after reply = rw (not_all, own, reply) refl
+
+  pub sent_found : p.reply ≡ false → found_in (line_of devices skipped) p ≡ found_in_sent (devices p.address) p
+  sent_found sent = rw (not_all, own, sent) refl
+
+  pub sent_after : p.reply ≡ false → devices_after p devices ≡ devices_after_sent p devices
+  sent_after sent = rw (not_all, own, sent) refl
+
+-- of what is known alike the same had to come, and the same is known after it
+module _ (devices others : ℕ → Known) (skipped : ℕ) (same : devices ≡ others) (p : Packet) where
+  pub expected_same : (f : Found) (bytes : List ℕ) → f ≡ found_in (line_of devices skipped) p → IsSpelledIf (expected_if (devices p.address) f.accusation) bytes
+      → IsSpelledIf (expected_in (line_of others skipped) p) bytes
+  expected_same f bytes is spelled =
+      on_same (λ k. IsSpelledIf (expected_in k p) bytes) devices others skipped same
+      (subst (λ (g : Found). IsSpelledIf (expected_if (devices p.address) g.accusation) bytes) is spelled)
+
+  pub after_same : (next : ℕ → Known) → next ≡ devices_after p devices → line_of next 0 ≡ after_packet (line_of others skipped) p
+  after_same next is = on_same (λ k. line_of next 0 ≡ after_packet k p) devices others skipped same (ap (λ d. line_of d 0) is)

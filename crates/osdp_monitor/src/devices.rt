@@ -94,6 +94,18 @@ impl Devices {
         }
     }
 
+    /// What is found in a packet to a device, and the bytes of the packet that had to come.
+    pub fn judge_sent(&self, packet: &FrameView<'_>, expected: &mut Burst) -> Found
+        requires { expected.old.items ≡ [] }
+        ensures found { result ≡ found_in_sent (devices_in self.now packet.now.address) packet.now }
+        ensures expected { IsSpelledIf (expected_if (devices_in self.now packet.now.address) result.accusation) expected.new.items }
+    {
+        match self.get(packet.address()) {
+            Some(device) => device.judge_sent(packet, expected),
+            None => NOTHING,
+        }
+    }
+
     /// A device has replied to its last packet, where that is known: what is found in the reply, and the bytes of the packet that had to come.
     pub fn reply(
         &mut self,

@@ -112,20 +112,6 @@ impl Monitor {
             self.skipped = 0;
             return NOTHING;
         }
-        self.hear_any_ack(packet, expected)
-    }
-
-    /// Takes any ACK.
-    fn hear_any_ack(&mut self, packet: &FrameView<'_>, expected: &mut Burst) -> Found
-        requires device { packet.now.address < 127 }
-        requires reply { packet.now.reply ≡ true }
-        requires open { packet.now.block ≡ false }
-        requires ack { reply_told packet.now ≡ Ok Ack }
-        requires none { expected.old.items ≡ [] }
-        ensures found { result ≡ found_in (knowledge_of self.old) packet.now }
-        ensures expected { IsSpelledIf (expected_in (knowledge_of self.old) packet.now) expected.new.items }
-        ensures after { knowledge_of self.new ≡ after_packet (knowledge_of self.old) packet.now }
-    {
         let found = self.devices.reply(packet, &self.ack, expected);
         self.skipped = 0;
         found
@@ -176,28 +162,7 @@ impl Monitor {
             self.skipped = 0;
             return Ok(NOTHING);
         }
-        self.hear_any(packet, expected)
-    }
-
-    /// Takes any packet to a device whose code the tables have.
-    fn hear_any(
-        &mut self,
-        packet: &FrameView<'_>,
-        expected: &mut Burst,
-    ) -> Result<Found, AllocError>
-        requires device { packet.now.address < 127 }
-        requires sent { packet.now.reply ≡ false }
-        requires own { is_foreign packet.now ≡ false }
-        requires none { expected.old.items ≡ [] }
-        ensures found { IfOk result (λ found. found ≡ found_in (knowledge_of self.old) packet.now) }
-        ensures expected { OnOk result (IsSpelledIf (expected_in (knowledge_of self.old) packet.now) expected.new.items) }
-        ensures after { OnOk result (knowledge_of self.new ≡ after_packet (knowledge_of self.old) packet.now) }
-        ensures kept { OnErr result (knowledge_of self.new ≡ knowledge_of self.old) }
-    {
-        let found = match self.devices.get(packet.address()) {
-            Some(device) => device.judge_sent(packet, expected),
-            None => NOTHING,
-        };
+        let found = self.devices.judge_sent(packet, expected);
         match self.devices.send(packet) {
             Ok(()) => {}
             Err(refused) => return Err(refused),
