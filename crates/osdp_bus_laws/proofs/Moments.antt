@@ -1,6 +1,5 @@
 -- The greatest moment seen, and the moment at which an ended run is heard.
-use Rattle.std.proofs.Common.{◌≡◌, ◌∙◌, ap, sym, ℕ, ◌≤◌, true, false, max, List, [], ◌∷◌, Option, Some, None, refl}
-use Rattle.std.specs.Prelude.{if◌then◌else◌}
+use Rattle.std.proofs.Common.{◌≡◌, ◌∙◌, ap, sym, ℕ, max, List, [], ◌∷◌, Option, Some, None, refl}
 use Rattle.osdp_bus.specs.declared.fault.BusFault.{BusFault}
 use Rattle.osdp_bus.specs.Buses.{BusState, seen}
 use Rattle.osdp_bus.specs.Hearing.{after_bytes}

@@ -1,6 +1,6 @@
 -- What calls leave of a bus beside its devices and the bytes that it holds: its settings, the moment of the last bytes and the greatest moment.
 use Rattle.std.proofs.Common.{◌≡◌, ◌∙◌, ℕ, max, Option, Some, None, refl}
-use Rattle.std.specs.Prelude.{if◌then◌else◌, slice_set}
+use Rattle.std.specs.Prelude.{slice_set}
 use Rattle.std.specs.Option.{option_map_or}
 use Rattle.osdp_bus.specs.declared.device.Device.{Device}
 use Rattle.osdp_bus.specs.declared.fault.BusFault.{BusFault}

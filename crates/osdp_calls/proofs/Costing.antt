@@ -21,7 +21,7 @@ use Rattle.osdp_reader.specs.State.{ReaderState}
 use Rattle.osdp_reader.specs.declared.handler.Answer.{Answer}
 use Rattle.osdp_shared_line.specs.Addresses.{NetMovesFit, NobodyElseHears}
 use Rattle.osdp_shared_line.specs.Line as line
-use Rattle.osdp_shared_line.specs.Line.{Net, NetMove, RestartPanel, RestartReader, Site, after_net, all_restart, changed, restarts, run, site_at}
+use Rattle.osdp_shared_line.specs.Line.{Net, NetMove, RestartPanel, RestartReader, Site, after_net, all_restart, restarts, run, site_at}
 use Rattle.osdp_shared_line.specs.Restarts.{EachPanelRestartCosts, EachReaderRestartCosts, EachReportsNoMore, KeepsReaderOf}
 use Rattle.osdp_shared_line.specs.Runs.{moves_of}
 use Rattle.osdp_shared_line.specs.Views.{EachMoveIsItsOwn, view}

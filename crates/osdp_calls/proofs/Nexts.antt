@@ -15,7 +15,7 @@ use Rattle.osdp_reader.specs.Table.{hears, kind_of}
 use Rattle.osdp_reader.specs.declared.handler.Answer.{Answer}
 use Rattle.osdp_shared_line.specs.Addresses.{in_front}
 use Rattle.osdp_shared_line.specs.Line as line
-use Rattle.osdp_shared_line.specs.Line.{Net, Site, ToReader, after_net, changed, left_by, link_of, site_at, tagged}
+use Rattle.osdp_shared_line.specs.Line.{Net, ToReader, after_net, changed, left_by, link_of, site_at, tagged}
 use Rattle.osdp_shared_line.proofs.Sites.{at_changed, some_same}
 use Rattle.osdp_calls.specs.Calls.{answers, by_device, first_answered, last_of, reply_to}
 use Rattle.osdp_calls.specs.Lines.{Burst, InUse, Opening, Station, ahead_of_device, is_past_for_device}

@@ -11,14 +11,14 @@ use Rattle.osdp_controller.specs.declared.report.Report.{Report}
 use Rattle.osdp_controller.specs.declared.report.Report.TheVariants as report
 use Rattle.osdp_bus.specs.Buses.{Devices, seen, waiting_after}
 use Rattle.osdp_bus.specs.Devices as devices
-use Rattle.osdp_bus.specs.Devices.{device_hears, first_from, freed_with, is_at, reserved_after, told_of}
+use Rattle.osdp_bus.specs.Devices.{first_from, is_at, reserved_after}
 use Rattle.osdp_bus.specs.Hearing.{hears_at, hears_packet, hears_with}
 use Rattle.osdp_bus.specs.declared.device.Device.{Device}
 use Rattle.osdp_bus_laws.specs.Reports.{told_at, told_by_entry, told_by_item, told_with}
 use Rattle.osdp_link_laws.specs.Link.{Repeated, after_report}
 use Rattle.osdp_reader.specs.declared.handler.Answer.{Answer}
 use Rattle.osdp_shared_line.specs.Line as line
-use Rattle.osdp_shared_line.specs.Line.{Net, NetMove, Site, ToPanel, address_of, after_net, changed, first_gets, freed_by, freed_for, gets, left_by, link_of, site_at}
+use Rattle.osdp_shared_line.specs.Line.{Net, NetMove, Site, ToPanel, address_of, after_net, changed, first_gets, freed_by, gets, site_at}
 use Rattle.osdp_calls.specs.Calls.{all_hear, change_at, changes_at, hears_of}
 use Rattle.osdp_calls.specs.Lines.{Burst, InUse, Station, ahead_of_panel, is_past_for_panel}
 use Rattle.osdp_calls.proofs.Ahead.{panel_front, panel_further}

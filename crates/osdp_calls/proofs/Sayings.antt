@@ -28,7 +28,7 @@ use Rattle.osdp_reader.specs.Table.{hears, kind_of, outcome}
 use Rattle.osdp_reader.specs.declared.handler.Answer.{Answer}
 use Rattle.osdp_reader.specs.declared.kind.Kind.{Kind}
 use Rattle.osdp_reader.specs.declared.kind.Kind.TheVariants as kind
-use Rattle.osdp_calls.specs.Calls.{after_next, answers, asked_at, asked_by_holder, begins_with, begun_of, by_device, first_answered, panel_says, read_up_to, reply_to}
+use Rattle.osdp_calls.specs.Calls.{after_next, answers, asked_at, asked_by_holder, by_device, first_answered, panel_says, read_up_to, reply_to}
 use Rattle.osdp_calls.specs.Lines.{Burst, InUse, Station, bus_with}
 use Rattle.osdp_calls.specs.Sayings.{AddsMakeTheBus, ByDevice, IsSaid, NoneRefused, ReadsToFirst, SaysWhatGoesOut, acted_on, after_hearing}
 use Rattle.osdp_calls.proofs.Replying.{next_reader, reader_with}

@@ -8,7 +8,7 @@ use Rattle.osdp_reader.specs.State.{after_set_busy}
 use Rattle.osdp_reader.specs.declared.handler.Answer.{Answer}
 use Rattle.osdp_shared_line.specs.Addresses.{NetMoveFits}
 use Rattle.osdp_shared_line.specs.Line as line
-use Rattle.osdp_shared_line.specs.Line.{Net, NetMove, Queue, SetBusy, SetHandler, Site, after_net, changed, left_by, link_of, site_at}
+use Rattle.osdp_shared_line.specs.Line.{Net, NetMove, SetBusy, Site, after_net, changed, site_at}
 use Rattle.osdp_calls.specs.Calls.{changes_at, on_station}
 use Rattle.osdp_calls.specs.Lines.{InUse, Station}
 use Rattle.osdp_calls.proofs.Losing.{IsPlain, IsStill, Reaches, one_move, stays}

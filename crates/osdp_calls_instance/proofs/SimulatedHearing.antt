@@ -16,7 +16,7 @@ use Rattle.osdp_reader.specs.State.{ReaderState}
 use Rattle.osdp_reader.specs.Table.{hears, outcome}
 use Rattle.osdp_reader.specs.declared.handler.Answer.{Answer}
 use Rattle.osdp_shared_line.specs.Line as line
-use Rattle.osdp_shared_line.specs.Line.{Net, NetMove, Site, address_of, after_net, changed, first_gets, run, site_at, tagged}
+use Rattle.osdp_shared_line.specs.Line.{Net, Site, address_of, after_net, first_gets, run, site_at, tagged}
 use Rattle.osdp_shared_line.proofs.Apart.{Apart, IsAway, IsKept, IsToDevice, reader_address}
 use Rattle.osdp_shared_line.proofs.Hearing.{for_reader}
 use Rattle.osdp_shared_line.proofs.Readers.{reads_well}

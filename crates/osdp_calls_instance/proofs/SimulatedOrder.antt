@@ -1,6 +1,6 @@
 -- The calls of a run keep order and quiet openings, and with that all premises, where addresses are given as they may be.
 use Rattle.std.proofs.Common.{◌≡◌, ◌-◌, ℕ, suc, Bool, true, false, cond, List, [], ◌∷◌, ◌++◌, length, map, None, refl, sym, subst, ap, ◌∙◌, arith, append_assoc, append-nil}
-use Rattle.std.specs.Prelude.{◌==◌, ◌&&◌}
+use Rattle.std.specs.Prelude.{◌==◌}
 use Rattle.std.proofs.lemmas.List.{map-append}
 use Rattle.osdp_msg.specs.declared.command.Command.{Command}
 use Rattle.osdp_bus_links.proofs.Sufficing.{net_run_more}
@@ -11,7 +11,7 @@ use Rattle.osdp_link_laws.proofs.Lines.{each_of}
 use Rattle.osdp_reader.specs.declared.handler.Answer.{Answer}
 use Rattle.osdp_shared_line.specs.Addresses.{IsSetUp}
 use Rattle.osdp_shared_line.specs.Line as line
-use Rattle.osdp_shared_line.specs.Line.{Net, NetMove, Site, run as net_run, site_at}
+use Rattle.osdp_shared_line.specs.Line.{Net, NetMove, Site, run as net_run}
 use Rattle.osdp_shared_line.proofs.Apart.{Apart}
 use Rattle.osdp_shared_line.proofs.Running.{apart_all, apart_first}
 use Rattle.osdp_shared_line.specs.Programs.{Note}

@@ -17,13 +17,13 @@ use Rattle.osdp_reader.specs.Queue.{released}
 use Rattle.osdp_reader.specs.Replies.{refused}
 use Rattle.osdp_reader.specs.State.{ReaderState, after_set_handler, new_reader}
 use Rattle.osdp_reader.specs.Table as reader
-use Rattle.osdp_reader.specs.Table.{answer_to, command_in, event_or_answer, hears, is_for_another, kind_by_number, kind_of}
+use Rattle.osdp_reader.specs.Table.{event_or_answer, is_for_another, kind_by_number, kind_of}
 use Rattle.osdp_reader.specs.declared.handler.Answer.{Answer}
 use Rattle.osdp_reader.specs.declared.kind.Kind.TheVariants.{Silent, Secured, Zero, Busy, Wrong}
 use Rattle.osdp_reader_laws.specs.Laws.{ComesTo}
 use Rattle.osdp_link_laws.specs.Effects.{AnswersBy, Forgets, HasAddress, Loses, LosesOne, RefusesNumbers, RestartsController, RestartsReader, Retargets, SetsHandler, ThrowsAway, Withdraws}
 use Rattle.osdp_link_laws.specs.Link as link
-use Rattle.osdp_link_laws.specs.Link.{Account, Link, Withdrawn, controller_restarted, lost_at, outstanding_command, reader_restarted}
+use Rattle.osdp_link_laws.specs.Link.{Account, Withdrawn, controller_restarted, lost_at, outstanding_command, reader_restarted}
 use Rattle.osdp_link_laws.proofs.Acting.{no_event}
 use Rattle.osdp_link_laws.proofs.Numbers.{is_false, is_true}
 use Rattle.osdp_link_laws.proofs.Restarts.{drop_front}

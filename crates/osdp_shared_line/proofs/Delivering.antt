@@ -12,7 +12,7 @@ use Rattle.osdp_controller.specs.Ticking.{ticks_in}
 use Rattle.osdp_reader.specs.Table as reader
 use Rattle.osdp_reader.specs.declared.handler.Answer.{Answer}
 use Rattle.osdp_link_laws.specs.Link as link
-use Rattle.osdp_link_laws.specs.Link.{Delivered, Delivery, Lost, Repeated, after_move}
+use Rattle.osdp_link_laws.specs.Link.{Delivered, Delivery, Lost, Repeated}
 use Rattle.osdp_link_laws.specs.Peers.{ReadsWhatIsAsked}
 use Rattle.osdp_link_laws.proofs.Lines.{each_append, each_map, each_rest}
 use Rattle.osdp_link_laws.proofs.Stages.{Each}

@@ -15,7 +15,7 @@ use Rattle.osdp_reader.specs.declared.handler.Answer.{Answer}
 use Rattle.osdp_link_laws.proofs.Stages.{Each}
 use Rattle.osdp_shared_line.specs.Addresses.{IsAsked, IsNameOf, IsSaid, IsThere, MayComeTo, NetMoveFits, Sets, SetsReader, Somewhere, asked_by, asked_in, unended}
 use Rattle.osdp_shared_line.specs.Line as line
-use Rattle.osdp_shared_line.specs.Line.{Net, NetMove, RestartPanel, RestartReader, Retarget, Site, Submit, address_of, after_net, changed, restarts, site_at}
+use Rattle.osdp_shared_line.specs.Line.{Net, NetMove, RestartPanel, RestartReader, Retarget, Site, Submit, address_of, changed, restarts, site_at}
 use Rattle.osdp_shared_line.specs.Programs.{IsKnown, KeepsRule, Note, RestFits, all_addresses, also_at, note_after, noted_at, notes_after, two_addresses}
 use Rattle.osdp_shared_line.proofs.Apart.{IsOwnComset, all_left, reader_address}
 use Rattle.osdp_shared_line.proofs.Changing.{IsRead, Nothing, each_left, fewer, set_is}

@@ -5,18 +5,17 @@ use Rattle.std.specs.Prelude.{◌&&◌, ◌==◌}
 use Rattle.osdp_frame.specs.Packet.{Packet}
 use Rattle.osdp_msg.specs.declared.command.Command.{Command}
 use Rattle.osdp_controller.specs.Hearing as controller
-use Rattle.osdp_controller.specs.Hearing.{comset_of}
 use Rattle.osdp_controller.specs.declared.report.Report.{Report as ReportTold}
 use Rattle.osdp_reader.specs.declared.handler.Answer.{Answer}
 use Rattle.osdp_link_laws.specs.Link as link
-use Rattle.osdp_link_laws.specs.Link.{Delivered, Delivery, Link, Lost, Repeated, lost_at}
+use Rattle.osdp_link_laws.specs.Link.{Delivered, Delivery, Lost, Repeated, lost_at}
 use Rattle.osdp_link_laws.specs.Peers.{ReadsWhatIsAsked}
 use Rattle.osdp_link_laws.specs.Progress.{NoComset}
 use Rattle.osdp_link_laws.proofs.Lines.{each_of}
 use Rattle.osdp_link_laws.proofs.Stages.{Each}
 use Rattle.osdp_shared_line.specs.Addresses.{IsAsked, IsSetUp, IsSaid, IsThere, MayComeTo, NetMovesFit, Sets, Somewhere, asked_in, unended}
 use Rattle.osdp_shared_line.specs.Line as line
-use Rattle.osdp_shared_line.specs.Line.{LoseToPanel, LoseToReader, Net, NetMove, Queue, Reopen, RestartPanel, RestartReader, Retarget, SetBusy, SetHandler, Site, Submit, Tick, ToPanel, ToReader, Withdraw, address_of, after_net, calls, changed, first_gets, gets, is_comset_refused, is_retarget_refused, is_taken_beside, is_told, left_by, link_of, restarts, site_at, tagged}
+use Rattle.osdp_shared_line.specs.Line.{LoseToPanel, LoseToReader, Net, NetMove, Queue, Reopen, RestartPanel, RestartReader, Retarget, SetBusy, SetHandler, Site, Submit, Tick, ToPanel, ToReader, Withdraw, address_of, after_net, calls, first_gets, gets, site_at}
 use Rattle.osdp_shared_line.specs.Programs.{IsKnown, KeepRule, KeepsRule, Note, RestFits, RuleSuffices, all_addresses, is_opened, no_notes, note_after, noted_opened, noted_panel, notes_after}
 use Rattle.osdp_shared_line.proofs.Apart.{Apart, IsToClosed, IsOwnComset, all_left, reader_address}
 use Rattle.osdp_shared_line.proofs.Changing.{Nothing, One, left_withdrawn}

@@ -24,7 +24,7 @@ use Rattle.osdp_link_laws.specs.Sessions.{LastsOrLeaves, Leaves}
 use Rattle.osdp_link_laws.proofs.Lines.{each_all, each_of}
 use Rattle.osdp_link_laws.proofs.Stages.{Each}
 use Rattle.osdp_shared_line.specs.Line as line
-use Rattle.osdp_shared_line.specs.Line.{Net, NetMove, Reopen, changed, site_at}
+use Rattle.osdp_shared_line.specs.Line.{Net, Reopen, changed, site_at}
 use Rattle.osdp_shared_line.specs.Views.{IsQuiet, view}
 use Rattle.osdp_bus_links.specs.Links.{IsBusOf, device_of, packets_on}
 use Rattle.osdp_bus_links.specs.Premises.{IsScheduled}
