@@ -31,7 +31,7 @@ fn read_caps(body: &[u8]) -> Result<PdCap, MsgFault>
 fn are_in_range(settings: &ReaderSettings) -> bool
     ensures { IsTrue result ↔ AreSettings settings.now }
 {
-    settings.address <= 126 && is_room(settings.capacity) && is_time(settings.gap)
+    settings.address <= 126 && is_room(settings.capacity as usize) && is_time(settings.gap)
 }
 
 /// A reader to which nothing has come, on the heap. It is put there in one function with its making, which takes less stack.

@@ -139,7 +139,7 @@ module _ {H : Type 0} (answer_of : H → Command → Answer) (after : H → Comm
                         (
                           record { in_order = tt; quiet_opening = none_read (is_past_for_panel (line_after answer_of after 10 handler).openings) (line_after answer_of after 10 handler).said; addresses = tt; in_range = tt },
                           (
-                            record { in_order = tt; quiet_opening = tt; addresses = λ t is. inl (ap (λ (u : Station H). u.reader.config.address) (sym (only (only_station (line_after answer_of after 11 handler).stations handler) 0 t is).1)); in_range = (omega arith, omega arith, omega arith) },
+                            record { in_order = tt; quiet_opening = tt; addresses = λ t is. inl (ap (λ (u : Station H). u.reader.config.address) (sym (only (only_station (line_after answer_of after 11 handler).stations handler) 0 t is).1)); in_range = (omega arith, (omega arith, omega arith)) },
                             (
                               record { in_order = tt; quiet_opening = tt; addresses = apart (line_after answer_of after 12 handler) (only_station (line_after answer_of after 12 handler).stations handler) refl; in_range = (in_time, one_below, refl) },
                               tt,

@@ -320,7 +320,7 @@ module _ {H : Type 0} where
       device = refl;
       sound = λ some. (refl, Rattle.osdp_device.proofs.Receipt.received_new gap some);
       site = (new_site given, refl, refl);
-      station = (new_station gap given, refl, refl, refl);
+      station = (new_station gap given, refl, (refl, refl));
     }
     starts (suc k) gap (given ∷ readers) lt =
         let s = starts k gap readers (omega (arith, lt)) in
@@ -350,7 +350,7 @@ module _ {H : Type 0} where
         let keep = keep_steps calls (subst (Each Keeps) (sym are) (all_keep_panel answer_of after own w)) in
         let in_use = all_take answer_of after says k calls s.d [] l keep s.station in
         let t_is : taken_to t ≡ taken_after answer_of after k (all_calls sim_panel (sim_device answer_of after) own w) s.d [] =
-        ap taken_to (some_same t in_use.0 (sym there ∙ in_use.1)) ∙ in_use.3 ∙ ap (λ cs. taken_after answer_of after k cs s.d []) are in
+        ap taken_to (some_same t in_use.0 (sym there ∙ in_use.1)) ∙ in_use.2.1 ∙ ap (λ cs. taken_after answer_of after k cs s.d []) are in
         let own_is : own_takes k own s.d [] ≡ own_takes k taken s.d [] =
         more_takes_own k begin taken s.d []
         ∙ (λ i. own_takes k taken (begins_hold k 0 readers s.d i) (begins_take_none k 0 readers s.d [] i)) in

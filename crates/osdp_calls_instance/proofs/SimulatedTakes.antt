@@ -29,7 +29,7 @@ module _ {H : Type 0} where
 
   -- the station of an entry has this device, and has taken this
   abbrev pub IsTaking : ℕ → Held H → List Command → List (Station H) → Type 0
-  IsTaking k d y ts = (t : Station H) × (site_at k ts ≡ Some t) × (held_by t ≡ d) × (taken_to t ≡ y)
+  IsTaking k d y ts = (t : Station H) × (site_at k ts ≡ Some t) × ((held_by t ≡ d) × (taken_to t ≡ y))
 
   change_one : (k i : ℕ) (change : Station H → Station H) (f : Held H → Held H) (g : Held H → List Command) (d : Held H) (y : List Command)
       (ts : List (Station H)) → ((t : Station H) → held_by (change t) ≡ f (held_by t)) → ((t : Station H) → site_at i ts ≡ Some t → taken_to (change t) ≡ taken_to t ++ g (held_by t))
