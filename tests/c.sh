@@ -61,8 +61,8 @@ for heap in malloc pool; do
   grep -q "^session: $wanted, each refused once$" "$work/said" || fail "session_$heap: not $wanted"
 done
 build session_checked "${session[@]}" c/heap_malloc.c "${counted[@]}" "$archive" "${checked[@]}" && passes "$work/session_checked"
-# `osdp_device_event_text` takes 68 KiB of stack, and no other call as much: the session needs no more than 112 for the whole program
-(ulimit -s 112 && passes "$work/session_malloc") || fail "the session needs more stack"
+# `osdp_device_step` takes 28 KiB of stack, and no other call as much: the session needs no more than 64 for the whole program
+(ulimit -s 64 && passes "$work/session_malloc") || fail "the session needs more stack"
 
 build leak tests/c/leak.c c/heap_malloc.c "$archive" "${checked[@]}" &&
   if "$work/leak" >"$work/said" 2>&1 || ! grep -q LeakSanitizer "$work/said"; then
