@@ -129,8 +129,8 @@ pub fn devices_are_set_as_the_bus()
     ensures { DevicesAreSetAsTheBus }
 {}
 
-/// By default an answer is waited for 200 ms, a POLL follows after 50, a frame is sent three times, a BUSY is waited for 50 and borne 20 times, a
-/// session opens after 400 of quiet, and a run is over after 20.
+/// By default an answer is waited for 200 ms, a POLL follows after 50, and a frame is sent three times. A BUSY is waited for 50 ms and borne 20 times. A
+/// session opens after 400 ms of quiet, and a run is over after 20.
 pub fn defaults_are_these()
     ensures { DefaultsAreThese }
 {}

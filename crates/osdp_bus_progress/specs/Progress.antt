@@ -1,5 +1,5 @@
--- Something comes through for each of several readers: after m rounds that lose nothing each of n readers has m / n - 1 more commands and
--- events settled and reported, or all of them.
+-- Something comes through for each of several readers. After m rounds that lose nothing, m / n - 1 more commands and events of each of n readers
+-- are settled and reported, or all of them.
 use Rattle.std.specs.Prelude.{◌≡◌, ◌≤◌, ℕ, zero, suc, ◌+◌, ◌-◌, ◌/◌, min, true, false, All, List, [], ◌∷◌, ◌++◌, length, Some, slice_get, Ok}
 use Rattle.std.specs.Global.{Vec}
 use Rattle.osdp_msg.specs.declared.command.Command.{Command}

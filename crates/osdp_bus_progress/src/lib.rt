@@ -14,7 +14,7 @@ ghost use Rattle.osdp_bus_progress.specs.RowsOfTurns.{ItsSecondRoundSettles, One
 use osdp_reader::Handler;
 use osdp_script::ScriptReader;
 
-/// Over m rounds that lose nothing each of n readers has m / n - 1 more of its commands and events settled and reported, or all of them. m / n is rounded
+/// Of n readers, over m rounds that lose nothing, m / n - 1 more commands and events of each are settled and reported, or all of them. m / n is rounded
 /// down.
 ///
 /// This is said of each reader whose session has not ended. Each round is as long as the longest of the four waits, or longer. In the steps before the

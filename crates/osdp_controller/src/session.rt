@@ -78,8 +78,8 @@ impl Session {
     }
 
     /// Puts the frame of the outstanding exchange into a place of the caller's.
-    // Each function that holds a frame or a body stands by itself, so that the stack has no more than one of them at a time, and nothing is
-    // written on the way of a POLL for a command that there might be.
+    // Each function that holds a frame or a body stands by itself. So the stack has no more than one of them at a time, and a POLL writes nothing
+    // for a command that there might be.
     #[inline(never)]
     pub(crate) fn put_frame(&self, frame: &mut Option<Frame>)
         requires { is_outstanding self.now.state ≡ true }

@@ -1,7 +1,7 @@
 //! What lines to a panel or to a reader's device come to, in the words of the machines. The functions do nothing: their contracts are laws.
 //!
-//! What is proved of a bus after every list of calls, and of a reader whatever it is called with, so holds of each program that is called by
-//! lines, and what it writes is what the machines' tables say of those calls.
+//! A bus is proved after every list of calls, and a reader whatever it is called with. So what is proved of them holds of each program that is
+//! called by lines, and the program writes what the machines' tables say of those calls.
 #![tactic(auto)]
 
 ghost use Rattle.osdp_line_laws.specs.PanelLines.{ComesOfCalls, IsCallOrNone};
@@ -33,15 +33,15 @@ pub fn a_device_comes_of_steps()
     ensures { ComesOfSteps }
 {}
 
-/// What a panel writes to a run of lines is what each lets be heard beside the bus and what is told of the calls that these lines are, from the
-/// first to the last, each as those before it have left the panel, with the moment of the next tick after each. After them it is the panel that these calls leave, and its calls to come
-/// have the moment of the last line of one.
+/// To each line of a run, from the first to the last, a panel writes what the line lets be heard beside the bus, what is told of the calls that the
+/// line is, and the moment of the next tick. Each call finds the panel as the calls before it have left it. After them it is the panel that these
+/// calls leave, and its calls to come have the moment of the last line of one.
 pub fn a_panels_run_is_its_calls()
     ensures { PanelRunsAreCalls }
 {}
 
-/// What a reader's device writes to a run of lines is what is told of the calls that these lines are, from the first to the last, each as those
-/// before it have left the device, with how many events wait after each. After them the reader, the bytes held of its line, the moments seen of it
+/// To each line of a run, from the first to the last, a reader's device writes what is told of the calls that the line is, and how many events wait
+/// then. Each call finds the device as the calls before it have left it. After them the reader, the bytes held of its line, the moments seen of it
 /// and the moment of the calls to come are those that these calls leave.
 pub fn a_devices_run_is_its_calls()
     ensures { ReaderRunsAreCalls }

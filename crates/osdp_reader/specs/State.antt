@@ -18,7 +18,7 @@ pub record ReaderState (H : Type 0) : Type 0 where
   pub handler : H
 
 module _ {H : Type 0} where
-  -- no number is the last one, nothing is stored, no event waits, and it isn't busy
+  -- it has taken no number yet, no reply is stored, no event waits, and it isn't busy
   abbrev pub new_reader : ReaderConfig → H → ℕ → ReaderState H
   new_reader config handler capacity = record {
     config = config;

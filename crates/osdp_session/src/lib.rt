@@ -27,9 +27,9 @@ use std::alloc::Global;
 ///
 /// Once both ends are set up:
 ///
-/// - `once`: where no session begins again, the commands that the reader has taken are a beginning of those issued, and hold each settled one,
-///   with the answer that the reader gave, and one more at most; the events that the controller reported are a beginning of those queued, each
-///   once and in order.
+/// - `once`: where no session begins again, the commands that the reader has taken are a beginning of those issued. They hold each settled one, with
+///   the answer that the reader gave, and at most one that isn't settled. The events that the controller reported are a beginning of those
+///   queued, each once and in order.
 /// - `sessions`: where sessions begin again, that holds of each, at the places that `sessions` of the account gives: a session's commands
 ///   are those after the ones that the sessions before it settled or told unsettled, and its events those after the ones that were
 ///   reported before it, with the last of them again or without it. Each session tells one command unsettled at most. Over all sessions the

@@ -17,8 +17,9 @@ use std::alloc::Global;
 /// - `room`: of the commands for it in the steps that were taken, POLL left out, some are accepted, each once and in their order. Where none is a
 ///   COMSET, all are where they are at most as many as may wait; else the first of them are, as many as may wait, and some of the others. So it
 ///   is of its events, with the room that it has for them.
-/// - `once`: where no session begins again, the commands that it has taken are a beginning of those issued to it, and hold each settled one,
-///   with the answer that it gave, and one more at most; the events reported are a beginning of those queued at it, each once and in order.
+/// - `once`: where no session begins again, the commands that it has taken are a beginning of those issued to it. They hold each settled one, with
+///   the answer that it gave, and at most one that isn't settled. The events reported are a beginning of those queued at it, each once and in
+///   order.
 /// - `sessions`: where sessions begin again, that holds of each of them, at the places that `sessions` of the account gives. Over all sessions
 ///   the commands taken are a beginning of those issued to it, with some of those told unsettled left out; so none is taken twice.
 /// - `begun`: its account has one session more than the steps taken had Reopens of it. The first began with nothing, and each other one after what the

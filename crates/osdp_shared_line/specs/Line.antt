@@ -21,8 +21,8 @@ use Rattle.osdp_reader.specs.declared.handler.Answer.{Answer}
 use Rattle.osdp_link_laws.specs.Link as link
 use Rattle.osdp_link_laws.specs.Link.{Account, Delivered, Delivery, Link, Lost, Move, Repeated, after_move, lost_at}
 
--- a reader and its controller, the address that is kept for a COMSET of theirs, what was said to the readers and this one has not read yet,
--- the oldest first, each with the place of the site whose controller said it, and their accounts
+-- A reader and its controller, the address that is kept for a COMSET of theirs, and their accounts. `coming` is what was said to the readers and
+-- this one has not read yet, the oldest first, each with the place of the site whose controller said it.
 pub record Site (H : Type 0) : Type 0 where
   pub controller : Machine
   pub reserved : Option ℕ

@@ -1,6 +1,6 @@
 //! A simulated line: what a schedule of orders, events, moments and losses makes of a controller and a reader.
 //!
-//! `run_session` runs one controller and one reader, both as a panel and a device have them, over a list of steps, and hands back the
+//! `run_session` runs one controller and one reader over a list of steps, with the machines of a panel and a device, and hands back the
 //! account of what happened. Bursts go over the line as bytes, and are read from bytes at the other end.
 //!
 //! ```text
