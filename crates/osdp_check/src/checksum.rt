@@ -9,16 +9,14 @@ use std::marker::Model;
 
 /// The checksum of the bytes that were added: the byte that makes their sum a multiple of 256.
 #[derive(Clone, Copy, Debug, PartialEq, Eq)]
-pub struct Sum8 {
-    sum: u8,
-}
+pub struct Sum8(u8);
 
 impl Model for Sum8 {
     ghost Value = { ℕ };
 
-    ghost view = { λ s. s.sum };
+    ghost view = { λ s. s.0 };
 
-    ghost inverse = { λ n. record { sum = n } };
+    ghost inverse = { λ n. record { 0 = n } };
 }
 
 impl Check for Sum8 {
@@ -33,11 +31,11 @@ impl Check for Sum8 {
     ghost TookSince = { λ front bytes state. state ≡ sum_from front bytes };
 
     fn start() -> Self {
-        Sum8 { sum: 0 }
+        Sum8(0)
     }
 
     fn add(&mut self, byte: u8) {
-        self.sum = self.sum.wrapping_add(byte);
+        self.0 = self.0.wrapping_add(byte);
     }
 
     /// The second byte is 0.
@@ -45,7 +43,7 @@ impl Check for Sum8 {
         ensures first { (bytes : List ℕ) → self.now ≡ sum bytes % 256 → take 1 result ≡ checksum_bytes bytes }
         ensures second { slice_index result 1 ≡ 0 }
     {
-        [self.sum.wrapping_neg(), 0]
+        [self.0.wrapping_neg(), 0]
     }
 
     /// The second byte is 0.
@@ -55,7 +53,7 @@ impl Check for Sum8 {
         ensures second { slice_index result 1 ≡ 0 }
     {
         let _ = count;
-        [front.sum.wrapping_sub(self.sum), 0]
+        [front.0.wrapping_sub(self.0), 0]
     }
 
     ghost check_size = { λ bytes. refl };
