@@ -3,7 +3,7 @@
 ghost use Rattle.osdp_reader.specs.declared.handler.Answer.TheVariants.{Done};
 
 use osdp_controller::{Controller, ControllerConfig};
-use osdp_frame::{Address, CheckKind, FrameView, Seq};
+use osdp_frame::{Address, CheckKind, FrameView, Header, Seq};
 use osdp_msg::Command;
 use osdp_reader::{Answer, Handler, Reader};
 use osdp_script::script_config;
@@ -64,13 +64,6 @@ impl Link {
 /// A packet with a CRC, to the reader at an address or from it, with this number and body.
 pub fn packet(is_reply: bool, address: u8, number: u8, body: &[u8]) -> Option<FrameView<'_>> {
     let seq = Seq::new(number)?;
-    FrameView::new(
-        is_reply,
-        Address::new(address)?,
-        seq,
-        CheckKind::Crc,
-        false,
-        0,
-        body,
-    )
+    let head = Header::plain(is_reply, Address::new(address)?, seq, CheckKind::Crc);
+    FrameView::new(head, body)
 }

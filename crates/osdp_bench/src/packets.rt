@@ -1,12 +1,12 @@
 //! Packets written, found and checked.
 
 use osdp_check::{Crc16, check_of};
-use osdp_frame::{Address, Burst, CheckKind, FrameView, Framer, Item, Seq};
+use osdp_frame::{Address, Burst, CheckKind, FrameView, Framer, Header, Item, Seq};
 
 /// A packet to the reader at 5, with this number and body.
 fn view(check: CheckKind, number: u8, body: &[u8]) -> Option<FrameView<'_>> {
     let seq = Seq::new(number)?;
-    FrameView::new(false, Address::new(5)?, seq, check, false, 0, body)
+    FrameView::new(Header::plain(false, Address::new(5)?, seq, check), body)
 }
 
 /// So many POLLs as bytes, each in a burst of its own.

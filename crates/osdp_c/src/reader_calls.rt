@@ -11,7 +11,7 @@ use osdp_c_values::{
     AnswerStruct, Clock, MessageStruct, ReaderMachine, ReaderSettings, StateList, Status,
 };
 use osdp_device::{Device, ProgramAnswers, Turn};
-use osdp_frame::{Address, CheckKind, FrameView, NO_BLOCK, NO_RESERVED_BITS, Seq, is_time};
+use osdp_frame::{Address, CheckKind, FrameView, Header, Seq, is_time};
 use osdp_msg::{Event, MAX_DATA, MsgFault, PdCap, Reply, is_room};
 use osdp_reader::{Answer, Kind, Reader, ReaderConfig, ReaderFault};
 use std::alloc::Global;
@@ -303,15 +303,7 @@ fn refuses(reader: &Reader<ProgramAnswers>, seq: Seq) -> bool
     let address = reader.address();
     // The calls bring in that both are in their ranges, without which the packet might be refused.
     let _ranges = (address.get(), seq.get());
-    let made = FrameView::new(
-        false,
-        address,
-        seq,
-        CheckKind::Sum,
-        NO_BLOCK,
-        NO_RESERVED_BITS,
-        &[0x60],
-    );
+    let made = FrameView::new(Header::plain(false, address, seq, CheckKind::Sum), &[0x60]);
     match reader.kind(&made.unwrap()) {
         Kind::Wrong => true,
         _ => false,

@@ -14,7 +14,7 @@ use crate::exchange::Asked;
 use crate::state::Held;
 use crate::ticking::first_number;
 use arrayvec::ArrayVec;
-use osdp_frame::{Burst, Frame, FrameView, NO_BLOCK, NO_RESERVED_BITS, Seq};
+use osdp_frame::{Burst, Frame, FrameView, Header, Seq};
 use osdp_msg::{Command, MAX_MESSAGE};
 
 /// A session with one reader.
@@ -64,17 +64,10 @@ impl Session {
         ensures { result ≡ packed false self.now.config.address self.now.number self.now.config.check false 0 body.now }
     {
         // The calls bring in that both are in their ranges, without which the frame might be refused.
-        let _ranges = (self.config.address.get(), self.number.get());
-        let made = FrameView::new(
-            false,
-            self.config.address,
-            self.number,
-            self.config.check,
-            NO_BLOCK,
-            NO_RESERVED_BITS,
-            body,
-        );
-        made.unwrap()
+        let (address, number) = (self.config.address, self.number);
+        let _ranges = (address.get(), number.get());
+        let head = Header::plain(false, address, number, self.config.check);
+        FrameView::new(head, body).unwrap()
     }
 
     /// Puts the frame of the outstanding exchange into a place of the caller's.

@@ -10,7 +10,7 @@ ghost use Rattle.osdp_frame.specs.First.{item_if, FirstFits, PacketFits};
 
 use crate::buffer::Buffer;
 use crate::bytes::{HEAD, MAX_PACKET, START_OF_MESSAGE, check_bytes};
-use crate::view::Head;
+use crate::view::Header;
 use crate::{Address, CheckKind, FrameFault, FrameView, Seq};
 use byteorder::{ByteOrder, LittleEndian};
 
@@ -91,7 +91,7 @@ pub fn packet_at(rest: &[u8], length: usize) -> FrameView<'_>
     let check = check_kind(rest);
     let control = rest[4];
     let body = &rest[HEAD..length - check.size()];
-    let head = Head {
+    let head = Header {
         reply: rest[1] > 127,
         address: Address::of(rest[1]),
         seq: Seq::of(control),

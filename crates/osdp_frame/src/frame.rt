@@ -3,12 +3,12 @@
 ghost use Rattle.std.specs.Prelude.{◌≡◌};
 ghost use Rattle.std.specs.Option.{SomeIff};
 ghost use Rattle.osdp_frame.specs.Packet.{IsPacket};
-ghost use Rattle.osdp_frame.specs.Packed.{packed};
+ghost use Rattle.osdp_frame.specs.Packed.{headed};
 ghost use Rattle.osdp_frame.specs.Spelling.{Spells};
 
+use crate::FrameView;
 use crate::bytes::{MAX_BODY, MAX_PACKET};
-use crate::view::Head;
-use crate::{Address, CheckKind, FrameView, Seq};
+use crate::view::Header;
 use arrayvec::ArrayVec;
 use std::marker::Model;
 
@@ -18,7 +18,7 @@ pub type Burst = ArrayVec<u8, MAX_PACKET>;
 /// A packet with a body of its own: at least one byte, and at most 1440 bytes in the whole packet.
 #[derive(Debug, Drop, PartialEq, Eq)]
 pub struct Frame {
-    head: Head,
+    head: Header,
     body: ArrayVec<u8, MAX_BODY>,
 }
 
@@ -46,24 +46,12 @@ impl Model for Frame {
 }
 
 impl Frame {
-    /// The packet with these fields: `reply` in an answer of a device, `block` where the body begins
-    /// with a security block, `reserved` the four high bits of the control byte, 0 to 15, and the
-    /// body with its code byte first. None where the body is empty, the packet is larger than 1440
+    /// The packet with this head and this body, its code byte first. None where the body is empty, the packet is larger than 1440
     /// bytes or `reserved` is above 15.
-    pub fn new(
-        reply: bool,
-        address: Address,
-        seq: Seq,
-        check: CheckKind,
-        block: bool,
-        reserved: u8,
-        body: ArrayVec<u8, MAX_BODY>,
-    ) -> Option<Frame>
-        ensures { let packet = packed reply address seq check block reserved body.items in
-            SomeIff result (IsPacket packet) packet }
+    pub fn new(head: Header, body: ArrayVec<u8, MAX_BODY>) -> Option<Frame>
+        ensures { SomeIff result (IsPacket (headed head body.items)) (headed head body.items) }
     {
-        let bytes = body.as_slice();
-        let head = FrameView::new(reply, address, seq, check, block, reserved, bytes)?.head();
+        let head = FrameView::new(head, body.as_slice())?.header();
         Some(Frame { head, body })
     }
 
@@ -102,7 +90,7 @@ impl FrameView<'_> {
         ensures { result ≡ self.now }
     {
         Frame {
-            head: self.head(),
+            head: self.header(),
             body: ArrayVec::try_from(self.body()).unwrap(),
         }
     }

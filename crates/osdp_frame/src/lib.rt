@@ -31,4 +31,4 @@ pub use read::{ReadItem, read_at, whole_item};
 pub use seq::Seq;
 pub use silence::is_silent_for;
 pub use times::{LONGEST_TIME, is_time};
-pub use view::{FrameView, NO_BLOCK, NO_RESERVED_BITS};
+pub use view::{FrameView, Header};

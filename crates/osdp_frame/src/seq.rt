@@ -8,20 +8,18 @@ use std::marker::Model;
 
 /// A sequence number, 0 to 3. 0 opens a session; after it 1, 2 and 3 take turns.
 #[derive(Clone, Copy, Debug, PartialEq, Eq, PartialOrd, Ord, Hash)]
-pub struct Seq {
-    value: u8,
-}
+pub struct Seq(u8);
 
 impl Model for Seq {
     ghost use Rattle.std.specs.Prelude.{ℕ, ◌<◌};
 
     ghost Value = { ℕ };
 
-    ghost view = { λ s. s.value };
+    ghost view = { λ s. s.0 };
 
-    ghost invariant = { λ s. s.value < 4 };
+    ghost invariant = { λ s. s.0 < 4 };
 
-    ghost inverse = { λ n. record { value = n } };
+    ghost inverse = { λ n. record { 0 = n } };
 }
 
 impl Seq {
@@ -29,14 +27,14 @@ impl Seq {
     pub fn new(value: u8) -> Option<Seq>
         ensures { SomeIff result (value < 4) value }
     {
-        if value < 4 { Some(Seq { value }) } else { None }
+        if value < 4 { Some(Seq(value)) } else { None }
     }
 
     /// The sequence number in the low two bits of a byte.
     pub(crate) fn of(byte: u8) -> Seq
         ensures { result ≡ byte % 4 }
     {
-        Seq { value: byte % 4 }
+        Seq(byte % 4)
     }
 
     /// The value of this sequence number, 0 to 3.
@@ -44,15 +42,13 @@ impl Seq {
         ensures value { result ≡ self }
         ensures range { self < 4 }
     {
-        self.value
+        self.0
     }
 
     /// The number of the exchange after this one: 0 to 1, 1 to 2, 2 to 3, 3 to 1.
     pub fn next(self) -> Seq
         ensures { result ≡ next_sequence self }
     {
-        Seq {
-            value: self.value % 3 + 1,
-        }
+        Seq(self.0 % 3 + 1)
     }
 }

@@ -3,7 +3,7 @@
 ghost use Rattle.std.specs.Prelude.{◌≡◌, drop, slice_index};
 ghost use Rattle.std.specs.Option.{SomeIff};
 ghost use Rattle.osdp_frame.specs.Packet.{IsPacket};
-ghost use Rattle.osdp_frame.specs.Packed.{headed, packed};
+ghost use Rattle.osdp_frame.specs.Packed.{headed, plain_header};
 ghost use Rattle.osdp_frame.specs.Spelling.{Spells, address_byte, control_byte};
 
 use crate::bytes::{
@@ -13,28 +13,44 @@ use crate::frame::Burst;
 use crate::{Address, CheckKind, Seq};
 use std::marker::Model;
 
-/// A packet has no security block.
-pub const NO_BLOCK: bool = false;
-
-/// The four high bits of the control byte are clear.
-pub const NO_RESERVED_BITS: u8 = 0;
-
 /// A packet whose body lies in somebody else's bytes.
 #[derive(Debug, Drop)]
 pub struct FrameView<'a> {
-    head: Head,
+    head: Header,
     body: &'a [u8],
 }
 
 /// What a packet says beside its body.
 #[derive(Clone, Copy, Debug, PartialEq, Eq)]
-pub struct Head {
+pub struct Header {
+    /// Whether it comes from a device.
     pub reply: bool,
+    /// The device that it comes from or goes to.
     pub address: Address,
+    /// Its sequence number.
     pub seq: Seq,
+    /// Which check it ends with.
     pub check: CheckKind,
+    /// Whether the body begins with a security block.
     pub block: bool,
+    /// The four high bits of the control byte, 0 to 15.
     pub reserved: u8,
+}
+
+impl Header {
+    /// The head of a packet without a security block and reserved bits.
+    pub fn plain(reply: bool, address: Address, seq: Seq, check: CheckKind) -> Header
+        ensures { result ≡ plain_header reply address seq check }
+    {
+        Header {
+            reply,
+            address,
+            seq,
+            check,
+            block: false,
+            reserved: 0,
+        }
+    }
 }
 
 impl<'a> Model for FrameView<'a> {
@@ -49,43 +65,26 @@ impl<'a> Model for FrameView<'a> {
 }
 
 impl<'a> FrameView<'a> {
-    /// The packet with these fields and a body that is lent, by the rules of `Frame::new`: None where the body is empty, the packet
+    /// The packet with this head and a body that is lent, by the rules of `Frame::new`: None where the body is empty, the packet
     /// is larger than 1440 bytes or `reserved` is above 15.
-    pub fn new(
-        reply: bool,
-        address: Address,
-        seq: Seq,
-        check: CheckKind,
-        block: bool,
-        reserved: u8,
-        body: &'a [u8],
-    ) -> Option<FrameView<'a>>
-        ensures { let packet = packed reply address seq check block reserved body.now in
-            SomeIff result (IsPacket packet) packet }
+    pub fn new(head: Header, body: &'a [u8]) -> Option<FrameView<'a>>
+        ensures { SomeIff result (IsPacket (headed head body.now)) (headed head body.now) }
     {
         let length = body.len();
         if length == 0
             || length > MAX_PACKET
-            || HEAD + length + check.size() > MAX_PACKET
-            || reserved > 15
+            || HEAD + length + head.check.size() > MAX_PACKET
+            || head.reserved > 15
         {
             return None;
         }
         are_bytes(body);
-        let _ranges = (address.get(), seq.get());
-        let head = Head {
-            reply,
-            address,
-            seq,
-            check,
-            block,
-            reserved,
-        };
+        let _ranges = (head.address.get(), head.seq.get());
         Some(FrameView::of(head, body))
     }
 
     /// The packet with this head and this body, which make one.
-    pub(crate) fn of(head: Head, body: &'a [u8]) -> FrameView<'a>
+    pub(crate) fn of(head: Header, body: &'a [u8]) -> FrameView<'a>
         requires { IsPacket (headed head body.now) }
         ensures { result ≡ headed head body.now }
     {
@@ -93,7 +92,7 @@ impl<'a> FrameView<'a> {
     }
 
     /// What it says beside its body.
-    pub(crate) fn head(&self) -> Head
+    pub fn header(&self) -> Header
         ensures { headed result self.now.body ≡ self.now }
     {
         self.head

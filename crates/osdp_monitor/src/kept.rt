@@ -8,33 +8,28 @@ ghost use Rattle.osdp_msg.specs.CommandTable.{command_of};
 ghost use Rattle.osdp_msg.specs.declared.command.Command.TheVariants.{Poll};
 
 use arrayvec::ArrayVec;
-use osdp_frame::{Address, CheckKind, FrameView, MAX_BODY, Seq};
+use osdp_frame::{Address, CheckKind, FrameView, Header, MAX_BODY, Seq};
 use std::marker::Model;
 
 /// A packet, or none, in a place that is used for packet after packet: only the bytes of the body are moved.
 #[derive(Debug, Drop)]
 pub(crate) struct KeptPacket {
     is_kept: bool,
-    reply: bool,
-    address: Address,
-    seq: Seq,
-    check: CheckKind,
-    block: bool,
-    reserved: u8,
+    head: Header,
     body: ArrayVec<u8, MAX_BODY>,
 }
 
 impl Model for KeptPacket {
     ghost use Rattle.std.specs.Prelude.{Option};
     ghost use Rattle.osdp_frame.specs.Packet.{Packet};
-    ghost use Rattle.osdp_frame.specs.Packed.{packed};
+    ghost use Rattle.osdp_frame.specs.Packed.{headed};
     ghost use Rattle.osdp_monitor.specs.Private.{IsKept, kept_packet};
 
     ghost Value = { Option Packet };
 
-    ghost view = { λ k. kept_packet k.is_kept (packed k.reply k.address k.seq k.check k.block k.reserved k.body.items) };
+    ghost view = { λ k. kept_packet k.is_kept (headed k.head k.body.items) };
 
-    ghost invariant = { λ k. IsKept k.is_kept (packed k.reply k.address k.seq k.check k.block k.reserved k.body.items) };
+    ghost invariant = { λ k. IsKept k.is_kept (headed k.head k.body.items) };
 }
 
 impl KeptPacket {
@@ -42,14 +37,10 @@ impl KeptPacket {
     pub fn none() -> KeptPacket
         ensures { result ≡ None }
     {
+        let (address, seq) = (Address::new(0).unwrap(), Seq::new(0).unwrap());
         KeptPacket {
             is_kept: false,
-            reply: false,
-            address: Address::new(0).unwrap(),
-            seq: Seq::new(0).unwrap(),
-            check: CheckKind::Sum,
-            block: false,
-            reserved: 0,
+            head: Header::plain(false, address, seq, CheckKind::Sum),
             body: ArrayVec::new(),
         }
     }
@@ -59,12 +50,7 @@ impl KeptPacket {
         ensures { self.new ≡ Some packet.now }
     {
         self.is_kept = true;
-        self.reply = packet.is_reply();
-        self.address = packet.address();
-        self.seq = packet.seq();
-        self.check = packet.check();
-        self.block = packet.has_block();
-        self.reserved = packet.reserved();
+        self.head = packet.header();
         keep_body(&mut self.body, packet.body());
     }
 
@@ -79,7 +65,11 @@ impl KeptPacket {
     pub fn number(&self) -> Option<Seq>
         ensures { result ≡ number_of self.now }
     {
-        if self.is_kept { Some(self.seq) } else { None }
+        if self.is_kept {
+            Some(self.head.seq)
+        } else {
+            None
+        }
     }
 
     /// Whether a POLL is kept that has this number, and the same check as this packet.
@@ -87,8 +77,8 @@ impl KeptPacket {
         ensures { (result ≡ true) ↔ IsPollTo self.now number packet.now.check }
     {
         self.is_kept
-            && self.seq.get() == number.get()
-            && same_check(packet.check(), self.check)
+            && self.head.seq.get() == number.get()
+            && same_check(packet.check(), self.head.check)
             && is_poll_body(self.body.as_slice())
     }
 
@@ -97,12 +87,12 @@ impl KeptPacket {
         ensures { result ≡ is_last self.now packet.now }
     {
         self.is_kept
-            && self.reply == packet.is_reply()
-            && self.address.get() == packet.address().get()
-            && self.seq.get() == packet.seq().get()
-            && same_check(self.check, packet.check())
-            && self.block == packet.has_block()
-            && self.reserved == packet.reserved()
+            && self.head.reply == packet.is_reply()
+            && self.head.address.get() == packet.address().get()
+            && self.head.seq.get() == packet.seq().get()
+            && same_check(self.head.check, packet.check())
+            && self.head.block == packet.has_block()
+            && self.head.reserved == packet.reserved()
             && self.body.as_slice() == packet.body()
     }
 
@@ -113,16 +103,7 @@ impl KeptPacket {
         if !self.is_kept {
             return None;
         }
-        let body = self.body.as_slice();
-        FrameView::new(
-            self.reply,
-            self.address,
-            self.seq,
-            self.check,
-            self.block,
-            self.reserved,
-            body,
-        )
+        FrameView::new(self.head, self.body.as_slice())
     }
 }
 

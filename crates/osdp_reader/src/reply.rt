@@ -14,7 +14,7 @@ ghost use Rattle.osdp_reader.specs.Table.{answer_to, event_or_answer};
 use crate::config::ReaderConfig;
 use crate::handler::{Answer, Handler};
 use arrayvec::ArrayVec;
-use osdp_frame::{Address, Burst, FrameView, NO_BLOCK, NO_RESERVED_BITS, Seq};
+use osdp_frame::{Address, Burst, FrameView, Header, Seq};
 use osdp_msg::{
     Command, Communication, Event, LocalState, MAX_DATA, MAX_MAKER_BYTES, MAX_MESSAGE,
     MakerMessage, MsgFault, Nak, NakReason, Reply,
@@ -187,16 +187,8 @@ fn spell_body(packet: &FrameView, seq: Seq, body: &[u8], out: &mut Burst)
     are_bytes(body);
     let address = packet.address();
     let _ranges = (address.get(), seq.get());
-    let made = FrameView::new(
-        true,
-        address,
-        seq,
-        packet.check(),
-        NO_BLOCK,
-        NO_RESERVED_BITS,
-        body,
-    );
-    made.unwrap().encode_to(out);
+    let head = Header::plain(true, address, seq, packet.check());
+    FrameView::new(head, body).unwrap().encode_to(out);
 }
 
 /// The bytes of a reply to a packet, with this number.

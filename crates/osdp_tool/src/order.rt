@@ -7,7 +7,7 @@ ghost use Rattle.osdp_words.specs.Word.{texts};
 ghost use Rattle.osdp_tool.specs.PacketOrder.{MessageFits, OrderFits, message_body, message_is_reply, message_words, order_packet, order_words};
 
 use arrayvec::ArrayVec;
-use osdp_frame::{Address, CheckKind, Frame, MAX_BODY, NO_BLOCK, NO_RESERVED_BITS, Seq};
+use osdp_frame::{Address, CheckKind, Frame, Header, MAX_BODY, Seq};
 use osdp_msg::{Command, MAX_MESSAGE, Reply};
 use osdp_words::number_u8;
 
@@ -98,15 +98,8 @@ impl PacketOrder {
         let body = with_room(body.as_slice());
         let (address, seq) = (self.address, self.seq);
         let _ranges = (address.get(), seq.get());
-        let made = Frame::new(
-            self.message.is_reply(),
-            address,
-            seq,
-            self.check,
-            NO_BLOCK,
-            NO_RESERVED_BITS,
-            body,
-        );
+        let head = Header::plain(self.message.is_reply(), address, seq, self.check);
+        let made = Frame::new(head, body);
         made.unwrap()
     }
 }
