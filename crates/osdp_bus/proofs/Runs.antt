@@ -7,9 +7,9 @@ use Rattle.osdp_frame.specs.Bytes.{AreBytes}
 use Rattle.osdp_frame.specs.Reading.{RunItem, item_size, total_size, IsReading}
 use Rattle.osdp_frame.specs.Held.{Held, decided, later, after_first, after_advance, after_gap, after_push, taken_count}
 use Rattle.osdp_frame.specs.Items.{items, left_over}
-use Rattle.osdp_frame.proofs.Head.{AreBytes-drop, AreBytes-take}
-use Rattle.osdp_frame_laws.proofs.LawsOfSpellings.{AreBytes-append}
-use Rattle.osdp_frame_laws.proofs.LeftOver.{gap_items, gap_some, later_some, left_nothing, left_over-append, left_same, some_ended}
+use Rattle.osdp_frame.proofs.Head.{AreBytes-append, AreBytes-drop, AreBytes-take}
+use Rattle.osdp_frame_laws.proofs.LeftOver.{gap_items, left_nothing, left_over-append, left_same, some_ended}
+use Rattle.osdp_frame.proofs.Receipt.{gap_some, later_some}
 use Rattle.osdp_frame_laws.proofs.OneByOne.{items_after, items_on}
 use Rattle.osdp_frame_laws.proofs.Readings.{items_undecided, items-append, is_reading}
 use Rattle.osdp_bus.specs.Buses.{BusState, Devices}

@@ -1,7 +1,7 @@
 -- The calls of a reader.
 use Rattle.std.specs.Prelude.{◌≡◌, ℕ, ◌≤◌, not, ◌==◌, ◌&&◌, nat_le, Bool, true, false, List, [], ◌∷◌, length, if◌then◌else◌, Option, None, Some, option_map, Result, Ok, Err}
 use Rattle.arrayvec.specs.ArrayVec.{ArrayVec}
-use Rattle.osdp_device.specs.Receiving.{Received, after_silence, after_take, after_tick, count_taken, new_line, seen}
+use Rattle.osdp_frame.specs.Receiving.{Received, after_silence, after_take, after_tick, count_taken, new_line, seen}
 use Rattle.osdp_device.specs.Deciding.{Turned, is_asked, pending_of, passed, turned, with_question}
 use Rattle.osdp_device.specs.Program.{new_program}
 use Rattle.osdp_device.specs.declared.program.ProgramAnswers.{ProgramAnswers}

@@ -5,7 +5,7 @@ use Rattle.osdp_msg.specs.ReplyTable.{ReplyFits}
 use Rattle.osdp_msg.specs.declared.command.Command.{Command}
 use Rattle.osdp_msg.specs.declared.event.Event.{Event}
 use Rattle.osdp_bus.specs.declared.device.Device.{Device}
-use Rattle.osdp_device.specs.Receiving.{Received}
+use Rattle.osdp_frame.specs.Receiving.{Received}
 use Rattle.osdp_device.specs.Telling.{items_of, next_told}
 use Rattle.osdp_link_laws.specs.Link as link
 use Rattle.osdp_link_laws.specs.Sessions.{unless_full}

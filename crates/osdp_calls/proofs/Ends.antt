@@ -12,7 +12,7 @@ use Rattle.osdp_bus_laws.specs.Exchanges.{HasOneExchange}
 use Rattle.osdp_link_laws.proofs.Lines.{each_of}
 use Rattle.osdp_link_laws.proofs.Stages.{Each}
 use Rattle.osdp_device.specs.Deciding.{passed}
-use Rattle.osdp_device.specs.Receiving.{after_silence, after_take, after_tick}
+use Rattle.osdp_frame.specs.Receiving.{after_silence, after_take, after_tick}
 use Rattle.osdp_reader.specs.State.{after_set_busy, after_set_handler}
 use Rattle.osdp_reader.specs.declared.handler.Answer.{Answer}
 use Rattle.osdp_shared_line.specs.Line.{site_at}

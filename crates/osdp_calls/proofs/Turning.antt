@@ -3,7 +3,7 @@ use Rattle.std.proofs.Common.{◌≡◌, ℕ, List, [], ◌∷◌, Option, Some,
 use Rattle.osdp_msg.specs.declared.command.Command.{Command}
 use Rattle.osdp_device.specs.Deciding.{passed, pending_of, settles, turned_by}
 use Rattle.osdp_device.specs.Program.{program_after, program_answer}
-use Rattle.osdp_device.specs.Receiving.{after_take}
+use Rattle.osdp_frame.specs.Receiving.{after_take}
 use Rattle.osdp_device.specs.Telling.{next_told}
 use Rattle.osdp_device.specs.declared.program.ProgramAnswers.{ProgramAnswers}
 use Rattle.osdp_device.specs.declared.program.Question.{Question}

@@ -15,7 +15,7 @@ use Rattle.osdp_bus.specs.declared.fault.BusFault.{BusFault}
 use Rattle.osdp_bus_laws.specs.Calls as bus
 use Rattle.osdp_bus_laws.specs.Reports.{told_in}
 use Rattle.osdp_device.specs.Deciding.{passed}
-use Rattle.osdp_device.specs.Receiving.{after_silence, after_take, after_tick}
+use Rattle.osdp_frame.specs.Receiving.{after_silence, after_take, after_tick}
 use Rattle.osdp_device.specs.Telling.{items_of}
 use Rattle.osdp_link_laws.specs.Link.{Account, after_report, front_of, taken, taken_command}
 use Rattle.osdp_link_laws.specs.Ordinary.{AreUndisturbed, IsUndisturbed}

@@ -18,7 +18,7 @@ use Rattle.osdp_bus_laws.specs.Calls as bus
 use Rattle.osdp_bus_laws.specs.Reports.{told_in}
 use Rattle.osdp_bus_laws.specs.Turns.{judged}
 use Rattle.osdp_device.specs.Deciding.{passed}
-use Rattle.osdp_device.specs.Receiving.{after_silence, after_take, after_tick, new_line}
+use Rattle.osdp_frame.specs.Receiving.{after_silence, after_take, after_tick, new_line}
 use Rattle.osdp_device.specs.Saying.{speaks}
 use Rattle.osdp_device.specs.Telling.{items_of, next_told}
 use Rattle.osdp_link_laws.specs.Link.{Withdrawn, front_of, new_account, reader_restarted, taken, after_report}

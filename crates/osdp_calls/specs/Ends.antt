@@ -8,7 +8,7 @@ use Rattle.osdp_bus.specs.declared.config.BusConfig.{BusConfig}
 use Rattle.osdp_bus_laws.specs.Calls as bus
 use Rattle.osdp_bus_laws.specs.Exchanges.{HasOneExchange}
 use Rattle.osdp_device.specs.Deciding.{passed}
-use Rattle.osdp_device.specs.Receiving.{Received, after_silence, after_take, after_tick, new_line}
+use Rattle.osdp_frame.specs.Receiving.{Received, after_silence, after_take, after_tick, new_line}
 use Rattle.osdp_device.specs.Telling.{next_told}
 use Rattle.osdp_reader.specs.State.{ReaderState, after_set_busy, after_set_handler, after_submit, new_reader}
 use Rattle.osdp_reader.specs.declared.handler.Answer.{Answer}

@@ -5,7 +5,7 @@ use Rattle.osdp_msg.specs.declared.command.Command.{Command}
 use Rattle.osdp_bus_laws.specs.Calls as bus
 use Rattle.osdp_device.specs.Deciding.{pending_of, turned}
 use Rattle.osdp_device.specs.Program.{program_after, program_answer}
-use Rattle.osdp_device.specs.Receiving.{Received, after_take}
+use Rattle.osdp_frame.specs.Receiving.{Received, after_take}
 use Rattle.osdp_device.specs.Telling.{next_told}
 use Rattle.osdp_device.specs.declared.program.ProgramAnswers.{ProgramAnswers}
 use Rattle.osdp_device.specs.declared.program.Question.{Question}

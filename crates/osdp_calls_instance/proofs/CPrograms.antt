@@ -14,7 +14,7 @@ use Rattle.osdp_bus.specs.declared.fault.BusFault.TheVariants as fault
 use Rattle.osdp_bus_laws.specs.Calls as bus
 use Rattle.osdp_device.specs.Deciding.{is_asked, pending_of, turned_by, with_question}
 use Rattle.osdp_device.specs.Program.{new_program, program_after, program_answer}
-use Rattle.osdp_device.specs.Receiving.{Received, after_silence, after_take, after_tick, new_line}
+use Rattle.osdp_frame.specs.Receiving.{Received, after_silence, after_take, after_tick, new_line}
 use Rattle.osdp_device.specs.declared.program.ProgramAnswers.{ProgramAnswers}
 use Rattle.osdp_device.specs.declared.program.Question.{Question}
 use Rattle.osdp_device.specs.declared.program.Question.TheVariants.{Answered, Asked, NotAsked}

@@ -14,10 +14,10 @@ use Rattle.osdp_bus.specs.Machine.{add_refusal, after_add, changed_unless}
 use Rattle.osdp_bus.specs.declared.fault.BusFault.{BusFault}
 use Rattle.osdp_bus_laws.specs.Calls as bus
 use Rattle.osdp_device.proofs.Pieces.{all_read, all_read_after, fewer_turns, last_turn, seen_in_turn, takes_in_turn}
-use Rattle.osdp_device.proofs.Receipt.{received_new, received_pushed, received_silence, received_tick}
+use Rattle.osdp_frame.proofs.Receipt.{received_new, received_silence, received_take, received_tick}
 use Rattle.osdp_device.proofs.Turning.{tells_in_turn}
-use Rattle.osdp_device.specs.Hearing.{Heard, IsAllRead, hears_bytes, reads_all, then_hears, turns_left}
-use Rattle.osdp_device.specs.Receiving.{IsReceived, Received, after_silence, after_take, after_tick, count_taken, seen}
+use Rattle.osdp_device.specs.Hearing.{Heard, hears_bytes, reads_all, then_hears, turns_left}
+use Rattle.osdp_frame.specs.Receiving.{IsAllRead, IsReceived, Received, after_silence, after_take, after_tick, count_taken, seen}
 use Rattle.osdp_device.specs.Saying.{Said}
 use Rattle.osdp_device.specs.Status.{status_after, status_answer}
 use Rattle.osdp_device.specs.Telling.{after_all, after_items, items_of, listed, next_told, said_to_all}
@@ -161,10 +161,6 @@ module _ {H : Type 0} where
           some = λ e. absurd (let f = sym all.goes_on ∙ e in cc);
           last = is.last;
         }
-
-    pub received_take : (bytes : List ℕ) (now : ℕ) (l : Received) → IsReceived l → AreBytes bytes → IsReceived (after_take bytes now l)
-    received_take [] now l is fits = record { gap = is.gap; bytes = is.bytes; some = is.some; last = omega (arith, is.last) }
-    received_take (b ∷ bytes) now l is fits = received_pushed (after_tick now l) (b ∷ bytes) (received_tick now l is) fits
 
     -- ---- bytes are handed over
 

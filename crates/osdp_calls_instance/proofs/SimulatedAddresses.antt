@@ -5,7 +5,7 @@ use Rattle.osdp_msg.specs.declared.command.Command.{Command}
 use Rattle.osdp_controller.specs.Hearing.{comset_of}
 use Rattle.osdp_bus_laws.specs.Calls as bus
 use Rattle.osdp_device.specs.Hearing.{hears_bytes, reads_all, turns_left}
-use Rattle.osdp_device.specs.Receiving.{Received, after_silence, after_take, count_taken}
+use Rattle.osdp_frame.specs.Receiving.{Received, after_silence, after_take, count_taken}
 use Rattle.osdp_device.specs.Telling.{items_of, said_to_all}
 use Rattle.osdp_link_laws.proofs.Lines.{each_of}
 use Rattle.osdp_link_laws.proofs.Stages.{Each}

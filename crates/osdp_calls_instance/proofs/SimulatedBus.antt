@@ -20,7 +20,7 @@ use Rattle.osdp_bus.specs.declared.config.BusConfig.{BusConfig}
 use Rattle.osdp_bus.specs.declared.device.Device.{Device}
 use Rattle.osdp_bus.specs.declared.fault.BusFault.{BusFault}
 use Rattle.osdp_bus_laws.specs.Calls as bus
-use Rattle.osdp_device.proofs.Receipt.{received_new}
+use Rattle.osdp_frame.proofs.Receipt.{received_new}
 use Rattle.osdp_reader.specs.State.{ReaderState, after_set_busy, after_submit}
 use Rattle.osdp_reader.specs.declared.handler.Answer.{Answer}
 use Rattle.osdp_shared_line.specs.Line.{changed, site_at}

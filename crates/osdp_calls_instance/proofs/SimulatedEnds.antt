@@ -10,10 +10,10 @@ use Rattle.osdp_frame.specs.Items.{items, left_over, packets_in, reading, whole_
 use Rattle.osdp_frame.specs.Reading.{RunItem, PacketItem, SkippedItem, RefusedItem}
 use Rattle.osdp_frame_laws.proofs.LeftOver.{gap_items, items_nothing, left_bytes, reading_split}
 use Rattle.osdp_frame_laws.proofs.Readings.{decided_nothing}
-use Rattle.osdp_device.proofs.Receipt.{no_bytes}
-use Rattle.osdp_device.specs.Hearing.{Heard, IsAllRead, hears_bytes, reads_all, then_reads, turns_left}
-use Rattle.osdp_device.specs.Receiving as device
-use Rattle.osdp_device.specs.Receiving.{IsReceived, Received, ends_run, ends_silent, is_silent, seen}
+use Rattle.osdp_frame.proofs.Receipt.{no_bytes}
+use Rattle.osdp_device.specs.Hearing.{Heard, hears_bytes, reads_all, then_reads, turns_left}
+use Rattle.osdp_frame.specs.Receiving as device
+use Rattle.osdp_frame.specs.Receiving.{IsAllRead, IsReceived, Received, ends_run, ends_silent, is_silent, seen}
 use Rattle.osdp_device.specs.Telling.{after_all, after_items, items_of, said_to_all}
 use Rattle.osdp_link_laws.proofs.Lines.{each_all}
 use Rattle.osdp_link_laws.proofs.Stages.{Each}

@@ -6,7 +6,7 @@ use Rattle.osdp_msg.specs.declared.command.Command.{Command}
 use Rattle.osdp_frame.specs.Held.{new_run}
 use Rattle.osdp_frame.specs.Items.{packets_in}
 use Rattle.osdp_frame.specs.Packet.{Packet, largest}
-use Rattle.osdp_device.specs.Receiving.{IsReceived}
+use Rattle.osdp_frame.specs.Receiving.{IsReceived}
 use Rattle.osdp_reader.specs.State.{ReaderState}
 use Rattle.osdp_reader.specs.Table.{hears}
 use Rattle.osdp_reader.specs.declared.handler.Answer.{Answer}

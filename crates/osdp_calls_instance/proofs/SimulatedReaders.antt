@@ -9,7 +9,7 @@ use Rattle.osdp_frame.specs.Packet.{Packet, largest}
 use Rattle.osdp_frame_laws.proofs.LeftOver.{items_nothing}
 use Rattle.osdp_msg.specs.declared.command.Command.{Command}
 use Rattle.osdp_bus.specs.Buses.{BusState}
-use Rattle.osdp_device.specs.Receiving.{IsReceived}
+use Rattle.osdp_frame.specs.Receiving.{IsReceived}
 use Rattle.osdp_link_laws.proofs.Lines.{each_of}
 use Rattle.osdp_link_laws.proofs.Stages.{Each}
 use Rattle.osdp_reader.specs.State.{ReaderState}

@@ -11,8 +11,8 @@ use Rattle.osdp_frame.specs.Reading.{RunItem, PacketItem, SkippedItem, RefusedIt
 use Rattle.osdp_frame_laws.proofs.LeftOver.{gap_items, reading_split}
 use Rattle.osdp_device.proofs.Turning.{splits, tells_in_turn}
 use Rattle.osdp_device.specs.Hearing.{Heard, hears_bytes, reads_all, then_reads, turns_left}
-use Rattle.osdp_device.specs.Receiving as device
-use Rattle.osdp_device.specs.Receiving.{IsReceived, Received, after_take, count_taken}
+use Rattle.osdp_frame.specs.Receiving as device
+use Rattle.osdp_frame.specs.Receiving.{IsReceived, Received, after_take, count_taken}
 use Rattle.osdp_device.specs.Saying.{said_to, speaks, unless_silent}
 use Rattle.osdp_device.specs.Telling.{Told, after_items, items_of, next_told, said_to_all, told_by, told_or}
 use Rattle.osdp_reader.specs.State.{ReaderState}

@@ -318,7 +318,7 @@ module _ {H : Type 0} where
     starts zero gap (given ∷ readers) lt = record {
       d = new_held gap given;
       device = refl;
-      sound = λ some. (refl, Rattle.osdp_device.proofs.Receipt.received_new gap some);
+      sound = λ some. (refl, Rattle.osdp_frame.proofs.Receipt.received_new gap some);
       site = (new_site given, refl, refl);
       station = (new_station gap given, refl, (refl, refl));
     }

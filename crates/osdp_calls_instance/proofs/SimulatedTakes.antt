@@ -7,7 +7,7 @@ use Rattle.osdp_frame.specs.Packet.{Packet}
 use Rattle.osdp_controller.specs.declared.report.Report.{Report}
 use Rattle.osdp_controller.specs.declared.report.Report.TheVariants as report
 use Rattle.osdp_device.specs.Deciding.{passed}
-use Rattle.osdp_device.specs.Receiving.{after_silence, after_take, after_tick}
+use Rattle.osdp_frame.specs.Receiving.{after_silence, after_take, after_tick}
 use Rattle.osdp_device.specs.Telling.{items_of, next_told}
 use Rattle.osdp_link_laws.specs.Link as link
 use Rattle.osdp_link_laws.proofs.Stages.{Each}

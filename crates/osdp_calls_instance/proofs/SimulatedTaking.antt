@@ -11,9 +11,9 @@ use Rattle.osdp_frame.specs.Packet.{Packet}
 use Rattle.osdp_frame.specs.Reading.{RunItem, PacketItem, SkippedItem, RefusedItem}
 use Rattle.osdp_frame_laws.proofs.LeftOver.{gap_items, reading_split}
 use Rattle.osdp_device.proofs.Pieces.{all_read, fewer_turns, last_turn, seen_in_turn, takes_in_turn}
-use Rattle.osdp_device.specs.Hearing.{Heard, IsAllRead, hears_bytes, reads_all, then_hears, then_reads, turns_left}
-use Rattle.osdp_device.specs.Receiving as device
-use Rattle.osdp_device.specs.Receiving.{IsReceived, Received, after_take, count_taken}
+use Rattle.osdp_device.specs.Hearing.{Heard, hears_bytes, reads_all, then_hears, then_reads, turns_left}
+use Rattle.osdp_frame.specs.Receiving as device
+use Rattle.osdp_frame.specs.Receiving.{IsAllRead, IsReceived, Received, after_take, count_taken}
 use Rattle.osdp_device.specs.Saying as saying
 use Rattle.osdp_device.specs.Saying.{Said, after_item, but_poll, said_of, said_to, unless_silent}
 use Rattle.osdp_device.specs.Telling.{after_items, items_of, listed, next_told, said_to_all}
@@ -26,7 +26,8 @@ use Rattle.osdp_sim.specs.Account as sim
 use Rattle.osdp_calls.specs.Calls.{Silence}
 use Rattle.osdp_calls.specs.Ends.{Held}
 use Rattle.osdp_calls.specs.Sayings.{acted_on}
-use Rattle.osdp_calls_instance.proofs.LinePrograms.{by_nexts, first_said, hands, holding, line_told, nothing_said, reading_is, received_read, received_take}
+use Rattle.osdp_frame.proofs.Receipt.{received_take}
+use Rattle.osdp_calls_instance.proofs.LinePrograms.{by_nexts, first_said, hands, holding, line_told, nothing_said, reading_is, received_read}
 use Rattle.osdp_calls_instance.proofs.SimulatedEnds.{all_read_of, first_read, quiet_is}
 use Rattle.osdp_calls_instance.proofs.SimulatedTakes.{more_takes, takes_each}
 use Rattle.osdp_calls_instance.specs.LinePrograms.{handing, nexts, unless_done}
@@ -116,7 +117,7 @@ module _ {H : Type 0} (answer_of : H → Command → Answer) (after : H → Comm
   rest_acts turns k bytes [] now r l fewer is all fits more none =
       let taken = after_take bytes now l in
       let h = reads_all answer_of after r taken in
-      let taken_so = received_take answer_of after bytes now l is fits in
+      let taken_so = received_take bytes now l is fits in
       let done : h ≡ hears_bytes answer_of after bytes now r l =
       sym (last_turn answer_of after now h (all_read answer_of after r taken taken_so) (seen_in_turn answer_of after bytes now r l))
       ∙ ap (λ x. then_hears answer_of after x now h) (sym none) ∙ takes_in_turn answer_of after bytes now r l is all fits in
@@ -124,7 +125,7 @@ module _ {H : Type 0} (answer_of : H → Command → Answer) (after : H → Comm
   rest_acts turns k bytes (b ∷ rest) now r l fewer is all fits more some =
       let taken = after_take bytes now l in
       let h = reads_all answer_of after r taken in
-      let taken_so = received_take answer_of after bytes now l is fits in
+      let taken_so = received_take bytes now l is fits in
       let count = count_taken bytes now l in
       let length_is : length (drop count bytes) ≡ suc (length rest) = ap length some in
       let any : 0 < length bytes = omega (arith, length-drop count bytes, length_is) in

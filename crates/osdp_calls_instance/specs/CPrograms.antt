@@ -11,7 +11,7 @@ use Rattle.osdp_bus.specs.declared.config.BusConfig.{BusConfig}
 use Rattle.osdp_bus_laws.specs.Calls as bus
 use Rattle.osdp_device.specs.Deciding.{is_asked, pending_of}
 use Rattle.osdp_device.specs.Program.{new_program, program_after, program_answer}
-use Rattle.osdp_device.specs.Receiving.{Received, after_silence, after_take, after_tick}
+use Rattle.osdp_frame.specs.Receiving.{Received, after_silence, after_take, after_tick}
 use Rattle.osdp_device.specs.Telling.{next_told}
 use Rattle.osdp_device.specs.declared.program.ProgramAnswers.{ProgramAnswers}
 use Rattle.osdp_device.specs.declared.program.Question.{Question}

@@ -6,7 +6,7 @@ use Rattle.osdp_msg.specs.declared.command.Command.TheVariants.{Comset}
 use Rattle.osdp_bus.specs.Settings.{default_config}
 use Rattle.osdp_bus.specs.declared.config.BusConfig.{BusConfig}
 use Rattle.osdp_bus_laws.specs.Calls as bus
-use Rattle.osdp_device.specs.Receiving.{new_line}
+use Rattle.osdp_frame.specs.Receiving.{new_line}
 use Rattle.osdp_link_laws.specs.Link.{new_account}
 use Rattle.osdp_reader.specs.State.{new_reader}
 use Rattle.osdp_reader.specs.declared.config.ReaderConfig.{ReaderConfig}

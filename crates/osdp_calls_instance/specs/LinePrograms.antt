@@ -3,8 +3,8 @@ use Rattle.std.specs.Prelude.{◌≡◌, ℕ, suc, zero, ◌≤◌, List, [], �
 use Rattle.osdp_msg.specs.declared.command.Command.{Command}
 use Rattle.osdp_bus.specs.Buses.{new_bus}
 use Rattle.osdp_bus.specs.declared.config.BusConfig.{BusConfig}
-use Rattle.osdp_device.specs.Hearing.{IsAllRead, reads_all, turns_left}
-use Rattle.osdp_device.specs.Receiving.{IsReceived, Received, after_silence, after_take, after_tick, count_taken}
+use Rattle.osdp_device.specs.Hearing.{reads_all, turns_left}
+use Rattle.osdp_frame.specs.Receiving.{IsAllRead, IsReceived, Received, after_silence, after_take, after_tick, count_taken}
 use Rattle.osdp_device.specs.Status.{new_status, status_after, status_answer}
 use Rattle.osdp_device.specs.Telling.{items_of, said_to_all}
 use Rattle.osdp_device.specs.declared.status.DeviceStatus.{DeviceStatus}

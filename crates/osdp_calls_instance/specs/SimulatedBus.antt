@@ -9,7 +9,7 @@ use Rattle.osdp_bus.specs.Buses.{BusState}
 use Rattle.osdp_bus.specs.declared.config.BusConfig.{BusConfig}
 use Rattle.osdp_bus_laws.specs.Calls as bus
 use Rattle.osdp_device.specs.Hearing.{hears_bytes, turns_left}
-use Rattle.osdp_device.specs.Receiving.{IsReceived, Received, after_silence, new_line}
+use Rattle.osdp_frame.specs.Receiving.{IsReceived, Received, after_silence, new_line}
 use Rattle.osdp_link_laws.specs.Link.{new_account}
 use Rattle.osdp_reader.specs.State.{after_set_busy, new_reader}
 use Rattle.osdp_reader.specs.declared.handler.Answer.{Answer}

@@ -1,5 +1,3 @@
-pub mod Receipt
-pub mod Silences
 pub mod Sayings
 pub mod Taking
 pub mod Turning

@@ -4,8 +4,8 @@ use Rattle.osdp_msg.specs.declared.command.Command.{Command}
 use Rattle.osdp_reader.specs.declared.handler.Answer.{Answer}
 use Rattle.osdp_reader.specs.State.{ReaderState}
 use Rattle.osdp_device.specs.Hearing.{hears_bytes, reads_all, then_reads}
-use Rattle.osdp_device.specs.Receiving.{IsReceived, Received, ends_run, ends_silent, is_silent, seen}
-use Rattle.osdp_device.proofs.Silences.{silences_end_runs}
+use Rattle.osdp_frame.specs.Receiving.{IsReceived, Received, ends_run, ends_silent, is_silent, seen}
+use Rattle.osdp_frame_laws.proofs.Silences.{silences_end_runs}
 use Rattle.osdp_device.specs.Moments.{MomentsAreSeen, RunsAreReadAtTheirEnd}
 
 greatest_silent : (l : Received) → (ends_silent l).greatest ≡ l.greatest

@@ -12,7 +12,7 @@ use Rattle.osdp_reader.specs.Replies.{reply_for, reply_packet}
 use Rattle.osdp_reader.specs.State.{ReaderState}
 use Rattle.osdp_device.specs.Deciding.{pending_of, turned, with_question}
 use Rattle.osdp_device.specs.Program.{program_after, program_answer}
-use Rattle.osdp_device.specs.Receiving.{Received, after_silence, after_take, after_tick}
+use Rattle.osdp_frame.specs.Receiving.{Received, after_silence, after_take, after_tick}
 use Rattle.osdp_device.specs.Saying.{Said, bytes_of}
 use Rattle.osdp_device.specs.Status.{status_answer}
 use Rattle.osdp_device.specs.Telling.{next_told}

@@ -5,7 +5,7 @@ use Rattle.osdp_frame.specs.Items.{items, left_over}
 use Rattle.osdp_msg.specs.declared.command.Command.{Command}
 use Rattle.osdp_reader.specs.declared.handler.Answer.{Answer}
 use Rattle.osdp_reader.specs.State.{ReaderState}
-use Rattle.osdp_device.specs.Receiving.{Received, after_silence, after_take, after_tick, count_taken, ends_silent, seen}
+use Rattle.osdp_frame.specs.Receiving.{Received, after_silence, after_take, after_tick, count_taken, ends_silent, seen}
 use Rattle.osdp_device.specs.Saying.{Said}
 use Rattle.osdp_device.specs.Telling.{after_items, after_all, items_of, said_to_all}
 
@@ -14,11 +14,6 @@ pub record Heard (H : Type 0) : Type 0 where
   pub said : List Said
   pub reader : ReaderState H
   pub line : Received
-
--- all that came was read: the run goes on, and what is held depends on bytes to come
-pub record IsAllRead (l : Received) : Type 0 where
-  pub goes_on : l.held.ended ≡ false
-  pub undecided : decided false l.held.bytes ≡ None
 
 -- how many turns of taking and reading these bytes need at most: one more where a run is over before them
 abbrev pub turns_left : List ℕ → ℕ → Received → ℕ

@@ -1,4 +1,3 @@
-pub mod Receiving
 pub mod Silences
 pub mod Saying
 pub mod Telling

@@ -6,7 +6,7 @@ ghost use Rattle.osdp_frame.specs.Reading.{PacketItem};
 ghost use Rattle.osdp_reader.specs.declared.config.ReaderConfig.{ReaderConfig as Configured};
 ghost use Rattle.osdp_device.specs.Deciding.{handled, is_asked, passed, pending_at, pending_of, settles, turned, with_question};
 ghost use Rattle.osdp_device.specs.Program.{program_after, program_answer};
-ghost use Rattle.osdp_device.specs.Receiving.{after_take, count_taken};
+ghost use Rattle.osdp_frame.specs.Receiving.{after_take, count_taken};
 ghost use Rattle.osdp_device.specs.Saying.{said_in};
 ghost use Rattle.osdp_device.specs.Telling.{next_told};
 ghost use Rattle.osdp_device.specs.declared.program.Question.TheVariants.{Answered, NotAsked};

@@ -7,12 +7,11 @@ ghost use Rattle.osdp_frame.specs.Reading.{PacketItem};
 ghost use Rattle.osdp_frame.specs.Shown.{item_of};
 ghost use Rattle.osdp_device.specs.Deciding.{passed, pending_of};
 ghost use Rattle.osdp_frame.specs.Times.{IsTime};
-ghost use Rattle.osdp_device.specs.Receiving.{IsReceived, after_silence, after_take, after_tick, count_taken, new_line};
+ghost use Rattle.osdp_frame.specs.Receiving.{IsReceived, after_silence, after_take, after_tick, count_taken, new_line};
 ghost use Rattle.osdp_device.specs.Saying.{after_item, again_in, answers_first, but_poll, is_answered, said_in, said_of, taken_in};
 ghost use Rattle.osdp_device.specs.Telling.{next_told};
 
-use crate::receiver::Receiver;
-use osdp_frame::{FrameView, Item, is_time};
+use osdp_frame::{FrameView, Item, Receiver, is_time};
 use osdp_msg::Command;
 use osdp_reader::{Handler, Kind, Reader, Response};
 

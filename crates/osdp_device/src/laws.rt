@@ -1,4 +1,4 @@
-//! What a device comes to whose user asks it again and again, and after how long a silence a run is over. The functions do
+//! What a device comes to whose user asks it again and again, and when a run that is over is read. The functions do
 //! nothing: their contracts are laws, and hold whatever the handler does.
 
 ghost use Rattle.std.specs.Prelude.{◌≡◌, ℕ, ◌<◌, ◌≤◌, List, [], ◌++◌, length, None, Some};
@@ -7,11 +7,10 @@ ghost use Rattle.osdp_frame.specs.Held.{Held};
 ghost use Rattle.osdp_reader.specs.State.{ReaderState};
 ghost use Rattle.osdp_device.specs.Deciding.{pending_of};
 ghost use Rattle.osdp_device.specs.DecidingLaws.{IsSaidOnce, RepeatsWhatIsStored, SaysItToNoOther, SaysWhatWasSet, StaysPending, StopsFirst};
-ghost use Rattle.osdp_device.specs.Hearing.{IsAllRead, NeedsFewerTurns, TakesInTurn, hears_bytes, reads_all, then_hears};
+ghost use Rattle.osdp_device.specs.Hearing.{NeedsFewerTurns, TakesInTurn, hears_bytes, reads_all, then_hears};
 ghost use Rattle.osdp_device.specs.Moments.{MomentsAreSeen, RunsAreReadAtTheirEnd};
-ghost use Rattle.osdp_device.specs.Receiving.{IsReceived, Received};
+ghost use Rattle.osdp_frame.specs.Receiving.{IsAllRead, IsReceived, Received};
 ghost use Rattle.osdp_device.specs.Saying.{said_to};
-ghost use Rattle.osdp_device.specs.Silences.{SilencesEndRuns};
 ghost use Rattle.osdp_device.specs.Telling.{TellsInTurn, next_told};
 ghost use Rattle.osdp_device.specs.declared.program.ProgramAnswers.{ProgramAnswers};
 ghost use Rattle.osdp_device.specs.declared.program.Question.TheVariants.{NotAsked};
@@ -55,13 +54,6 @@ pub fn hears_nothing_in_no_bytes<H: Handler>()
     ensures { (bytes : List ℕ) (before now : ℕ) (r : ReaderState H) (l : Received) → before ≤ now → IsAllRead l
         → then_hears H.answer_of H.after bytes now (hears_bytes H.answer_of H.after [] before r l)
         ≡ hears_bytes H.answer_of H.after bytes now r l }
-{}
-
-/// A run is over once the line has been silent for the gap, to the millisecond: bytes that come earlier after the last ones go
-/// on with it, and bytes or a tick that come then or later find it over. A moment before the greatest one seen counts as that
-/// one.
-pub fn silences_end_runs()
-    ensures { (l : Received) → IsReceived l → SilencesEndRuns l }
 {}
 
 /// Bytes, also none of them, a tick and a silence leave the greater one of their moment and the greatest seen as the greatest. To read what is

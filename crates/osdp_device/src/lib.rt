@@ -35,20 +35,18 @@ mod device;
 pub mod laws;
 mod order;
 mod program;
-mod receiver;
 mod status;
 mod unsent;
 
 pub use deciding::Turn;
 pub use device::{Device, again, taken};
 pub use order::{Order, order_of, ordered};
-pub use osdp_frame::{Address, Burst};
+pub use osdp_frame::{Address, Burst, Receiver};
 pub use osdp_msg::{
     Buzzer, Capability, Command, Communication, Event, Keypad, LedRecord, Leds, LocalState,
     MAX_DATA, MakerMessage, NakReason, OutputRecord, Outputs, PdCap, PdId, Raw, Text,
 };
 pub use osdp_reader::{Answer, Handler, Kind, Reader, ReaderConfig, ReaderFault, Response};
 pub use program::{ProgramAnswers, Question};
-pub use receiver::Receiver;
 pub use status::DeviceStatus;
 pub use unsent::Unsent;

@@ -149,6 +149,17 @@ AreBytes-take n bytes h place =
       | inr le ↦ subst (λ (b : ℕ). b < 256) (sym (get_or_past (take n bytes) place 0 (omega (arith, length-take n bytes)))) (omega arith)
     ]
 
+pub AreBytes-cons : (b : ℕ) (bytes : List ℕ) → b < 256 → AreBytes bytes → AreBytes (b ∷ bytes)
+AreBytes-cons b bytes lt h zero = lt
+AreBytes-cons b bytes lt h (suc place) = h place
+
+pub AreBytes-append : (xs ys : List ℕ) → AreBytes xs → AreBytes ys → AreBytes (xs ++ ys)
+AreBytes-append [] ys a b = b
+AreBytes-append (x ∷ xs) ys a b = AreBytes-cons x (xs ++ ys) (a 0) (AreBytes-append xs ys (λ place. a (suc place)) b)
+
+pub AreBytes-nil : AreBytes []
+AreBytes-nil place = omega arith
+
 -- the bytes at the head are well: a packet may begin here
 pub record IsHead (rest : List ℕ) : Type 0 where
   pub bytes : AreBytes rest

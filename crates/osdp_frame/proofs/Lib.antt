@@ -5,3 +5,4 @@ pub mod FirstItems
 pub mod Framing
 pub mod Running
 pub mod Buffering
+pub mod Receipt

@@ -73,16 +73,9 @@ same_front a b c d e h =
     let n : length a ≡ length b = omega (arith, length-append a c, length-append b d, ap length h) in
     sym (take_at a c (length a) refl) ∙ ap (take (length a)) h ∙ take_at b d (length a) (sym n)
 
-same_packet : (p q : Packet) → p.reply ≡ q.reply → p.address ≡ q.address → p.sequence ≡ q.sequence → p.check ≡ q.check → p.block ≡ q.block → p.reserved ≡ q.reserved → p.body ≡ q.body → p ≡ q
-same_packet p q a b c d e f g = λ i. record {
-  reply = a i;
-  address = b i;
-  sequence = c i;
-  check = d i;
-  block = e i;
-  reserved = f i;
-  body = g i;
-}
+pub same_packet : (p q : Packet) → p.reply ≡ q.reply → p.address ≡ q.address → p.sequence ≡ q.sequence → p.check ≡ q.check → p.block ≡ q.block → p.reserved ≡ q.reserved → p.body ≡ q.body → p ≡ q
+same_packet p q a b c d e f g =
+    (λ i. record { reply = a i; address = b i; sequence = c i; check = d i; block = e i; reserved = f i; body = g i })
 
 same_body : (p q : Packet) (n m : ℕ) → p.check ≡ q.check → front p n ++ check_of p.check (front p n) ≡ front q m ++ check_of q.check (front q m) → p.body ≡ q.body
 same_body p q n m kind e =

@@ -34,6 +34,11 @@ packets_in run = whole_packets (reading run)
 unfoldable pub left_over : List ℕ → List ℕ
 left_over bytes = drop (total_size (items false bytes)) bytes
 
+-- what is left once all items that are decided have been taken off: of a run that is over nothing
+abbrev pub rest_of : Bool → List ℕ → List ℕ
+rest_of true bytes = []
+rest_of false bytes = left_over bytes
+
 -- what a caller sees who takes item after item off until none is shown
 abbrev pub Drains : Bool → List ℕ → List RunItem → Type 0
 Drains ended bytes [] = IsUndecided ended bytes

@@ -13,3 +13,4 @@ pub mod Buffered
 pub mod Framed
 pub mod Silence
 pub mod Times
+pub mod Receiving

@@ -2,7 +2,8 @@
 //!
 //! A packet is a list of bytes with a head, a body and a check. A run of bytes, such as what stands
 //! between two silences of the line, has exactly one reading as packets, skipped bytes and refusals.
-//! Nothing here takes memory.
+//! A receiver knows by the moments of its bytes when a run is over: the panel's end of a line has one,
+//! and so has a device. Nothing here takes memory.
 #![tactic(auto)]
 
 mod address;
@@ -15,6 +16,7 @@ mod frame;
 mod framer;
 mod item;
 mod read;
+mod receiver;
 mod seq;
 mod silence;
 mod times;
@@ -28,6 +30,7 @@ pub use frame::{Burst, Frame};
 pub use framer::Framer;
 pub use item::Item;
 pub use read::{ReadItem, read_at, whole_item};
+pub use receiver::Receiver;
 pub use seq::Seq;
 pub use silence::is_silent_for;
 pub use times::{LONGEST_TIME, is_time};

@@ -12,10 +12,9 @@ use Rattle.osdp_frame.specs.Reading.{RunItem, item_size, total_size, Stands, IsR
 use Rattle.osdp_frame.specs.Items.{reading}
 use Rattle.osdp_frame.specs.Held.{Held, after_gap, after_push, after_first, decided, new_run, taken_count}
 use Rattle.osdp_frame_laws.specs.Calls.{Call, Push, Gap, Advance, IsAfter, IsOfBytes, IsRead, ReadsEachRun, ReadsOn, Run, after_call, after_calls, bytes_taken, empty_run, is_over, items_taken, last_run, run_after, runs_over}
-use Rattle.osdp_frame.proofs.Head.{AreBytes-drop, AreBytes-take}
+use Rattle.osdp_frame.proofs.Head.{AreBytes-append, AreBytes-drop, AreBytes-nil, AreBytes-take}
 use Rattle.osdp_frame.proofs.Decided.{first_decided, stands_first, undecided_none, AreBytes-front, undecided_ended}
 use Rattle.osdp_frame_laws.proofs.LeftOver.{total_size-append}
-use Rattle.osdp_frame_laws.proofs.LawsOfSpellings.{AreBytes-append, AreBytes-nil}
 use Rattle.osdp_frame_laws.proofs.Readings.{is_reading, one_reading, item_size-Stands, sizes_reading, undecided_small}
 
 pub new_after : IsAfter new_run empty_run

@@ -11,18 +11,8 @@ use Rattle.osdp_frame.specs.Check.{check_of}
 use Rattle.osdp_frame.specs.Packet.{Packet, IsPacket, packet_length}
 use Rattle.osdp_frame.specs.Spelling.{Spells, front, address_byte, control_byte, crc_bit}
 use Rattle.osdp_frame.specs.Reading.{PacketItem, IsReading}
+use Rattle.osdp_frame.proofs.Head.{AreBytes-append, AreBytes-cons, AreBytes-nil}
 use Rattle.osdp_frame.proofs.Spelled.{length-spelled}
-
-AreBytes-cons : (b : ℕ) (bytes : List ℕ) → b < 256 → AreBytes bytes → AreBytes (b ∷ bytes)
-AreBytes-cons b bytes lt h zero = lt
-AreBytes-cons b bytes lt h (suc place) = h place
-
-pub AreBytes-append : (xs ys : List ℕ) → AreBytes xs → AreBytes ys → AreBytes (xs ++ ys)
-AreBytes-append [] ys a b = b
-AreBytes-append (x ∷ xs) ys a b = AreBytes-cons x (xs ++ ys) (a 0) (AreBytes-append xs ys (λ place. a (suc place)) b)
-
-pub AreBytes-nil : AreBytes []
-AreBytes-nil place = omega arith
 
 -- the same in the words of the checks
 IsBytes-AreBytes : (bytes : List ℕ) → AreBytes bytes → IsBytes bytes

@@ -70,19 +70,6 @@ pub gap_items : (bytes : List ℕ) → items (not (length bytes == 0)) bytes ≡
 gap_items [] = items_nothing (not (length {A = ℕ} [] == 0)) ∙ sym (items_nothing true)
 gap_items (b ∷ bytes) = ap (λ t. items t (b ∷ bytes)) (some_ended b bytes)
 
-pub gap_some : (bytes : List ℕ) → not (length bytes == 0) ≡ true → 0 < length bytes
-gap_some [] e = absurd cc
-gap_some (b ∷ bytes) e = omega arith
-
--- .. and after an item, too, a run that has ended holds a byte
-pub later_some : (held : Held) (part : RunItem) → (later held part).ended ≡ true → 0 < length (later held part).bytes
-later_some held part = by_rest held.ended (drop (item_size part) held.bytes)
-  where
-    by_rest : (ended : Bool) (rest : List ℕ) → (ended && not (length rest == 0)) ≡ true → 0 < length rest
-    by_rest true [] e = absurd cc
-    by_rest false [] e = absurd cc
-    by_rest ended (b ∷ rest) e = omega arith
-
 -- ---- what a framer takes
 
 min_some : (a b : ℕ) → 0 < a → 0 < b → 0 < min a b

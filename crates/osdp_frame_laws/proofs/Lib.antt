@@ -2,5 +2,6 @@ pub mod LawsOfSpellings
 pub mod OneByOne
 pub mod Readings
 pub mod LeftOver
+pub mod InTurn
 pub mod Calls
 pub mod Silences

@@ -1,4 +1,4 @@
-//! What packets and readings are, and what the calls of a framer come to, said apart from how they are computed. The functions
+//! What packets and readings are, and what the calls of a framer and of a receiver come to, said apart from how they are computed. The functions
 //! do nothing: their contracts are laws.
 #![tactic(auto)]
 
@@ -11,7 +11,9 @@ ghost use Rattle.osdp_frame.specs.Reading.{IsFirst, IsReading, IsUndecided, RunI
 ghost use Rattle.osdp_frame_laws.specs.Calls.{Call, IsAfter, IsOfBytes, ReadsEachRun, ReadsOn, Run, after_call, empty_run};
 ghost use Rattle.osdp_frame.specs.Held.{Held, after_advance, after_push, decided, new_run, taken_count};
 ghost use Rattle.osdp_frame.specs.Items.{Drains, items, left_over, packets_in, reading};
+ghost use Rattle.osdp_frame.specs.Receiving.{IsReceived, Received};
 ghost use Rattle.osdp_frame.specs.Silence.{ChangesAtGap, is_silent_for};
+ghost use Rattle.osdp_frame_laws.specs.Silences.{SilencesEndRuns};
 
 use osdp_frame::{MAX_BODY, MAX_PACKET};
 
@@ -153,6 +155,13 @@ pub fn takes_what_fits()
         → taken_count held given < length given → length (after_push held given).bytes ≡ largest }
     ensures some { (held : Held) (run : Run) (b : ℕ) (given : List ℕ) → IsAfter held run → AreBytes run.bytes
         → decided held.ended held.bytes ≡ None → 0 < taken_count held (b ∷ given) }
+{}
+
+/// A run is over once the line has been silent for the gap, to the millisecond: bytes that come earlier after the last ones go
+/// on with it, and bytes or a tick that come then or later find it over. A moment before the greatest one seen counts as that
+/// one.
+pub fn silences_end_runs()
+    ensures { (l : Received) → IsReceived l → SilencesEndRuns l }
 {}
 
 /// The gap is 1 millisecond or more. Up to one millisecond before the gap has passed since the last bytes, the line counts as not silent for

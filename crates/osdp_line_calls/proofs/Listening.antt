@@ -10,8 +10,7 @@ use Rattle.osdp_frame.specs.Bytes.{AreBytes}
 use Rattle.osdp_frame.specs.Held.{Held, after_advance, after_gap, after_push, decided, taken_count}
 use Rattle.osdp_frame.specs.Items.{items, left_over}
 use Rattle.osdp_frame.specs.Reading.{RunItem}
-use Rattle.osdp_frame.proofs.Head.{AreBytes-drop}
-use Rattle.osdp_frame_laws.proofs.LawsOfSpellings.{AreBytes-append}
+use Rattle.osdp_frame.proofs.Head.{AreBytes-append, AreBytes-drop}
 use Rattle.osdp_frame_laws.proofs.LeftOver.{gap_items}
 use Rattle.osdp_frame_laws.proofs.OneByOne.{items_on}
 use Rattle.osdp_frame_laws.proofs.Readings.{items_undecided, items-append}

@@ -2,12 +2,12 @@
 use Rattle.std.proofs.Common.{◌≡◌, List, ◌++◌, ℕ, length, Result, Ok, Err, sym, subst, ap, ◌∙◌, append_assoc}
 use Rattle.std.specs.Prelude.{OnOk}
 use Rattle.osdp_reader.specs.State.{ReaderState}
-use Rattle.osdp_device.specs.Hearing.{Heard, IsAllRead, reads_all}
-use Rattle.osdp_device.specs.Receiving.{IsReceived, Received}
+use Rattle.osdp_device.specs.Hearing.{Heard, reads_all}
+use Rattle.osdp_frame.specs.Receiving.{IsAllRead, IsReceived, Received}
 use Rattle.osdp_device.specs.Status.{status_after, status_answer}
 use Rattle.osdp_device.specs.declared.status.DeviceStatus.{DeviceStatus}
 use Rattle.osdp_device.proofs.Pieces.{all_read}
-use Rattle.osdp_device.proofs.Receipt.{received_silence, received_tick}
+use Rattle.osdp_frame.proofs.Receipt.{received_silence, received_tick}
 use Rattle.osdp_line_calls.specs.ReaderSessions.{Called, Comes, IsHeard, Session, ended, heard}
 use Rattle.osdp_line_calls.specs.ReaderTexts.{all_lines, waiting_line}
 

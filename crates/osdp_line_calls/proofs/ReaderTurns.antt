@@ -6,14 +6,14 @@ use Rattle.osdp_frame.proofs.Head.{AreBytes-drop}
 use Rattle.osdp_frame.specs.Bytes.{AreBytes}
 use Rattle.osdp_frame.specs.Held.{Held}
 use Rattle.osdp_reader.specs.State.{ReaderState}
-use Rattle.osdp_device.specs.Hearing.{Heard, IsAllRead, hears_bytes, reads_all, turns_left}
-use Rattle.osdp_device.specs.Receiving.{IsReceived, Received, after_take, after_tick, count_taken, ends_silent, seen}
+use Rattle.osdp_device.specs.Hearing.{Heard, hears_bytes, reads_all, turns_left}
+use Rattle.osdp_frame.specs.Receiving.{IsAllRead, IsReceived, Received, after_take, after_tick, count_taken, ends_silent, seen}
 use Rattle.osdp_device.specs.Saying.{Said}
 use Rattle.osdp_device.specs.Status.{status_after, status_answer}
 use Rattle.osdp_device.specs.Telling.{TellsInTurn, Told, next_told}
 use Rattle.osdp_device.specs.declared.status.DeviceStatus.{DeviceStatus}
 use Rattle.osdp_device.proofs.Pieces.{all_read, fewer_turns, last_turn, seen_in_turn, takes_in_turn}
-use Rattle.osdp_device.proofs.Receipt.{received_pushed, received_tick}
+use Rattle.osdp_frame.proofs.Receipt.{received_take}
 use Rattle.osdp_device.proofs.Turning.{tells_in_turn}
 use Rattle.osdp_line_calls.specs.ReaderSessions.{IsHeard}
 use Rattle.osdp_line_calls.specs.ReaderTexts.{all_lines, said_lines}
@@ -128,10 +128,6 @@ count_within (b ∷ bytes) now l = by_ended (ends_silent (seen now l)).held.ende
     by_ended : (e : Bool) → cond e 0 (min (length (b ∷ bytes)) (1440 - length (ends_silent (seen now l)).held.bytes)) ≤ length (b ∷ bytes)
     by_ended true = omega arith
     by_ended false = omega arith
-
-received_take : (bytes : List ℕ) (now : ℕ) (l : Received) → IsReceived l → AreBytes bytes → IsReceived (after_take bytes now l)
-received_take [] now l is fits = record { gap = is.gap; bytes = is.bytes; some = is.some; last = omega (arith, is.last) }
-received_take (b ∷ bytes) now l is fits = received_pushed (after_tick now l) (b ∷ bytes) (received_tick now l is) fits
 
 -- a turn, as the code takes it
 record Turn (now : ℕ) (bytes : List ℕ) (at count : ℕ) (r : State) (l taken : Received) : Type 0 where

@@ -1,8 +1,8 @@
 -- What a call comes to.
 use Rattle.std.specs.Prelude.{◌≡◌, ℕ, ◌==◌, Bool, List, [], ◌++◌, length, if◌then◌else◌}
 use Rattle.osdp_msg.specs.declared.event.Event.{Event}
-use Rattle.osdp_device.specs.Hearing.{Heard, IsAllRead, hears_bytes, hears_silence, hears_tick}
-use Rattle.osdp_device.specs.Receiving.{Received, new_line}
+use Rattle.osdp_device.specs.Hearing.{Heard, hears_bytes, hears_silence, hears_tick}
+use Rattle.osdp_frame.specs.Receiving.{IsAllRead, Received, new_line}
 use Rattle.osdp_device.specs.Status.{new_status, status_after, status_answer}
 use Rattle.osdp_device.specs.declared.status.DeviceStatus.{DeviceStatus}
 use Rattle.osdp_reader.specs.State.{ReaderState, after_set_busy, after_set_handler, after_submit, new_reader}

@@ -1,7 +1,7 @@
 //! A device as a machine that is called by lines.
 
 ghost use Rattle.std.proofs.Common.{inl, inr, refl};
-ghost use Rattle.osdp_device.specs.Hearing.{IsAllRead};
+ghost use Rattle.osdp_frame.specs.Receiving.{IsAllRead};
 ghost use Rattle.osdp_line_calls.specs.ReaderCalls.{CallFits, call_words};
 ghost use Rattle.osdp_line_calls.specs.ReaderLines.{Answers, Gives, refuses};
 ghost use Rattle.osdp_line_calls.specs.ReaderSessions.{answered};

@@ -1,7 +1,8 @@
 //! A device that is called by lines.
 
 ghost use Rattle.std.specs.Prelude.{◌≡◌, ◌↔◌, ◌⊎◌, ◌<◌, ◌++◌, IfOk, IsErrOf, OnOk, length, string_bytes};
-ghost use Rattle.osdp_device.specs.Hearing.{IsAllRead, hears_bytes, hears_silence, hears_tick, reads_all};
+ghost use Rattle.osdp_device.specs.Hearing.{hears_bytes, hears_silence, hears_tick, reads_all};
+ghost use Rattle.osdp_frame.specs.Receiving.{IsAllRead};
 ghost use Rattle.osdp_frame.specs.Times.{IsTime, longest_time};
 ghost use Rattle.osdp_msg.specs.Limits.{most_waiting};
 ghost use Rattle.osdp_device.specs.Status.{status_after, status_answer};

@@ -1,7 +1,7 @@
 -- Lines to a reader's device as steps of its reader.
 use Rattle.std.proofs.Common.{◌≡◌, ◌∙◌, ◌⊎◌, ap, sym, refl, ℕ, List, [], ◌∷◌, ◌++◌, false, length, inl, inr, append-nil, append_assoc}
 use Rattle.osdp_device.specs.Hearing.{Heard, hears_bytes, reads_all, reads_on, then_reads}
-use Rattle.osdp_device.specs.Receiving.{Received, ends_silent, seen, after_tick, after_silence}
+use Rattle.osdp_frame.specs.Receiving.{Received, ends_silent, seen, after_tick, after_silence}
 use Rattle.osdp_device.specs.Saying.{Said}
 use Rattle.osdp_device.specs.Status.{status_after, status_answer}
 use Rattle.osdp_device.specs.Telling.{after_items, items_of, said_to_all}

@@ -2,10 +2,10 @@
 use Rattle.std.proofs.Common.{◌≡◌, ◌∙◌, ap, refl, ℕ, List, [], ◌∷◌, ◌++◌, length, Option, Some, None, inl, inr}
 use Rattle.osdp_line_calls.specs.Answers.{heard}
 use Rattle.osdp_reader.specs.State.{ReaderState}
-use Rattle.osdp_device.specs.Receiving.{Received}
+use Rattle.osdp_frame.specs.Receiving.{Received}
 use Rattle.osdp_device.specs.Status.{status_after, status_answer}
 use Rattle.osdp_device.specs.Hearing.{hears_bytes}
-use Rattle.osdp_device.specs.Receiving.{seen}
+use Rattle.osdp_frame.specs.Receiving.{seen}
 use Rattle.osdp_device.specs.declared.status.DeviceStatus.{DeviceStatus}
 use Rattle.osdp_line_calls.specs.declared.reader_call.ReaderCall.{ReaderCall}
 use Rattle.osdp_line_calls.specs.declared.reader_call.ReaderCall.TheVariants.{At, Bytes, Silence, Tick, Event, Busy, Inputs, Outputs, Readers, Local}

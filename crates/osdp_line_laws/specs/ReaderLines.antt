@@ -1,6 +1,6 @@
 -- What a device by lines does to its reader, and what it tells of that.
 use Rattle.std.specs.Prelude.{◌≡◌, ◌⊎◌, ℕ, Bool, false, List, [], ◌∷◌, ◌++◌, length}
-use Rattle.osdp_device.specs.Receiving.{Received, after_silence, after_tick, ends_silent, seen}
+use Rattle.osdp_frame.specs.Receiving.{Received, after_silence, after_tick, ends_silent, seen}
 use Rattle.osdp_device.specs.Saying.{said_to, unless_silent}
 use Rattle.osdp_device.specs.Status.{new_status, status_after, status_answer}
 use Rattle.osdp_device.specs.Telling.{after_all, items_of, listed}

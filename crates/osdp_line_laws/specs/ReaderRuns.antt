@@ -1,6 +1,6 @@
 -- A run of lines to a reader's device, from the first to the last: which calls the lines are, what is told of them, and what the device is after them.
 use Rattle.std.specs.Prelude.{◌≡◌, ℕ, false, List, [], ◌∷◌, ◌++◌, length, Option, Some, None}
-use Rattle.osdp_device.specs.Receiving.{Received, after_silence, after_tick, ends_silent, seen}
+use Rattle.osdp_frame.specs.Receiving.{Received, after_silence, after_tick, ends_silent, seen}
 use Rattle.osdp_device.specs.Telling.{after_all, items_of}
 use Rattle.osdp_frame.specs.Items.{left_over}
 use Rattle.osdp_line_calls.specs.Answers.{Speaks, heard}

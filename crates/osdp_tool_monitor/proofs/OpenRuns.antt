@@ -6,8 +6,7 @@ use Rattle.osdp_frame.specs.Bytes.{AreBytes}
 use Rattle.osdp_frame.specs.Held.{Held, decided, after_advance, after_push, taken_count}
 use Rattle.osdp_frame.specs.Items.{items, left_over}
 use Rattle.osdp_frame.specs.Reading.{RunItem, item_size, total_size}
-use Rattle.osdp_frame.proofs.Head.{AreBytes-drop, AreBytes-take}
-use Rattle.osdp_frame_laws.proofs.LawsOfSpellings.{AreBytes-append}
+use Rattle.osdp_frame.proofs.Head.{AreBytes-append, AreBytes-drop, AreBytes-take}
 use Rattle.osdp_frame_laws.proofs.LeftOver.{gap_items, left_is, left_over-append, reading_split, total_size-append}
 use Rattle.osdp_frame_laws.proofs.Readings.{is_reading, item_size-positive, item_size-decided, items-append, items_undecided, sizes_reading}
 use Rattle.osdp_tool_show.specs.Tally.{counted}

@@ -8,7 +8,7 @@ use Rattle.std.proofs.lemmas.List.{take_more}
 use Rattle.std.proofs.lemmas.List.Filters.{length-filter_both}
 use Rattle.osdp_tool_show.specs.Feeds.{HasLine}
 use Rattle.osdp_frame.specs.Bytes.{AreBytes}
-use Rattle.osdp_frame_laws.proofs.LawsOfSpellings.{AreBytes-nil}
+use Rattle.osdp_frame.proofs.Head.{AreBytes-nil}
 use Rattle.osdp_frame_laws.proofs.LeftOver.{items_nothing, left_nothing}
 use Rattle.osdp_frame.specs.Held.{Held, new_run}
 use Rattle.osdp_frame.specs.Items.{items, left_over}

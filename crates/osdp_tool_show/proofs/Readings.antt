@@ -10,9 +10,8 @@ use Rattle.osdp_frame.specs.Bytes.{AreBytes}
 use Rattle.osdp_frame.specs.Reading.{RunItem, PacketItem, SkippedItem, RefusedItem, item_size, total_size, IsReading}
 use Rattle.osdp_frame.specs.Items.{items, reading, Drains}
 use Rattle.osdp_frame.specs.Held.{decided}
-use Rattle.osdp_frame.proofs.Head.{AreBytes-drop}
+use Rattle.osdp_frame.proofs.Head.{AreBytes-append, AreBytes-drop, AreBytes-nil}
 use Rattle.osdp_frame.proofs.Decided.{first_decided, undecided_none}
-use Rattle.osdp_frame_laws.proofs.LawsOfSpellings.{AreBytes-append, AreBytes-nil}
 use Rattle.osdp_frame_laws.proofs.Readings.{is_reading, reading_is, sizes_reading, drained_items, decided_nothing, items_undecided, items_decided, item_size-positive, item_size-decided}
 use Rattle.osdp_tool_streams.specs.declared.form.Form.{Form}
 use Rattle.osdp_tool_streams.specs.declared.form.Form.TheVariants.{Raw, Joined, Apart}

@@ -10,8 +10,7 @@ use Rattle.osdp_frame.specs.Reading.{total_size}
 use Rattle.osdp_frame.specs.Held.{Held, decided, after_gap, after_push, taken_count}
 use Rattle.osdp_frame.specs.Items.{items, left_over}
 use Rattle.osdp_frame.proofs.Decided.{AreBytes-front}
-use Rattle.osdp_frame.proofs.Head.{AreBytes-drop, AreBytes-take}
-use Rattle.osdp_frame_laws.proofs.LawsOfSpellings.{AreBytes-append, AreBytes-nil}
+use Rattle.osdp_frame.proofs.Head.{AreBytes-append, AreBytes-drop, AreBytes-nil, AreBytes-take}
 use Rattle.osdp_frame_laws.proofs.LeftOver.{gap_items, items_nothing, left_bytes, left_is, left_nothing, left_over-append, reading_split}
 use Rattle.osdp_frame_laws.proofs.Readings.{items-append, left_undecided, sizes_reading, is_reading}
 use Rattle.osdp_tool_streams.specs.Runs.{closed_runs, with_bytes}

@@ -5,10 +5,9 @@ use Rattle.std.proofs.lemmas.List.{drop_all, length-take, nil_from_length, take-
 use Rattle.osdp_frame.specs.Bytes.{AreBytes}
 use Rattle.osdp_frame.specs.Reading.{RunItem, item_size}
 use Rattle.osdp_frame.specs.Held.{Held, decided, by_itself, new_run, after_push, after_gap, after_advance, after_first, taken_count}
-use Rattle.osdp_frame.proofs.Head.{AreBytes-drop, AreBytes-take}
+use Rattle.osdp_frame.proofs.Head.{AreBytes-append, AreBytes-drop, AreBytes-nil, AreBytes-take}
 use Rattle.osdp_frame.proofs.FirstItems.{decided_by_itself}
-use Rattle.osdp_frame_laws.proofs.LawsOfSpellings.{AreBytes-append, AreBytes-nil}
-use Rattle.osdp_frame_laws.proofs.LeftOver.{gap_some}
+use Rattle.osdp_frame.proofs.Receipt.{gap_some}
 use Rattle.osdp_frame_laws.proofs.Readings.{decided_nothing, item_size-decided, item_size-positive}
 use Rattle.osdp_tool_show.specs.declared.report.Report.{Report}
 use Rattle.osdp_tool_show.specs.Tally.{tally_after}

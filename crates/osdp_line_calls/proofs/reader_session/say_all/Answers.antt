@@ -1,5 +1,5 @@
 use Rattle.std.proofs.Common.{◌≡◌, ◌++◌, suc, length, string_bytes, Some, None, sym, ap, ◌∙◌, arith, append-nil, refl}
-use Rattle.osdp_device.specs.Receiving.{Received}
+use Rattle.osdp_frame.specs.Receiving.{Received}
 use Rattle.osdp_frame.specs.Held.{Held}
 use Rattle.osdp_device.specs.Saying.{said_in}
 use Rattle.osdp_device.specs.Status.{status_after, status_answer}

@@ -1,5 +1,5 @@
 use Rattle.std.proofs.Common.{◌≡◌, ◌++◌, length, string_bytes}
-use Rattle.osdp_device.specs.Receiving.{Received}
+use Rattle.osdp_frame.specs.Receiving.{Received}
 use Rattle.osdp_device.specs.Status.{status_after, status_answer}
 use Rattle.osdp_device.specs.Telling.{after_items, after_all, items_of, said_to_all}
 use Rattle.osdp_line_calls.specs.ReaderTexts.{all_lines}

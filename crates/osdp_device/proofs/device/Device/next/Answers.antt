@@ -3,14 +3,14 @@ use Rattle.osdp_frame.specs.Held.{Held, after_advance, decided}
 use Rattle.osdp_frame.specs.Reading.{PacketItem}
 use Rattle.osdp_frame.specs.Shown.{item_of}
 use Rattle.osdp_device.specs.Saying.{said_in}
-use Rattle.osdp_device.specs.Receiving.{Received}
+use Rattle.osdp_frame.specs.Receiving.{Received}
 use Rattle.osdp_device.proofs.Taking.{told_here}
 use Rattle.osdp_device.proofs.device.Device.next.Goals as goal
 
 pub returns : goal.returns
 returns g c =
     let here : decided c.pass_over.new.self.line.held.ended c.pass_over.new.self.line.held.bytes ≡ Some (PacketItem c.in-Some-Packet.packet) =
-    sym c.in-Some-Packet.ensures ∙ ap (λ i. Some (item_of i)) c.in-Some-Packet.field-0-is in
+    sym c.in-Some-Packet.ensures.shown ∙ ap (λ i. Some (item_of i)) c.in-Some-Packet.field-0-is in
     let told = told_here g.H.Handler.answer_of g.H.Handler.after c.pass_over.new.self.reader c.answer-response.new.reader c.pass_over.new.self.line.held
     (after_advance c.pass_over.new.self.line.held) (PacketItem c.in-Some-Packet.packet) (Some (said_in c.answer-response.result)) here
     refl c.answer-response.ensures.said c.answer-response.ensures.reader refl in

@@ -13,7 +13,7 @@ returns-then-not-pass_over-clause-pending g c =
 pub returns-clause-pending : goal.returns-clause-pending
 returns-clause-pending g c =
     let here : decided c.pass_over.new.self.line.held.ended c.pass_over.new.self.line.held.bytes ≡ Some (PacketItem c.in-Some-Packet.packet) =
-    sym c.in-Some-Packet.ensures ∙ ap (λ i. Some (item_of i)) c.in-Some-Packet.field-0-is in
+    sym c.in-Some-Packet.ensures.shown ∙ ap (λ i. Some (item_of i)) c.in-Some-Packet.field-0-is in
     let answered : is_answered c.pass_over.new.self.reader (PacketItem c.in-Some-Packet.packet) ≡ true =
     sym (c.pass_over.ensures.first ∙ ap (answers_first c.pass_over.new.self.reader) here) ∙ c.if-not-pass_over.false in
     c.pending_at.ensures ∙ sym (pending_here c.pass_over.new.self.reader c.pass_over.new.self.line.held (PacketItem c.in-Some-Packet.packet) here answered)

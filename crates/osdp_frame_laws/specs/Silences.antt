@@ -1,7 +1,7 @@
 -- What bytes and ticks do while a run goes on, and once the line has been silent for the gap. Moments are in milliseconds.
 use Rattle.std.specs.Prelude.{◌≡◌, ℕ, max, List, [], ◌∷◌}
 use Rattle.osdp_frame.specs.Silence.{ChangesAtGap}
-use Rattle.osdp_device.specs.Receiving.{Received, after_silence, after_take, after_tick, comes_in, ends_run, seen}
+use Rattle.osdp_frame.specs.Receiving.{Received, after_silence, after_take, after_tick, comes_in, ends_run, seen}
 
 -- What comes of a call at `now`: `before` while less than the gap has passed since the last bytes, `after` from then on. Where `now` lies before
 -- the greatest moment seen, the greatest counts.

@@ -1,7 +1,7 @@
 -- What has come on the line, and when. Moments are in milliseconds.
-use Rattle.std.specs.Prelude.{◌≡◌, ℕ, ◌≤◌, ◌<◌, Bool, true, if◌then◌else◌, max, List, [], ◌∷◌, length}
+use Rattle.std.specs.Prelude.{◌≡◌, ℕ, ◌≤◌, ◌<◌, Bool, true, false, if◌then◌else◌, max, List, [], ◌∷◌, length, None}
 use Rattle.osdp_frame.specs.Bytes.{AreBytes}
-use Rattle.osdp_frame.specs.Held.{Held, after_gap, after_push, new_run, taken_count}
+use Rattle.osdp_frame.specs.Held.{Held, decided, after_gap, after_push, new_run, taken_count}
 use Rattle.osdp_frame.specs.Silence.{is_silent_for}
 
 pub record Received : Type 0 where
@@ -25,6 +25,11 @@ pub record IsReceived (l : Received) : Type 0 where
   -- a run that is over holds a byte
   pub some : l.held.ended ≡ true → 0 < length l.held.bytes
   pub last : l.last ≤ l.greatest
+
+-- all that came was read: the run goes on, and what is held depends on bytes to come
+pub record IsAllRead (l : Received) : Type 0 where
+  pub goes_on : l.held.ended ≡ false
+  pub undecided : decided false l.held.bytes ≡ None
 
 -- a moment that lies before the greatest seen counts as that one
 abbrev pub seen : ℕ → Received → Received
