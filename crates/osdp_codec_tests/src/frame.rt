@@ -224,6 +224,26 @@ fn bad_checks_are_refused(rt: HostRuntime) {
     is_refused(&rt, &[0x53, 0x00, 0x08, 0x00, 0x04, 0x60, 0xaa, 0xeb], bad);
 }
 
+#[test]
+fn so_many_bytes_decide(rt: HostRuntime) {
+    let long = [0x53, 0x00, 0xa0, 0x05, 0x00, 0x60];
+    assert_eq!(rt; deciding_count(&[]), 0);
+    assert_eq!(rt; deciding_count(&[0xff, 0x53]), 1);
+    assert_eq!(rt; deciding_count(&POLL[..4]), 4);
+    assert_eq!(rt; deciding_count(&[0x53, 0x00, 0x07, 0x00, 0x04, 0x60]), 5);
+    assert_eq!(rt; deciding_count(&[0x53, 0x00, 0xa1, 0x05, 0x00, 0x60]), 5);
+    assert_eq!(rt; deciding_count(&long), 6);
+    assert_eq!(rt; deciding_count(&ACK_CONFIGURATION), 7);
+    assert_eq!(rt; deciding_count(&BLOCK), 9);
+}
+
+#[test]
+fn bytes_before_a_packet(rt: HostRuntime) {
+    assert_eq!(rt; skipped_count(&[0xff, 0x54, 0x53, 0x53]), 2);
+    assert_eq!(rt; skipped_count(&POLL), 0);
+    assert_eq!(rt; skipped_count(&POLL[1..]), 6);
+}
+
 /// What is shown is the POLL, and nothing beside it.
 fn is_poll(rt: &impl Abort, framer: &Framer) {
     match framer.next() {

@@ -14,3 +14,4 @@ pub mod Framed
 pub mod Silence
 pub mod Times
 pub mod Receiving
+pub mod Ahead

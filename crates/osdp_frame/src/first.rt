@@ -24,7 +24,7 @@ pub enum First {
 }
 
 /// The check that the control byte speaks of.
-fn check_kind(rest: &[u8]) -> CheckKind
+pub fn check_kind(rest: &[u8]) -> CheckKind
     requires { 5 ≤ length rest.now }
     ensures { result ≡ check_at rest.now }
 {

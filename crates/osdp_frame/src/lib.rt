@@ -7,6 +7,7 @@
 #![tactic(auto)]
 
 mod address;
+mod ahead;
 mod buffer;
 mod bytes;
 mod check_kind;
@@ -23,6 +24,7 @@ mod times;
 mod view;
 
 pub use address::Address;
+pub use ahead::{deciding_count, skipped_count};
 pub use bytes::{MAX_BODY, MAX_PACKET};
 pub use check_kind::CheckKind;
 pub use fault::FrameFault;
