@@ -1,9 +1,16 @@
 -- A command that goes by one of these names is made of a value that is read after it.
-use Rattle.std.proofs.Common.{codes, refl}
+use Rattle.std.proofs.Common.{ℕ, List, codes, refl}
+use Rattle.osdp_words.specs.Word.{Word}
 use Rattle.osdp_msg.specs.declared.command.Command.{Command}
 use Rattle.osdp_msg.specs.declared.command.Command.TheVariants.{Id, Cap, Buzzer, Comset}
-use Rattle.osdp_msg.specs.CommandText.{command_name}
+use Rattle.osdp_msg.specs.CommandText.{command_row}
 use Rattle.osdp_msg.proofs.RowTexts.{IsMadeBy, apart}
+
+abbrev pub command_name : Command → List ℕ
+command_name m = (command_row m).0
+
+abbrev pub command_fields : Command → List Word
+command_fields m = (command_row m).1
 
 pub made_by_names : (m : Command)
     → IsMadeBy command_name (codes "ID") Id m × IsMadeBy command_name (codes "CAP") Cap m

@@ -4,7 +4,7 @@ use Rattle.osdp_words.specs.Word.{Word}
 use Rattle.osdp_msg.specs.declared.event.Event.{Event}
 use Rattle.osdp_msg.specs.declared.event.Event.TheVariants.{LocalState}
 use Rattle.osdp_msg.specs.Events.{event_reply}
-use Rattle.osdp_msg.specs.ReplyText.{reply_fields, reply_name}
+use Rattle.osdp_msg.proofs.ReplyTextRows.{reply_fields, reply_name}
 use Rattle.osdp_msg.proofs.RowTexts.{IsMadeBy, apart}
 
 abbrev pub event_name : Event → List ℕ

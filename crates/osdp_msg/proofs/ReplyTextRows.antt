@@ -1,9 +1,16 @@
 -- A reply that goes by one of these names is made of a value that is read after it.
-use Rattle.std.proofs.Common.{codes, refl}
+use Rattle.std.proofs.Common.{ℕ, List, codes, refl}
+use Rattle.osdp_words.specs.Word.{Word}
 use Rattle.osdp_msg.specs.declared.reply.Reply.{Reply}
 use Rattle.osdp_msg.specs.declared.reply.Reply.TheVariants.{LocalState, Com}
-use Rattle.osdp_msg.specs.ReplyText.{reply_name}
+use Rattle.osdp_msg.specs.ReplyText.{reply_row}
 use Rattle.osdp_msg.proofs.RowTexts.{IsMadeBy, apart}
+
+abbrev pub reply_name : Reply → List ℕ
+reply_name m = (reply_row m).0
+
+abbrev pub reply_fields : Reply → List Word
+reply_fields m = (reply_row m).1
 
 pub made_by_names : (m : Reply) → IsMadeBy reply_name (codes "LSTATR") LocalState m × IsMadeBy reply_name (codes "COM") Com m
 made_by_names (LocalState x) = (λ e. (x, refl), apart _ _ refl)

@@ -5,39 +5,24 @@ use Rattle.osdp_msg.specs.declared.command.Command.{Command}
 use Rattle.osdp_msg.specs.declared.command.Command.TheVariants.{Poll, Id, Cap, LocalStatus, InputStatus, OutputStatus, ReaderStatus, Output, Led, Buzzer, Text, Comset, Maker}
 use Rattle.osdp_msg.specs.CommandFields.{output_word, led_word, buzzer_words, text_words, communication_words, maker_words}
 
-abbrev pub command_name : Command → List ℕ
-command_name Poll = codes "POLL"
-command_name (Id kept) = codes "ID"
-command_name (Cap kept) = codes "CAP"
-command_name LocalStatus = codes "LSTAT"
-command_name InputStatus = codes "ISTAT"
-command_name OutputStatus = codes "OSTAT"
-command_name ReaderStatus = codes "RSTAT"
-command_name (Output records) = codes "OUT"
-command_name (Led records) = codes "LED"
-command_name (Buzzer b) = codes "BUZ"
-command_name (Text t) = codes "TEXT"
-command_name (Comset c) = codes "COMSET"
-command_name (Maker m) = codes "MFG"
-
-abbrev pub command_fields : Command → List Word
-command_fields Poll = []
-command_fields (Id kept) = number kept ∷ []
-command_fields (Cap kept) = number kept ∷ []
-command_fields LocalStatus = []
-command_fields InputStatus = []
-command_fields OutputStatus = []
-command_fields ReaderStatus = []
-command_fields (Output records) = map output_word records
-command_fields (Led records) = map led_word records
-command_fields (Buzzer b) = buzzer_words b
-command_fields (Text t) = text_words t
-command_fields (Comset c) = communication_words c
-command_fields (Maker m) = maker_words m
+-- the name of a command, and the words of its fields
+abbrev pub command_row : Command → List ℕ × List Word
+command_row Poll = (codes "POLL", [])
+command_row (Id kept) = (codes "ID", number kept ∷ [])
+command_row (Cap kept) = (codes "CAP", number kept ∷ [])
+command_row LocalStatus = (codes "LSTAT", [])
+command_row InputStatus = (codes "ISTAT", [])
+command_row OutputStatus = (codes "OSTAT", [])
+command_row ReaderStatus = (codes "RSTAT", [])
+command_row (Output records) = (codes "OUT", map output_word records)
+command_row (Led records) = (codes "LED", map led_word records)
+command_row (Buzzer b) = (codes "BUZ", buzzer_words b)
+command_row (Text t) = (codes "TEXT", text_words t)
+command_row (Comset c) = (codes "COMSET", communication_words c)
+command_row (Maker m) = (codes "MFG", maker_words m)
 
 abbrev pub command_words : Command → List Word
-command_words m = plain (command_name m) ∷ command_fields m
+command_words m = plain (command_row m).0 ∷ (command_row m).1
 
--- the words, joined by single spaces
 unfoldable pub command_text : Command → List ℕ
 command_text m = text_of (command_words m)

@@ -4,7 +4,8 @@ use Rattle.osdp_msg.specs.declared.command.Command.TheVariants.{Poll, Id, Cap, L
 use Rattle.osdp_msg.specs.CommandFields.{LedFits, OutputFits, led_word, output_word}
 use Rattle.osdp_msg_laws.proofs.OneMeaning.{buzzer_one, byte_one, communication_one, led_one, maker_one, output_one, records_one, text_one}
 use Rattle.osdp_msg.specs.CommandTable.{CommandFits}
-use Rattle.osdp_msg.specs.CommandText.{command_fields, command_name, command_text, command_words}
+use Rattle.osdp_msg.specs.CommandText.{command_text, command_words}
+use Rattle.osdp_msg.proofs.CommandTextRows.{command_fields, command_name}
 use Rattle.osdp_msg.proofs.RowTexts.{differ}
 use Rattle.osdp_msg_laws.proofs.PlainCommands.{plain_commands}
 use Rattle.osdp_msg_laws.proofs.TableLaws.{HasTexts, RowsHaveOneMeaning, texts_of}

@@ -5,8 +5,8 @@ use Rattle.osdp_msg.specs.declared.command.Command.{Command}
 use Rattle.osdp_msg.specs.declared.command.Command.TheVariants.{Poll}
 use Rattle.osdp_msg.specs.declared.reply.Reply.{Reply}
 use Rattle.osdp_msg.specs.declared.reply.Reply.TheVariants.{Ack}
-use Rattle.osdp_msg.specs.CommandText.{command_name}
-use Rattle.osdp_msg.specs.ReplyText.{reply_name}
+use Rattle.osdp_msg.proofs.CommandTextRows.{command_name}
+use Rattle.osdp_msg.proofs.ReplyTextRows.{reply_name}
 use Rattle.osdp_msg_laws.specs.Laws.{IsPlainWord}
 use Rattle.osdp_msg_laws.proofs.PlainWords.{name_plain}
 

@@ -8,7 +8,8 @@ use Rattle.osdp_msg.specs.Events.{EventFits, event_reply, event_words}
 use Rattle.osdp_msg.specs.NakReasons.{reason_number}
 use Rattle.osdp_msg.specs.ReplyFields.{CapabilityFits, capability_word, detail_words}
 use Rattle.osdp_msg.specs.ReplyTable.{ReplyFits}
-use Rattle.osdp_msg.specs.ReplyText.{reply_fields, reply_words}
+use Rattle.osdp_msg.specs.ReplyText.{reply_words}
+use Rattle.osdp_msg.proofs.ReplyTextRows.{reply_fields}
 use Rattle.osdp_msg.proofs.ReplyRows.{reason_byte}
 use Rattle.osdp_msg_laws.specs.Laws.{HasPlainWords}
 use Rattle.osdp_msg_laws.proofs.OneMeaning.{byte, word_2, word_4}

@@ -5,7 +5,8 @@ use Rattle.osdp_msg.specs.declared.capability.Capability.{Capability}
 use Rattle.osdp_msg.specs.ReplyFields.{CapabilityFits, capability_word}
 use Rattle.osdp_msg_laws.proofs.OneMeaning.{capability_one, communication_one, formatted_one, keypad_one, local_state_one, maker_one, nak_one, pd_id_one, raw_one, records_one, states_one}
 use Rattle.osdp_msg.specs.ReplyTable.{ReplyFits}
-use Rattle.osdp_msg.specs.ReplyText.{reply_fields, reply_name, reply_text, reply_words}
+use Rattle.osdp_msg.specs.ReplyText.{reply_text, reply_words}
+use Rattle.osdp_msg.proofs.ReplyTextRows.{reply_fields, reply_name}
 use Rattle.osdp_msg.proofs.RowTexts.{differ}
 use Rattle.osdp_msg_laws.proofs.PlainReplies.{plain_replies}
 use Rattle.osdp_msg_laws.proofs.TableLaws.{HasTexts, RowsHaveOneMeaning, texts_of}

@@ -5,8 +5,10 @@ use Rattle.osdp_msg.specs.declared.command.Command.{Command}
 use Rattle.osdp_msg.specs.declared.command.Command.TheVariants as command
 use Rattle.osdp_msg.specs.declared.reply.Reply.{Reply}
 use Rattle.osdp_msg.specs.declared.reply.Reply.TheVariants as reply
-use Rattle.osdp_msg.specs.CommandText.{command_name, command_words}
-use Rattle.osdp_msg.specs.ReplyText.{reply_name, reply_words}
+use Rattle.osdp_msg.specs.CommandText.{command_words}
+use Rattle.osdp_msg.proofs.CommandTextRows.{command_name}
+use Rattle.osdp_msg.specs.ReplyText.{reply_words}
+use Rattle.osdp_msg.proofs.ReplyTextRows.{reply_name}
 use Rattle.osdp_msg.proofs.RowTexts.{differ, same}
 
 names_differ : (c : Command) (r : Reply) → same (command_name c) (reply_name r) ≡ false

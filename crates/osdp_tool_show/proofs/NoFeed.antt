@@ -11,9 +11,11 @@ use Rattle.osdp_words.proofs.WordLaws.{lacks-append, lacks-cons}
 use Rattle.osdp_msg.specs.declared.fault.MsgFault.{MsgFault}
 use Rattle.osdp_msg.specs.declared.fault.MsgFault.TheVariants.{UnknownCode}
 use Rattle.osdp_msg.specs.CommandTable.{CommandFits, IsCommand, command_of}
-use Rattle.osdp_msg.specs.CommandText.{command_fields, command_name, command_text}
+use Rattle.osdp_msg.specs.CommandText.{command_text}
+use Rattle.osdp_msg.proofs.CommandTextRows.{command_fields, command_name}
 use Rattle.osdp_msg.specs.ReplyTable.{IsReply, ReplyFits, reply_of}
-use Rattle.osdp_msg.specs.ReplyText.{reply_fields, reply_name, reply_text}
+use Rattle.osdp_msg.specs.ReplyText.{reply_text}
+use Rattle.osdp_msg.proofs.ReplyTextRows.{reply_fields, reply_name}
 use Rattle.osdp_msg_laws.specs.Laws.{HasPlainWords, IsPlainCharacter, ReadsTheTable}
 use Rattle.osdp_msg_laws.proofs.CommandLaws.{command_laws}
 use Rattle.osdp_msg_laws.proofs.PlainCommands.{plain_commands}

@@ -1,8 +1,7 @@
 use Rattle.std.proofs.Common.{refl, codes}
 use Rattle.osdp_msg.specs.declared.command.Command.TheVariants.{Id, Cap, Buzzer, Comset}
 use Rattle.osdp_msg.specs.CommandTable.{CommandFits}
-use Rattle.osdp_msg.specs.CommandText.{command_fields, command_name}
-use Rattle.osdp_msg.proofs.CommandTextRows.{made_by_names}
+use Rattle.osdp_msg.proofs.CommandTextRows.{command_fields, command_name, made_by_names}
 use Rattle.osdp_msg.proofs.RowTexts.{made_row_read, mapped}
 use Rattle.osdp_msg.proofs.command.parse_row.Goals as goal
 

@@ -1,8 +1,7 @@
 use Rattle.std.proofs.Common.{refl, codes}
 use Rattle.osdp_msg.specs.declared.reply.Reply.TheVariants.{LocalState, Com}
 use Rattle.osdp_msg.specs.ReplyTable.{ReplyFits}
-use Rattle.osdp_msg.specs.ReplyText.{reply_fields, reply_name}
-use Rattle.osdp_msg.proofs.ReplyTextRows.{made_by_names}
+use Rattle.osdp_msg.proofs.ReplyTextRows.{made_by_names, reply_fields, reply_name}
 use Rattle.osdp_msg.proofs.RowTexts.{made_row_read, mapped}
 use Rattle.osdp_msg.proofs.reply.parse_row.Goals as goal
 
