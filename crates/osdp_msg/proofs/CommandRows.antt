@@ -1,5 +1,5 @@
 -- The data of commands, row by row: bytes that are read are spelled so, and what is spelled so is read.
-use Rattle.std.proofs.Common.{◌≡◌, ◌<◌, ◌≤◌, ◌^◌, ℕ, ◌+◌, ◌-◌, List, [], ◌∷◌, ◌++◌, length, drop, get_or, lit<, refl, sym, ap, ◌∙◌, arith}
+use Rattle.std.proofs.Common.{◌≡◌, ◌≤◌, ℕ, ◌+◌, ◌-◌, List, [], ◌∷◌, ◌++◌, length, drop, get_or, lit<, refl, sym, ap, ◌∙◌, arith}
 use Rattle.std.proofs.lemmas.List.{drop_at, length-append, length-drop, length-take, take-append-drop, take_at}
 use Rattle.byteorder.specs.Endian.{little_bytes}
 use Rattle.hex.specs.Hex.{IsBytes}
@@ -40,35 +40,11 @@ led_takes bs le h =
     let later = get_or bs 9 0 ∷ get_or bs 10 0 ∷ get_or bs 11 0 ∷ get_or bs 12 0 ∷ get_or bs 13 0 ∷ [] in
     cells 14 0 bs le ∙ ap (λ (timer : List ℕ). ((front ++ timer) ++ later) ++ drop 14 bs) (sym (number_2_at 7 bs h))
 
--- the numbers of an LED are in their ranges, where those before the timer and those after it are bytes
-pub led_fits : (r : LedRecord)
-    → IsBytes (r.reader ∷ r.led ∷ r.temporary_control ∷ r.temporary_on_time ∷ r.temporary_off_time ∷ r.temporary_on_color ∷ r.temporary_off_color ∷ [])
-    → r.timer < 2 ^ 16
-    → IsBytes (r.permanent_control ∷ r.permanent_on_time ∷ r.permanent_off_time ∷ r.permanent_on_color ∷ r.permanent_off_color ∷ [])
-    → LedFits r
-led_fits r front timer later = record {
-  reader = front 0;
-  led = front 1;
-  temporary_control = front 2;
-  temporary_on_time = front 3;
-  temporary_off_time = front 4;
-  temporary_on_color = front 5;
-  temporary_off_color = front 6;
-  timer = timer;
-  permanent_control = later 0;
-  permanent_on_time = later 1;
-  permanent_off_time = later 2;
-  permanent_on_color = later 3;
-  permanent_off_color = later 4;
-}
-
 led_spells : (r : LedRecord) → LedFits r → IsBytes (led_data r)
 led_spells r fits =
     let front = r.reader ∷ r.led ∷ r.temporary_control ∷ r.temporary_on_time ∷ r.temporary_off_time ∷ r.temporary_on_color ∷ r.temporary_off_color ∷ [] in
     let later = r.permanent_control ∷ r.permanent_on_time ∷ r.permanent_off_time ∷ r.permanent_on_color ∷ r.permanent_off_color ∷ [] in
-    let front_bytes : IsBytes front = IsBytes-each front (fits.reader, (fits.led, (fits.temporary_control, (fits.temporary_on_time, (fits.temporary_off_time, (fits.temporary_on_color, (fits.temporary_off_color, tt))))))) in
-    let after_bytes : IsBytes later = IsBytes-each later (fits.permanent_control, (fits.permanent_on_time, (fits.permanent_off_time, (fits.permanent_on_color, (fits.permanent_off_color, tt))))) in
-    IsBytes-append (front ++ little_bytes 2 r.timer) later (IsBytes-append front (little_bytes 2 r.timer) front_bytes (IsBytes-little_2 r.timer)) after_bytes
+    IsBytes-append (front ++ little_bytes 2 r.timer) later (IsBytes-append front (little_bytes 2 r.timer) fits.front (IsBytes-little_2 r.timer)) fits.later
 
 pub leds : IsRecord 14 led_data LedFits led_at
 leds = record {
@@ -76,7 +52,7 @@ leds = record {
   len = λ r. refl;
   again = led_again;
   takes = led_takes;
-  fits = λ bs h. led_fits (led_at bs) (IsBytes-cells 0 7 bs h) (number_2_bound (drop 7 bs) (IsBytes-drop 7 bs h)) (IsBytes-cells 9 5 bs h);
+  fits = λ bs h. record { front = IsBytes-cells 0 7 bs h; timer = number_2_bound (drop 7 bs) (IsBytes-drop 7 bs h); later = IsBytes-cells 9 5 bs h };
   spells = led_spells;
 }
 
@@ -96,18 +72,14 @@ text_takes bs le count =
 
 pub text_fits : (bs : List ℕ) → get_or bs 5 0 ≡ length bs - 6 → IsBytes bs → TextFits (text_at bs)
 text_fits bs count h = record {
-  reader = h 0;
-  command = h 1;
-  time = h 2;
-  row = h 3;
-  column = h 4;
+  numbers = IsBytes-cells 0 5 bs h;
   room = rw length-drop (omega (arith, h 5));
   characters = IsBytes-drop 6 bs h;
 }
 
 pub text_spells : (t : Text) → TextFits t → IsBytes (text_data t)
 text_spells t fits =
-    IsBytes-counted (t.reader ∷ t.command ∷ t.time ∷ t.row ∷ t.column ∷ []) t.characters.items (fits.reader, (fits.command, (fits.time, (fits.row, (fits.column, tt))))) fits.room fits.characters
+    IsBytes-counted (t.reader ∷ t.command ∷ t.time ∷ t.row ∷ t.column ∷ []) t.characters.items (fits.numbers 0, (fits.numbers 1, (fits.numbers 2, (fits.numbers 3, (fits.numbers 4, tt))))) fits.room fits.characters
 
 -- communication
 

@@ -20,7 +20,7 @@ use Rattle.osdp_msg.specs.NakReasons.{reason_number, reason_of}
 use Rattle.osdp_msg.specs.Raw.{RawCard}
 use Rattle.osdp_msg.specs.ReplyFields.{FormattedFits, formatted_words, KeypadFits, keypad_words, LocalStateFits, local_state_at, local_state_data, local_state_words, NakFits, detail_words, nak_words, PdIdFits, pd_id_words, RawFits, raw_words}
 use Rattle.osdp_msg.specs.ReplyTable.{StatesFit}
-use Rattle.osdp_msg.proofs.Bytes.{IsBytes-each, all_cells}
+use Rattle.osdp_msg.proofs.Bytes.{IsBytes-cells, IsBytes-each, all_cells}
 use Rattle.osdp_msg.proofs.CommandRows.{buzzer_spells}
 use Rattle.osdp_msg.proofs.ReplyRows.{local_state_spells, reason_again, reason_back, reason_byte, reason_fits}
 use Rattle.osdp_msg.proofs.TakenParts.{AreNumbers, IsBelow, IsList, IsVendor, list_words, number_words, numbers_words, two_no_back, two_no_front, two_whole, vendor_words}
@@ -59,9 +59,9 @@ text_parts t = (t.reader ∷ t.command ∷ t.time ∷ t.row ∷ t.column ∷ [],
 pub text_made : IsMadeOf (pair_words numbers_words (AreNumbers 5) list_words (IsList 255)) (PairAllowed numbers_words (AreNumbers 5) list_words (IsList 255)) text_words TextFits text_from text_parts
 text_made = record {
   back = λ t fits. refl;
-  parts_allowed = λ t fits. ((refl, IsBytes-each (t.reader ∷ t.command ∷ t.time ∷ t.row ∷ t.column ∷ []) (fits.reader, (fits.command, (fits.time, (fits.row, (fits.column, tt)))))), (fits.room, fits.characters));
+  parts_allowed = λ t fits. ((refl, fits.numbers), (fits.room, fits.characters));
   parts_words = λ t fits. refl;
-  fits = λ p h. record { reader = h.0.1 0; command = h.0.1 1; time = h.0.1 2; row = h.0.1 3; column = h.0.1 4; room = h.1.0; characters = h.1.1 };
+  fits = λ p h. record { numbers = IsBytes-cells 0 5 p.0 h.0.1; room = h.1.0; characters = h.1.1 };
   same_words = λ p h. ap (λ (ns : List ℕ). map number ns ++ (bytes p.1.items ∷ [])) (sym (all_cells 5 p.0 h.0.0));
 }
 

@@ -6,7 +6,6 @@ use Rattle.osdp_msg.specs.declared.outputs.OutputRecord.{OutputRecord}
 use Rattle.osdp_msg.specs.CommandFields.{LedFits, OutputFits, led_at, led_word, output_word}
 use Rattle.osdp_msg.specs.ReplyFields.{CapabilityFits, capability_at, capability_data, capability_word}
 use Rattle.osdp_msg.proofs.Bytes.{IsBytes-each, all_cells, cells_from}
-use Rattle.osdp_msg.proofs.CommandRows.{led_fits}
 use Rattle.osdp_msg.proofs.RecordTexts.{IsMadeOfWord, within_at, within_length}
 
 -- a number that is within its limit
@@ -70,15 +69,18 @@ within n limit h = omega arith
 
 led_allowed : (r : LedRecord) → LedFits r → AreWithin led_limits (led_numbers r)
 led_allowed r fits = (
-  within r.reader 255 fits.reader,
-  (within r.led 255 fits.led, (within r.temporary_control 255 fits.temporary_control, (within r.temporary_on_time 255 fits.temporary_on_time, (within r.temporary_off_time 255 fits.temporary_off_time, (within r.temporary_on_color 255 fits.temporary_on_color, (within r.temporary_off_color 255 fits.temporary_off_color, (within r.timer 65535 fits.timer, (within r.permanent_control 255 fits.permanent_control, (within r.permanent_on_time 255 fits.permanent_on_time, (within r.permanent_off_time 255 fits.permanent_off_time, (within r.permanent_on_color 255 fits.permanent_on_color, (within r.permanent_off_color 255 fits.permanent_off_color, tt)))))))))))),
+  within r.reader 255 (fits.front 0),
+  (within r.led 255 (fits.front 1), (within r.temporary_control 255 (fits.front 2), (within r.temporary_on_time 255 (fits.front 3), (within r.temporary_off_time 255 (fits.front 4), (within r.temporary_on_color 255 (fits.front 5), (within r.temporary_off_color 255 (fits.front 6), (within r.timer 65535 fits.timer, (within r.permanent_control 255 (fits.later 0), (within r.permanent_on_time 255 (fits.later 1), (within r.permanent_off_time 255 (fits.later 2), (within r.permanent_on_color 255 (fits.later 3), (within r.permanent_off_color 255 (fits.later 4), tt)))))))))))),
 )
 
 led_within : (ns : List ℕ) → AreWithin led_limits ns → LedFits (led_from ns)
 led_within ns h =
     let at = below led_limits ns in
-    led_fits (led_from ns) (IsBytes-each (cells_from 0 7 ns) (at 0 h (lit< tt), (at 1 h (lit< tt), (at 2 h (lit< tt), (at 3 h (lit< tt), (at 4 h (lit< tt), (at 5 h (lit< tt), (at 6 h (lit< tt), tt))))))))
-    (at 7 h (lit< tt)) (IsBytes-each (cells_from 8 5 ns) (at 8 h (lit< tt), (at 9 h (lit< tt), (at 10 h (lit< tt), (at 11 h (lit< tt), (at 12 h (lit< tt), tt))))))
+    record {
+      front = IsBytes-each (cells_from 0 7 ns) (at 0 h (lit< tt), (at 1 h (lit< tt), (at 2 h (lit< tt), (at 3 h (lit< tt), (at 4 h (lit< tt), (at 5 h (lit< tt), (at 6 h (lit< tt), tt)))))));
+      timer = at 7 h (lit< tt);
+      later = IsBytes-each (cells_from 8 5 ns) (at 8 h (lit< tt), (at 9 h (lit< tt), (at 10 h (lit< tt), (at 11 h (lit< tt), (at 12 h (lit< tt), tt)))));
+    }
 
 pub led_made : IsMadeOfWord numbers (AreWithin led_limits) led_word LedFits led_from led_numbers
 led_made = record {

@@ -22,11 +22,7 @@ pub record OutputFits (r : OutputRecord) : Type 0 where
   pub timer : r.timer < 2 ^ 16
 
 abbrev pub output_at : List ℕ → OutputRecord
-output_at bs = record {
-  output = slice_index bs 0;
-  control = slice_index bs 1;
-  timer = little_number 2 (drop 2 bs);
-}
+output_at bs = record { output = slice_index bs 0; control = slice_index bs 1; timer = little_number 2 (drop 2 bs) }
 
 abbrev pub output_word : OutputRecord → Word
 output_word r = numbers (r.output ∷ r.control ∷ r.timer ∷ [])
@@ -43,19 +39,9 @@ led_data r =
     ++ (r.permanent_control ∷ r.permanent_on_time ∷ r.permanent_off_time ∷ r.permanent_on_color ∷ r.permanent_off_color ∷ [])
 
 pub record LedFits (r : LedRecord) : Type 0 where
-  pub reader : r.reader < 256
-  pub led : r.led < 256
-  pub temporary_control : r.temporary_control < 256
-  pub temporary_on_time : r.temporary_on_time < 256
-  pub temporary_off_time : r.temporary_off_time < 256
-  pub temporary_on_color : r.temporary_on_color < 256
-  pub temporary_off_color : r.temporary_off_color < 256
+  pub front : IsBytes (r.reader ∷ r.led ∷ r.temporary_control ∷ r.temporary_on_time ∷ r.temporary_off_time ∷ r.temporary_on_color ∷ r.temporary_off_color ∷ [])
   pub timer : r.timer < 2 ^ 16
-  pub permanent_control : r.permanent_control < 256
-  pub permanent_on_time : r.permanent_on_time < 256
-  pub permanent_off_time : r.permanent_off_time < 256
-  pub permanent_on_color : r.permanent_on_color < 256
-  pub permanent_off_color : r.permanent_off_color < 256
+  pub later : IsBytes (r.permanent_control ∷ r.permanent_on_time ∷ r.permanent_off_time ∷ r.permanent_on_color ∷ r.permanent_off_color ∷ [])
 
 abbrev pub led_at : List ℕ → LedRecord
 led_at bs = record {
@@ -87,13 +73,7 @@ abbrev pub BuzzerFits : Buzzer → Type 0
 BuzzerFits b = (b.reader < 256) × (b.tone < 256) × (b.on_time < 256) × (b.off_time < 256) × (b.count < 256)
 
 abbrev pub buzzer_at : List ℕ → Buzzer
-buzzer_at bs = record {
-  reader = slice_index bs 0;
-  tone = slice_index bs 1;
-  on_time = slice_index bs 2;
-  off_time = slice_index bs 3;
-  count = slice_index bs 4;
-}
+buzzer_at bs = record { reader = slice_index bs 0; tone = slice_index bs 1; on_time = slice_index bs 2; off_time = slice_index bs 3; count = slice_index bs 4 }
 
 abbrev pub buzzer_words : Buzzer → List Word
 buzzer_words b = number b.reader ∷ number b.tone ∷ number b.on_time ∷ number b.off_time ∷ number b.count ∷ []
@@ -105,23 +85,12 @@ text_data t =
     t.reader ∷ t.command ∷ t.time ∷ t.row ∷ t.column ∷ length t.characters.items ∷ t.characters.items
 
 pub record TextFits (t : Text) : Type 0 where
-  pub reader : t.reader < 256
-  pub command : t.command < 256
-  pub time : t.time < 256
-  pub row : t.row < 256
-  pub column : t.column < 256
+  pub numbers : IsBytes (t.reader ∷ t.command ∷ t.time ∷ t.row ∷ t.column ∷ [])
   pub room : length t.characters.items ≤ 255
   pub characters : IsBytes t.characters.items
 
 abbrev pub text_at : List ℕ → Text
-text_at bs = record {
-  reader = slice_index bs 0;
-  command = slice_index bs 1;
-  time = slice_index bs 2;
-  row = slice_index bs 3;
-  column = slice_index bs 4;
-  characters = record { items = drop 6 bs };
-}
+text_at bs = record { reader = slice_index bs 0; command = slice_index bs 1; time = slice_index bs 2; row = slice_index bs 3; column = slice_index bs 4; characters = record { items = drop 6 bs } }
 
 abbrev pub text_words : Text → List Word
 text_words t =

@@ -52,15 +52,7 @@ pub record PdIdFits (p : PdId) : Type 0 where
   pub firmware_build : p.firmware_build < 256
 
 abbrev pub pd_id_at : List ℕ → PdId
-pd_id_at bs = record {
-  vendor = take 3 bs;
-  model = slice_index bs 3;
-  version = slice_index bs 4;
-  serial = little_number 4 (drop 5 bs);
-  firmware_major = slice_index bs 9;
-  firmware_minor = slice_index bs 10;
-  firmware_build = slice_index bs 11;
-}
+pd_id_at bs = record { vendor = take 3 bs; model = slice_index bs 3; version = slice_index bs 4; serial = little_number 4 (drop 5 bs); firmware_major = slice_index bs 9; firmware_minor = slice_index bs 10; firmware_build = slice_index bs 11 }
 
 abbrev pub pd_id_words : PdId → List Word
 pd_id_words p =
@@ -130,11 +122,7 @@ pub record FormattedFits (f : Formatted) : Type 0 where
   pub digits : IsBytes f.digits.items
 
 abbrev pub formatted_at : List ℕ → Formatted
-formatted_at bs = record {
-  reader = slice_index bs 0;
-  direction = slice_index bs 1;
-  digits = record { items = drop 3 bs };
-}
+formatted_at bs = record { reader = slice_index bs 0; direction = slice_index bs 1; digits = record { items = drop 3 bs } }
 
 abbrev pub formatted_words : Formatted → List Word
 formatted_words f = number f.reader ∷ number f.direction ∷ bytes f.digits.items ∷ []

@@ -28,7 +28,7 @@ no_led = leds.fits [] IsBytes-nil
 knows_text : IsNoneOrKnown IsCommand command_length_allowed 0x6B
 knows_text =
     known (Text (record { reader = 0; command = 0; time = 0; row = 0; column = 0; characters = record { items = [] } }))
-    (record { reader = lit< tt; command = lit< tt; time = lit< tt; row = lit< tt; column = lit< tt; room = lit≤ tt; characters = IsBytes-nil })
+    (record { numbers = IsBytes-each (0 ∷ 0 ∷ 0 ∷ 0 ∷ 0 ∷ []) (lit< tt, (lit< tt, (lit< tt, (lit< tt, (lit< tt, tt))))); room = lit≤ tt; characters = IsBytes-nil })
     (λ len e. (cc))
 
 knows_maker : IsNoneOrKnown IsCommand command_length_allowed 0x80

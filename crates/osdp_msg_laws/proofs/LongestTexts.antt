@@ -38,8 +38,8 @@ led_width : (r : LedRecord) → LedFits r → length (printed (led_word r)) ≤ 
 led_width r h = record_within r.reader
     (r.led ∷ r.temporary_control ∷ r.temporary_on_time ∷ r.temporary_off_time ∷ r.temporary_on_color ∷ r.temporary_off_color ∷ r.timer ∷ r.permanent_control ∷ r.permanent_on_time ∷ r.permanent_off_time ∷ r.permanent_on_color ∷ r.permanent_off_color ∷ [])
     (3 ∷ 3 ∷ 3 ∷ 3 ∷ 3 ∷ 3 ∷ 5 ∷ 3 ∷ 3 ∷ 3 ∷ 3 ∷ 3 ∷ [])
-    h.reader
-    (byte_digits r.led h.led, (byte_digits r.temporary_control h.temporary_control, (byte_digits r.temporary_on_time h.temporary_on_time, (byte_digits r.temporary_off_time h.temporary_off_time, (byte_digits r.temporary_on_color h.temporary_on_color, (byte_digits r.temporary_off_color h.temporary_off_color, (timer_digits r.timer h.timer, (byte_digits r.permanent_control h.permanent_control, (byte_digits r.permanent_on_time h.permanent_on_time, (byte_digits r.permanent_off_time h.permanent_off_time, (byte_digits r.permanent_on_color h.permanent_on_color, (byte_digits r.permanent_off_color h.permanent_off_color, tt))))))))))))
+    (h.front 0)
+    (byte_digits r.led (h.front 1), (byte_digits r.temporary_control (h.front 2), (byte_digits r.temporary_on_time (h.front 3), (byte_digits r.temporary_off_time (h.front 4), (byte_digits r.temporary_on_color (h.front 5), (byte_digits r.temporary_off_color (h.front 6), (timer_digits r.timer h.timer, (byte_digits r.permanent_control (h.later 0), (byte_digits r.permanent_on_time (h.later 1), (byte_digits r.permanent_off_time (h.later 2), (byte_digits r.permanent_on_color (h.later 3), (byte_digits r.permanent_off_color (h.later 4), tt))))))))))))
 
 capability_width : (r : Capability) → CapabilityFits r → length (printed (capability_word r)) ≤ 11
 capability_width r h = record_within r.function (r.level ∷ r.count ∷ []) (3 ∷ 3 ∷ []) h.0 (byte_digits r.level h.1, (byte_digits r.count h.2, tt))
@@ -71,7 +71,7 @@ commands_within (Text a) h =
     omega (
       arith,
       text_length 4 531 (codes "TEXT") ws (omega arith) (rest_within ws (3 ∷ 3 ∷ 3 ∷ 3 ∷ 3 ∷ 510 ∷ [])
-          (byte_digits a.reader h.reader, (byte_digits a.command h.command, (byte_digits a.time h.time, (byte_digits a.row h.row, (byte_digits a.column h.column, (bytes_digits 255 a.characters.items (omega arith) h.room, tt))))))),
+          (byte_digits a.reader (h.numbers 0), (byte_digits a.command (h.numbers 1), (byte_digits a.time (h.numbers 2), (byte_digits a.row (h.numbers 3), (byte_digits a.column (h.numbers 4), (bytes_digits 255 a.characters.items (omega arith) h.room, tt))))))),
     )
 commands_within (Comset a) h = omega (arith, text_length 6 15 (codes "COMSET") (number a.address ∷ number a.baud_rate ∷ []) (omega arith) (communication_rest a.address a.baud_rate h.0 h.1))
 commands_within (Maker a) h = omega (arith, text_length 3 2866 (codes "MFG") (bytes a.vendor ∷ bytes a.bytes.items ∷ []) (omega arith) (maker_rest a.vendor a.bytes.items h.vendor_length h.room))

@@ -112,7 +112,7 @@ output_one g r o h k s t = ap output_from (record_one g r.output o.output (r.con
 
 pub led_small : (r : LedRecord) → LedFits r → AreSmall (led_numbers r)
 led_small r fits =
-    (byte r.reader fits.reader, (byte r.led fits.led, (byte r.temporary_control fits.temporary_control, (byte r.temporary_on_time fits.temporary_on_time, (byte r.temporary_off_time fits.temporary_off_time, (byte r.temporary_on_color fits.temporary_on_color, (byte r.temporary_off_color fits.temporary_off_color, (word_2 r.timer fits.timer, (byte r.permanent_control fits.permanent_control, (byte r.permanent_on_time fits.permanent_on_time, (byte r.permanent_off_time fits.permanent_off_time, (byte r.permanent_on_color fits.permanent_on_color, (byte r.permanent_off_color fits.permanent_off_color, tt)))))))))))))
+    (byte r.reader (fits.front 0), (byte r.led (fits.front 1), (byte r.temporary_control (fits.front 2), (byte r.temporary_on_time (fits.front 3), (byte r.temporary_off_time (fits.front 4), (byte r.temporary_on_color (fits.front 5), (byte r.temporary_off_color (fits.front 6), (word_2 r.timer fits.timer, (byte r.permanent_control (fits.later 0), (byte r.permanent_on_time (fits.later 1), (byte r.permanent_off_time (fits.later 2), (byte r.permanent_on_color (fits.later 3), (byte r.permanent_off_color (fits.later 4), tt)))))))))))))
 
 led_rest : LedRecord → List ℕ
 led_rest r =
@@ -159,7 +159,7 @@ text_one given x y h k s t =
     ap (λ (ns : List ℕ). text_from (ns, x.characters)) front.same ∙ ap (λ (cs : List ℕ). text_from (numbers_of y, record { items = cs })) later.same
   where
     small : (z : Text) → TextFits z → AreSmall (z.reader ∷ z.command ∷ z.time ∷ z.row ∷ z.column ∷ [])
-    small z f = (byte z.reader f.reader, (byte z.command f.command, (byte z.time f.time, (byte z.row f.row, (byte z.column f.column, tt)))))
+    small z f = (byte z.reader (f.numbers 0), (byte z.command (f.numbers 1), (byte z.time (f.numbers 2), (byte z.row (f.numbers 3), (byte z.column (f.numbers 4), tt)))))
 
 pub maker_one : (given : List (List ℕ)) (x y : MakerMessage) → MakerFits x → MakerFits y → AllStandFor (maker_words x) given → AllStandFor (maker_words y) given → x ≡ y
 maker_one given x y h k s t =
