@@ -1,7 +1,6 @@
 //! A card's bits as they were read.
 
-ghost use Rattle.std.specs.Prelude.{◌≡◌, ◌∷◌, ◌+◌, ◌-◌, ◌/◌, ◌≤◌, drop, length};
-ghost use Rattle.std.specs.Prelude.{codes};
+ghost use Rattle.std.specs.Prelude.{◌≡◌, ◌∷◌, ◌+◌, ◌-◌, ◌/◌, ◌≤◌, codes, drop, length};
 ghost use Rattle.std.specs.Fmt.{WritesOnOk};
 ghost use Rattle.byteorder.specs.Endian.{little_number};
 ghost use Rattle.osdp_words.specs.Reading.{ReadsWords};
