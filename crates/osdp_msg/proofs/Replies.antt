@@ -59,6 +59,12 @@ reply_again _ fits = refl
 
 -- ---- what is read has been written
 
+-- data without a fault pass by the row of their code
+pub row_passes : (code k : ℕ) (bytes : List ℕ) → code ≡ k → reply_fault code bytes ≡ None
+    → refusal (reply_length_allowed k (length bytes)) (length bytes) (reply_counts_agree k bytes) ≡ None
+unfolding reply_fault
+row_passes code k bytes is none = rw is at none
+
 -- data that have been read
 taken : (bytes : List ℕ) (m : Reply) → bytes ≡ reply_data m → ReplyFits m → IsReply (reply_code m) bytes m
 taken bytes m spelled fits = record { code_is = refl; data_is = spelled; fits = fits }
