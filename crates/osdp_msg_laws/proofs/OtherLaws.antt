@@ -2,7 +2,7 @@
 use Rattle.std.proofs.Common.{◌≡◌, ◌<◌, ◌+◌, ◌*◌, ℕ, true, false, [], ◌∷◌, refl, ap, ◌∙◌, arith}
 use Rattle.byteorder.specs.Endian.{little_bytes}
 use Rattle.osdp_msg.specs.declared.command.Command.{Command}
-use Rattle.osdp_msg.specs.declared.command.Command.TheVariants.{Poll, Id, Cap, LocalStatus, InputStatus, OutputStatus, ReaderStatus, Output, Led, Buzzer, Text, Comset, Maker}
+use Rattle.osdp_msg.specs.declared.command.Command.TheVariants.{Poll}
 use Rattle.osdp_msg.specs.declared.event.Event.{Event}
 use Rattle.osdp_msg.specs.declared.event.Event.TheVariants as events
 use Rattle.osdp_msg.specs.declared.reply.Reply.TheVariants.{Busy}
@@ -26,27 +26,11 @@ low_byte_first = (two_bytes, four_bytes)
 
 busy_never : (m : Command) → reply_fits m Busy ≡ false
 busy_never Poll = refl
-busy_never (Id kept) = refl
-busy_never (Cap kept) = refl
-busy_never LocalStatus = refl
-busy_never InputStatus = refl
-busy_never OutputStatus = refl
-busy_never ReaderStatus = refl
-busy_never (Output rs) = refl
-busy_never (Led rs) = refl
-busy_never (Buzzer b) = refl
-busy_never (Text t) = refl
-busy_never (Comset c) = refl
-busy_never (Maker m) = refl
+busy_never m = refl
 
 event_polled : (e : Event) → reply_fits Poll (event_reply e) ≡ true
 event_polled (events.LocalState s) = refl
-event_polled (events.Inputs states) = refl
-event_polled (events.Outputs states) = refl
-event_polled (events.Readers states) = refl
-event_polled (events.Raw r) = refl
-event_polled (events.Formatted f) = refl
-event_polled (events.Keypad k) = refl
+event_polled e = refl
 
 pub fits_by_kind : FitsByKind
 fits_by_kind = record { nak = λ m n. refl; busy = busy_never; event = event_polled }
