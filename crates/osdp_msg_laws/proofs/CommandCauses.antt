@@ -5,7 +5,8 @@ use Rattle.std.proofs.lemmas.Bool.{eqb-false, leb-true}
 use Rattle.std.proofs.lemmas.List.Elements.{All-cons, All-nil}
 use Rattle.osdp_msg.specs.declared.command.Command.{Command}
 use Rattle.osdp_msg.specs.declared.command.Command.TheVariants.{Poll, Id, Cap, LocalStatus, InputStatus, OutputStatus, ReaderStatus, Output, Led, Buzzer, Text, Comset, Maker}
-use Rattle.osdp_msg.specs.CommandFields.{LedFits, OutputFits, led_at, output_at}
+use Rattle.osdp_msg.specs.declared.command_fields.MakerMessage.{MakerMessage}
+use Rattle.osdp_msg.specs.CommandFields.{LedFits, MakerFits, OutputFits, led_at, output_at}
 use Rattle.osdp_msg.specs.CommandTable.{CommandFits, IsCommand, command_code, command_counts_agree, command_data, command_fault, command_length_allowed}
 use Rattle.osdp_msg.proofs.Bytes.{IsBytes-each, IsBytes-nil}
 use Rattle.osdp_msg.proofs.CommandRows.{leds, outputs}
@@ -31,11 +32,12 @@ knows_text =
     (record { numbers = IsBytes-each (0 ∷ 0 ∷ 0 ∷ 0 ∷ 0 ∷ []) (lit< tt, (lit< tt, (lit< tt, (lit< tt, (lit< tt, tt))))); room = lit≤ tt; characters = IsBytes-nil })
     (λ len e. (cc))
 
-knows_maker : IsNoneOrKnown IsCommand command_length_allowed 0x80
-knows_maker =
-    known (Maker (record { vendor = 0 ∷ 0 ∷ 0 ∷ []; bytes = record { items = [] } }))
-    (record { vendor_length = refl; vendor = IsBytes-each (0 ∷ 0 ∷ 0 ∷ []) (lit< tt, (lit< tt, (lit< tt, tt))); room = lit≤ tt; bytes = IsBytes-nil })
-    (λ len e. (cc))
+-- a maker's message without bytes
+abbrev pub no_message : MakerMessage
+no_message = record { vendor = 0 ∷ 0 ∷ 0 ∷ []; bytes = record { items = [] } }
+
+pub no_message_fits : MakerFits no_message
+no_message_fits = record { vendor_length = refl; vendor = IsBytes-each (0 ∷ 0 ∷ 0 ∷ []) (lit< tt, (lit< tt, (lit< tt, tt))); room = lit≤ tt; bytes = IsBytes-nil }
 
 codes : (code : ℕ) → IsNoneOrKnown IsCommand command_length_allowed code
 codes code =
@@ -59,7 +61,7 @@ codes code =
                       known (Led (led_at [] ∷ [])) (lit< tt, lit≤ tt, All-cons LedFits (led_at []) [] no_led (All-nil LedFits)) (λ len e. (cc)),
                       (
                         known (Buzzer (record { reader = 0; tone = 0; on_time = 0; off_time = 0; count = 0 })) (lit< tt, lit< tt, lit< tt, lit< tt, lit< tt) (λ len e. (cc)),
-                        (knows_text, (known (Comset (record { address = 0; baud_rate = 0 })) (lit< tt, lit< tt) (λ len e. (cc)), (knows_maker, tt))),
+                        (knows_text, (known (Comset (record { address = 0; baud_rate = 0 })) (lit< tt, lit< tt) (λ len e. (cc)), (known (Maker no_message) no_message_fits (λ len e. (cc)), tt))),
                       ),
                     ),
                   ),

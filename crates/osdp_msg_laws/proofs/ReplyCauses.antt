@@ -13,6 +13,7 @@ use Rattle.osdp_msg.proofs.Bytes.{IsBytes-each, IsBytes-nil}
 use Rattle.osdp_msg.proofs.Replies.{replies}
 use Rattle.osdp_msg.proofs.Table.{by_codes, some_is}
 use Rattle.osdp_msg_laws.specs.Faults.{FaultsHaveCauses, ReplyCounts}
+use Rattle.osdp_msg_laws.proofs.CommandCauses.{no_message, no_message_fits}
 use Rattle.osdp_msg_laws.proofs.Causes.{IsNoneOrKnown, Miscounts, counted, faults_have_causes, never_agree}
 
 known : (m : Reply) → ReplyFits m → ((len : ℕ) → reply_length_allowed (reply_code m) len ≡ None → ⊥)
@@ -54,12 +55,6 @@ knows_keypad =
     known (Keypad (record { reader = 0; digits = record { items = [] } })) (record { reader = lit< tt; room = lit≤ tt; digits = IsBytes-nil })
     (λ len e. (cc))
 
-knows_maker : IsNoneOrKnown IsReply reply_length_allowed 0x90
-knows_maker =
-    known (MakerReply (record { vendor = 0 ∷ 0 ∷ 0 ∷ []; bytes = record { items = [] } }))
-    (record { vendor_length = refl; vendor = IsBytes-each (0 ∷ 0 ∷ 0 ∷ []) (lit< tt, (lit< tt, (lit< tt, tt))); room = lit≤ tt; bytes = IsBytes-nil })
-    (λ len e. (cc))
-
 codes : (code : ℕ) → IsNoneOrKnown IsReply reply_length_allowed code
 codes code =
     by_codes (IsNoneOrKnown IsReply reply_length_allowed) code (0x40 ∷ 0x41 ∷ 0x45 ∷ 0x46 ∷ 0x48 ∷ 0x49 ∷ 0x4A ∷ 0x4B ∷ 0x50 ∷ 0x51 ∷ 0x53 ∷ 0x54 ∷ 0x79 ∷ 0x90 ∷ []) (
@@ -82,7 +77,7 @@ codes code =
                       knows_raw,
                       (
                         knows_formatted,
-                        (knows_keypad, (known (Com (record { address = 0; baud_rate = 0 })) (lit< tt, lit< tt) (λ len e. (cc)), (known Busy tt (λ len e. (cc)), (knows_maker, tt)))),
+                        (knows_keypad, (known (Com (record { address = 0; baud_rate = 0 })) (lit< tt, lit< tt) (λ len e. (cc)), (known Busy tt (λ len e. (cc)), (known (MakerReply no_message) no_message_fits (λ len e. (cc)), tt)))),
                       ),
                     ),
                   ),
