@@ -180,13 +180,9 @@ command_reached =
 longest_capability : Capability
 longest_capability = record { function = 255; level = 255; count = 255 }
 
-capability_fits : CapabilityFits longest_capability
-unfolding longest_capability
-capability_fits = (lit< tt, lit< tt, lit< tt)
-
-capability_length : length (printed (capability_word longest_capability)) ≡ 11
+capability_is_long : CapabilityFits longest_capability × (length (printed (capability_word longest_capability)) ≡ 11)
 unfolding longest_capability digits
-capability_length = refl
+capability_is_long = ((lit< tt, lit< tt, lit< tt), refl)
 
 reply_reached : (m : Reply) × (ReplyFits m × (length (reply_text m) ≡ 5729))
 unfolding reply_text
@@ -194,8 +190,8 @@ reply_reached =
     let capabilities = replicate 477 longest_capability in (
       PdCap (record { capabilities = record { items = capabilities } }),
       (
-        (omega (arith, length-replicate 477 longest_capability), All-replicate CapabilityFits 477 longest_capability capability_fits),
-        omega (arith, length-append (codes "PDCAP") (rest_of (map capability_word capabilities)), records_exactly capability_word longest_capability 11 477 capability_length),
+        (omega (arith, length-replicate 477 longest_capability), All-replicate CapabilityFits 477 longest_capability capability_is_long.0),
+        omega (arith, length-append (codes "PDCAP") (rest_of (map capability_word capabilities)), records_exactly capability_word longest_capability 11 477 capability_is_long.1),
       ),
     )
 
