@@ -86,6 +86,7 @@ pub fn reply_texts_are_unique()
 
 /// Each word of a command, a reply or an event is printed as digits, colons and letters, one or more: a byte of a list as two digits. So
 /// no word holds a space or an end of a line, and none is `=`.
+#[tactic(auto, using(crate::proofs::PlainCommands::plain_commands, crate::proofs::PlainReplies::plain_replies, crate::proofs::PlainReplies::plain_events))]
 pub fn words_are_plain()
     ensures commands { HasPlainWords CommandFits command_words }
     ensures replies { HasPlainWords ReplyFits reply_words }
@@ -94,6 +95,7 @@ pub fn words_are_plain()
 
 /// The longest text of a command has 5,511 bytes (LED with 102 records), of a reply 5,729 (PDCAP with 477 capabilities), and of an event
 /// 2,874 (RAW with 11,424 bits).
+#[tactic(auto, using(crate::proofs::LongestTexts::longest_command, crate::proofs::LongestTexts::longest_reply, crate::proofs::LongestTexts::longest_event))]
 pub fn texts_have_a_longest()
     ensures commands { HasLongestText CommandFits command_text 5511 }
     ensures replies { HasLongestText ReplyFits reply_text 5729 }
