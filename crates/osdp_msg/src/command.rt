@@ -1,12 +1,12 @@
 //! Commands: what the controller sends to a reader.
 
-ghost use Rattle.std.specs.Prelude.{◌≡◌, ◌↔◌, ◌∷◌, length, None, Some, Ok, IfOk, IfErr, IfSome, IsOk, IsSome, true, false};
+ghost use Rattle.std.specs.Prelude.{◌≡◌, ◌↔◌, ◌∷◌, length, None, Some, Ok, IfOk, IfErr, IfSome, IsOk, IsSome, true};
 ghost use Rattle.std.specs.Result.{result_ok};
 ghost use Rattle.osdp_words.specs.Reading.{ReadsWords};
 ghost use Rattle.osdp_words.specs.Word.{AllStandFor, texts, words_in};
 ghost use Rattle.osdp_msg.specs.CommandTable.{CommandFits, IsCommand, command_code, command_data, command_fault, command_of, command_at};
 ghost use Rattle.osdp_msg.specs.CommandText.{command_words, command_text};
-ghost use Rattle.osdp_msg.specs.ListedCommands.{has_list};
+ghost use Rattle.osdp_msg.specs.ListedCommands.{list_code};
 
 use crate::command_fields::{Buzzer, Communication, MakerMessage, Text};
 use crate::fault::{BadWords, MsgFault};
@@ -103,12 +103,12 @@ fn place(code: u8, bytes: &[u8], command: &mut Option<Command>)
         0x65 => *command = Some(Command::InputStatus),
         0x66 => *command = Some(Command::OutputStatus),
         0x67 => *command = Some(Command::ReaderStatus),
-        0x68 => place_list::<Outputs>(bytes, command),
-        0x69 => place_list::<Leds>(bytes, command),
+        0x68 => place_list::<0x68>(bytes, command),
+        0x69 => place_list::<0x69>(bytes, command),
         0x6A => *command = Some(Command::Buzzer(Buzzer::read(bytes))),
-        0x6B => place_list::<Text>(bytes, command),
+        0x6B => place_list::<0x6B>(bytes, command),
         0x6E => *command = Some(Command::Comset(Communication::read(bytes))),
-        0x80 => place_list::<MakerMessage>(bytes, command),
+        0x80 => place_list::<0x80>(bytes, command),
         _ => *command = Some(Command::Poll),
     }
 }
@@ -249,10 +249,10 @@ impl Command {
         ensures { place.new ≡ self.now }
     {
         match self {
-            Command::Output(outputs) => copy_list(outputs, place),
-            Command::Led(leds) => copy_list(leds, place),
-            Command::Text(text) => copy_list(text, place),
-            Command::Maker(message) => copy_list(message, place),
+            Command::Output(_) => copy_list::<0x68>(self, place),
+            Command::Led(_) => copy_list::<0x69>(self, place),
+            Command::Text(_) => copy_list::<0x6B>(self, place),
+            Command::Maker(_) => copy_list::<0x80>(self, place),
             Command::Poll
             | Command::Id(_)
             | Command::Cap(_)
@@ -269,7 +269,7 @@ impl Command {
     // It stands by itself, since what it writes has the size of the largest command.
     #[inline(never)]
     fn copy_small(&self, place: &mut Command)
-        requires { has_list self.now ≡ false }
+        requires { list_code self.now ≡ 0 }
         ensures { place.new ≡ self.now }
     {
         match self {

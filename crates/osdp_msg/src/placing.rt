@@ -3,221 +3,119 @@
 //! Where a command of the same kind stands there, its list is written over, so that the bytes of the list alone are moved. What makes
 //! a whole command is a function of its own that is not inlined, since a function writes zeros over its large locals where it begins.
 
-ghost use Rattle.std.specs.Prelude.{◌≡◌, ℕ, Bool, List, Some, true, false};
-ghost use Rattle.osdp_msg.specs.declared.command.Command.{Command};
+ghost use Rattle.std.specs.Prelude.{◌≡◌, None, Some, true};
+ghost use Rattle.osdp_msg.specs.CommandTable.{command_at, command_fault};
+ghost use Rattle.osdp_msg.specs.ListedCommands.{is_list_code, list_code};
 
 use crate::command::Command;
 use crate::command_fields::{MakerMessage, Text};
 use crate::leds::Leds;
 use crate::outputs::Outputs;
 
-/// What a command holds that has a list.
-pub(crate) trait Listed: Drop {
-    ghost within: { Self → Command };
-
-    ghost is_within: { Command → Bool };
-
-    ghost are_data: { List ℕ → Type 0 };
-
-    ghost at: { List ℕ → Self };
-
-    /// A command of this kind with the least that one can hold.
-    fn least() -> Command
-        ensures { is_within result ≡ true };
-
-    /// Puts what the bytes are in place of what a command of this kind holds. Whether it is of this kind.
-    fn read_over(bytes: &[u8], command: &mut Command) -> bool
-        requires { are_data bytes.now }
-        ensures found { result ≡ is_within command.old }
-        ensures read { result ≡ true → command.new ≡ within (at bytes.now) };
-
-    /// Puts an equal value in place of what a command of this kind holds. Whether it is of this kind.
-    fn copy_over(&self, command: &mut Command) -> bool
-        ensures found { result ≡ is_within command.old }
-        ensures copied { result ≡ true → command.new ≡ within self.now };
+/// The code of a command with a list, and 0 of another.
+fn list_code(command: &Command) -> u8
+    ensures { result ≡ list_code command.now }
+{
+    match command {
+        Command::Output(_) => 0x68,
+        Command::Led(_) => 0x69,
+        Command::Text(_) => 0x6B,
+        Command::Maker(_) => 0x80,
+        _ => 0,
+    }
 }
 
-/// Puts the command there whose data these bytes are.
+/// The command of a code with the least that its list can hold.
+fn least<const CODE: u8>() -> Command
+    requires { is_list_code CODE ≡ true }
+    ensures { list_code result ≡ CODE }
+{
+    match CODE {
+        0x68 => Command::Output(Outputs::least()),
+        0x69 => Command::Led(Leds::least()),
+        0x6B => Command::Text(Text::least()),
+        _ => Command::Maker(MakerMessage::least()),
+    }
+}
+
+/// Puts the least command of a code there.
 #[inline(never)]
-pub(crate) fn place_list<L: Listed>(bytes: &[u8], place: &mut Option<Command>)
-    requires { L.are_data bytes.now }
-    ensures { place.new ≡ Some (L.within (L.at bytes.now)) }
+fn place_least<const CODE: u8>(command: &mut Command)
+    requires { is_list_code CODE ≡ true }
+    ensures { list_code command.new ≡ CODE }
+{
+    *command = least::<CODE>();
+}
+
+/// Puts what the bytes are in place of what a command of this code holds.
+#[tactic(auto, unfolding(crate::specs::CommandTable::command_at, crate::specs::CommandTable::command_fault))]
+fn read_over(code: u8, bytes: &[u8], command: &mut Command)
+    requires same { list_code command.old ≡ code }
+    requires well { command_fault code bytes.now ≡ None }
+    ensures { command.new ≡ command_at code bytes.now }
+{
+    match command {
+        Command::Output(outputs) => outputs.read_over(bytes),
+        Command::Led(leds) => leds.read_over(bytes),
+        Command::Text(text) => text.read_over(bytes),
+        Command::Maker(message) => message.read_over(bytes),
+        _ => {}
+    }
+}
+
+/// Puts the command of a code with a list there whose data these bytes are, where a command stands.
+fn read_list<const CODE: u8>(bytes: &[u8], command: &mut Command)
+    requires listed { is_list_code CODE ≡ true }
+    requires well { command_fault CODE bytes.now ≡ None }
+    ensures { command.new ≡ command_at CODE bytes.now }
+{
+    if list_code(command) != CODE {
+        place_least::<CODE>(command);
+    }
+    read_over(CODE, bytes, command);
+}
+
+/// Puts the command of a code with a list there whose data these bytes are.
+#[inline(never)]
+pub(crate) fn place_list<const CODE: u8>(bytes: &[u8], place: &mut Option<Command>)
+    requires listed { is_list_code CODE ≡ true }
+    requires well { command_fault CODE bytes.now ≡ None }
+    ensures { place.new ≡ Some (command_at CODE bytes.now) }
 {
     if let Some(command) = place {
-        read_list::<L>(bytes, command);
+        read_list::<CODE>(bytes, command);
         return;
     }
-    *place = Some(L::least());
+    *place = Some(least::<CODE>());
     if let Some(command) = place {
-        read_list::<L>(bytes, command);
+        read_list::<CODE>(bytes, command);
     }
 }
 
-/// Puts the command there whose data these bytes are, where a command stands.
-fn read_list<L: Listed>(bytes: &[u8], command: &mut Command)
-    requires { L.are_data bytes.now }
-    ensures { command.new ≡ L.within (L.at bytes.now) }
+/// Puts an equal command in place of one of the same kind.
+fn copy_over(command: &Command, place: &mut Command)
+    requires same { list_code place.old ≡ list_code command.now }
+    requires listed { is_list_code (list_code command.now) ≡ true }
+    ensures { place.new ≡ command.now }
 {
-    if !L::read_over(bytes, command) {
-        place_least::<L>(command);
-        let _is_within = L::read_over(bytes, command);
+    match (command, place) {
+        (Command::Output(from), Command::Output(to)) => to.copy_over(from),
+        (Command::Led(from), Command::Led(to)) => to.copy_over(from),
+        (Command::Text(from), Command::Text(to)) => to.copy_over(from),
+        (Command::Maker(from), Command::Maker(to)) => to.copy_over(from),
+        _ => {}
     }
 }
 
-/// Puts an equal command there.
+/// Puts an equal command of a code with a list there.
 #[inline(never)]
-pub(crate) fn copy_list<L: Listed>(list: &L, command: &mut Command)
-    ensures { command.new ≡ L.within list.now }
+pub(crate) fn copy_list<const CODE: u8>(command: &Command, place: &mut Command)
+    requires code { list_code command.now ≡ CODE }
+    requires listed { is_list_code CODE ≡ true }
+    ensures { place.new ≡ command.now }
 {
-    if !list.copy_over(command) {
-        place_least::<L>(command);
-        let _is_within = list.copy_over(command);
+    if list_code(place) != CODE {
+        place_least::<CODE>(place);
     }
-}
-
-/// Puts the least command of the kind there.
-#[inline(never)]
-fn place_least<L: Listed>(command: &mut Command)
-    ensures { L.is_within command.new ≡ true }
-{
-    *command = L::least();
-}
-
-impl Listed for Outputs {
-    ghost use Rattle.osdp_msg.specs.declared.command.Command.TheVariants.{Output};
-    ghost use Rattle.osdp_msg.specs.CommandFields.{output_at};
-    ghost use Rattle.osdp_msg.specs.ListedCommands.{AreRecords, has_code};
-    ghost use Rattle.osdp_msg.specs.Records.{records_at};
-
-    ghost within = { Output };
-
-    ghost is_within = { has_code 0x68 };
-
-    ghost are_data = { AreRecords 4 };
-
-    ghost at = { records_at output_at 4 };
-
-    fn least() -> Command {
-        Command::Output(Outputs::least())
-    }
-
-    fn read_over(bytes: &[u8], command: &mut Command) -> bool {
-        if let Command::Output(outputs) = command {
-            outputs.read_over(bytes);
-            return true;
-        }
-        false
-    }
-
-    fn copy_over(&self, command: &mut Command) -> bool {
-        if let Command::Output(outputs) = command {
-            outputs.copy_over(self);
-            return true;
-        }
-        false
-    }
-}
-
-impl Listed for Leds {
-    ghost use Rattle.osdp_msg.specs.declared.command.Command.TheVariants.{Led};
-    ghost use Rattle.osdp_msg.specs.CommandFields.{led_at};
-    ghost use Rattle.osdp_msg.specs.ListedCommands.{AreRecords, has_code};
-    ghost use Rattle.osdp_msg.specs.Records.{records_at};
-
-    ghost within = { Led };
-
-    ghost is_within = { has_code 0x69 };
-
-    ghost are_data = { AreRecords 14 };
-
-    ghost at = { records_at led_at 14 };
-
-    fn least() -> Command {
-        Command::Led(Leds::least())
-    }
-
-    fn read_over(bytes: &[u8], command: &mut Command) -> bool {
-        if let Command::Led(leds) = command {
-            leds.read_over(bytes);
-            return true;
-        }
-        false
-    }
-
-    fn copy_over(&self, command: &mut Command) -> bool {
-        if let Command::Led(leds) = command {
-            leds.copy_over(self);
-            return true;
-        }
-        false
-    }
-}
-
-impl Listed for Text {
-    ghost use Rattle.osdp_msg.specs.declared.command.Command.TheVariants.{Text as text};
-    ghost use Rattle.osdp_msg.specs.CommandFields.{text_at};
-    ghost use Rattle.osdp_msg.specs.ListedCommands.{HasLength, has_code};
-
-    ghost within = { text };
-
-    ghost is_within = { has_code 0x6B };
-
-    ghost are_data = { HasLength 6 261 };
-
-    ghost at = { text_at };
-
-    fn least() -> Command {
-        Command::Text(Text::least())
-    }
-
-    fn read_over(bytes: &[u8], command: &mut Command) -> bool {
-        if let Command::Text(text) = command {
-            text.read_over(bytes);
-            return true;
-        }
-        false
-    }
-
-    fn copy_over(&self, command: &mut Command) -> bool {
-        if let Command::Text(text) = command {
-            text.copy_over(self);
-            return true;
-        }
-        false
-    }
-}
-
-impl Listed for MakerMessage {
-    ghost use Rattle.osdp_msg.specs.declared.command.Command.TheVariants.{Maker};
-    ghost use Rattle.osdp_msg.specs.CommandFields.{maker_at};
-    ghost use Rattle.osdp_msg.specs.Limits.{most_data};
-    ghost use Rattle.osdp_msg.specs.ListedCommands.{HasLength, has_code};
-
-    ghost within = { Maker };
-
-    ghost is_within = { has_code 0x80 };
-
-    ghost are_data = { HasLength 3 most_data };
-
-    ghost at = { maker_at };
-
-    fn least() -> Command {
-        Command::Maker(MakerMessage::least())
-    }
-
-    fn read_over(bytes: &[u8], command: &mut Command) -> bool {
-        if let Command::Maker(message) = command {
-            message.read_over(bytes);
-            return true;
-        }
-        false
-    }
-
-    fn copy_over(&self, command: &mut Command) -> bool {
-        if let Command::Maker(message) = command {
-            message.copy_over(self);
-            return true;
-        }
-        false
-    }
+    copy_over(command, place);
 }
