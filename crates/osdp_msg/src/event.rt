@@ -1,17 +1,20 @@
 //! Events: what a reader tells when it is polled.
 
-ghost use Rattle.std.specs.Prelude.{◌≡◌, ◌∷◌, Some, None, Ok, IfOk, MatchResult};
+ghost use Rattle.std.specs.Prelude.{◌≡◌, ◌∷◌, Some, None, Ok, IfOk, MatchResult, false};
+ghost use Rattle.std.specs.Bool.{then_some};
 ghost use Rattle.osdp_words.specs.Reading.{ReadsWords};
 ghost use Rattle.osdp_words.specs.Word.{AllStandFor, texts, words_in};
 ghost use Rattle.osdp_msg.specs.Events.{EventFits, event_in, event_reply, event_text, event_words};
+ghost use Rattle.osdp_msg.specs.ReplyTable.{reply_code, reply_data};
 
 use crate::fault::BadWords;
-use crate::limits::MAX_DATA;
+use crate::limits::{MAX_DATA, MAX_MESSAGE};
+use crate::making::put;
 use crate::parsing::parse_states;
 use crate::raw::Raw;
 use crate::reply::Reply;
 use crate::reply_fields::{Formatted, Keypad, LocalState};
-use crate::spelling::list_of;
+use crate::spelling::{list_of, put_bytes};
 use arrayvec::ArrayVec;
 use osdp_words::Fields;
 use std::fmt;
@@ -34,6 +37,12 @@ pub enum Event {
     /// Pressed keys.
     Keypad(Keypad),
 }
+
+/// What an event's place holds before an event is put there.
+const UNTOLD: LocalState = LocalState {
+    tamper: 0,
+    power: 0,
+};
 
 /// The event whose text begins with a name and goes on with these fields.
 // These are rows of the table of replies. They stand here too, so that no whole reply has to stand beside the event on the stack.
@@ -65,14 +74,39 @@ impl Event {
     pub fn to_reply(&self) -> Reply
         ensures { result ≡ event_reply self.now }
     {
+        let mut reply = Reply::Ack;
+        self.reply_into(&mut reply);
+        reply
+    }
+
+    /// Puts the reply that tells the event in place of what stands in `reply`.
+    pub fn reply_into(&self, reply: &mut Reply)
+        ensures { reply.new ≡ event_reply self.now }
+    {
         match self {
-            Event::LocalState(state) => Reply::LocalState(*state),
-            Event::Inputs(states) => Reply::Inputs(list_of(states.as_slice())),
-            Event::Outputs(states) => Reply::Outputs(list_of(states.as_slice())),
-            Event::Readers(states) => Reply::Readers(list_of(states.as_slice())),
-            Event::Raw(raw) => Reply::Raw(raw.copy()),
-            Event::Formatted(formatted) => Reply::Formatted(formatted.copy()),
-            Event::Keypad(keypad) => Reply::Keypad(keypad.copy()),
+            Event::LocalState(state) => put(|| Reply::LocalState(*state), reply),
+            Event::Inputs(states) => put(|| Reply::Inputs(list_of(states.as_slice())), reply),
+            Event::Outputs(states) => put(|| Reply::Outputs(list_of(states.as_slice())), reply),
+            Event::Readers(states) => put(|| Reply::Readers(list_of(states.as_slice())), reply),
+            Event::Raw(raw) => put(|| Reply::Raw(raw.copy()), reply),
+            Event::Formatted(formatted) => put(|| Reply::Formatted(formatted.copy()), reply),
+            Event::Keypad(keypad) => put(|| Reply::Keypad(keypad.copy()), reply),
+        }
+    }
+
+    /// Puts the code and the data of the reply that tells the event in place of what stands in `spelling`.
+    pub fn write_into(&self, spelling: &mut ArrayVec<u8, MAX_MESSAGE>)
+        ensures spelled { spelling.new.items ≡ reply_code (event_reply self.now) ∷ reply_data (event_reply self.now) }
+        ensures fits { EventFits self.now }
+    {
+        match self {
+            Event::LocalState(state) => state.write_into(spelling),
+            Event::Inputs(states) => put_bytes(spelling, 0x49, states.as_slice()),
+            Event::Outputs(states) => put_bytes(spelling, 0x4A, states.as_slice()),
+            Event::Readers(states) => put_bytes(spelling, 0x4B, states.as_slice()),
+            Event::Raw(raw) => raw.write_into(spelling),
+            Event::Formatted(formatted) => formatted.write_into(spelling),
+            Event::Keypad(keypad) => keypad.write_into(spelling),
         }
     }
 
@@ -107,22 +141,35 @@ impl Reply {
         ensures event { IfOk result (λ e. self ≡ event_reply e) }
         ensures only { (e : Event) → self ≡ event_reply e → result ≡ Ok e }
     {
-        match self {
-            Reply::LocalState(state) => Ok(Event::LocalState(state)),
-            Reply::Inputs(states) => Ok(Event::Inputs(states)),
-            Reply::Outputs(states) => Ok(Event::Outputs(states)),
-            Reply::Readers(states) => Ok(Event::Readers(states)),
-            Reply::Raw(raw) => Ok(Event::Raw(raw)),
-            Reply::Formatted(formatted) => Ok(Event::Formatted(formatted)),
-            Reply::Keypad(keypad) => Ok(Event::Keypad(keypad)),
-            Reply::Ack => Err(Reply::Ack),
-            Reply::Nak(nak) => Err(Reply::Nak(nak)),
-            Reply::PdId(pd_id) => Err(Reply::PdId(pd_id)),
-            Reply::PdCap(pd_cap) => Err(Reply::PdCap(pd_cap)),
-            Reply::Com(communication) => Err(Reply::Com(communication)),
-            Reply::Busy => Err(Reply::Busy),
-            Reply::MakerReply(message) => Err(Reply::MakerReply(message)),
+        let mut event = Event::LocalState(UNTOLD);
+        if self.event_into(&mut event) {
+            return Ok(event);
         }
+        Err(self)
+    }
+
+    /// Puts the event that the reply tells in place of what stands in `event`. Whether it tells one; else `event` stays.
+    pub fn event_into(&self, event: &mut Event) -> bool
+        ensures told { event_in self.now ≡ then_some result event.new }
+        ensures stays { result ≡ false → event.new ≡ event.old }
+    {
+        match self {
+            Reply::LocalState(state) => put(|| Event::LocalState(*state), event),
+            Reply::Inputs(states) => put(|| Event::Inputs(list_of(states.as_slice())), event),
+            Reply::Outputs(states) => put(|| Event::Outputs(list_of(states.as_slice())), event),
+            Reply::Readers(states) => put(|| Event::Readers(list_of(states.as_slice())), event),
+            Reply::Raw(raw) => put(|| Event::Raw(raw.copy()), event),
+            Reply::Formatted(formatted) => put(|| Event::Formatted(formatted.copy()), event),
+            Reply::Keypad(keypad) => put(|| Event::Keypad(keypad.copy()), event),
+            Reply::Ack
+            | Reply::Nak(_)
+            | Reply::PdId(_)
+            | Reply::PdCap(_)
+            | Reply::Com(_)
+            | Reply::Busy
+            | Reply::MakerReply(_) => return false,
+        }
+        true
     }
 }
 

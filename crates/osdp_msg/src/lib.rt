@@ -14,6 +14,7 @@ mod fault;
 mod fitting;
 mod leds;
 mod limits;
+mod making;
 mod nak;
 mod outputs;
 mod parsing;
