@@ -1,7 +1,5 @@
 -- What a reader says anew is an answer, and fits its command, whatever the handler does.
-use Rattle.std.proofs.Common.{◌≡◌, ℕ, Bool, true, false, cond, nat_le, List, Option, Some, None, refl}
-use Rattle.std.specs.Option.{option_map}
-use Rattle.std.specs.Prelude.{slice_get}
+use Rattle.std.proofs.Common.{◌≡◌, ℕ, Bool, true, false, cond, nat_le, List, refl}
 use Rattle.osdp_controller.specs.Answers.{meaning_by_reply}
 use Rattle.osdp_msg.specs.declared.command.Command.{Command}
 use Rattle.osdp_msg.specs.declared.command.Command.TheVariants as command
@@ -23,7 +21,8 @@ use Rattle.osdp_reader.specs.declared.handler.Answer.{Answer as AnswerOfHandler}
 use Rattle.osdp_reader.specs.declared.handler.Answer.TheVariants as answer
 use Rattle.osdp_reader.specs.Queue.{event_for}
 use Rattle.osdp_reader.specs.Replies.{done_reply, list_reply, local_reply, maker_reply, not_processed, own_reply, refusal_reply, refused, reply_for, unread_reason}
-use Rattle.osdp_reader.specs.Table.{answer_to, answered, event_or_answer}
+use Rattle.osdp_reader.specs.Table.{answer_to, event_or_answer}
+use Rattle.osdp_reader.proofs.Answering.{OfReply, of_answer, of_event_or_answer}
 
 -- neither BUSY nor NAK 1 or 4
 abbrev pub IsAnswer : Reply → Type 0
@@ -63,16 +62,11 @@ for_suits (answer.List states) c = list_suits c states.items
 for_suits (answer.Refuse reason) c = refusal_suits c reason
 for_suits (answer.Maker vendor bytes) c = maker_suits c vendor bytes.items
 
--- where there is one
-abbrev SuitsIf : Command → Option Reply → Type 0
-SuitsIf c None = Unit {0}
-SuitsIf c (Some x) = Suits c x
-
 comset_suits : (asked : Communication) (within : Bool) → Suits (command.Comset asked) (cond within (reply.Com asked) not_processed)
 comset_suits asked true = (refl, refl)
 comset_suits asked false = (refl, refl)
 
-own_suits : (config : ReaderConfig) (c : Command) → SuitsIf c (own_reply config c)
+own_suits : (config : ReaderConfig) (c : Command) → OfReply (Suits c) (own_reply config c)
 own_suits config command.Poll = (refl, refl)
 own_suits config (command.Id kept) = (refl, refl)
 own_suits config (command.Cap kept) = (refl, refl)
@@ -83,27 +77,10 @@ event_suits : (e : Event) → Suits command.Poll (event_reply e)
 event_suits (event.LocalState s) = (refl, refl)
 event_suits e = (refl, refl)
 
-told_suits : (o : Option Event) → SuitsIf command.Poll (option_map event_reply o)
-told_suits None = tt
-told_suits (Some e) = event_suits e
-
-event_for_suits : (c : Command) (events : List Event) → SuitsIf c (event_for c events)
-event_for_suits command.Poll events = told_suits (slice_get events 0)
-event_for_suits c events = tt
-
 module _ {H : Type 0} (answer_of : H → Command → AnswerOfHandler) (after : H → Command → H) where
-  answered_suits : (own : Option Reply) (handler : H) (c : Command) → SuitsIf c own → Suits c (answered answer_of after own handler c).reply
-  answered_suits (Some own) handler c suits = suits
-  answered_suits None handler c none = for_suits (answer_of handler c) c
-
   pub answer_suits : (config : ReaderConfig) (handler : H) (c : Command) → Suits c (answer_to answer_of after config handler c).reply
-  answer_suits config handler c = answered_suits (own_reply config c) handler c (own_suits config c)
-
-  either_suits : (told : Option Reply) (config : ReaderConfig) (handler : H) (c : Command) → SuitsIf c told
-      → Suits c (event_or_answer answer_of after told config handler c).reply
-  either_suits (Some told) config handler c suits = suits
-  either_suits None config handler c none = answer_suits config handler c
+  answer_suits = of_answer Suits event_suits own_suits for_suits answer_of after
 
   pub event_or_answer_suits : (config : ReaderConfig) (handler : H) (c : Command) (events : List Event)
       → Suits c (event_or_answer answer_of after (event_for c events) config handler c).reply
-  event_or_answer_suits config handler c events = either_suits (event_for c events) config handler c (event_for_suits c events)
+  event_or_answer_suits = of_event_or_answer Suits event_suits own_suits for_suits answer_of after

@@ -1,7 +1,5 @@
 -- The replies to commands that are acted on fit them.
-use Rattle.std.proofs.Common.{◌≡◌, ◌⊎◌, subst, sym, refl, ℕ, Bool, true, false, cond, nat_le, List, Option, Some, None, Result, Ok, inl, inr}
-use Rattle.std.specs.Prelude.{slice_get}
-use Rattle.std.specs.Option.{option_map}
+use Rattle.std.proofs.Common.{◌≡◌, ◌⊎◌, subst, sym, refl, ℕ, Bool, true, false, cond, nat_le, List, Some, Result, Ok, inl, inr}
 use Rattle.osdp_frame.specs.Packet.{Packet}
 use Rattle.osdp_msg.specs.declared.command.Command.{Command}
 use Rattle.osdp_msg.specs.declared.command.Command.TheVariants as command
@@ -23,7 +21,11 @@ use Rattle.osdp_reader.specs.declared.kind.Kind.TheVariants.{Zero, Taken}
 use Rattle.osdp_reader.specs.Queue.{event_for, released}
 use Rattle.osdp_reader.specs.Replies.{done_reply, list_reply, local_reply, maker_reply, not_processed, own_reply, refusal_reply, reply_for}
 use Rattle.osdp_reader.specs.State.{ReaderState}
-use Rattle.osdp_reader.specs.Table.{Outcome, answer_to, answered, begun, command_in, event_or_answer, kind_of, outcome, taken}
+use Rattle.osdp_reader.proofs.Answering.{OfReply, of_answer, of_event_or_answer}
+use Rattle.osdp_reader.specs.Table.{Outcome, answer_to, begun, command_in, event_or_answer, kind_of, outcome, taken}
+
+abbrev Fits : Command → Reply → Type 0
+Fits c r = reply_fits c r ≡ true
 
 -- ---- what the handler answers
 
@@ -56,16 +58,11 @@ for_fits (answer.Maker vendor bytes) c = maker_fits c vendor bytes.items
 
 -- ---- what the reader answers by itself
 
--- it fits, where there is one
-abbrev FitsIf : Command → Option Reply → Type 0
-FitsIf c None = Unit {0}
-FitsIf c (Some r) = reply_fits c r ≡ true
-
 comset_fits : (asked : Communication) (within : Bool) → reply_fits (command.Comset asked) (cond within (reply.Com asked) not_processed) ≡ true
 comset_fits asked true = refl
 comset_fits asked false = refl
 
-own_fits : (config : ReaderConfig) (c : Command) → FitsIf c (own_reply config c)
+own_fits : (config : ReaderConfig) (c : Command) → OfReply (Fits c) (own_reply config c)
 own_fits config command.Poll = refl
 own_fits config (command.Id kept) = refl
 own_fits config (command.Cap kept) = refl
@@ -76,28 +73,11 @@ event_fits : (e : Event) → reply_fits command.Poll (event_reply e) ≡ true
 event_fits (event.LocalState s) = refl
 event_fits e = refl
 
-told_fits : (o : Option Event) → FitsIf command.Poll (option_map event_reply o)
-told_fits None = tt
-told_fits (Some e) = event_fits e
-
-event_for_fits : (c : Command) (events : List Event) → FitsIf c (event_for c events)
-event_for_fits command.Poll events = told_fits (slice_get events 0)
-event_for_fits c events = tt
-
 -- ---- what is said
 
 module _ {H : Type 0} (answer_of : H → Command → Answer) (after : H → Command → H) where
-  answered_fits : (own : Option Reply) (handler : H) (c : Command) → FitsIf c own → reply_fits c (answered answer_of after own handler c).reply ≡ true
-  answered_fits (Some own) handler c fits = fits
-  answered_fits None handler c none = for_fits (answer_of handler c) c
-
   pub answer_fits : (config : ReaderConfig) (handler : H) (c : Command) → reply_fits c (answer_to answer_of after config handler c).reply ≡ true
-  answer_fits config handler c = answered_fits (own_reply config c) handler c (own_fits config c)
-
-  event_or_answer_fits : (told : Option Reply) (config : ReaderConfig) (handler : H) (c : Command) → FitsIf c told
-      → reply_fits c (event_or_answer answer_of after told config handler c).reply ≡ true
-  event_or_answer_fits (Some told) config handler c fits = fits
-  event_or_answer_fits None config handler c none = answer_fits config handler c
+  answer_fits = of_answer Fits event_fits own_fits for_fits answer_of after
 
   -- the reply that is said fits the command
   abbrev SaysFitting : Command → Outcome H → Type 0
@@ -115,5 +95,5 @@ module _ {H : Type 0} (answer_of : H → Command → Answer) (after : H → Comm
       (subst (λ (read : Result Command MsgFault). SaysFitting c (taken answer_of after read r p)) (sym is) (
         (event_or_answer answer_of after told r.config r.handler c).reply,
         refl,
-        event_or_answer_fits told r.config r.handler c (event_for_fits c (released r.queue).events),
+        of_event_or_answer Fits event_fits own_fits for_fits answer_of after r.config r.handler c (released r.queue).events,
       ))
