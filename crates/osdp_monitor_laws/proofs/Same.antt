@@ -4,6 +4,7 @@ use Rattle.std.proofs.lemmas.Bool.{eq-eqb, eqb-true, false≢true}
 use Rattle.std.proofs.lemmas.Slice.Eq.{bytes_eq-Decides}
 use Rattle.std.specs.Bool.{beq}
 use Rattle.std.specs.Str.{bytes_eq}
+use Rattle.osdp_frame.proofs.Spelled.{same_packet as of_fields}
 use Rattle.osdp_frame.specs.Packet.{Packet}
 use Rattle.osdp_frame.specs.declared.check_kind.CheckKind.{CheckKind}
 use Rattle.osdp_frame.specs.declared.check_kind.CheckKind.TheVariants.{Sum, Crc}
@@ -29,18 +30,6 @@ pub check_same : (c : CheckKind) → same_check c c ≡ true
 check_same Sum = refl
 check_same Crc = refl
 
-same_fields : (p q : Packet) → p.reply ≡ q.reply → p.address ≡ q.address → p.sequence ≡ q.sequence → p.check ≡ q.check → p.block ≡ q.block
-    → p.reserved ≡ q.reserved → p.body ≡ q.body → p ≡ q
-same_fields p q reply address sequence check block reserved body = λ i. record {
-  reply = reply i;
-  address = address i;
-  sequence = sequence i;
-  check = check i;
-  block = block i;
-  reserved = reserved i;
-  body = body i;
-}
-
 all_seven : (a b c d e f g : Bool) → (a && b && c && d && e && f && g) ≡ true
     → (a ≡ true) × (b ≡ true) × (c ≡ true) × (d ≡ true) × (e ≡ true) × (f ≡ true) × (g ≡ true)
 all_seven true true true true true true true all = (refl, refl, refl, refl, refl, refl, refl)
@@ -56,7 +45,7 @@ pub packet_is : (p q : Packet) → same_packet p q ≡ true → p ≡ q
 packet_is p q same =
     let parts = all_seven (beq p.reply q.reply) (eqb p.address q.address) (eqb p.sequence q.sequence) (same_check p.check q.check)
     (beq p.block q.block) (eqb p.reserved q.reserved) (bytes_eq p.body q.body) same in
-    same_fields p q (same_bool p.reply q.reply parts.0) (eqb-true p.address q.address parts.1) (eqb-true p.sequence q.sequence parts.2)
+    of_fields p q (same_bool p.reply q.reply parts.0) (eqb-true p.address q.address parts.1) (eqb-true p.sequence q.sequence parts.2)
     (same_kind p.check q.check parts.3) (same_bool p.block q.block parts.4) (eqb-true p.reserved q.reserved parts.5)
     ((bytes_eq-Decides p.body q.body).0 parts.6)
 
