@@ -16,13 +16,5 @@ pub record IsConfig (c : ControllerConfig) : Type 0 where
   pub busy_limit : c.busy_limit ≤ 255
 
 abbrev pub default_config : ℕ → CheckKind → ControllerConfig
-default_config address check = record {
-  address = address;
-  check = check;
-  reply_wait = 200;
-  poll_interval = 50;
-  sends = 3;
-  busy_wait = 50;
-  busy_limit = 20;
-  quiet_wait = 400;
-}
+default_config address check =
+    record { address = address; check = check; reply_wait = 200; poll_interval = 50; sends = 3; busy_wait = 50; busy_limit = 20; quiet_wait = 400 }

@@ -57,16 +57,7 @@ module _ (last : Option ℕ) (stored : Option Packet) where
   copy_agrees : (k : Known) → Agrees k last stored → Agrees (after_copy k) last stored
   copy_agrees k agrees n m taken is = elim (agrees n m taken is) [
     | inl level ↦ inl (record { same = level.same; keeps = level.keeps })
-    | inr u ↦ inr (record {
-      replied = refl;
-      packet = u.packet;
-      last = u.last;
-      number = u.number;
-      next = u.next;
-      reply = u.reply;
-      kept = u.kept;
-      fine = u.fine;
-    })
+    | inr u ↦ inr (record { replied = refl; packet = u.packet; last = u.last; number = u.number; next = u.next; reply = u.reply; kept = u.kept; fine = u.fine })
   ]
 
   -- where the last number stays known, the last packet was answered, or was no new one
