@@ -15,9 +15,9 @@ use crate::found::{Found, NOTHING, Notice};
 use crate::kept::KeptPacket;
 use crate::panel::{is_after, is_number, sent_after};
 use crate::reader::{answer_accused, busy_accused, refusal_accused};
-use crate::said::{Said, is_nak, moved_by, read_command, said_in};
+use crate::said::{ReadReply, Said, is_nak, moved_by, read_command, said_in};
 use osdp_frame::{Address, Burst, FrameView, Seq};
-use osdp_msg::{MsgFault, Reply};
+use osdp_msg::Reply;
 use std::marker::Model;
 
 /// What is known of one address.
@@ -156,37 +156,30 @@ impl Device {
     }
 
     /// What the reader is accused of for a reply to its last packet.
-    fn reader_accused(
-        &self,
-        last: &FrameView<'_>,
-        reply: &FrameView<'_>,
-        read: &Result<Reply, MsgFault>,
-    ) -> Option<Accusation>
-        requires { read.now ≡ reply_told reply.now }
+    fn reader_accused(&self, last: &FrameView<'_>, reply: &ReadReply<'_, '_>) -> Option<Accusation>
         ensures { result ≡ reader_accused self.now last.now reply.now }
     {
-        let said = said_in(read);
+        let said = said_in(reply.read);
         if self.replied && !matches!(said, Said::Damage) {
             return Some(Accusation::SecondReply);
         }
         let is_repeat = self.is_repeat(last.seq());
         match said {
-            Said::Busy => busy_accused(is_repeat, last, reply),
+            Said::Busy => busy_accused(is_repeat, last, reply.packet),
             Said::Damage => None,
-            Said::Refusal => refusal_accused(last, reply),
-            Said::Answer => answer_accused(is_repeat, &self.stored, self.taken, last, reply, read),
+            Said::Refusal => refusal_accused(last, reply.packet),
+            Said::Answer => answer_accused(is_repeat, &self.stored, self.taken, last, reply),
         }
     }
 
     /// Where a reply to its last packet moves it, its new address.
-    pub fn moves_to(&self, reply: &FrameView<'_>, read: &Result<Reply, MsgFault>) -> Option<Address>
-        requires { read.now ≡ reply_told reply.now }
+    pub fn moves_to(&self, reply: &ReadReply<'_, '_>) -> Option<Address>
         ensures { result ≡ moves_to self.now.last reply.now }
     {
-        match read {
+        match reply.read {
             Ok(Reply::Com(_)) => {
                 let last = self.last.view()?;
-                moved_by(&read_command(&last), read, reply.address())
+                moved_by(&read_command(&last), reply.read, reply.packet.address())
             }
             _ => None,
         }
@@ -197,24 +190,22 @@ impl Device {
         &self,
         moved: Option<Address>,
         last: &FrameView<'_>,
-        reply: &FrameView<'_>,
-        read: &Result<Reply, MsgFault>,
+        reply: &ReadReply<'_, '_>,
     ) -> Option<Notice>
-        requires { read.now ≡ reply_told reply.now }
         ensures { result ≡ reply_notice moved self.now last.now reply.now }
     {
         if let Some(address) = moved {
             return Some(Notice::Moved(address.get()));
         }
-        let meant = said_in(read);
+        let meant = said_in(reply.read);
         if matches!(meant, Said::Refusal) {
             return Some(Notice::Restarted);
         }
         let is_opening = last.seq().get() == 0
-            && reply.seq().get() == 0
+            && reply.packet.seq().get() == 0
             && !self.answered
             && matches!(meant, Said::Answer)
-            && !is_nak(read);
+            && !is_nak(reply.read);
         if is_opening {
             Some(Notice::Opened)
         } else {
@@ -223,30 +214,28 @@ impl Device {
     }
 
     /// What is found in a reply from it.
-    fn found_in_reply(&self, reply: &FrameView<'_>, read: &Result<Reply, MsgFault>) -> Found
-        requires { read.now ≡ reply_told reply.now }
+    fn found_in_reply(&self, reply: &ReadReply<'_, '_>) -> Found
         ensures { result ≡ found_in_reply self.now.last self.now reply.now }
     {
         let Some(last) = self.last.view() else {
             return NOTHING;
         };
-        let moved = self.moves_to(reply, read);
+        let moved = self.moves_to(reply);
         Found {
-            accusation: self.reader_accused(&last, reply, read),
-            notice: self.reply_notice(moved, &last, reply, read),
+            accusation: self.reader_accused(&last, reply),
+            notice: self.reply_notice(moved, &last, reply),
         }
     }
 
     /// It has replied to its last packet, where that is known.
-    pub fn reply(&mut self, reply: &FrameView<'_>, read: &Result<Reply, MsgFault>)
-        requires { read.now ≡ reply_told reply.now }
+    pub fn reply(&mut self, reply: &ReadReply<'_, '_>)
         ensures { self.new ≡ after_reply_if self.old.last self.old reply.now }
     {
         let Some(number) = self.last.number() else {
             return;
         };
         let is_repeat = self.is_repeat(number);
-        match said_in(read) {
+        match said_in(reply.read) {
             Said::Busy => self.replied = true,
             Said::Damage => {}
             Said::Refusal => {
@@ -254,7 +243,7 @@ impl Device {
                 self.taken = None;
                 self.stored.forget();
             }
-            Said::Answer => self.answer(number, is_repeat, reply),
+            Said::Answer => self.answer(number, is_repeat, reply.packet),
         }
     }
 
@@ -331,18 +320,12 @@ impl Device {
     }
 
     /// What is found in a reply from it, and the bytes of the packet that had to come.
-    pub fn judge_reply(
-        &self,
-        reply: &FrameView<'_>,
-        read: &Result<Reply, MsgFault>,
-        expected: &mut Burst,
-    ) -> Found
-        requires read { read.now ≡ reply_told reply.now }
+    pub fn judge_reply(&self, reply: &ReadReply<'_, '_>, expected: &mut Burst) -> Found
         requires none { expected.old.items ≡ [] }
         ensures found { result ≡ found_in_reply self.now.last self.now reply.now }
         ensures expected { IsSpelledIf (expected_if self.now result.accusation) expected.new.items }
     {
-        let found = self.found_in_reply(reply, read);
+        let found = self.found_in_reply(reply);
         self.expect(found.accusation, expected);
         found
     }

@@ -10,8 +10,8 @@ ghost use Rattle.osdp_monitor.specs.Saying.{reply_told};
 
 use crate::device::Device;
 use crate::found::{Found, NOTHING};
+use crate::said::ReadReply;
 use osdp_frame::{Address, Burst, FrameView};
-use osdp_msg::{MsgFault, Reply};
 use std::alloc::{AllocError, Global};
 
 /// So many addresses there are. The last is the configuration address, of which nothing is known.
@@ -107,23 +107,17 @@ impl Devices {
     }
 
     /// A device has replied to its last packet, where that is known: what is found in the reply, and the bytes of the packet that had to come.
-    pub fn reply(
-        &mut self,
-        packet: &FrameView<'_>,
-        read: &Result<Reply, MsgFault>,
-        expected: &mut Burst,
-    ) -> Found
-        requires read { read.now ≡ reply_told packet.now }
+    pub fn reply(&mut self, reply: &ReadReply<'_, '_>, expected: &mut Burst) -> Found
         requires none { expected.old.items ≡ [] }
-        ensures found { let k = devices_in self.old packet.now.address in result ≡ found_in_reply k.last k packet.now }
-        ensures expected { IsSpelledIf (expected_if (devices_in self.old packet.now.address) result.accusation) expected.new.items }
-        ensures after { devices_in self.new ≡ devices_after_reply packet.now (devices_in self.old) }
+        ensures found { let k = devices_in self.old reply.now.address in result ≡ found_in_reply k.last k reply.now }
+        ensures expected { IsSpelledIf (expected_if (devices_in self.old reply.now.address) result.accusation) expected.new.items }
+        ensures after { devices_in self.new ≡ devices_after_reply reply.now (devices_in self.old) }
     {
-        let found = match self.get(packet.address()) {
-            Some(device) => device.judge_reply(packet, read, expected),
+        let found = match self.get(reply.packet.address()) {
+            Some(device) => device.judge_reply(reply, expected),
             None => NOTHING,
         };
-        self.take_reply(packet, read);
+        self.take_reply(reply);
         found
     }
 
@@ -142,33 +136,30 @@ impl Devices {
     }
 
     /// What is known after it.
-    fn take_reply(&mut self, packet: &FrameView<'_>, read: &Result<Reply, MsgFault>)
-        requires { read.now ≡ reply_told packet.now }
-        ensures { devices_in self.new ≡ devices_after_reply packet.now (devices_in self.old) }
+    fn take_reply(&mut self, reply: &ReadReply<'_, '_>)
+        ensures { devices_in self.new ≡ devices_after_reply reply.now (devices_in self.old) }
     {
-        let moved = match self.get(packet.address()) {
-            Some(device) => device.moves_to(packet, read),
+        let moved = match self.get(reply.packet.address()) {
+            Some(device) => device.moves_to(reply),
             None => None,
         };
         match moved {
-            None => self.keep_reply(packet, read),
+            None => self.keep_reply(reply),
             Some(address) => {
-                self.forget(packet.address());
+                self.forget(reply.packet.address());
                 self.forget(address);
             }
         }
     }
 
     /// The same of a reply that doesn't move it.
-    fn keep_reply(&mut self, packet: &FrameView<'_>, read: &Result<Reply, MsgFault>)
-        requires { read.now ≡ reply_told packet.now }
-        ensures { let k = devices_in self.old packet.now.address in
-            devices_in self.new ≡ known_at packet.now.address (after_reply_if k.last k packet.now) (devices_in self.old) }
+    fn keep_reply(&mut self, reply: &ReadReply<'_, '_>)
+        ensures { let k = devices_in self.old reply.now.address in
+            devices_in self.new ≡ known_at reply.now.address (after_reply_if k.last k reply.now) (devices_in self.old) }
     {
-        reply(
-            &mut self.blocks[usize::from(packet.address().get())],
-            packet,
-            read,
+        hear_reply(
+            &mut self.blocks[usize::from(reply.packet.address().get())],
+            reply,
         );
     }
 }
@@ -198,12 +189,11 @@ fn send(alloc: Global, slot: &mut Slot, packet: &FrameView<'_>) -> Result<(), Al
 }
 
 /// The device at this address has replied to its last packet, where that is known.
-fn reply(slot: &mut Slot, packet: &FrameView<'_>, read: &Result<Reply, MsgFault>)
-    requires { read.now ≡ reply_told packet.now }
-    ensures { let k = known_of slot.old in known_of slot.new ≡ after_reply_if k.last k packet.now }
+fn hear_reply(slot: &mut Slot, reply: &ReadReply<'_, '_>)
+    ensures { let k = known_of slot.old in known_of slot.new ≡ after_reply_if k.last k reply.now }
 {
     if let Some(block) = slot {
-        block.reply(packet, read);
+        block.reply(reply);
     }
 }
 

@@ -8,7 +8,7 @@ ghost use Rattle.osdp_monitor.specs.Saying.{is_foreign, reply_told};
 
 use crate::devices::Devices;
 use crate::found::{Found, NOTHING};
-use crate::said::{asks_unknown, is_ack, is_unknown, read_reply};
+use crate::said::{ReadReply, asks_unknown, is_ack, is_unknown, read_reply};
 use osdp_frame::{Burst, FrameView};
 use osdp_msg::{MsgFault, Reply};
 use std::alloc::{AllocError, Global};
@@ -112,7 +112,11 @@ impl Monitor {
             self.skipped = 0;
             return NOTHING;
         }
-        let found = self.devices.reply(packet, &self.ack, expected);
+        let reply = ReadReply {
+            packet,
+            read: &self.ack,
+        };
+        let found = self.devices.reply(&reply, expected);
         self.skipped = 0;
         found
     }
@@ -134,7 +138,11 @@ impl Monitor {
             self.pass(packet);
             return NOTHING;
         }
-        let found = self.devices.reply(packet, &read, expected);
+        let reply = ReadReply {
+            packet,
+            read: &read,
+        };
+        let found = self.devices.reply(&reply, expected);
         self.skipped = 0;
         found
     }

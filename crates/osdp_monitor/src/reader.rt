@@ -3,11 +3,11 @@
 ghost use Rattle.std.specs.Prelude.{◌≡◌, is_some};
 ghost use Rattle.osdp_monitor.specs.Known.{Known};
 ghost use Rattle.osdp_monitor.specs.Reader.{answer_accused, busy_accused, fit_accused, is_event_at_zero, is_plain, refusal_accused, repeat_reply, taken_accused, turn_accused};
-ghost use Rattle.osdp_monitor.specs.Saying.{asked, reply_told};
+ghost use Rattle.osdp_monitor.specs.Saying.{asked};
 
 use crate::accusation::Accusation;
 use crate::kept::{KeptPacket, same_check};
-use crate::said::{is_poll, read_command};
+use crate::said::{ReadReply, is_poll, read_command};
 use osdp_frame::{FrameView, Seq};
 use osdp_msg::{Command, MsgFault, Reply, fits};
 
@@ -89,18 +89,13 @@ fn packet_accused(packet: &FrameView<'_>, reply: &Reply) -> Option<Accusation>
 }
 
 /// The packet was taken now, as a new one.
-fn taken_accused(
-    packet: &FrameView<'_>,
-    reply: &FrameView<'_>,
-    read: &Result<Reply, MsgFault>,
-) -> Option<Accusation>
-    requires { read.now ≡ reply_told reply.now }
+fn taken_accused(packet: &FrameView<'_>, reply: &ReadReply<'_, '_>) -> Option<Accusation>
     ensures { result ≡ taken_accused packet.now reply.now }
 {
-    if !same_check(reply.check(), packet.check()) {
+    if !same_check(reply.packet.check(), packet.check()) {
         return Some(Accusation::AnotherCheck);
     }
-    match read {
+    match reply.read {
         Ok(reply) => packet_accused(packet, reply),
         Err(_) => Some(Accusation::UnreadReply),
     }
@@ -110,22 +105,20 @@ fn taken_accused(
 fn turn_accused(
     taken: Option<Seq>,
     packet: &FrameView<'_>,
-    reply: &FrameView<'_>,
-    read: &Result<Reply, MsgFault>,
+    reply: &ReadReply<'_, '_>,
 ) -> Option<Accusation>
-    requires { read.now ≡ reply_told reply.now }
     ensures { result ≡ turn_accused taken packet.now reply.now }
 {
     let number = packet.seq().get();
     let Some(taken) = taken else {
         return if number == 0 {
-            taken_accused(packet, reply, read)
+            taken_accused(packet, reply)
         } else {
             None
         };
     };
     if number == 0 || number == taken.next().get() {
-        taken_accused(packet, reply, read)
+        taken_accused(packet, reply)
     } else if number == taken.get() {
         None
     } else {
@@ -139,22 +132,20 @@ pub(crate) fn answer_accused(
     stored: &KeptPacket,
     taken: Option<Seq>,
     packet: &FrameView<'_>,
-    reply: &FrameView<'_>,
-    read: &Result<Reply, MsgFault>,
+    reply: &ReadReply<'_, '_>,
 ) -> Option<Accusation>
-    requires { read.now ≡ reply_told reply.now }
     ensures { (k : Known) → k.taken ≡ taken → k.stored ≡ stored.now → is_repeat ≡ is_some (repeat_reply k packet.now)
         → result ≡ answer_accused (repeat_reply k packet.now) k packet.now reply.now }
 {
     if is_repeat {
-        return if stored.is(reply) {
+        return if stored.is(reply.packet) {
             None
         } else {
             Some(Accusation::AnotherReply)
         };
     }
-    if reply.seq().get() != packet.seq().get() {
+    if reply.packet.seq().get() != packet.seq().get() {
         return Some(Accusation::AnotherNumber);
     }
-    turn_accused(taken, packet, reply, read)
+    turn_accused(taken, packet, reply)
 }

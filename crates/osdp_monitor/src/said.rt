@@ -7,6 +7,26 @@ ghost use Rattle.osdp_monitor.specs.Saying.{asked, is_foreign, is_unknown, moved
 
 use osdp_frame::{Address, FrameView};
 use osdp_msg::{Command, MsgFault, Nak, NakReason, Reply};
+use std::marker::Model;
+
+/// A packet from a device, and the reply that it was read as.
+#[derive(Drop)]
+pub(crate) struct ReadReply<'a, 'b> {
+    pub packet: &'a FrameView<'b>,
+    pub read: &'a Result<Reply, MsgFault>,
+}
+
+impl<'a, 'b> Model for ReadReply<'a, 'b> {
+    ghost use Rattle.std.specs.Prelude.{◌≡◌};
+    ghost use Rattle.osdp_frame.specs.Packet.{Packet};
+    ghost use Rattle.osdp_monitor.specs.Saying.{reply_told};
+
+    ghost Value = { Packet };
+
+    ghost view = { λ r. r.packet.now };
+
+    ghost invariant = { λ r. r.read.now ≡ reply_told r.packet.now };
+}
 
 /// What a reply says to somebody who listens.
 #[derive(Clone, Copy, Debug, PartialEq, Eq)]
