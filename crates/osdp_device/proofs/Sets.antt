@@ -16,7 +16,7 @@ use Rattle.osdp_reader.specs.declared.kind.Kind.TheVariants as kind
 use Rattle.osdp_reader.specs.Queue.{event_for, released}
 use Rattle.osdp_reader.specs.Replies.{own_reply, reply_for, reply_packet}
 use Rattle.osdp_reader.specs.State.{ReaderState, after_set_handler}
-use Rattle.osdp_reader.specs.Table.{answered, begun, command_in, event_or_answer, kind_of, outcome, taken}
+use Rattle.osdp_reader.specs.Table.{Outcome, answered, begun, command_in, event_or_answer, kind_of, outcome, taken}
 use Rattle.osdp_device.specs.Deciding.{acted_on, handled, pending_at, pending_in, unless_own}
 use Rattle.osdp_device.specs.DecidingLaws.{IsSaidTo}
 use Rattle.osdp_device.specs.Saying.{Said, after_item, bytes_of, is_answered, said_of, speaks, unless_silent}
@@ -57,51 +57,40 @@ module _ {H : Type 0} (answer_of : H → Command → Answer) (after : H → Comm
   same_command None c command e = (refl, (let f : Some c ≡ Some command = e in cc))
   same_command (Some own) c command e = absurd cc
 
-  spelled_so : (p : Packet) (number : _) (c command : Command) (r : ReaderState H) (said : Reply) → c ≡ command
+  -- a line of the table that acts on the command says its reply, with this number
+  says_so : (k : Kind) (p : Packet) (number : _) (c command : Command) (r : ReaderState H) (said : Reply) → c ≡ command
       → said ≡ reply_for (answer_of r.handler c) c
-      → spelling (reply_packet p number said) ≡ spelling (reply_packet p number (reply_for (answer_of r.handler command) command))
-  spelled_so p number c command r said same is =
-      ap (λ x. spelling (reply_packet p number x)) (is ∙ ap (λ x. reply_for (answer_of r.handler x) x) same)
+      → Says r command (Some (record { kind = k; command = Some c; bytes = spelling (reply_packet p number said) }))
+  says_so k p number c command r said same is = record {
+    said = _;
+    told_is = refl;
+    command_is = ap (λ x. Some x) same;
+    packet = p;
+    number = number;
+    bytes_are = ap (λ x. spelling (reply_packet p number x)) (is ∙ ap (λ x. reply_for (answer_of r.handler x) x) same);
+  }
+
+  -- what is said of what was done
+  abbrev said_as : Kind → Outcome H → Option Said
+  said_as k o = Some (record { kind = k; command = o.command; bytes = bytes_of o.reply })
 
   by_zero : (read : Result Command MsgFault) (r : ReaderState H) (p : Packet) (command : Command) → handled r.config read ≡ Some command
-      → Says r command (Some (record {
-        kind = kind.Zero;
-        command = (begun answer_of after read r p).command;
-        bytes = bytes_of (begun answer_of after read r p).reply;
-      }))
+      → Says r command (said_as kind.Zero (begun answer_of after read r p))
   by_zero (Err fault) r p command e = absurd cc
   by_zero (Ok c) r p command e =
       let both = same_command (own_reply r.config c) c command e in
-      record {
-        said = _;
-        told_is = refl;
-        command_is = ap (λ x. Some x) both.1;
-        packet = p;
-        number = 0;
-        bytes_are = spelled_so p 0 c command r (answered answer_of after (own_reply r.config c) r.handler c).reply both.1
-            (ap (λ o. (answered answer_of after o r.handler c).reply) both.0);
-      }
+      says_so kind.Zero p 0 c command r (answered answer_of after (own_reply r.config c) r.handler c).reply both.1
+      (ap (λ o. (answered answer_of after o r.handler c).reply) both.0)
 
   by_next : (read : Result Command MsgFault) (r : ReaderState H) (p : Packet) (command : Command) → handled r.config read ≡ Some command
-      → Says r command (Some (record {
-        kind = kind.Taken;
-        command = (taken answer_of after read r p).command;
-        bytes = bytes_of (taken answer_of after read r p).reply;
-      }))
+      → Says r command (said_as kind.Taken (taken answer_of after read r p))
   by_next (Err fault) r p command e = absurd cc
   by_next (Ok c) r p command e =
       let both = same_command (own_reply r.config c) c command e in
       let events = (released r.queue).events in
-      record {
-        said = _;
-        told_is = refl;
-        command_is = ap (λ x. Some x) both.1;
-        packet = p;
-        number = p.sequence;
-        bytes_are = spelled_so p p.sequence c command r (event_or_answer answer_of after (event_for c events) r.config r.handler c).reply both.1
-            (ap (λ o. (event_or_answer answer_of after o r.config r.handler c).reply) (no_event r.config c events both.0)
-            ∙ ap (λ o. (answered answer_of after o r.handler c).reply) both.0);
-      }
+      says_so kind.Taken p p.sequence c command r (event_or_answer answer_of after (event_for c events) r.config r.handler c).reply both.1
+      (ap (λ o. (event_or_answer answer_of after o r.config r.handler c).reply) (no_event r.config c events both.0)
+      ∙ ap (λ o. (answered answer_of after o r.handler c).reply) both.0)
 
   by_kind : (k : Kind) (r : ReaderState H) (p : Packet) (command : Command) → acted_on k (handled r.config (command_in p)) ≡ Some command
       → Says r command (said_by k r p)
