@@ -60,6 +60,17 @@ impl Handler for DeviceStatus {
     ghost after = { status_after };
 
     fn answer(&mut self, command: &Command) -> Answer {
+        self.told(command)
+    }
+}
+
+impl DeviceStatus {
+    ghost use Rattle.osdp_device.specs.Status.{status_answer};
+
+    /// What is told of a command. It changes nothing.
+    fn told(&self, command: &Command) -> Answer
+        ensures { result ≡ status_answer self.now command.now }
+    {
         match command {
             Command::LocalStatus => Answer::Local(self.tamper, self.power),
             Command::InputStatus => Answer::list(self.inputs.as_slice()),

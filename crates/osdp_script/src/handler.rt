@@ -48,6 +48,9 @@ impl Handler for ScriptReader {
     ghost after = { handler_after };
 
     fn answer(&mut self, command: &Command) -> Answer {
+        if let Command::Maker(message) = command {
+            return answer_to_maker(message);
+        }
         match command {
             Command::LocalStatus => Answer::Local(0, 0),
             Command::InputStatus | Command::ReaderStatus => Answer::list(&[0]),
@@ -60,7 +63,6 @@ impl Handler for ScriptReader {
                 Answer::Done
             }
             Command::Led(_) | Command::Buzzer(_) | Command::Text(_) => Answer::Done,
-            Command::Maker(message) => answer_to_maker(message),
             _ => Answer::Refuse(NakReason::RecordNotProcessed),
         }
     }
