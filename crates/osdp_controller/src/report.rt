@@ -5,6 +5,26 @@ ghost use Rattle.osdp_controller.specs.Causes.{cause_name};
 
 use osdp_msg::{Command, Communication, Event, PdId, Reply};
 
+/// What happened. Each report comes once.
+#[derive(Debug, Drop, PartialEq)]
+pub enum Report {
+    /// The session is open; the reader said what it is.
+    Opened(PdId),
+    /// A command was answered. The reply may be one that doesn't fit it.
+    Settled(Command, Reply),
+    /// A COMSET was answered by its COM: the reader is at its new address, and the session has ended.
+    Moved(Command, Communication),
+    /// The reader told an event.
+    Event(Event),
+    /// The reader answered a POLL by a reply that is neither ACK nor an event.
+    PollAnswered(Reply),
+    /// The answer to this command, or to a POLL (None), cannot be read. Its code.
+    Unread(Option<Command>, u8),
+    /// The session has ended. What became of the outstanding command, if there was one, is unknown; it is
+    /// not sent again.
+    Lost(LostCause, Option<Command>),
+}
+
 /// Why a session ended with its exchange unsettled.
 #[derive(Clone, Copy, Debug, PartialEq, Eq)]
 pub enum LostCause {
@@ -27,24 +47,4 @@ impl LostCause {
             LostCause::NumberRefused => "number-refused",
         }
     }
-}
-
-/// What happened. Each report comes once.
-#[derive(Debug, Drop, PartialEq)]
-pub enum Report {
-    /// The session is open; the reader said what it is.
-    Opened(PdId),
-    /// A command was answered. The reply may be one that doesn't fit it.
-    Settled(Command, Reply),
-    /// A COMSET was answered by its COM: the reader is at its new address, and the session has ended.
-    Moved(Command, Communication),
-    /// The reader told an event.
-    Event(Event),
-    /// The reader answered a POLL by a reply that is neither ACK nor an event.
-    PollAnswered(Reply),
-    /// The answer to this command, or to a POLL (None), cannot be read. Its code.
-    Unread(Option<Command>, u8),
-    /// The session has ended. What became of the outstanding command, if there was one, is unknown; it is
-    /// not sent again.
-    Lost(LostCause, Option<Command>),
 }
