@@ -1,11 +1,9 @@
 //! Runs of bytes, told item by item.
 
-ghost use Rattle.std.specs.Prelude.{◌≡◌, ◌≢◌, ◌+◌, ◌*◌, ◌<◌, ◌≤◌, ◌^◌, ◌++◌, ℕ, List, Option, true, false, None, Some, length, take, IfOk, IfSome, OnOk, OnErr};
-ghost use Rattle.std.specs.List.{AllByRecursion};
+ghost use Rattle.std.specs.Prelude.{◌≡◌, ◌+◌, ◌*◌, ◌<◌, ◌≤◌, ◌^◌, ◌++◌, ℕ, List, Option, true, false, None, Some, length, take, IfOk, IfSome, OnOk, OnErr};
 ghost use Rattle.osdp_frame.specs.Bytes.{AreBytes};
 ghost use Rattle.osdp_frame.specs.Held.{after_gap, by_itself, decided, new_run};
 ghost use Rattle.osdp_frame.specs.Shown.{item_of};
-ghost use Rattle.osdp_frame.specs.Spelling.{start_of_message};
 ghost use Rattle.osdp_tool_show.specs.Tally.{counted};
 ghost use Rattle.osdp_tool_streams.specs.Watched.{inner_of, has_failed};
 ghost use Rattle.osdp_frame.specs.Items.{items};
@@ -14,16 +12,12 @@ ghost use Rattle.osdp_tool_show.specs.Machine.{written_or_held, IsStep, Drained,
 ghost use Rattle.osdp_tool_show.specs.Written.{StopsWithin};
 
 use crate::report::Report;
-use memchr::memchr;
-use osdp_frame::{Framer, Item, MAX_BODY, MAX_PACKET, whole_item};
+use osdp_frame::{Framer, Item, deciding_count, skipped_count, whole_item};
 use osdp_tool_streams::{ToolFault, Watched};
 use std::io::Write;
 
 /// So many bytes are given to a framer one by one before it is given all that there are.
 const TRIES: u8 = 8;
-
-/// So many bytes stand before the body of a packet, and tell its count. The shortest check after the body has one byte.
-const HEAD: usize = MAX_PACKET - MAX_BODY - 1;
 
 /// Tells of the items that the held bytes decide, and takes them off.
 #[inline(never)]
@@ -46,20 +40,6 @@ fn drain<W: Write>(
         framer.advance();
     }
     Ok(())
-}
-
-/// How many bytes stand before the first 0x53.
-fn skipped_count(bytes: &[u8]) -> usize
-    ensures within { result ≤ length bytes.now }
-    ensures skipped { AllByRecursion (λ b. b ≢ start_of_message) (take result bytes.now) }
-{
-    match bytes {
-        [0x53, ..] => 0,
-        _ => match memchr(0x53, bytes) {
-            Some(place) => place,
-            None => bytes.len(),
-        },
-    }
 }
 
 /// Counts the skipped bytes at the head at once, where they have no line and no bytes are held, and gives how many
@@ -162,32 +142,23 @@ fn take_held<W: Write>(
     Ok(count)
 }
 
-/// How many of these bytes a framer that holds none is given: as many as the count of the packet tells, where it can
-/// have so many, and else as many as tell that it can't.
-fn first_count(bytes: &[u8]) -> usize
-    ensures within { result ≤ length bytes.now }
-    ensures some { 0 < length bytes.now → 0 < result }
-{
-    let count = match bytes {
-        [_, _, low, high, ..] => usize::from(u16::from_le_bytes([*low, *high])),
-        _ => 0,
-    };
-    let told = if count <= MAX_PACKET { count } else { 0 };
-    told.max(HEAD).min(bytes.len())
-}
-
-/// How many of these bytes the framer is given, where so many before them needed none. None where skipped bytes can be
-/// passed over at once. Where some are held: one at a time at first, since where nothing is held after an item the next
-/// ones need no framer.
+/// How many of these bytes the framer is given, where so many before them needed none: none then, since the next may
+/// need none either. A framer that holds nothing is given as many as decide the first item. One that holds some is given
+/// one at a time at first, since where nothing is held after an item the next ones need no framer.
 fn given_count(is_empty: bool, whole: usize, tries: u8, bytes: &[u8]) -> usize
     ensures within { result ≤ length bytes.now }
     ensures some { 0 < length bytes.now → 0 < whole + result }
 {
-    match bytes {
-        [0x53, ..] if is_empty => first_count(bytes),
-        _ if whole > 0 => 0,
-        _ if tries < TRIES => bytes.len().min(1),
-        _ => bytes.len(),
+    if whole > 0 {
+        return 0;
+    }
+    if is_empty {
+        return deciding_count(bytes);
+    }
+    if tries < TRIES {
+        bytes.len().min(1)
+    } else {
+        bytes.len()
     }
 }
 
