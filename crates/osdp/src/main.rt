@@ -7,7 +7,7 @@ use osdp_line_calls::{
 };
 use osdp_tool::{Choice, Job, VERSION, arguments, choose, help_text, job, lent, make};
 use osdp_tool_monitor::{Moments, monitor, monitor_mode};
-use osdp_tool_show::{check, show};
+use osdp_tool_show::{Detail, show};
 use osdp_tool_sim::sim;
 use osdp_tool_streams::{ToolFault, Watched, flush_out, write_out};
 use std::process::ExitCode;
@@ -79,8 +79,8 @@ fn run_job(rt: &HostRuntime, words: &[&str]) -> Result<bool, ToolFault> {
     let mut input = Watched::new(rt.stdin());
     let mut output = Watched::new(rt.stdout());
     match job(rt.alloc(), words)? {
-        Job::Show(mode) => show(rt.alloc(), mode, &mut input, &mut output),
-        Job::Check(mode) => check(rt.alloc(), mode, &mut input, &mut output),
+        Job::Show(mode) => show(rt.alloc(), Detail::Full, mode, &mut input, &mut output),
+        Job::Check(mode) => show(rt.alloc(), Detail::Refusals, mode, &mut input, &mut output),
         Job::Make => {
             make(rt.alloc(), after_name(words), &mut output)?;
             Ok(false)

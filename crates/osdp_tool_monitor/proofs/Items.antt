@@ -7,12 +7,13 @@ use Rattle.osdp_frame.specs.Items.{reading}
 use Rattle.osdp_frame.specs.Reading.{IsFirst, PacketItem, RefusedItem, RunItem, SkippedItem, Stands, item_size}
 use Rattle.osdp_frame.proofs.Head.{AreBytes-drop}
 use Rattle.osdp_frame_laws.proofs.Readings.{is_reading, item_size-positive, reading_is, sizes_reading}
+use Rattle.osdp_tool_show.specs.declared.detail.Detail.{Detail}
 use Rattle.osdp_tool_monitor.specs.declared.listener.Listener.{Listener}
 use Rattle.osdp_tool_streams.specs.declared.fault.ToolFault.{ToolFault}
 use Rattle.osdp_tool_streams.specs.declared.fault.ToolFault.TheVariants.{NoMemory, TooLong}
 use Rattle.osdp_tool_show.specs.Tally.{counted}
 use Rattle.osdp_tool_show.proofs.Lines.{counted-tally_after}
-use Rattle.osdp_tool_monitor.specs.Listening.{HearsFirst, IsLineFault, Listening, heard_item, heard_items, item_report, items_report, listening_of, tells_all}
+use Rattle.osdp_tool_monitor.specs.Listening.{HearsFirst, IsLineFault, Listening, heard_item, heard_items, item_report, items_report, listening_of, detail_of}
 
 not_true : IsTrue false → ⊥
 not_true never = cc
@@ -44,14 +45,14 @@ heard_nil : (l : Listening) → heard_items l [] ≡ l
 unfolding heard_items
 heard_nil l = refl
 
-report_cons : (packets : Bool) (l : Listening) (part : RunItem) (parts : List RunItem)
-    → items_report packets l (part ∷ parts) ≡ item_report packets l part ++ items_report packets (heard_item l part) parts
+report_cons : (detail : Detail) (l : Listening) (part : RunItem) (parts : List RunItem)
+    → items_report detail l (part ∷ parts) ≡ item_report detail l part ++ items_report detail (heard_item l part) parts
 unfolding items_report
-report_cons packets l part parts = refl
+report_cons detail l part parts = refl
 
-report_nil : (packets : Bool) (l : Listening) → items_report packets l [] ≡ []
+report_nil : (detail : Detail) (l : Listening) → items_report detail l [] ≡ []
 unfolding items_report
-report_nil packets l = refl
+report_nil detail l = refl
 
 -- ---- one more item of a run
 
@@ -70,18 +71,18 @@ heard_step run at size old new before after all fits first so_far =
     ∙ sym (heard_cons (listening_of old) first.part (reading (drop (at + size) run)))
     ∙ ap (heard_items (listening_of old)) (sym next) ∙ so_far
 
-pub text_step : (run : List ℕ) (at size : ℕ) (packets : Bool) (old new : Listener) (before after all : List ℕ) → AreBytes run
-    → HearsFirst (drop at run) old new before after size → tells_all old ≡ packets
-    → before ++ items_report packets (listening_of old) (reading (drop at run)) ≡ all
-    → after ++ items_report packets (listening_of new) (reading (drop (at + size) run)) ≡ all
-text_step run at size packets old new before after all fits first tells so_far =
+pub text_step : (run : List ℕ) (at size : ℕ) (detail : Detail) (old new : Listener) (before after all : List ℕ) → AreBytes run
+    → HearsFirst (drop at run) old new before after size → detail_of old ≡ detail
+    → before ++ items_report detail (listening_of old) (reading (drop at run)) ≡ all
+    → after ++ items_report detail (listening_of new) (reading (drop (at + size) run)) ≡ all
+text_step run at size detail old new before after all fits first tells so_far =
     let next = on_by_first run at size first.part fits first.stands first.size_is in
-    let rest = items_report packets (heard_item (listening_of old) first.part) (reading (drop (at + size) run)) in
-    ap (λ l. after ++ items_report packets l (reading (drop (at + size) run))) first.hears.heard
+    let rest = items_report detail (heard_item (listening_of old) first.part) (reading (drop (at + size) run)) in
+    ap (λ l. after ++ items_report detail l (reading (drop (at + size) run))) first.hears.heard
     ∙ ap (λ t. t ++ rest) (first.hears.text ∙ ap (λ p. before ++ item_report p (listening_of old) first.part) tells)
-    ∙ append_assoc before (item_report packets (listening_of old) first.part) rest
-    ∙ ap (λ t. before ++ t) (sym (report_cons packets (listening_of old) first.part (reading (drop (at + size) run))))
-    ∙ ap (λ parts. before ++ items_report packets (listening_of old) parts) (sym next) ∙ so_far
+    ∙ append_assoc before (item_report detail (listening_of old) first.part) rest
+    ∙ ap (λ t. before ++ t) (sym (report_cons detail (listening_of old) first.part (reading (drop (at + size) run))))
+    ∙ ap (λ parts. before ++ items_report detail (listening_of old) parts) (sym next) ∙ so_far
 
 pub within_step : (run : List ℕ) (at size : ℕ) (part : RunItem) → AreBytes run → at ≤ length run → Stands (drop at run) part → size ≡ item_size part
     → at + size ≤ length run
@@ -96,11 +97,11 @@ pub heard_end : (run : List ℕ) (at : ℕ) (l all : Listening) → length run �
 heard_end run at l all past so_far =
     sym (heard_nil l) ∙ ap (heard_items l) (sym (ap reading (drop_all at run past) ∙ reading_nothing)) ∙ so_far
 
-pub text_end : (run : List ℕ) (at : ℕ) (packets : Bool) (l : Listening) (text all : List ℕ) → length run ≤ at
-    → text ++ items_report packets l (reading (drop at run)) ≡ all → text ≡ all
-text_end run at packets l text all past so_far =
+pub text_end : (run : List ℕ) (at : ℕ) (detail : Detail) (l : Listening) (text all : List ℕ) → length run ≤ at
+    → text ++ items_report detail l (reading (drop at run)) ≡ all → text ≡ all
+text_end run at detail l text all past so_far =
     sym (append-nil text)
-    ∙ ap (λ t. text ++ t) (sym (ap (λ r. items_report packets l (reading r)) (drop_all at run past) ∙ ap (items_report packets l) reading_nothing ∙ report_nil packets l))
+    ∙ ap (λ t. text ++ t) (sym (ap (λ r. items_report detail l (reading r)) (drop_all at run past) ∙ ap (items_report detail l) reading_nothing ∙ report_nil detail l))
     ∙ so_far
 
 -- no item has more bytes than a packet may have

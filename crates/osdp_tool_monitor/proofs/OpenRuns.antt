@@ -12,10 +12,11 @@ use Rattle.osdp_frame_laws.proofs.Readings.{is_reading, item_size-positive, item
 use Rattle.osdp_tool_show.specs.Tally.{counted}
 use Rattle.osdp_tool_show.proofs.Lines.{counted-after_run, counted-tally_after}
 use Rattle.osdp_tool_show.proofs.Taking.{Taking, next_bytes, taken_all, taking_start, taking_step}
+use Rattle.osdp_tool_show.specs.declared.detail.Detail.{Detail}
 use Rattle.osdp_tool_monitor.specs.declared.listener.Listener.{Listener}
 use Rattle.osdp_tool_monitor.specs.declared.open_line.OpenLine.{OpenLine}
-use Rattle.osdp_tool_monitor.specs.Hearing.{Come, Drained, Hearing, Hears, HearsItems, IsOpen, LineEvent, RunEnds, TableDue, after_event, after_events, event_report, events_report, hearing_of, load, prints_all}
-use Rattle.osdp_tool_monitor.specs.Listening.{HearsItem, Listening, ended, heard_item, heard_items, item_report, items_report, listening_of, table, tells_all}
+use Rattle.osdp_tool_monitor.specs.Hearing.{Come, Drained, Hearing, Hears, HearsItems, IsOpen, LineEvent, RunEnds, TableDue, after_event, after_events, event_report, events_report, hearing_of, load, line_detail}
+use Rattle.osdp_tool_monitor.specs.Listening.{HearsItem, Listening, ended, heard_item, heard_items, item_report, items_report, listening_of, table, detail_of}
 
 pub on_both : {T E : Type 0} {A B C : Type 0} (r : Result T E) → (A → B → C) → OnOk r A → OnOk r B → OnOk r C
 on_both (Ok x) f a b = f a b
@@ -32,13 +33,13 @@ unfolding heard_items
 heard_items-append l [] ys = refl
 heard_items-append l (x ∷ xs) ys = heard_items-append (heard_item l x) xs ys
 
-pub items_report-append : (packets : Bool) (l : Listening) (xs ys : List RunItem)
-    → items_report packets l (xs ++ ys) ≡ items_report packets l xs ++ items_report packets (heard_items l xs) ys
+pub items_report-append : (detail : Detail) (l : Listening) (xs ys : List RunItem)
+    → items_report detail l (xs ++ ys) ≡ items_report detail l xs ++ items_report detail (heard_items l xs) ys
 unfolding heard_items items_report
-items_report-append packets l [] ys = refl
-items_report-append packets l (x ∷ xs) ys =
-    ap (λ t. item_report packets l x ++ t) (items_report-append packets (heard_item l x) xs ys)
-    ∙ sym (append_assoc (item_report packets l x) (items_report packets (heard_item l x) xs) (items_report packets (heard_items (heard_item l x) xs) ys))
+items_report-append detail l [] ys = refl
+items_report-append detail l (x ∷ xs) ys =
+    ap (λ t. item_report detail l x ++ t) (items_report-append detail (heard_item l x) xs ys)
+    ∙ sym (append_assoc (item_report detail l x) (items_report detail (heard_item l x) xs) (items_report detail (heard_items (heard_item l x) xs) ys))
 
 pub hears_none : (l : Listener) (text : List ℕ) → HearsItems [] l l text text
 unfolding heard_items items_report
@@ -49,21 +50,21 @@ unfolding heard_items items_report
 hears_one part old new before after h = record {
   tells = h.tells;
   heard = h.heard;
-  text = h.text ∙ ap (λ t. before ++ t) (sym (append-nil (item_report (tells_all old) (listening_of old) part)));
+  text = h.text ∙ ap (λ t. before ++ t) (sym (append-nil (item_report (detail_of old) (listening_of old) part)));
 }
 
 pub hears_more : (xs ys : List RunItem) (old mid new : Listener) (before middle after : List ℕ) → HearsItems xs old mid before middle
     → HearsItems ys mid new middle after → HearsItems (xs ++ ys) old new before after
 hears_more xs ys old mid new before middle after a b =
-    let p = tells_all old in
+    let p = detail_of old in
     let l = listening_of old in
     let front = items_report p l xs in
-    let back : items_report (tells_all mid) (listening_of mid) ys ≡ items_report p (heard_items l xs) ys =
+    let back : items_report (detail_of mid) (listening_of mid) ys ≡ items_report p (heard_items l xs) ys =
     ap (λ q. items_report q (listening_of mid) ys) a.tells ∙ ap (λ k. items_report p k ys) a.heard in
     record {
       tells = b.tells ∙ a.tells;
       heard = b.heard ∙ ap (λ k. heard_items k ys) a.heard ∙ sym (heard_items-append l xs ys);
-      text = b.text ∙ ap (λ t. t ++ items_report (tells_all mid) (listening_of mid) ys) a.text ∙ append_assoc before front (items_report (tells_all mid) (listening_of mid) ys)
+      text = b.text ∙ ap (λ t. t ++ items_report (detail_of mid) (listening_of mid) ys) a.text ∙ append_assoc before front (items_report (detail_of mid) (listening_of mid) ys)
           ∙ ap (λ t. before ++ (front ++ t)) back ∙ ap (λ t. before ++ t) (sym (items_report-append p l xs ys));
     }
 
@@ -128,17 +129,17 @@ one_heard : (h : Hearing) (event : LineEvent) → after_events h (event ∷ []) 
 unfolding after_events
 one_heard h event = refl
 
-one_told : (packets : Bool) (h : Hearing) (event : LineEvent) → events_report packets h (event ∷ []) ≡ event_report packets h event
+one_told : (detail : Detail) (h : Hearing) (event : LineEvent) → events_report detail h (event ∷ []) ≡ event_report detail h event
 unfolding events_report
-one_told packets h event = append-nil (event_report packets h event)
+one_told detail h event = append-nil (event_report detail h event)
 
-pub hears_event : (event : LineEvent) (old new : OpenLine) (before after : List ℕ) → prints_all new ≡ prints_all old
-    → hearing_of new ≡ after_event (hearing_of old) event → after ≡ before ++ event_report (prints_all old) (hearing_of old) event → IsOpen new
+pub hears_event : (event : LineEvent) (old new : OpenLine) (before after : List ℕ) → line_detail new ≡ line_detail old
+    → hearing_of new ≡ after_event (hearing_of old) event → after ≡ before ++ event_report (line_detail old) (hearing_of old) event → IsOpen new
     → Hears (event ∷ []) old new before after
 hears_event event old new before after prints heard text is_open = record {
   prints = prints;
   heard = heard ∙ sym (one_heard (hearing_of old) event);
-  text = text ∙ ap (λ t. before ++ t) (sym (one_told (prints_all old) (hearing_of old) event));
+  text = text ∙ ap (λ t. before ++ t) (sym (one_told (line_detail old) (hearing_of old) event));
   is_open = is_open;
 }
 
@@ -172,25 +173,25 @@ come_heard h a b fits =
     let left : left_over (left_over (h.held ++ a) ++ b) ≡ left_over (h.held ++ (a ++ b)) = sym (left_over-append (h.held ++ a) b fits) ∙ ap left_over whole in
     ap (λ l. hearing l (left_over (left_over (h.held ++ a) ++ b))) heard ∙ ap (hearing (heard_items h.heard (items false (h.held ++ (a ++ b))))) left
 
-come_told : (packets : Bool) (h : Hearing) (a b : List ℕ) → AreBytes ((h.held ++ a) ++ b)
-    → event_report packets h (Come a) ++ event_report packets (after_event h (Come a)) (Come b) ≡ event_report packets h (Come (a ++ b))
-come_told packets h a b fits =
+come_told : (detail : Detail) (h : Hearing) (a b : List ℕ) → AreBytes ((h.held ++ a) ++ b)
+    → event_report detail h (Come a) ++ event_report detail (after_event h (Come a)) (Come b) ≡ event_report detail h (Come (a ++ b))
+come_told detail h a b fits =
     let first = items false (h.held ++ a) in
     let second = items false (left_over (h.held ++ a) ++ b) in
-    sym (items_report-append packets h.heard first second)
-    ∙ ap (items_report packets h.heard) (sym (items-append false (h.held ++ a) b fits) ∙ ap (items false) (append_assoc h.held a b))
+    sym (items_report-append detail h.heard first second)
+    ∙ ap (items_report detail h.heard) (sym (items-append false (h.held ++ a) b fits) ∙ ap (items false) (append_assoc h.held a b))
 
 pub come_more : (a b : List ℕ) (old mid new : OpenLine) (before middle after : List ℕ) → AreBytes a → AreBytes b → IsOpen old
     → Hears (Come a ∷ []) old mid before middle → Hears (Come b ∷ []) mid new middle after → Hears (Come (a ++ b) ∷ []) old new before after
 come_more a b old mid new before middle after a_fits b_fits is_open x y =
     let h = hearing_of old in
-    let p = prints_all old in
+    let p = line_detail old in
     let fits : AreBytes ((h.held ++ a) ++ b) = AreBytes-append (h.held ++ a) b (AreBytes-append h.held a is_open.bytes a_fits) b_fits in
     let x_heard : hearing_of mid ≡ after_event h (Come a) = x.heard ∙ one_heard h (Come a) in
     let y_heard : hearing_of new ≡ after_event (hearing_of mid) (Come b) = y.heard ∙ one_heard (hearing_of mid) (Come b) in
     let x_text : middle ≡ before ++ event_report p h (Come a) = x.text ∙ ap (λ t. before ++ t) (one_told p h (Come a)) in
-    let y_told : events_report (prints_all mid) (hearing_of mid) (Come b ∷ []) ≡ event_report p (after_event h (Come a)) (Come b) =
-    one_told (prints_all mid) (hearing_of mid) (Come b) ∙ ap (λ q. event_report q (hearing_of mid) (Come b)) x.prints ∙ ap (λ k. event_report p k (Come b)) x_heard in
+    let y_told : events_report (line_detail mid) (hearing_of mid) (Come b ∷ []) ≡ event_report p (after_event h (Come a)) (Come b) =
+    one_told (line_detail mid) (hearing_of mid) (Come b) ∙ ap (λ q. event_report q (hearing_of mid) (Come b)) x.prints ∙ ap (λ k. event_report p k (Come b)) x_heard in
     hears_event (Come (a ++ b)) old new before after (y.prints ∙ x.prints)
     (y_heard ∙ ap (λ k. after_event k (Come b)) x_heard ∙ come_heard h a b fits)
     (y.text ∙ ap (λ t. middle ++ t) y_told ∙ ap (λ t. t ++ event_report p (after_event h (Come a)) (Come b)) x_text
@@ -209,17 +210,17 @@ come_nothing h none =
     ∙ ap (λ l. hearing l (left_over (h.held ++ []))) (heard_none h.heard)
     ∙ ap (hearing h.heard) (sym (left_is (h.held ++ [])) ∙ ap (λ l. drop (total_size l) (h.held ++ [])) parts ∙ same)
 
-told_none : (packets : Bool) (l : Listening) → items_report packets l [] ≡ []
+told_none : (detail : Detail) (l : Listening) → items_report detail l [] ≡ []
 unfolding items_report
-told_none packets l = refl
+told_none detail l = refl
 
 -- no bytes
 pub come_none : (old : OpenLine) (text : List ℕ) → IsOpen old → Hears (Come [] ∷ []) old old text text
 come_none old text is_open =
     let h = hearing_of old in
     hears_event (Come []) old old text text refl (sym (come_nothing h is_open.none))
-    (sym (append-nil text) ∙ ap (λ t. text ++ t) (sym (ap (items_report (prints_all old) h.heard) (ap (items false) (append-nil h.held) ∙ items_undecided false h.held is_open.none)
-    ∙ told_none (prints_all old) h.heard)))
+    (sym (append-nil text) ∙ ap (λ t. text ++ t) (sym (ap (items_report (line_detail old) h.heard) (ap (items false) (append-nil h.held) ∙ items_undecided false h.held is_open.none)
+    ∙ told_none (line_detail old) h.heard)))
     is_open
 
 -- ---- events, one after the other
@@ -229,13 +230,13 @@ unfolding after_events
 after_events-append h [] ys = refl
 after_events-append h (x ∷ xs) ys = after_events-append (after_event h x) xs ys
 
-pub events_report-append : (packets : Bool) (h : Hearing) (xs ys : List LineEvent)
-    → events_report packets h (xs ++ ys) ≡ events_report packets h xs ++ events_report packets (after_events h xs) ys
+pub events_report-append : (detail : Detail) (h : Hearing) (xs ys : List LineEvent)
+    → events_report detail h (xs ++ ys) ≡ events_report detail h xs ++ events_report detail (after_events h xs) ys
 unfolding after_events events_report
-events_report-append packets h [] ys = refl
-events_report-append packets h (x ∷ xs) ys =
-    ap (λ t. event_report packets h x ++ t) (events_report-append packets (after_event h x) xs ys)
-    ∙ sym (append_assoc (event_report packets h x) (events_report packets (after_event h x) xs) (events_report packets (after_events (after_event h x) xs) ys))
+events_report-append detail h [] ys = refl
+events_report-append detail h (x ∷ xs) ys =
+    ap (λ t. event_report detail h x ++ t) (events_report-append detail (after_event h x) xs ys)
+    ∙ sym (append_assoc (event_report detail h x) (events_report detail (after_event h x) xs) (events_report detail (after_events (after_event h x) xs) ys))
 
 pub hears_nothing : (l : OpenLine) (text : List ℕ) → IsOpen l → Hears [] l l text text
 unfolding after_events events_report
@@ -245,8 +246,8 @@ pub hears_then : (xs ys : List LineEvent) (old mid new : OpenLine) (before middl
     → Hears ys mid new middle after → Hears (xs ++ ys) old new before after
 hears_then xs ys old mid new before middle after a b =
     let h = hearing_of old in
-    let p = prints_all old in
-    let told : events_report (prints_all mid) (hearing_of mid) ys ≡ events_report p (after_events h xs) ys =
+    let p = line_detail old in
+    let told : events_report (line_detail mid) (hearing_of mid) ys ≡ events_report p (after_events h xs) ys =
     ap (λ q. events_report q (hearing_of mid) ys) a.prints ∙ ap (λ k. events_report p k ys) a.heard in
     record {
       prints = b.prints ∙ a.prints;
@@ -262,14 +263,14 @@ table_told l before after is_open text = hears_event TableDue l l before after r
 
 -- a whole run, where none was held
 pub run_heard : (run : List ℕ) (old new : OpenLine) (before after : List ℕ) → old.framer.bytes ≡ [] → new.framer ≡ old.framer → IsOpen old
-    → tells_all new.listener ≡ tells_all old.listener → listening_of new.listener ≡ ended (heard_items (listening_of old.listener) (items true run))
-    → after ≡ before ++ items_report (tells_all old.listener) (listening_of old.listener) (items true run) → Hears (RunEnds run ∷ []) old new before after
+    → detail_of new.listener ≡ detail_of old.listener → listening_of new.listener ≡ ended (heard_items (listening_of old.listener) (items true run))
+    → after ≡ before ++ items_report (detail_of old.listener) (listening_of old.listener) (items true run) → Hears (RunEnds run ∷ []) old new before after
 run_heard run old new before after none same is_open tells heard text =
     let whole : old.framer.bytes ++ run ≡ run = ap (λ l. l ++ run) none in
     hears_event (RunEnds run) old new before after tells
     (ap (λ l. hearing l new.framer.bytes) (heard ∙ ap (λ l. ended (heard_items (listening_of old.listener) (items true l))) (sym whole))
     ∙ ap (hearing (ended (heard_items (listening_of old.listener) (items true (old.framer.bytes ++ run))))) (ap (λ (h : Held). h.bytes) same ∙ none))
-    (text ∙ ap (λ l. before ++ items_report (tells_all old.listener) (listening_of old.listener) (items true l)) (sym whole))
+    (text ∙ ap (λ l. before ++ items_report (detail_of old.listener) (listening_of old.listener) (items true l)) (sym whole))
     (open_same is_open)
   where
     open_same : IsOpen old → IsOpen new
@@ -287,7 +288,7 @@ all_taken bytes fits = drop_all (total_size (items true bytes)) bytes (omega (ar
 
 pub ended_heard : (old new : OpenLine) (gapped : Held) (mid : Listener) (before after : List ℕ) → IsOpen old
     → gapped ≡ record { bytes = old.framer.bytes; ended = not (length old.framer.bytes == 0) } → Drained gapped new.framer old.listener mid before after
-    → tells_all new.listener ≡ tells_all mid → listening_of new.listener ≡ ended (listening_of mid) → Hears (RunEnds [] ∷ []) old new before after
+    → detail_of new.listener ≡ detail_of mid → listening_of new.listener ≡ ended (listening_of mid) → Hears (RunEnds [] ∷ []) old new before after
 ended_heard old new gapped mid before after is_open is d tells heard =
     let held = old.framer.bytes in
     let whole : held ++ [] ≡ held = append-nil held in
@@ -298,7 +299,7 @@ ended_heard old new gapped mid before after is_open is d tells heard =
     hears_event (RunEnds []) old new before after (tells ∙ hears.tells)
     (ap (λ l. hearing l new.framer.bytes) (heard ∙ ap ended hears.heard ∙ ap (λ l. ended (heard_items (listening_of old.listener) (items true l))) (sym whole))
     ∙ ap (hearing (ended (heard_items (listening_of old.listener) (items true (held ++ []))))) left)
-    (hears.text ∙ ap (λ l. before ++ items_report (tells_all old.listener) (listening_of old.listener) (items true l)) (sym whole))
+    (hears.text ∙ ap (λ l. before ++ items_report (detail_of old.listener) (listening_of old.listener) (items true l)) (sym whole))
     (record { bytes = d.bytes; goes_on = d.goes_on; none = d.none })
 
 -- ---- pieces of a piece

@@ -27,17 +27,17 @@ both_are (Some e) p = refl
 
 pub prints_lem : PrintsAccusations
 unfolding after_items heard_items items_report
-prints_lem packets l [] rest p accusation is =
+prints_lem detail l [] rest p accusation is =
     let run = l.tally.runs + 1 in
     let found = found_in l.knowledge p in
-    let shown = shown_line packets l.tally (PacketItem p) in
+    let shown = shown_line detail l.tally (PacketItem p) in
     let notice = notice_line run l.tally.place p.address found.notice in
     let expected = expected_lines (expected_bytes (expected_in l.knowledge p)) p in
-    let others = items_report packets (heard_item l (PacketItem p)) rest in
+    let others = items_report detail (heard_item l (PacketItem p)) rest in
     in_parts shown notice (accusation_line run l.tally.place p found.accusation) expected others
     ∙ ap (λ a. shown ++ (notice ++ (accusation_line run l.tally.place p a ++ (expected ++ others)))) is
     ∙ ap (λ t. shown ++ (notice ++ (t ++ (expected ++ others)))) (named_is l.tally.runs l.tally.place p accusation)
     ∙ ap (λ t. shown ++ (notice ++ (naming_line l.tally.runs l.tally.place p accusation ++ (t ++ others)))) (both_are (expected_in l.knowledge p) p)
-prints_lem packets l (part ∷ front) rest p accusation is =
-    ap (λ t. item_report packets l part ++ t) (prints_lem packets (heard_item l part) front rest p accusation is)
-    ∙ sym (append_assoc (item_report packets l part) (items_report packets (heard_item l part) front) _)
+prints_lem detail l (part ∷ front) rest p accusation is =
+    ap (λ t. item_report detail l part ++ t) (prints_lem detail (heard_item l part) front rest p accusation is)
+    ∙ sym (append_assoc (item_report detail l part) (items_report detail (heard_item l part) front) _)

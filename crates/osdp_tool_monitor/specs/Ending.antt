@@ -17,7 +17,7 @@ Told {M} tells old (moment ∷ moments) new = (next : M) × tells old moment nex
 
 -- what is printed
 abbrev pub input_report : Following → MonitorMode → List Piece → List ℕ
-input_report following mode pieces = events_report mode.packets nothing_yet (input_events following mode pieces)
+input_report following mode pieces = events_report mode.detail nothing_yet (input_events following mode pieces)
 
 -- somebody is accused in it, or something refused
 abbrev pub is_wrong_input : Following → MonitorMode → List Piece → Bool

@@ -5,9 +5,10 @@ use Rattle.osdp_frame.specs.Held.{Held, decided}
 use Rattle.osdp_frame.specs.Items.{items, left_over}
 use Rattle.osdp_frame.specs.Reading.{RunItem, total_size}
 use Rattle.osdp_tool_show.specs.Tally.{counted}
+use Rattle.osdp_tool_show.specs.declared.detail.Detail.{Detail}
 use Rattle.osdp_tool_monitor.specs.declared.listener.Listener.{Listener}
 use Rattle.osdp_tool_monitor.specs.declared.open_line.OpenLine.{OpenLine}
-use Rattle.osdp_tool_monitor.specs.Listening.{Listening, ended, heard_items, items_report, listening_of, nothing_heard, table, tells_all}
+use Rattle.osdp_tool_monitor.specs.Listening.{Listening, ended, heard_items, items_report, listening_of, nothing_heard, table, detail_of}
 
 pub record Hearing : Type 0 where
   -- what has been heard of the items that its bytes decide
@@ -31,19 +32,19 @@ after_event h (RunEnds bytes) = record { heard = ended (heard_items h.heard (ite
 after_event h TableDue = h
 
 -- what is printed: of the items that bytes decide, at once; and the table
-abbrev pub event_report : Bool → Hearing → LineEvent → List ℕ
-event_report packets h (Come bytes) = items_report packets h.heard (items false (h.held ++ bytes))
-event_report packets h (RunEnds bytes) = items_report packets h.heard (items true (h.held ++ bytes))
-event_report packets h TableDue = table h.heard
+abbrev pub event_report : Detail → Hearing → LineEvent → List ℕ
+event_report detail h (Come bytes) = items_report detail h.heard (items false (h.held ++ bytes))
+event_report detail h (RunEnds bytes) = items_report detail h.heard (items true (h.held ++ bytes))
+event_report detail h TableDue = table h.heard
 
 -- one after the other
 unfoldable pub after_events : Hearing → List LineEvent → Hearing
 after_events h [] = h
 after_events h (event ∷ events) = after_events (after_event h event) events
 
-unfoldable pub events_report : Bool → Hearing → List LineEvent → List ℕ
-events_report packets h [] = []
-events_report packets h (event ∷ events) = event_report packets h event ++ events_report packets (after_event h event) events
+unfoldable pub events_report : Detail → Hearing → List LineEvent → List ℕ
+events_report detail h [] = []
+events_report detail h (event ∷ events) = event_report detail h event ++ events_report detail (after_event h event) events
 
 -- how many bytes came
 abbrev pub event_size : LineEvent → ℕ
@@ -64,9 +65,9 @@ load h = counted h.heard.tally + 5 * length h.held
 abbrev pub hearing_of : OpenLine → Hearing
 hearing_of l = record { heard = listening_of l.listener; held = l.framer.bytes }
 
--- all items are printed
-abbrev pub prints_all : OpenLine → Bool
-prints_all l = tells_all l.listener
+-- which items are printed
+abbrev pub line_detail : OpenLine → Detail
+line_detail l = detail_of l.listener
 
 -- a run goes on, and none of the bytes held is decided
 pub record IsOpen (l : OpenLine) : Type 0 where
@@ -76,18 +77,18 @@ pub record IsOpen (l : OpenLine) : Type 0 where
 
 -- it went on by these events
 pub record Hears (events : List LineEvent) (old new : OpenLine) (before after : List ℕ) : Type 0 where
-  pub prints : prints_all new ≡ prints_all old
+  pub prints : line_detail new ≡ line_detail old
   pub heard : hearing_of new ≡ after_events (hearing_of old) events
-  pub text : after ≡ before ++ events_report (prints_all old) (hearing_of old) events
+  pub text : after ≡ before ++ events_report (line_detail old) (hearing_of old) events
   pub is_open : IsOpen new
 
 -- ---- items that are taken off
 
 -- a listener went on by items
 pub record HearsItems (parts : List RunItem) (old new : Listener) (before after : List ℕ) : Type 0 where
-  pub tells : tells_all new ≡ tells_all old
+  pub tells : detail_of new ≡ detail_of old
   pub heard : listening_of new ≡ heard_items (listening_of old) parts
-  pub text : after ≡ before ++ items_report (tells_all old) (listening_of old) parts
+  pub text : after ≡ before ++ items_report (detail_of old) (listening_of old) parts
 
 -- the items that the bytes held decide were told and taken off, and no other is decided
 pub record Drained (start now : Held) (old new : Listener) (before after : List ℕ) : Type 0 where

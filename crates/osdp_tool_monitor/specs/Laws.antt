@@ -8,6 +8,7 @@ use Rattle.osdp_words.specs.Word.{bytes, printed}
 use Rattle.osdp_monitor.specs.declared.accusation.Accusation.{Accusation}
 use Rattle.osdp_monitor.specs.Line.{after_items, expected_in, found_in}
 use Rattle.osdp_tool_show.specs.ToldItems.{shown_line}
+use Rattle.osdp_tool_show.specs.declared.detail.Detail.{Detail}
 use Rattle.osdp_tool_monitor.specs.Listening.{Listening, heard_item, heard_items, items_report}
 use Rattle.osdp_tool_monitor.specs.Text.{accusation_text, notice_line}
 
@@ -30,13 +31,13 @@ both_packets (Some expected) p =
 -- Whoever is accused in a packet is named in what is printed of any items about it. Before that line stands what is printed of the items before the packet,
 -- the packet's own line and what is worth a look in it. After it stand the two packets, and what is printed of the items after the packet.
 abbrev pub PrintsAccusations : Type 0
-PrintsAccusations = (packets : Bool) (l : Listening) (front rest : List RunItem) (p : Packet) (accusation : Accusation)
+PrintsAccusations = (detail : Detail) (l : Listening) (front rest : List RunItem) (p : Packet) (accusation : Accusation)
     → (found_in (after_items l.knowledge front) p).accusation ≡ Some accusation
     → let now = heard_items l front in
-    items_report packets l (front ++ PacketItem p ∷ rest)
-    ≡ items_report packets l front
-    ++ (shown_line packets now.tally (PacketItem p)
+    items_report detail l (front ++ PacketItem p ∷ rest)
+    ≡ items_report detail l front
+    ++ (shown_line detail now.tally (PacketItem p)
     ++ (notice_line (now.tally.runs + 1) now.tally.place p.address (found_in now.knowledge p).notice
     ++ (naming_line now.tally.runs now.tally.place p accusation
     ++ (both_packets (expected_in now.knowledge p) p
-    ++ items_report packets (heard_item now (PacketItem p)) rest))))
+    ++ items_report detail (heard_item now (PacketItem p)) rest))))

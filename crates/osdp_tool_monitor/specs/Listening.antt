@@ -9,6 +9,7 @@ use Rattle.osdp_tool_show.specs.Tally.{after_run, no_tally, tally_after}
 use Rattle.osdp_tool_show.specs.ToldItems.{shown_line}
 use Rattle.osdp_tool_streams.specs.declared.fault.ToolFault.{ToolFault}
 use Rattle.osdp_tool_streams.specs.declared.fault.ToolFault.TheVariants.{NoMemory, TooLong}
+use Rattle.osdp_tool_show.specs.declared.detail.Detail.{Detail}
 use Rattle.osdp_tool_monitor.specs.declared.counts.Counts.{Counts}
 use Rattle.osdp_tool_monitor.specs.declared.listener.Listener.{Listener}
 use Rattle.osdp_tool_monitor.specs.Counts.{counts_after, more_if, no_counts, table_of}
@@ -55,17 +56,17 @@ item_found l (SkippedItem b) = []
 item_found l (RefusedItem fault) = []
 
 -- its line, as `show` prints it where all are wanted, and as `check` does else; and then what is found in it
-abbrev pub item_report : Bool → Listening → RunItem → List ℕ
-item_report packets l part = shown_line packets l.tally part ++ item_found l part
+abbrev pub item_report : Detail → Listening → RunItem → List ℕ
+item_report detail l part = shown_line detail l.tally part ++ item_found l part
 
 -- after items, one after the other
 unfoldable pub heard_items : Listening → List RunItem → Listening
 heard_items l [] = l
 heard_items l (part ∷ parts) = heard_items (heard_item l part) parts
 
-unfoldable pub items_report : Bool → Listening → List RunItem → List ℕ
-items_report packets l [] = []
-items_report packets l (part ∷ parts) = item_report packets l part ++ items_report packets (heard_item l part) parts
+unfoldable pub items_report : Detail → Listening → List RunItem → List ℕ
+items_report detail l [] = []
+items_report detail l (part ∷ parts) = item_report detail l part ++ items_report detail (heard_item l part) parts
 
 -- the run has ended
 abbrev pub ended : Listening → Listening
@@ -75,17 +76,17 @@ ended l = record l { tally = after_run l.tally }
 abbrev pub heard_run : Listening → List ℕ → Listening
 heard_run l run = ended (heard_items l (reading run))
 
-abbrev pub run_report : Bool → Listening → List ℕ → List ℕ
-run_report packets l run = items_report packets l (reading run)
+abbrev pub run_report : Detail → Listening → List ℕ → List ℕ
+run_report detail l run = items_report detail l (reading run)
 
 -- after whole runs
 unfoldable pub heard_runs : Listening → List (List ℕ) → Listening
 heard_runs l [] = l
 heard_runs l (run ∷ runs) = heard_runs (heard_run l run) runs
 
-unfoldable pub runs_report : Bool → Listening → List (List ℕ) → List ℕ
-runs_report packets l [] = []
-runs_report packets l (run ∷ runs) = run_report packets l run ++ runs_report packets (heard_run l run) runs
+unfoldable pub runs_report : Detail → Listening → List (List ℕ) → List ℕ
+runs_report detail l [] = []
+runs_report detail l (run ∷ runs) = run_report detail l run ++ runs_report detail (heard_run l run) runs
 
 abbrev pub table : Listening → List ℕ
 table l = table_of l.tally l.counts l.accused
@@ -105,15 +106,15 @@ IsLineFault count fault = ⊥
 abbrev pub listening_of : Listener → Listening
 listening_of l = record { knowledge = knowledge_of l.monitor; tally = l.tally; counts = l.counts.items; accused = l.accused }
 
--- all items are printed
-abbrev pub tells_all : Listener → Bool
-tells_all l = l.packets
+-- which items are printed
+abbrev pub detail_of : Listener → Detail
+detail_of l = l.detail
 
 -- it went on by an item
 pub record HearsItem (part : RunItem) (old new : Listener) (before after : List ℕ) : Type 0 where
-  pub tells : tells_all new ≡ tells_all old
+  pub tells : detail_of new ≡ detail_of old
   pub heard : listening_of new ≡ heard_item (listening_of old) part
-  pub text : after ≡ before ++ item_report (tells_all old) (listening_of old) part
+  pub text : after ≡ before ++ item_report (detail_of old) (listening_of old) part
 
 -- it went on by the item that stands first in the rest of a run, which has so many bytes
 pub record HearsFirst (rest : List ℕ) (old new : Listener) (before after : List ℕ) (size : ℕ) : Type 0 where
@@ -124,6 +125,6 @@ pub record HearsFirst (rest : List ℕ) (old new : Listener) (before after : Lis
 
 -- it went on by a run
 pub record HearsRun (run : List ℕ) (old new : Listener) (before after : List ℕ) : Type 0 where
-  pub tells : tells_all new ≡ tells_all old
+  pub tells : detail_of new ≡ detail_of old
   pub heard : listening_of new ≡ heard_run (listening_of old) run
-  pub text : after ≡ before ++ run_report (tells_all old) (listening_of old) run
+  pub text : after ≡ before ++ run_report (detail_of old) (listening_of old) run

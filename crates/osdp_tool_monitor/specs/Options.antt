@@ -3,6 +3,7 @@ use Rattle.std.specs.Prelude.{◌≡◌, ℕ, ◌≤◌, true, false, List, [], 
 use Rattle.std.specs.Fmt.{decimal}
 use Rattle.std.specs.List.{AllByRecursion}
 use Rattle.osdp_frame.specs.Times.{IsTime}
+use Rattle.osdp_tool_show.specs.declared.detail.Detail.TheVariants.{Full, Refusals}
 use Rattle.osdp_tool_monitor.specs.declared.mode.MonitorMode.{MonitorMode}
 use Rattle.osdp_tool_monitor.specs.declared.mode.MonitorOption.{MonitorOption}
 use Rattle.osdp_tool_monitor.specs.declared.mode.MonitorOption.TheVariants.{Hex, Packets, Gap, Every}
@@ -34,13 +35,13 @@ OptionFits (Every n) = IsTime n
 
 abbrev pub with_option : MonitorOption → MonitorMode → MonitorMode
 with_option Hex mode = record mode { hex = true }
-with_option Packets mode = record mode { packets = true }
+with_option Packets mode = record mode { detail = Full }
 with_option (Gap n) mode = record mode { gap = n }
 with_option (Every n) mode = record mode { every = Some n }
 
 -- without options the input is bytes, findings alone are printed, and a run is over after 20 milliseconds
 abbrev pub default_mode : MonitorMode
-default_mode = record { hex = false; packets = false; gap = 20; every = None }
+default_mode = record { hex = false; detail = Refusals; gap = 20; every = None }
 
 -- each after those before it
 abbrev pub with_options : List MonitorOption → MonitorMode → MonitorMode

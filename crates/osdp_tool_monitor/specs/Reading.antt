@@ -4,7 +4,7 @@ use Rattle.std.specs.Io.KnownBytes.{Appends, IsAtEnd, Keeps}
 use Rattle.osdp_tool_streams.specs.declared.fault.ToolFault.{ToolFault}
 use Rattle.osdp_tool_streams.specs.declared.fault.ToolFault.TheVariants.{TooLong, ReadFailed, WriteFailed, NoMemory}
 use Rattle.osdp_tool_monitor.specs.declared.open_line.OpenLine.{OpenLine}
-use Rattle.osdp_tool_monitor.specs.Hearing.{Hears, IsOpen, LineEvent, after_events, events_report, hearing_of, nothing_yet, prints_all}
+use Rattle.osdp_tool_monitor.specs.Hearing.{Hears, IsOpen, LineEvent, after_events, events_report, hearing_of, nothing_yet, line_detail}
 use Rattle.osdp_tool_monitor.specs.declared.mode.MonitorMode.{MonitorMode}
 use Rattle.osdp_tool_monitor.specs.declared.session.Session.{Session}
 use Rattle.osdp_tool_monitor.specs.Ending.{CameIn, IsToldInPart, IsTooLong}
@@ -55,9 +55,9 @@ TellsEvents events old new before after failed (Err fault) = ⊥
 -- these events were told, and nothing else was written
 pub record HasTold (mode : MonitorMode) (events : List LineEvent) (s : Session) (start now : Option (List ℕ)) : Type 0 where
   pub heard : hearing_of s.line ≡ after_events nothing_yet events
-  pub prints : prints_all s.line ≡ mode.packets
+  pub prints : line_detail s.line ≡ mode.detail
   pub is_open : IsOpen s.line
-  pub written : Appends start now (events_report mode.packets nothing_yet events)
+  pub written : Appends start now (events_report mode.detail nothing_yet events)
 
 -- these pieces were told, in which no bad line has ended
 pub record HasToldPieces (mode : MonitorMode) (pieces : List Piece) (s : Session) (start now : Option (List ℕ)) : Type 0 where

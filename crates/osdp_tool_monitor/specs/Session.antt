@@ -1,7 +1,7 @@
 -- A session of listening: what stands in it, and what each piece of the input makes of it.
 use Rattle.std.specs.Prelude.{◌≡◌, ◌+◌, ◌*◌, ℕ, length, Bool, true, false, if◌then◌else◌, List, [], Option, None, Some}
 use Rattle.osdp_tool_streams.specs.Line.{kept}
-use Rattle.osdp_tool_monitor.specs.Hearing.{Hears, IsOpen, LineEvent, hearing_of, load, nothing_yet, prints_all}
+use Rattle.osdp_tool_monitor.specs.Hearing.{Hears, IsOpen, LineEvent, hearing_of, load, nothing_yet, line_detail}
 use Rattle.osdp_tool_monitor.specs.declared.session.Session.{Session}
 use Rattle.osdp_tool_monitor.specs.Events.{Cut, Piece, after_bytes, after_piece, bad_at_end, bad_in, bytes_events, closing_events, end_events, nothing_cut, piece_events}
 
@@ -63,4 +63,4 @@ pub record EndsAll (good : Bool) (old new : Session) (before after : List ℕ) :
 pub record IsNew (s : Session) : Type 0 where
   pub cut : cut_of s ≡ nothing_cut
   pub heard : hearing_of s.line ≡ nothing_yet
-  pub prints : prints_all s.line ≡ s.mode.packets
+  pub prints : line_detail s.line ≡ s.mode.detail

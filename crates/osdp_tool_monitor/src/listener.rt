@@ -11,7 +11,7 @@ use crate::table::push_table;
 use crate::text::push_found;
 use osdp_frame::{Burst, FrameView, Item, ReadItem, read_at, whole_item};
 use osdp_monitor::Monitor;
-use osdp_tool_show::{Tally, tell};
+use osdp_tool_show::{Detail, Tally, tell};
 use osdp_tool_streams::ToolFault;
 use std::alloc::{AllocError, Global};
 
@@ -24,7 +24,7 @@ const MOST: u64 = 1_152_921_504_606_846_976;
 /// A listener that prints what it finds, and counts it.
 #[derive(Drop)]
 pub struct Listener {
-    packets: bool,
+    detail: Detail,
     monitor: Monitor,
     tally: Tally,
     counts: Vec<Counts>,
@@ -37,19 +37,19 @@ impl Listener {
     ghost use Rattle.osdp_monitor.specs.Line.{after_packet, copies_last, expected_in, found_in};
     ghost use Rattle.osdp_monitor.specs.Monitors.{knowledge_of};
     ghost use Rattle.osdp_tool_monitor.specs.Counts.{counts_after, more_if};
-    ghost use Rattle.osdp_tool_monitor.specs.Listening.{HearsFirst, HearsItem, HearsRun, IsLineFault, ended, is_wrong, listening_of, nothing_heard, table, tells_all};
+    ghost use Rattle.osdp_tool_monitor.specs.Listening.{HearsFirst, HearsItem, HearsRun, IsLineFault, ended, is_wrong, listening_of, nothing_heard, table, detail_of};
     ghost use Rattle.osdp_tool_monitor.specs.Text.{expected_bytes, found_text};
 
     /// A listener that has heard nothing. It prints each item of the line, or refusals and what it finds alone.
-    pub fn new(alloc: Global, packets: bool) -> Result<Listener, ToolFault>
+    pub fn new(alloc: Global, detail: Detail) -> Result<Listener, ToolFault>
         ensures heard { IfOk result (λ l. listening_of l ≡ nothing_heard) }
-        ensures tells { IfOk result (λ l. tells_all l ≡ packets) }
+        ensures tells { IfOk result (λ l. detail_of l ≡ detail) }
         ensures fault { IfErr result (λ fault. fault ≡ ToolFault.NoMemory) }
     {
         let monitor = or_fault(Monitor::new(alloc))?;
         let counts = or_fault(vec![in alloc; Counts::NONE; ADDRESSES])?;
         Ok(Listener {
-            packets,
+            detail,
             monitor,
             tally: Tally::new(),
             counts,
@@ -67,7 +67,7 @@ impl Listener {
         text: &mut String,
     ) -> Result<(), ToolFault>
         ensures fault { IfErr result (λ fault. fault ≡ ToolFault.NoMemory) }
-        ensures tells { OnOk result (tells_all self.new ≡ tells_all self.old) }
+        ensures tells { OnOk result (detail_of self.new ≡ detail_of self.old) }
         ensures tally { OnOk result (self.new.tally ≡ self.old.tally) }
         ensures knowledge { OnOk result (knowledge_of self.new.monitor ≡ after_packet (knowledge_of self.old.monitor) packet.now) }
         ensures counts { OnOk result (let k = knowledge_of self.old.monitor in
@@ -102,7 +102,7 @@ impl Listener {
         }
         let run = self.tally.runs + 1;
         let place = self.tally.place;
-        match tell(text, self.packets, &mut self.tally, item) {
+        match tell(text, self.detail, &mut self.tally, item) {
             Ok(()) => {}
             Err(_) => return Err(ToolFault::NoMemory),
         }
@@ -172,7 +172,7 @@ impl Listener {
 
     /// The run has ended. TooLong once 2^60 are counted.
     pub(crate) fn end_run(&mut self) -> Result<(), ToolFault>
-        ensures tells { OnOk result (tells_all self.new ≡ tells_all self.old) }
+        ensures tells { OnOk result (detail_of self.new ≡ detail_of self.old) }
         ensures heard { OnOk result (listening_of self.new ≡ ended (listening_of self.old)) }
         ensures fault { IfErr result (IsLineFault (counted self.old.tally)) }
     {

@@ -7,6 +7,7 @@ ghost use Rattle.osdp_words.specs.Reading.{Reads};
 ghost use Rattle.osdp_words.specs.Word.{number, texts};
 
 use osdp_frame::is_time;
+use osdp_tool_show::Detail;
 use osdp_words::{Fields, number_u32};
 
 /// After so many milliseconds of silence a run is over, where no option says another number.
@@ -17,8 +18,8 @@ const GAP: u32 = 20;
 pub struct MonitorMode {
     /// The input is a capture in lines of hexadecimal digits, each of which is a run; else it is bytes as they come.
     pub hex: bool,
-    /// Each packet, skipped byte and refused byte has a line.
-    pub packets: bool,
+    /// Which packets, skipped bytes and refused bytes have a line.
+    pub detail: Detail,
     /// After how long a silence a run of bytes is over, in milliseconds, 1 to 3,600,000.
     pub gap: u32,
     /// After how many seconds the table is printed again, 1 to 3,600,000, where it is.
@@ -97,7 +98,7 @@ impl MonitorOption {
     {
         match self {
             MonitorOption::Hex => mode.hex = true,
-            MonitorOption::Packets => mode.packets = true,
+            MonitorOption::Packets => mode.detail = Detail::Full,
             MonitorOption::Gap(gap) => mode.gap = gap,
             MonitorOption::Every(seconds) => mode.every = Some(seconds),
         }
@@ -111,7 +112,7 @@ pub fn monitor_mode(words: &[&str]) -> Option<MonitorMode>
 {
     let mut mode = MonitorMode {
         hex: false,
-        packets: false,
+        detail: Detail::Refusals,
         gap: GAP,
         every: None,
     };

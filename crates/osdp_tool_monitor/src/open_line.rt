@@ -6,6 +6,7 @@ ghost use Rattle.osdp_tool_show.specs.Tally.{counted};
 
 use crate::listener::Listener;
 use osdp_frame::Framer;
+use osdp_tool_show::Detail;
 use osdp_tool_streams::ToolFault;
 use std::alloc::Global;
 
@@ -17,18 +18,18 @@ pub struct OpenLine {
 }
 
 impl OpenLine {
-    ghost use Rattle.osdp_tool_monitor.specs.Hearing.{Come, Drained, Hears, IsOpen, RunEnds, TableDue, hearing_of, load, nothing_yet, prints_all};
+    ghost use Rattle.osdp_tool_monitor.specs.Hearing.{Come, Drained, Hears, IsOpen, RunEnds, TableDue, hearing_of, load, nothing_yet, line_detail};
     ghost use Rattle.osdp_tool_monitor.specs.Listening.{IsLineFault, is_wrong, listening_of};
 
     /// A line of which nothing was heard. It prints each item, or refusals and what it finds alone.
-    pub fn new(alloc: Global, packets: bool) -> Result<OpenLine, ToolFault>
+    pub fn new(alloc: Global, detail: Detail) -> Result<OpenLine, ToolFault>
         ensures heard { IfOk result (λ l. hearing_of l ≡ nothing_yet) }
-        ensures prints { IfOk result (λ l. prints_all l ≡ packets) }
+        ensures prints { IfOk result (λ l. line_detail l ≡ detail) }
         ensures is_open { IfOk result (λ l. IsOpen l) }
         ensures fault { IfErr result (λ fault. fault ≡ ToolFault.NoMemory) }
     {
         Ok(OpenLine {
-            listener: Listener::new(alloc, packets)?,
+            listener: Listener::new(alloc, detail)?,
             framer: Framer::new(),
         })
     }

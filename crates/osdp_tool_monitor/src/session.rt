@@ -6,7 +6,7 @@ ghost use Rattle.osdp_tool_streams.specs.Cut.{IsLine, ended_after, line_feed, un
 ghost use Rattle.osdp_tool_streams.specs.Line.{kept};
 ghost use Rattle.osdp_tool_streams.specs.Runs.{bad_line};
 ghost use Rattle.osdp_tool_monitor.specs.Events.{bad_in, byte_events, gap_events, is_due, is_over, nothing_cut, run_events, table_events, tabled_after};
-ghost use Rattle.osdp_tool_monitor.specs.Hearing.{TableDue, hearing_of, load, nothing_yet, prints_all};
+ghost use Rattle.osdp_tool_monitor.specs.Hearing.{TableDue, hearing_of, load, nothing_yet, line_detail};
 ghost use Rattle.osdp_tool_monitor.specs.Listening.{IsLineFault};
 
 use crate::mode::MonitorMode;
@@ -94,7 +94,7 @@ impl Session {
     {
         Ok(Session {
             mode,
-            line: OpenLine::new(alloc, mode.packets)?,
+            line: OpenLine::new(alloc, mode.detail)?,
             last: None,
             tabled: None,
             digits: Digits::new(),

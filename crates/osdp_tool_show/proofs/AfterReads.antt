@@ -6,6 +6,7 @@ use Rattle.osdp_frame.specs.Held.{Held}
 use Rattle.osdp_tool_streams.specs.declared.form.Form.{Form}
 use Rattle.osdp_tool_streams.specs.declared.form.Form.TheVariants.{Raw, Joined, Apart}
 use Rattle.osdp_tool_streams.specs.Runs.{ended_runs, open_run}
+use Rattle.osdp_tool_show.specs.declared.detail.Detail.{Detail}
 use Rattle.osdp_tool_show.specs.Tally.{counted}
 use Rattle.osdp_tool_show.specs.declared.tally.Tally.{Tally}
 use Rattle.osdp_tool_show.specs.ToldItems.{lines_so_far}
@@ -21,14 +22,14 @@ use Rattle.osdp_tool_show.proofs.Beginnings.{stops_by}
 abbrev pub with_report : Capture → Report → Capture
 with_report capture report = record capture { report = report }
 
-stands_kept : (full : Bool) (start before after : Option (List ℕ)) (ended : List (List ℕ)) (bytes : List ℕ) (held : Held) (old new : Report)
-    → Stands full start ended bytes held old before → KeepsReport old new → Keeps before after → Stands full start ended bytes held new after
-stands_kept full start before after ended bytes held old new s kept same = record {
-  full_is = kept.full ∙ s.full_is;
+stands_kept : (detail : Detail) (start before after : Option (List ℕ)) (ended : List (List ℕ)) (bytes : List ℕ) (held : Held) (old new : Report)
+    → Stands detail start ended bytes held old before → KeepsReport old new → Keeps before after → Stands detail start ended bytes held new after
+stands_kept detail start before after ended bytes held old new s kept same = record {
+  detail_is = kept.detail ∙ s.detail_is;
   tally = kept.tally ∙ s.tally;
   held_is = s.held_is;
   bytes = s.bytes;
-  lines = Appends-kept start before after (lines_so_far full ended bytes) s.lines same;
+  lines = Appends-kept start before after (lines_so_far detail ended bytes) s.lines same;
 }
 
 open_kept : (form : Form) (read : List ℕ) (capture : Capture) (report : Report) → OpenLine form read capture → OpenLine form read (with_report capture report)
@@ -43,11 +44,11 @@ load_kept capture report kept =
 module _ (old mid : Capture) (report : Report) (before middle after : Option (List ℕ)) (kept : KeepsReport mid.report report) (same : Keeps middle after) where
   took_on : (piece : List ℕ) → TookPiece piece true old mid before middle → TookPiece piece true old (with_report mid report) before after
   took_on piece t = record {
-    follows = λ full form start read f.
-        let g = t.follows full form start read f in
+    follows = λ detail form start read f.
+        let g = t.follows detail form start read f in
         record {
           form_is = g.form_is;
-          stands = stands_kept full start middle after (ended_runs form (read ++ piece)) (open_run form (read ++ piece)) mid.framer mid.report report g.stands kept same;
+          stands = stands_kept detail start middle after (ended_runs form (read ++ piece)) (open_run form (read ++ piece)) mid.framer mid.report report g.stands kept same;
           open_line = open_kept form (read ++ piece) mid report g.open_line;
           good = g.good;
         };
@@ -58,10 +59,10 @@ module _ (old mid : Capture) (report : Report) (before middle after : Option (Li
 
   took_bad : (piece : List ℕ) → TookPiece piece false old mid before middle → TookPiece piece false old (with_report mid report) before after
   took_bad piece t = record {
-    follows = λ full form start read f.
-        let g = t.follows full form start read f in
+    follows = λ detail form start read f.
+        let g = t.follows detail form start read f in
         record {
-          stands = stands_kept full start middle after (ended_runs form (read ++ piece)) (open_run form (read ++ piece)) mid.framer mid.report report g.stands kept same;
+          stands = stands_kept detail start middle after (ended_runs form (read ++ piece)) (open_run form (read ++ piece)) mid.framer mid.report report g.stands kept same;
           bad = g.bad;
         };
     settled = t.settled;
@@ -77,20 +78,20 @@ module _ (old mid : Capture) (report : Report) (before middle after : Option (Li
 -- the piece was taken, and the output failed when what waits was to be written out
 pub stops_written : (piece : List ℕ) (good : Bool) (old mid : Capture) (before middle now : Option (List ℕ))
     → TookPart piece good old mid before middle → IsBeginning now middle → StopsInPiece piece old before now
-stops_written piece true old mid before middle now t begun = λ full form start read f.
-    let g = t.follows full form start read f in (
+stops_written piece true old mid before middle now t begun = λ detail form start read f.
+    let g = t.follows detail form start read f in (
       piece,
       [],
       sym (append-nil piece),
-      stops_by start middle now (shown_so_far full form (read ++ piece)) (shown_so_far full form (read ++ piece)) [] g.stands.lines begun
-          (sym (append-nil (shown_so_far full form (read ++ piece)))),
+      stops_by start middle now (shown_so_far detail form (read ++ piece)) (shown_so_far detail form (read ++ piece)) [] g.stands.lines begun
+          (sym (append-nil (shown_so_far detail form (read ++ piece)))),
     )
-stops_written piece false old mid before middle now t begun = λ full form start read f.
+stops_written piece false old mid before middle now t begun = λ detail form start read f.
     let front = take t.0 piece in
-    let g = t.1.follows full form start read f in (
+    let g = t.1.follows detail form start read f in (
       front,
       drop t.0 piece,
       sym (take-append-drop t.0 piece),
-      stops_by start middle now (shown_so_far full form (read ++ front)) (shown_so_far full form (read ++ front)) [] g.stands.lines begun
-          (sym (append-nil (shown_so_far full form (read ++ front)))),
+      stops_by start middle now (shown_so_far detail form (read ++ front)) (shown_so_far detail form (read ++ front)) [] g.stands.lines begun
+          (sym (append-nil (shown_so_far detail form (read ++ front)))),
     )

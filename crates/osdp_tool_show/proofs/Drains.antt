@@ -61,11 +61,11 @@ draining_end start now old new before after d is =
 -- a call stopped at the next item
 pub draining_stops : (start now : Held) (old mid : Report) (before middle written : Option (List ℕ)) (part : RunItem)
     → Draining start now old mid before middle → decided now.ended now.bytes ≡ Some part
-    → StopsWithin middle written (shown_lines mid.full mid.tally (part ∷ []))
-    → StopsWithin before written (shown_lines old.full old.tally (items start.ended start.bytes))
+    → StopsWithin middle written (shown_lines mid.detail mid.tally (part ∷ []))
+    → StopsWithin before written (shown_lines old.detail old.tally (items start.ended start.bytes))
 draining_stops start now old mid before middle written part d is stops =
     let rest = items now.ended (drop (item_size part) now.bytes) in
-    let f = old.full in
+    let f = old.detail in
     let t = old.tally in
     let u = tally_after_all t d.parts in
     let front = shown_lines f t d.parts in
@@ -76,7 +76,7 @@ draining_stops start now old mid before middle written part d is stops =
     let text : shown_lines f t (items start.ended start.bytes) ≡ (front ++ one) ++ more =
     ap (shown_lines f t) all_parts ∙ shown_lines-append f t d.parts ((part ∷ []) ++ rest)
     ∙ ap (λ l. front ++ l) (shown_lines-append f u (part ∷ []) rest) ∙ sym (append_assoc front one more) in
-    let here : shown_lines mid.full mid.tally (part ∷ []) ≡ one =
-    ap (λ g. shown_lines g mid.tally (part ∷ [])) d.tells.full ∙ ap (λ v. shown_lines f v (part ∷ [])) d.tells.tally in
+    let here : shown_lines mid.detail mid.tally (part ∷ []) ≡ one =
+    ap (λ g. shown_lines g mid.tally (part ∷ [])) d.tells.detail ∙ ap (λ v. shown_lines f v (part ∷ [])) d.tells.tally in
     stops_after before middle written front one (shown_lines f t (items start.ended start.bytes)) more d.tells.lines
     (subst (StopsWithin middle written) here stops) text

@@ -6,6 +6,7 @@ use Rattle.osdp_tool_streams.specs.declared.form.Form.{Form}
 use Rattle.osdp_tool_streams.specs.FinalAnswer.{final_answer_of}
 use Rattle.osdp_tool_streams.specs.declared.fault.ToolFault.{ToolFault}
 use Rattle.osdp_tool_streams.specs.declared.fault.ToolFault.TheVariants.{NotHex, TooLong, ReadFailed, WriteFailed, NoMemory}
+use Rattle.osdp_tool_show.specs.declared.detail.Detail.{Detail}
 use Rattle.osdp_tool_show.specs.Shown.{shown, shown_so_far}
 use Rattle.osdp_tool_show.specs.Ending.{streamed, Ends, EndsPartWay}
 use Rattle.osdp_tool_show.specs.Works.{Works}
@@ -23,32 +24,32 @@ stops_kept (Some x) (Some m) (Some w) text h k = (h.0, h.1 ∙ ap (λ l. l ++ h.
 stops_whole : (start written : Option (List ℕ)) (text : List ℕ) → Appends start written text → StopsWithin start written text
 stops_whole start written text h = stops_by start written written text text [] h (begun_all written) (sym (append-nil text))
 
-part_kept : (full : Bool) (form : Form) (limit : ℕ) (start middle written ib ia : Option (List ℕ)) (input_failed was failed : Bool)
-    → EndsPartWay full form limit (streamed ib ia input_failed) (streamed start middle was) → Keeps middle written
-    → EndsPartWay full form limit (streamed ib ia input_failed) (streamed start written failed)
-part_kept full form limit start middle written ib ia input_failed was failed e k = record {
+part_kept : (detail : Detail) (form : Form) (limit : ℕ) (start middle written ib ia : Option (List ℕ)) (input_failed was failed : Bool)
+    → EndsPartWay detail form limit (streamed ib ia input_failed) (streamed start middle was) → Keeps middle written
+    → EndsPartWay detail form limit (streamed ib ia input_failed) (streamed start written failed)
+part_kept detail form limit start middle written ib ia input_failed was failed e k = record {
   read = e.read;
   more = e.more;
   taken = e.taken;
   within = e.within;
   text = elim e.text [
-    | inl h ↦ inl (stops_kept start middle written (shown_so_far full form e.read) h k)
-    | inr h ↦ inr (stops_kept start middle written (shown full form e.read) h k)
+    | inl h ↦ inl (stops_kept start middle written (shown_so_far detail form e.read) h k)
+    | inr h ↦ inr (stops_kept start middle written (shown detail form e.read) h k)
   ];
 }
 
-part_whole : (full : Bool) (form : Form) (limit : ℕ) (start written ib ia : Option (List ℕ)) (input_failed failed : Bool) (read more : List ℕ)
+part_whole : (detail : Detail) (form : Form) (limit : ℕ) (start written ib ia : Option (List ℕ)) (input_failed failed : Bool) (read more : List ℕ)
     → Consumes ib ia (read ++ more) → length (read ++ more) ≤ limit + 1
-    → Appends start written (shown_so_far full form read) ⊎ Appends start written (shown full form read)
-    → EndsPartWay full form limit (streamed ib ia input_failed) (streamed start written failed)
-part_whole full form limit start written ib ia input_failed failed read more taken within text = record {
+    → Appends start written (shown_so_far detail form read) ⊎ Appends start written (shown detail form read)
+    → EndsPartWay detail form limit (streamed ib ia input_failed) (streamed start written failed)
+part_whole detail form limit start written ib ia input_failed failed read more taken within text = record {
   read = read;
   more = more;
   taken = taken;
   within = within;
   text = elim text [
-    | inl h ↦ inl (stops_whole start written (shown_so_far full form read) h)
-    | inr h ↦ inr (stops_whole start written (shown full form read) h)
+    | inl h ↦ inl (stops_whole start written (shown_so_far detail form read) h)
+    | inr h ↦ inr (stops_whole start written (shown detail form read) h)
   ];
 }
 
@@ -58,64 +59,64 @@ read_all ib ia read h = subst (Consumes ib ia) (sym (append-nil read)) h
 within_one : (limit : ℕ) (read : List ℕ) → length read ≤ limit → length (read ++ []) ≤ limit + 1
 within_one limit read h = subst (λ (l : List ℕ). length l ≤ limit + 1) (sym (append-nil read)) (omega arith)
 
-ends_final : (full : Bool) (form : Form) (limit : ℕ) (start middle written ib ia : Option (List ℕ)) (input_failed was failed : Bool) (answer : Result Bool ToolFault)
-    → Works full form limit (streamed ib ia input_failed) (streamed start middle was) answer → Keeps middle written → (was ≡ true → failed ≡ true)
-    → Ends full form limit (streamed ib ia input_failed) (streamed start written failed) (final_answer_of input_failed failed answer)
-ends_final full form limit start middle written ib ia true was failed (Ok refused) e k stays = let well = e.input_well in cc
-ends_final full form limit start middle written ib ia true was failed (Err (NotHex line)) e k stays = let well = e.input_well in cc
-ends_final full form limit start middle written ib ia true was failed (Err TooLong) e k stays = let well = e.input_well in cc
-ends_final full form limit start middle written ib ia true was failed (Err ReadFailed) e k stays = record {
+ends_final : (detail : Detail) (form : Form) (limit : ℕ) (start middle written ib ia : Option (List ℕ)) (input_failed was failed : Bool) (answer : Result Bool ToolFault)
+    → Works detail form limit (streamed ib ia input_failed) (streamed start middle was) answer → Keeps middle written → (was ≡ true → failed ≡ true)
+    → Ends detail form limit (streamed ib ia input_failed) (streamed start written failed) (final_answer_of input_failed failed answer)
+ends_final detail form limit start middle written ib ia true was failed (Ok refused) e k stays = let well = e.input_well in cc
+ends_final detail form limit start middle written ib ia true was failed (Err (NotHex line)) e k stays = let well = e.input_well in cc
+ends_final detail form limit start middle written ib ia true was failed (Err TooLong) e k stays = let well = e.input_well in cc
+ends_final detail form limit start middle written ib ia true was failed (Err ReadFailed) e k stays = record {
   read = e.read;
   taken = e.taken;
   within = e.within;
   good = e.good;
-  text = λ well. Appends-kept start middle written (shown_so_far full form e.read) (e.text (still_well was well stays)) k;
-  part = stops_kept start middle written (shown_so_far full form e.read) e.part k;
+  text = λ well. Appends-kept start middle written (shown_so_far detail form e.read) (e.text (still_well was well stays)) k;
+  part = stops_kept start middle written (shown_so_far detail form e.read) e.part k;
   input_failed = refl;
 }
   where
     still_well : (was : Bool) → failed ≡ false → (was ≡ true → failed ≡ true) → was ≡ false
     still_well false well stays = refl
     still_well true well stays = let h = stays refl in cc
-ends_final full form limit start middle written ib ia true was failed (Err WriteFailed) e k stays = let well = e.0 in cc
-ends_final full form limit start middle written ib ia true was failed (Err NoMemory) e k stays = let well = e.0 in cc
-ends_final full form limit start middle written ib ia false was true (Ok refused) e k stays = (
+ends_final detail form limit start middle written ib ia true was failed (Err WriteFailed) e k stays = let well = e.0 in cc
+ends_final detail form limit start middle written ib ia true was failed (Err NoMemory) e k stays = let well = e.0 in cc
+ends_final detail form limit start middle written ib ia false was true (Ok refused) e k stays = (
   refl,
   refl,
-  part_whole full form limit start written ib ia false true e.read [] (read_all ib ia e.read e.taken) (within_one limit e.read e.within)
-      (inr (Appends-kept start middle written (shown full form e.read) e.text k)),
+  part_whole detail form limit start written ib ia false true e.read [] (read_all ib ia e.read e.taken) (within_one limit e.read e.within)
+      (inr (Appends-kept start middle written (shown detail form e.read) e.text k)),
 )
-ends_final full form limit start middle written ib ia false was true (Err (NotHex line)) e k stays = (
+ends_final detail form limit start middle written ib ia false was true (Err (NotHex line)) e k stays = (
   refl,
   refl,
-  part_whole full form limit start written ib ia false true (e.earlier ++ e.piece) [] (read_all ib ia (e.earlier ++ e.piece) e.taken)
-      (within_one limit (e.earlier ++ e.piece) e.within) (inr (Appends-kept start middle written (shown full form (e.earlier ++ e.piece)) e.text k)),
+  part_whole detail form limit start written ib ia false true (e.earlier ++ e.piece) [] (read_all ib ia (e.earlier ++ e.piece) e.taken)
+      (within_one limit (e.earlier ++ e.piece) e.within) (inr (Appends-kept start middle written (shown detail form (e.earlier ++ e.piece)) e.text k)),
 )
-ends_final full form limit start middle written ib ia false was true (Err TooLong) e k stays =
+ends_final detail form limit start middle written ib ia false was true (Err TooLong) e k stays =
     let whole = e.whole in
     let lengths = length-append e.read (e.one_more ∷ []) in (
       refl,
       refl,
-      part_whole full form limit start written ib ia false true e.read (e.one_more ∷ []) e.taken (omega arith)
-          (inl (Appends-kept start middle written (shown_so_far full form e.read) e.text k)),
+      part_whole detail form limit start written ib ia false true e.read (e.one_more ∷ []) e.taken (omega arith)
+          (inl (Appends-kept start middle written (shown_so_far detail form e.read) e.text k)),
     )
-ends_final full form limit start middle written ib ia false was true (Err ReadFailed) e k stays = let ill = e.input_failed in cc
-ends_final full form limit start middle written ib ia false was true (Err WriteFailed) e k stays =
-    (refl, refl, part_kept full form limit start middle written ib ia false was true e.2 k)
-ends_final full form limit start middle written ib ia false was true (Err NoMemory) e k stays =
-    (refl, refl, part_kept full form limit start middle written ib ia false was true e.1 k)
-ends_final full form limit start middle written ib ia false was false (Ok refused) e k stays = record {
+ends_final detail form limit start middle written ib ia false was true (Err ReadFailed) e k stays = let ill = e.input_failed in cc
+ends_final detail form limit start middle written ib ia false was true (Err WriteFailed) e k stays =
+    (refl, refl, part_kept detail form limit start middle written ib ia false was true e.2 k)
+ends_final detail form limit start middle written ib ia false was true (Err NoMemory) e k stays =
+    (refl, refl, part_kept detail form limit start middle written ib ia false was true e.1 k)
+ends_final detail form limit start middle written ib ia false was false (Ok refused) e k stays = record {
   read = e.read;
   taken = e.taken;
   at_end = e.at_end;
   within = e.within;
   good = e.good;
   answer = e.answer;
-  text = Appends-kept start middle written (shown full form e.read) e.text k;
+  text = Appends-kept start middle written (shown detail form e.read) e.text k;
   input_well = refl;
   output_well = refl;
 }
-ends_final full form limit start middle written ib ia false was false (Err (NotHex line)) e k stays = record {
+ends_final detail form limit start middle written ib ia false was false (Err (NotHex line)) e k stays = record {
   earlier = e.earlier;
   piece = e.piece;
   taken = e.taken;
@@ -124,31 +125,31 @@ ends_final full form limit start middle written ib ia false was false (Err (NotH
   good = e.good;
   bad = e.bad;
   ended = e.ended;
-  text = Appends-kept start middle written (shown full form (e.earlier ++ e.piece)) e.text k;
+  text = Appends-kept start middle written (shown detail form (e.earlier ++ e.piece)) e.text k;
   input_well = refl;
   output_well = refl;
 }
-ends_final full form limit start middle written ib ia false was false (Err TooLong) e k stays = record {
+ends_final detail form limit start middle written ib ia false was false (Err TooLong) e k stays = record {
   read = e.read;
   one_more = e.one_more;
   taken = e.taken;
   whole = e.whole;
   good = e.good;
-  text = Appends-kept start middle written (shown_so_far full form e.read) e.text k;
+  text = Appends-kept start middle written (shown_so_far detail form e.read) e.text k;
   input_well = refl;
   output_well = refl;
 }
-ends_final full form limit start middle written ib ia false was false (Err ReadFailed) e k stays = let ill = e.input_failed in cc
-ends_final full form limit start middle written ib ia false was false (Err WriteFailed) e k stays = let ill = stays e.1 in cc
-ends_final full form limit start middle written ib ia false was false (Err NoMemory) e k stays =
-    (refl, refl, part_kept full form limit start middle written ib ia false was false e.1 k)
-ends_final full form limit start middle written ib ia input_failed was failed (Err fault) e k stays = absurd e
+ends_final detail form limit start middle written ib ia false was false (Err ReadFailed) e k stays = let ill = e.input_failed in cc
+ends_final detail form limit start middle written ib ia false was false (Err WriteFailed) e k stays = let ill = stays e.1 in cc
+ends_final detail form limit start middle written ib ia false was false (Err NoMemory) e k stays =
+    (refl, refl, part_kept detail form limit start middle written ib ia false was false e.1 k)
+ends_final detail form limit start middle written ib ia input_failed was failed (Err fault) e k stays = absurd e
 
 -- the answer of the call is the one that was settled
-pub ends_finished : (full : Bool) (form : Form) (limit : ℕ) (start middle written ib ia : Option (List ℕ)) (input_failed was failed : Bool) (answer final : Result Bool ToolFault)
+pub ends_finished : (detail : Detail) (form : Form) (limit : ℕ) (start middle written ib ia : Option (List ℕ)) (input_failed was failed : Bool) (answer final : Result Bool ToolFault)
     → final ≡ final_answer_of input_failed failed answer
-    → Works full form limit (streamed ib ia input_failed) (streamed start middle was) answer → Keeps middle written → (was ≡ true → failed ≡ true)
-    → Ends full form limit (streamed ib ia input_failed) (streamed start written failed) final
-ends_finished full form limit start middle written ib ia input_failed was failed answer final is e k stays =
-    subst (λ r. Ends full form limit (streamed ib ia input_failed) (streamed start written failed) r) (sym is)
-    (ends_final full form limit start middle written ib ia input_failed was failed answer e k stays)
+    → Works detail form limit (streamed ib ia input_failed) (streamed start middle was) answer → Keeps middle written → (was ≡ true → failed ≡ true)
+    → Ends detail form limit (streamed ib ia input_failed) (streamed start written failed) final
+ends_finished detail form limit start middle written ib ia input_failed was failed answer final is e k stays =
+    subst (λ r. Ends detail form limit (streamed ib ia input_failed) (streamed start written failed) r) (sym is)
+    (ends_final detail form limit start middle written ib ia input_failed was failed answer e k stays)

@@ -4,6 +4,7 @@ use Rattle.std.proofs.Common.{length-drop}
 use Rattle.std.proofs.lemmas.Bool.{eqb-true, eqb-false}
 use Rattle.osdp_frame.specs.Reading.{RunItem, PacketItem, SkippedItem, RefusedItem, item_size}
 use Rattle.osdp_frame.specs.Items.{reading}
+use Rattle.osdp_tool_show.specs.declared.detail.Detail.{Detail}
 use Rattle.osdp_tool_show.specs.declared.tally.Tally.{Tally}
 use Rattle.osdp_tool_show.specs.ItemText.{is_refusal}
 use Rattle.osdp_tool_show.specs.Tally.{one_if, tally_after, tally_after_all, after_run, counted}
@@ -14,54 +15,54 @@ unfolding tally_after_all
 tally_after_all-append tally [] ys = refl
 tally_after_all-append tally (x ∷ xs) ys = tally_after_all-append (tally_after tally x) xs ys
 
-pub shown_lines-append : (full : Bool) (tally : Tally) (xs ys : List RunItem)
-    → shown_lines full tally (xs ++ ys) ≡ shown_lines full tally xs ++ shown_lines full (tally_after_all tally xs) ys
+pub shown_lines-append : (detail : Detail) (tally : Tally) (xs ys : List RunItem)
+    → shown_lines detail tally (xs ++ ys) ≡ shown_lines detail tally xs ++ shown_lines detail (tally_after_all tally xs) ys
 unfolding tally_after_all shown_lines
-shown_lines-append full tally [] ys = refl
-shown_lines-append full tally (x ∷ xs) ys =
-    ap (λ l. shown_line full tally x ++ l) (shown_lines-append full (tally_after tally x) xs ys)
-    ∙ sym (append_assoc (shown_line full tally x) (shown_lines full (tally_after tally x) xs) (shown_lines full (tally_after_all (tally_after tally x) xs) ys))
+shown_lines-append detail tally [] ys = refl
+shown_lines-append detail tally (x ∷ xs) ys =
+    ap (λ l. shown_line detail tally x ++ l) (shown_lines-append detail (tally_after tally x) xs ys)
+    ∙ sym (append_assoc (shown_line detail tally x) (shown_lines detail (tally_after tally x) xs) (shown_lines detail (tally_after_all (tally_after tally x) xs) ys))
 
 pub after_runs-append : (tally : Tally) (xs ys : List (List ℕ)) → after_runs tally (xs ++ ys) ≡ after_runs (after_runs tally xs) ys
 unfolding after_runs
 after_runs-append tally [] ys = refl
 after_runs-append tally (x ∷ xs) ys = after_runs-append (after_run (tally_after_all tally (reading x))) xs ys
 
-pub runs_lines-append : (full : Bool) (tally : Tally) (xs ys : List (List ℕ))
-    → runs_lines full tally (xs ++ ys) ≡ runs_lines full tally xs ++ runs_lines full (after_runs tally xs) ys
+pub runs_lines-append : (detail : Detail) (tally : Tally) (xs ys : List (List ℕ))
+    → runs_lines detail tally (xs ++ ys) ≡ runs_lines detail tally xs ++ runs_lines detail (after_runs tally xs) ys
 unfolding after_runs runs_lines
-runs_lines-append full tally [] ys = refl
-runs_lines-append full tally (x ∷ xs) ys =
+runs_lines-append detail tally [] ys = refl
+runs_lines-append detail tally (x ∷ xs) ys =
     let next = after_run (tally_after_all tally (reading x)) in
-    ap (λ l. shown_lines full tally (reading x) ++ l) (runs_lines-append full next xs ys)
-    ∙ sym (append_assoc (shown_lines full tally (reading x)) (runs_lines full next xs) (runs_lines full (after_runs next xs) ys))
+    ap (λ l. shown_lines detail tally (reading x) ++ l) (runs_lines-append detail next xs ys)
+    ∙ sym (append_assoc (shown_lines detail tally (reading x)) (runs_lines detail next xs) (runs_lines detail (after_runs next xs) ys))
 
 -- one run
 pub after_runs-one : (tally : Tally) (run : List ℕ) → after_runs tally (run ∷ []) ≡ after_run (tally_after_all tally (reading run))
 unfolding after_runs
 after_runs-one tally run = refl
 
-pub runs_lines-one : (full : Bool) (tally : Tally) (run : List ℕ) → runs_lines full tally (run ∷ []) ≡ shown_lines full tally (reading run)
+pub runs_lines-one : (detail : Detail) (tally : Tally) (run : List ℕ) → runs_lines detail tally (run ∷ []) ≡ shown_lines detail tally (reading run)
 unfolding runs_lines
-runs_lines-one full tally run = append-nil (shown_lines full tally (reading run))
+runs_lines-one detail tally run = append-nil (shown_lines detail tally (reading run))
 
 -- no items
 pub tally_after_all-nil : (tally : Tally) → tally_after_all tally [] ≡ tally
 unfolding tally_after_all
 tally_after_all-nil tally = refl
 
-pub shown_lines-nil : (full : Bool) (tally : Tally) → shown_lines full tally [] ≡ []
+pub shown_lines-nil : (detail : Detail) (tally : Tally) → shown_lines detail tally [] ≡ []
 unfolding shown_lines
-shown_lines-nil full tally = refl
+shown_lines-nil detail tally = refl
 
 pub tally_after_all-cons : (tally : Tally) (part : RunItem) (parts : List RunItem) → tally_after_all tally (part ∷ parts) ≡ tally_after_all (tally_after tally part) parts
 unfolding tally_after_all
 tally_after_all-cons tally part parts = refl
 
-pub shown_lines-cons : (full : Bool) (tally : Tally) (part : RunItem) (parts : List RunItem)
-    → shown_lines full tally (part ∷ parts) ≡ shown_line full tally part ++ shown_lines full (tally_after tally part) parts
+pub shown_lines-cons : (detail : Detail) (tally : Tally) (part : RunItem) (parts : List RunItem)
+    → shown_lines detail tally (part ∷ parts) ≡ shown_line detail tally part ++ shown_lines detail (tally_after tally part) parts
 unfolding shown_lines
-shown_lines-cons full tally part parts = refl
+shown_lines-cons detail tally part parts = refl
 
 -- ---- places
 

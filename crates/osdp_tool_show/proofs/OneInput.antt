@@ -15,6 +15,7 @@ use Rattle.osdp_tool_streams.specs.declared.form.Form.{Form}
 use Rattle.osdp_tool_streams.specs.declared.form.Form.TheVariants.{Raw}
 use Rattle.osdp_tool_streams.specs.Runs.{runs_of, with_bytes}
 use Rattle.osdp_tool_streams.proofs.Lengths.{runs_short}
+use Rattle.osdp_tool_show.specs.declared.detail.Detail.TheVariants.{Full}
 use Rattle.osdp_tool_show.specs.ItemText.{item_line}
 use Rattle.osdp_tool_show.specs.Laws.{IsItem}
 use Rattle.osdp_tool_show.specs.Tally.{no_tally}
@@ -101,13 +102,13 @@ readings_fit (run ∷ runs) (parts ∷ readings) has short r =
 -- no line where another run begins
 other_run : (run place : ℕ) (item : RunItem) (readings : List (List RunItem)) (back : List ℕ) → run + length readings < 2 ^ 64
     → place < 2 ^ 64 → IsItem item → AllByRecursion Fits readings
-    → readings_text true (run + 1) readings ≡ item_line run place item ++ back → ⊥
+    → readings_text Full (run + 1) readings ≡ item_line run place item ++ back → ⊥
 other_run run place item [] back room low h k e =
     let none = ap length e in omega (arith, some_line run place item, length-append (item_line run place item) back)
 other_run run place item ([] ∷ readings) back room low h k e = let some = k.0.some in omega arith
 other_run run place item ((part ∷ parts) ∷ readings) back room low h k e =
-    let first = append_assoc (item_line (run + 1) 0 part) (items_text true (run + 1) (0 + item_size part) parts)
-    (readings_text true (run + 1 + 1) readings) in
+    let first = append_assoc (item_line (run + 1) 0 part) (items_text Full (run + 1) (0 + item_size part) parts)
+    (readings_text Full (run + 1 + 1) readings) in
     let same = next_line (run + 1) 0 run place part item _ back (omega arith) (omega arith) (omega arith) low k.0.items.0 h
     (sym first ∙ e) in
     omega (arith, same.0)
@@ -115,44 +116,44 @@ other_run run place item ((part ∷ parts) ∷ readings) back room low h k e =
 same_items : (run place : ℕ) (xs ys : List RunItem) (rs ss : List (List RunItem)) → run + length rs < 2 ^ 64 → run + length ss < 2 ^ 64
     → place + total_size xs < 2 ^ 64 → place + total_size ys < 2 ^ 64 → AllByRecursion IsItem xs → AllByRecursion IsItem ys
     → AllByRecursion Fits rs → AllByRecursion Fits ss
-    → (readings_text true (run + 1) rs ≡ readings_text true (run + 1) ss → rs ≡ ss)
-    → items_text true run place xs ++ readings_text true (run + 1) rs
-    ≡ items_text true run place ys ++ readings_text true (run + 1) ss → (xs ≡ ys) × (rs ≡ ss)
+    → (readings_text Full (run + 1) rs ≡ readings_text Full (run + 1) ss → rs ≡ ss)
+    → items_text Full run place xs ++ readings_text Full (run + 1) rs
+    ≡ items_text Full run place ys ++ readings_text Full (run + 1) ss → (xs ≡ ys) × (rs ≡ ss)
 same_items run place [] [] rs ss room more low short hx hy hr hs rest e = (refl, rest e)
 same_items run place [] (y ∷ ys) rs ss room more low short hx hy hr hs rest e =
     absurd (other_run run place y rs _ room (omega arith) hy.0 hr
-    (e ∙ append_assoc (item_line run place y) (items_text true run (place + item_size y) ys)
-    (readings_text true (run + 1) ss)))
+    (e ∙ append_assoc (item_line run place y) (items_text Full run (place + item_size y) ys)
+    (readings_text Full (run + 1) ss)))
 same_items run place (x ∷ xs) [] rs ss room more low short hx hy hr hs rest e =
     absurd (other_run run place x ss _ more (omega arith) hx.0 hs
-    (sym e ∙ append_assoc (item_line run place x) (items_text true run (place + item_size x) xs)
-    (readings_text true (run + 1) rs)))
+    (sym e ∙ append_assoc (item_line run place x) (items_text Full run (place + item_size x) xs)
+    (readings_text Full (run + 1) rs)))
 same_items run place (x ∷ xs) (y ∷ ys) rs ss room more low short hx hy hr hs rest e =
-    let first = append_assoc (item_line run place x) (items_text true run (place + item_size x) xs)
-    (readings_text true (run + 1) rs) in
-    let second = append_assoc (item_line run place y) (items_text true run (place + item_size y) ys)
-    (readings_text true (run + 1) ss) in
+    let first = append_assoc (item_line run place x) (items_text Full run (place + item_size x) xs)
+    (readings_text Full (run + 1) rs) in
+    let second = append_assoc (item_line run place y) (items_text Full run (place + item_size y) ys)
+    (readings_text Full (run + 1) ss) in
     let line = next_line run place run place x y _ _ (omega arith) (omega arith) (omega arith) (omega arith) hx.0 hy.0
     (sym first ∙ e ∙ second) in
     let size = ap item_size line.2 in
-    let later = line.3 ∙ ap (λ (n : ℕ). items_text true run (place + n) ys ++ readings_text true (run + 1) ss) (sym size) in
+    let later = line.3 ∙ ap (λ (n : ℕ). items_text Full run (place + n) ys ++ readings_text Full (run + 1) ss) (sym size) in
     let more_items = same_items run (place + item_size x) xs ys rs ss room more (omega arith) (omega arith) hx.1 hy.1 hr hs
     rest later in
     ((λ i. line.2 i ∷ more_items.0 i), more_items.1)
 
 -- an item has a line
-some_text : (run : ℕ) (x : RunItem) (xs : List RunItem) (rs : List (List RunItem)) → readings_text true run ((x ∷ xs) ∷ rs) ≡ [] → ⊥
+some_text : (run : ℕ) (x : RunItem) (xs : List RunItem) (rs : List (List RunItem)) → readings_text Full run ((x ∷ xs) ∷ rs) ≡ [] → ⊥
 some_text run x xs rs e = omega (
   arith,
   ap length e,
   some_line run 0 x,
-  length-append (item_line run 0 x) (items_text true run (0 + item_size x) xs),
-  length-append (items_text true run 0 (x ∷ xs)) (readings_text true (run + 1) rs),
+  length-append (item_line run 0 x) (items_text Full run (0 + item_size x) xs),
+  length-append (items_text Full run 0 (x ∷ xs)) (readings_text Full (run + 1) rs),
 )
 
 same_readings : (run : ℕ) (rs ss : List (List RunItem)) → run + length rs ≤ 2 ^ 64 → run + length ss ≤ 2 ^ 64
     → AllByRecursion Fits rs → AllByRecursion Fits ss
-    → readings_text true run rs ≡ readings_text true run ss → rs ≡ ss
+    → readings_text Full run rs ≡ readings_text Full run ss → rs ≡ ss
 same_readings run [] [] room more hr hs e = refl
 same_readings run [] ([] ∷ ss) room more hr hs e = let some = hs.0.some in absurd (omega arith)
 same_readings run ([] ∷ rs) ss room more hr hs e = let some = hr.0.some in absurd (omega arith)
@@ -170,7 +171,7 @@ same_readings run (xs ∷ rs) (ys ∷ ss) room more hr hs e =
 
 same_runs : (form other : Form) (a b : List ℕ) (runs others : List (List ℕ)) → AreBytes a → AreBytes b → length a < 2 ^ 64
     → length b < 2 ^ 64
-    → HasRuns form a runs → HasRuns other b others → shown true form a ≡ shown true other b → runs ≡ others
+    → HasRuns form a runs → HasRuns other b others → shown Full form a ≡ shown Full other b → runs ≡ others
 same_runs form other a b runs others fits more short low has have e =
     let is = runs_are form a runs has in
     let are = runs_are other b others have in
@@ -180,10 +181,10 @@ same_runs form other a b runs others fits more short low has have e =
     let runs_second = runs_are other b second.0 second.2 in
     let r = subst (λ l. AreReadings l first.1) runs_first first.3 in
     let s = subst (λ l. AreReadings l second.1) runs_second second.3 in
-    let text = shown_is true form a first.0 first.1 fits first.2 first.3 in
-    let other_text = shown_is true other b second.0 second.1 more second.2 second.3 in
-    let same_text : readings_text true 1 first.1 ≡ readings_text true 1 second.1 =
-    append_cancel_right (readings_text true 1 first.1) (readings_text true 1 second.1) [] (sym text ∙ e ∙ other_text) in
+    let text = shown_is Full form a first.0 first.1 fits first.2 first.3 in
+    let other_text = shown_is Full other b second.0 second.1 more second.2 second.3 in
+    let same_text : readings_text Full 1 first.1 ≡ readings_text Full 1 second.1 =
+    append_cancel_right (readings_text Full 1 first.1) (readings_text Full 1 second.1) [] (sym text ∙ e ∙ other_text) in
     let length_a = runs_short form a in
     let length_b = runs_short other b in
     let f = readings_fit (runs_of form a) first.1 (runs_have_bytes form a fits) (omega arith) r in
@@ -192,10 +193,10 @@ same_runs form other a b runs others fits more short low has have e =
     is ∙ one_runs second.1 (runs_of form a) (runs_of other b) (subst (λ l. AreReadings (runs_of form a) l) same r) s ∙ sym are
 
 same_shown : (form other : Form) (a b : List ℕ) (runs others : List (List ℕ)) → HasRuns form a runs → HasRuns other b others
-    → runs ≡ others → shown true form a ≡ shown true other b
+    → runs ≡ others → shown Full form a ≡ shown Full other b
 same_shown form other a b runs others has have e =
     let is = sym (runs_are form a runs has) ∙ e ∙ runs_are other b others have in
-    ap (λ l. runs_lines true no_tally l ++ []) is
+    ap (λ l. runs_lines Full no_tally l ++ []) is
 
 -- raw bytes are those of their run
 one_raw : (bytes : List ℕ) → concat (with_bytes (bytes ∷ [])) ≡ bytes

@@ -12,6 +12,7 @@ use Rattle.osdp_frame.specs.Items.{items}
 use Rattle.osdp_frame.specs.Spelling.{start_of_message}
 use Rattle.osdp_frame.proofs.Head.{AreBytes-drop, AreBytes-take}
 use Rattle.osdp_frame_laws.proofs.Readings.{decided_nothing, items_undecided, items_decided}
+use Rattle.osdp_tool_show.specs.declared.detail.Detail.TheVariants.{Refusals}
 use Rattle.osdp_tool_show.specs.Tally.{tally_after_all, counted}
 use Rattle.osdp_tool_show.specs.ToldItems.{shown_lines}
 use Rattle.osdp_tool_show.proofs.PassedItems.{after_passed, lines_passed}
@@ -36,12 +37,12 @@ size_passed : (bytes : List ℕ) → total_size (map SkippedItem bytes) ≡ leng
 size_passed [] = refl
 size_passed (b ∷ bytes) = let rest = size_passed bytes in omega arith
 
-tells_passed : (old new : Report) (now : Option (List ℕ)) (bytes : List ℕ) → old.full ≡ false → new.full ≡ old.full
+tells_passed : (old new : Report) (now : Option (List ℕ)) (bytes : List ℕ) → old.detail ≡ Refusals → new.detail ≡ old.detail
     → new.tally ≡ tally_after_all old.tally (map SkippedItem bytes) → Tells old new now now (map SkippedItem bytes)
-tells_passed old new now bytes refusals full tally = record {
-  full = full;
+tells_passed old new now bytes alone detail tally = record {
+  detail = detail;
   tally = tally;
-  lines = subst (Appends now now) (sym (ap (λ f. shown_lines f old.tally (map SkippedItem bytes)) refusals ∙ lines_passed old.tally bytes)) (Appends-nil now);
+  lines = subst (Appends now now) (sym (ap (λ f. shown_lines f old.tally (map SkippedItem bytes)) alone ∙ lines_passed old.tally bytes)) (Appends-nil now);
 }
 
 drained_passed : (old new : Report) (now : Option (List ℕ)) (bytes : List ℕ) → AreBytes bytes → AreSkipped bytes
@@ -61,13 +62,13 @@ drained_passed old new now bytes fits skipped tally tells =
     }
 
 pub took_passed : (bytes : List ℕ) (count : ℕ) (old new : Report) (now : Option (List ℕ)) → AreBytes bytes → AreSkipped (take count bytes)
-    → old.full ≡ false → new.full ≡ old.full → new.tally ≡ tally_after_all old.tally (map SkippedItem (take count bytes))
+    → old.detail ≡ Refusals → new.detail ≡ old.detail → new.tally ≡ tally_after_all old.tally (map SkippedItem (take count bytes))
     → Took (take count bytes) new_run new_run old new now now
-took_passed bytes count old new now fits skipped refusals full tally =
+took_passed bytes count old new now fits skipped alone detail tally =
     let front = take count bytes in
     let front_fits = AreBytes-take count bytes fits in
     took_drained front new_run new_run old new now now front_fits settled_new
-    (drained_passed old new now front front_fits skipped tally (tells_passed old new now front refusals full tally))
+    (drained_passed old new now front front_fits skipped tally (tells_passed old new now front alone detail tally))
 
 -- .. after a front of which nothing is held
 pub took_passing : (bytes : List ℕ) (at count : ℕ) (first old new : Report) (a b c : Option (List ℕ)) → count ≤ length (take (length bytes - at) (drop at bytes))

@@ -1,6 +1,7 @@
 -- Skipped bytes one after the other.
-use Rattle.std.proofs.Common.{◌≡◌, ℕ, ◌+◌, false, List, [], ◌∷◌, length, map, refl, ◌∙◌, arith}
+use Rattle.std.proofs.Common.{◌≡◌, ℕ, ◌+◌, List, [], ◌∷◌, length, map, refl, ◌∙◌, arith}
 use Rattle.osdp_frame.specs.Reading.{SkippedItem}
+use Rattle.osdp_tool_show.specs.declared.detail.Detail.TheVariants.{Refusals}
 use Rattle.osdp_tool_show.specs.declared.tally.Tally.{Tally}
 use Rattle.osdp_tool_show.specs.Tally.{tally_after, tally_after_all}
 use Rattle.osdp_tool_show.specs.ToldItems.{shown_lines}
@@ -19,7 +20,7 @@ after_passed tally (b ∷ bytes) =
     after_passed (tally_after tally (SkippedItem b)) bytes ∙ (λ i. record tally { place = p i; skipped = s i })
 
 -- and where refusals alone have lines they have none
-pub lines_passed : (tally : Tally) (bytes : List ℕ) → shown_lines false tally (map SkippedItem bytes) ≡ []
+pub lines_passed : (tally : Tally) (bytes : List ℕ) → shown_lines Refusals tally (map SkippedItem bytes) ≡ []
 unfolding shown_lines
 lines_passed tally [] = refl
 lines_passed tally (b ∷ bytes) = lines_passed (tally_after tally (SkippedItem b)) bytes

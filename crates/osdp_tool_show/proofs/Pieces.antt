@@ -6,6 +6,7 @@ use Rattle.std.proofs.Math.Seq.{take-add}
 use Rattle.std.proofs.Common.{take-append-drop}
 use Rattle.std.proofs.lemmas.List.{take_more}
 use Rattle.std.proofs.lemmas.List.Filters.{length-filter_both}
+use Rattle.osdp_tool_show.specs.declared.detail.Detail.{Detail}
 use Rattle.osdp_tool_show.specs.Feeds.{HasLine}
 use Rattle.osdp_frame.specs.Bytes.{AreBytes}
 use Rattle.osdp_frame.proofs.Head.{AreBytes-nil}
@@ -31,8 +32,8 @@ use Rattle.osdp_tool_show.specs.Capture.{load, LineStands, OpenLine, HasShown, S
 pub took_both : (xs ys : List ℕ) (good : Bool) (a b c : Capture) (before middle after : Option (List ℕ))
     → TookPiece xs true a b before middle → TookPiece ys good b c middle after → TookPiece (xs ++ ys) good a c before after
 took_both xs ys good a b c before middle after first second = record {
-  follows = λ full form start read f.
-      subst (λ l. HasShownIf good full form start l c after) (append_assoc read xs ys) (second.follows full form start (read ++ xs) (first.follows full form start read f));
+  follows = λ detail form start read f.
+      subst (λ l. HasShownIf good detail form start l c after) (append_assoc read xs ys) (second.follows detail form start (read ++ xs) (first.follows detail form start read f));
   settled = second.settled;
   form_is = second.form_is ∙ first.form_is;
   load_is = omega (arith, first.load_is, second.load_is, length-append xs ys);
@@ -40,7 +41,7 @@ took_both xs ys good a b c before middle after first second = record {
 
 pub took_nothing : (a : Capture) (before : Option (List ℕ)) → IsSettled a.framer → TookPiece [] true a a before before
 took_nothing a before settled = record {
-  follows = λ full form start read f. subst (λ l. HasShown full form start l a before) (sym (append-nil read)) f;
+  follows = λ detail form start read f. subst (λ l. HasShown detail form start l a before) (sym (append-nil read)) f;
   settled = settled;
   form_is = refl;
   load_is = omega arith;
@@ -49,15 +50,15 @@ took_nothing a before settled = record {
 -- a capture of one form that goes on
 in_form : (kind : Form) (piece : List ℕ) (old new : Capture) (before after : Option (List ℕ)) → old.form ≡ kind → new.form ≡ old.form → IsSettled new.framer
     → load new ≤ load old + 5 * length piece
-    → ((full : Bool) (start : Option (List ℕ)) (read : List ℕ) → HasShown full kind start read old before
-    → Stands full start (ended_runs kind (read ++ piece)) (open_run kind (read ++ piece)) new.framer new.report after × OpenLine kind (read ++ piece) new
+    → ((detail : Detail) (start : Option (List ℕ)) (read : List ℕ) → HasShown detail kind start read old before
+    → Stands detail start (ended_runs kind (read ++ piece)) (open_run kind (read ++ piece)) new.framer new.report after × OpenLine kind (read ++ piece) new
     × (first_bad_ended kind (read ++ piece) ≡ None))
     → TookPiece piece true old new before after
 in_form kind piece old new before after is form_is settled load_is goes_on = record {
-  follows = λ full form start read f.
+  follows = λ detail form start read f.
       let same : kind ≡ form = sym is ∙ f.form_is in
-      let here = goes_on full start read (subst (λ x. HasShown full x start read old before) (sym same) f) in
-      subst (λ x. HasShown full x start (read ++ piece) new after) same (record { form_is = form_is ∙ is; stands = here.0; open_line = here.1; good = here.2 });
+      let here = goes_on detail start read (subst (λ x. HasShown detail x start read old before) (sym same) f) in
+      subst (λ x. HasShown detail x start (read ++ piece) new after) same (record { form_is = form_is ∙ is; stands = here.0; open_line = here.1; good = here.2 });
   settled = settled;
   form_is = form_is;
   load_is = load_is;
@@ -71,7 +72,7 @@ pub took_raw : (piece : List ℕ) (old new : Capture) (before after : Option (Li
 took_raw piece old new before after raw form_is line_is ended_is t =
     let counts = t.counts in
     let line_count : length new.line.items ≡ length old.line.items = ap (λ v. length v.items) line_is in
-    in_form Raw piece old new before after raw form_is t.settled (omega arith) (λ full start read f. (t.stands full start [] read f.stands, tt, refl))
+    in_form Raw piece old new before after raw form_is t.settled (omega arith) (λ detail start read f. (t.stands detail start [] read f.stands, tt, refl))
 
 -- ---- part of a line
 
@@ -88,7 +89,7 @@ held_line piece old new before whole lines settled form_is ended_is framer_is re
     let counts : counted new.report.tally ≡ counted old.report.tally = ap (λ (r : Report). counted r.tally) report_is in
     let held : length new.framer.bytes ≡ length old.framer.bytes = ap (λ (h : Held). length h.bytes) framer_is in
     record {
-      follows = λ full form start read f. goes_on full form start read f (hold_runs form read piece (not_raw form (λ e. lines (f.form_is ∙ e))) whole);
+      follows = λ detail form start read f. goes_on detail form start read f (hold_runs form read piece (not_raw form (λ e. lines (f.form_is ∙ e))) whole);
       settled = subst IsSettled (sym framer_is) settled;
       form_is = form_is;
       load_is = omega arith;
@@ -105,17 +106,17 @@ held_line piece old new before whole lines settled form_is ended_is framer_is re
     line_goes_on Joined read o = held read o
     line_goes_on Apart read o = held read o
 
-    goes_on : (full : Bool) (form : Form) (start : Option (List ℕ)) (read : List ℕ) → HasShown full form start read old before
+    goes_on : (detail : Detail) (form : Form) (start : Option (List ℕ)) (read : List ℕ) → HasShown detail form start read old before
         → (ended_runs form (read ++ piece) ≡ ended_runs form read) × (open_run form (read ++ piece) ≡ open_run form read)
         × (first_bad_ended form (read ++ piece) ≡ first_bad_ended form read)
-        → HasShown full form start (read ++ piece) new before
-    goes_on full form start read f same = record {
+        → HasShown detail form start (read ++ piece) new before
+    goes_on detail form start read f same = record {
       form_is = form_is ∙ f.form_is;
       stands =
-          subst (λ r. Stands full start (ended_runs form (read ++ piece)) (open_run form (read ++ piece)) new.framer r before) (sym report_is)
-          (subst (λ (h : Held). Stands full start (ended_runs form (read ++ piece)) (open_run form (read ++ piece)) h old.report before) (sym framer_is)
-          (subst (λ r. Stands full start r (open_run form (read ++ piece)) old.framer old.report before) (sym same.0)
-          (subst (λ r. Stands full start (ended_runs form read) r old.framer old.report before) (sym same.1) f.stands)));
+          subst (λ r. Stands detail start (ended_runs form (read ++ piece)) (open_run form (read ++ piece)) new.framer r before) (sym report_is)
+          (subst (λ (h : Held). Stands detail start (ended_runs form (read ++ piece)) (open_run form (read ++ piece)) h old.report before) (sym framer_is)
+          (subst (λ r. Stands detail start r (open_run form (read ++ piece)) old.framer old.report before) (sym same.0)
+          (subst (λ r. Stands detail start (ended_runs form read) r old.framer old.report before) (sym same.1) f.stands)));
       open_line = line_goes_on form read f.open_line;
       good = same.2 ∙ f.good;
     }
@@ -146,9 +147,9 @@ fed_joined bytes old new before after joined form_is says line_is ended_is t =
     let counts = t.counts in
     let short = said_short old.line.items bytes says in
     let none : length new.line.items ≡ 0 = ap length line_is in
-    in_form Joined (line_feed ∷ []) old new before after joined form_is t.settled (omega arith) (λ full start read f.
+    in_form Joined (line_feed ∷ []) old new before after joined form_is t.settled (omega arith) (λ detail start read f.
     let fed = feed_joined read bytes f.good (ap said (sym f.open_line.line) ∙ says) in (
-      subst (λ r. Stands full start [] r new.framer new.report after) (sym fed.0) (t.stands full start [] (open_run Joined read) f.stands),
+      subst (λ r. Stands detail start [] r new.framer new.report after) (sym fed.0) (t.stands detail start [] (open_run Joined read) f.stands),
       fed_line read old new f.open_line line_is ended_is,
       fed.1,
     ))
@@ -162,10 +163,10 @@ fed_apart bytes old mid new before middle after apart form_is says line_is ended
     let more = e.counts in
     let short = said_short old.line.items bytes says in
     let none : length new.line.items ≡ 0 = ap length line_is in
-    in_form Apart (line_feed ∷ []) old new before after apart form_is e.settled (omega arith) (λ full start read f.
+    in_form Apart (line_feed ∷ []) old new before after apart form_is e.settled (omega arith) (λ detail start read f.
     let fed = feed_apart read bytes f.good (ap said (sym f.open_line.line) ∙ says) in (
-      subst (λ r. Stands full start r [] new.framer new.report after) (sym fed.0)
-          (e.stands full start (ended_runs Apart read) bytes (t.stands full start (ended_runs Apart read) [] f.stands)),
+      subst (λ r. Stands detail start r [] new.framer new.report after) (sym fed.0)
+          (e.stands detail start (ended_runs Apart read) bytes (t.stands detail start (ended_runs Apart read) [] f.stands)),
       fed_line read old new f.open_line line_is ended_is,
       fed.1,
     ))
@@ -178,49 +179,49 @@ fed_bad old new now lines settled form_is says line_is ended_is framer_is report
     let counts : counted new.report.tally ≡ counted old.report.tally = ap (λ (r : Report). counted r.tally) report_is in
     let held : length new.framer.bytes ≡ length old.framer.bytes = ap (λ (h : Held). length h.bytes) framer_is in
     record {
-      follows = λ full form start read f. by_form full form start read f (not_raw form (λ e. lines (f.form_is ∙ e)));
+      follows = λ detail form start read f. by_form detail form start read f (not_raw form (λ e. lines (f.form_is ∙ e)));
       settled = subst IsSettled (sym framer_is) settled;
       form_is = form_is;
       load_is = omega arith;
     }
   where
-    stops : (full : Bool) (form : Form) (start : Option (List ℕ)) (read : List ℕ) → HasShown full form start read old now → LineStands read old
-        → (form ≡ Joined) ⊎ (form ≡ Apart) → Stops full form start (read ++ line_feed ∷ []) new now
-    stops full form start read f o is =
+    stops : (detail : Detail) (form : Form) (start : Option (List ℕ)) (read : List ℕ) → HasShown detail form start read old now → LineStands read old
+        → (form ≡ Joined) ⊎ (form ≡ Apart) → Stops detail form start (read ++ line_feed ∷ []) new now
+    stops detail form start read f o is =
         let fed = feed_bad form read is f.good (ap said (sym o.line) ∙ says) in
         let here = read ++ line_feed ∷ [] in
         record {
           stands =
-              subst (λ r. Stands full start (ended_runs form here) (open_run form here) new.framer r now) (sym report_is)
-              (subst (λ (h : Held). Stands full start (ended_runs form here) (open_run form here) h old.report now) (sym framer_is)
-              (subst (λ r. Stands full start r (open_run form here) old.framer old.report now) (sym fed.0)
-              (subst (λ r. Stands full start (ended_runs form read) r old.framer old.report now) (sym fed.1) f.stands)));
+              subst (λ r. Stands detail start (ended_runs form here) (open_run form here) new.framer r now) (sym report_is)
+              (subst (λ (h : Held). Stands detail start (ended_runs form here) (open_run form here) h old.report now) (sym framer_is)
+              (subst (λ r. Stands detail start r (open_run form here) old.framer old.report now) (sym fed.0)
+              (subst (λ r. Stands detail start (ended_runs form read) r old.framer old.report now) (sym fed.1) f.stands)));
           bad = fed.2 ∙ ap Some (ap (λ n. n + 1) (sym o.count) ∙ sym ended_is);
         }
 
-    by_form : (full : Bool) (form : Form) (start : Option (List ℕ)) (read : List ℕ) → HasShown full form start read old now
-        → (form ≡ Joined) ⊎ (form ≡ Apart) → Stops full form start (read ++ line_feed ∷ []) new now
-    by_form full Raw start read f is = elim is [ inl j ↦ cc | inr a ↦ cc ]
-    by_form full Joined start read f is = stops full Joined start read f f.open_line is
-    by_form full Apart start read f is = stops full Apart start read f f.open_line is
+    by_form : (detail : Detail) (form : Form) (start : Option (List ℕ)) (read : List ℕ) → HasShown detail form start read old now
+        → (form ≡ Joined) ⊎ (form ≡ Apart) → Stops detail form start (read ++ line_feed ∷ []) new now
+    by_form detail Raw start read f is = elim is [ inl j ↦ cc | inr a ↦ cc ]
+    by_form detail Joined start read f is = stops detail Joined start read f f.open_line is
+    by_form detail Apart start read f is = stops detail Apart start read f f.open_line is
 
 -- ---- the beginning
 
 none_counted : tally_after_all no_tally (items false []) ≡ no_tally
 none_counted = ap (tally_after_all no_tally) (items_nothing false) ∙ tally_after_all-nil no_tally
 
-none_shown : (full : Bool) → shown_lines full no_tally (items false []) ≡ []
-none_shown full = ap (shown_lines full no_tally) (items_nothing false) ∙ shown_lines-nil full no_tally
+none_shown : (detail : Detail) → shown_lines detail no_tally (items false []) ≡ []
+none_shown detail = ap (shown_lines detail no_tally) (items_nothing false) ∙ shown_lines-nil detail no_tally
 
 nothing_counted : (form : Form) → tally_so_far (ended_runs form []) (open_run form []) ≡ no_tally
 unfolding good_front ended_after after_runs
 nothing_counted Raw = none_counted
 nothing_counted form = none_counted
 
-nothing_shown : (full : Bool) (form : Form) → lines_so_far full (ended_runs form []) (open_run form []) ≡ []
+nothing_shown : (detail : Detail) (form : Form) → lines_so_far detail (ended_runs form []) (open_run form []) ≡ []
 unfolding good_front ended_after after_runs runs_lines
-nothing_shown full Raw = none_shown full
-nothing_shown full form = none_shown full
+nothing_shown detail Raw = none_shown detail
+nothing_shown detail form = none_shown detail
 
 nothing_open : (form : Form) → open_run form [] ≡ []
 unfolding good_front ended_after
@@ -232,8 +233,8 @@ unfolding bad_line ended_after
 nothing_bad Raw = refl
 nothing_bad form = refl
 
-pub told_nothing : (full : Bool) (form : Form) (start : Option (List ℕ)) → Appends start start (lines_so_far full (ended_runs form []) (open_run form []))
-told_nothing full form start = subst (Appends start start) (sym (nothing_shown full form)) (Appends-nil start)
+pub told_nothing : (detail : Detail) (form : Form) (start : Option (List ℕ)) → Appends start start (lines_so_far detail (ended_runs form []) (open_run form []))
+told_nothing detail form start = subst (Appends start start) (sym (nothing_shown detail form)) (Appends-nil start)
 
 append_nothing : (start : Option (List ℕ)) → append_known start [] ≡ start
 append_nothing None = refl
@@ -247,18 +248,18 @@ none_ended : ended_lines [] ≡ []
 unfolding ended_after
 none_ended = refl
 
-pub begins : (full : Bool) (capture : Capture) (start : Option (List ℕ)) → capture.line.items ≡ [] → capture.ended ≡ 0
-    → capture.framer ≡ new_run → capture.report.full ≡ full → capture.report.tally ≡ no_tally → string_bytes capture.report.text ≡ []
-    → HasShown full capture.form start [] capture (written_or_held start capture.report)
-begins full capture start line ended framer full_is tally text = record {
+pub begins : (detail : Detail) (capture : Capture) (start : Option (List ℕ)) → capture.line.items ≡ [] → capture.ended ≡ 0
+    → capture.framer ≡ new_run → capture.report.detail ≡ detail → capture.report.tally ≡ no_tally → string_bytes capture.report.text ≡ []
+    → HasShown detail capture.form start [] capture (written_or_held start capture.report)
+begins detail capture start line ended framer detail_is tally text = record {
   form_is = refl;
   stands = record {
-    full_is = full_is;
+    detail_is = detail_is;
     tally = tally ∙ sym (nothing_counted capture.form);
     held_is = framer ∙ ap (λ (l : List ℕ). record { bytes = l; ended = false }) (sym (ap left_over (nothing_open capture.form) ∙ left_nothing));
     bytes = subst AreBytes (sym (nothing_open capture.form)) AreBytes-nil;
-    lines = subst (λ (now : Option (List ℕ)). Appends start now (lines_so_far full (ended_runs capture.form []) (open_run capture.form [])))
-        (sym (ap (append_known start) text ∙ append_nothing start)) (told_nothing full capture.form start);
+    lines = subst (λ (now : Option (List ℕ)). Appends start now (lines_so_far detail (ended_runs capture.form []) (open_run capture.form [])))
+        (sym (ap (append_known start) text ∙ append_nothing start)) (told_nothing detail capture.form start);
   };
   open_line = by_form capture.form;
   good = nothing_bad capture.form;

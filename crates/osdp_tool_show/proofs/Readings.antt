@@ -20,13 +20,15 @@ use Rattle.osdp_tool_streams.specs.Line.{line_bytes}
 use Rattle.osdp_tool_streams.specs.Runs.{good_front, with_bytes, runs_of, ended_runs, open_run}
 use Rattle.osdp_tool_streams.proofs.CutLemmas.{ended_lines-cut}
 use Rattle.osdp_tool_streams.proofs.Bytes.{is_cut, good_front-bytes}
+use Rattle.osdp_tool_show.specs.declared.detail.Detail.{Detail}
+use Rattle.osdp_tool_show.specs.declared.detail.Detail.TheVariants.{Full, Refusals}
 use Rattle.osdp_tool_show.specs.declared.tally.Tally.{Tally}
 use Rattle.osdp_tool_show.specs.ItemText.{is_refusal, counts_line}
 use Rattle.osdp_tool_show.specs.Tally.{no_tally, one_if, tally_after, tally_after_all, after_run}
 use Rattle.osdp_tool_show.specs.ToldItems.{shown_line, shown_lines, after_runs, runs_lines, end_line}
 use Rattle.osdp_tool_show.proofs.Lines.{after_runs-place}
 use Rattle.osdp_tool_show.specs.Shown.{shown, shown_so_far, is_refused_input, tally_of}
-use Rattle.osdp_tool_show.specs.Told.{Say, Says, SaysSoFar, HasRuns, HasRunsSoFar, AreReadings, items_text, readings_text, is_packet, is_skipped, count_items, counts_text}
+use Rattle.osdp_tool_show.specs.Told.{Say, Says, SaysSoFar, HasRuns, HasRunsSoFar, AreReadings, items_text, readings_text, is_packet, is_skipped, count_items, counts_text, end_text}
 
 -- ---- the lines of a run's items
 
@@ -55,14 +57,14 @@ tally_after-refused tally (PacketItem p) = refl
 tally_after-refused tally (SkippedItem b) = omega arith
 tally_after-refused tally (RefusedItem fault) = refl
 
-parts_text : (full : Bool) (tally : Tally) (parts : List RunItem) → shown_lines full tally parts ≡ items_text full (tally.runs + 1) tally.place parts
+parts_text : (detail : Detail) (tally : Tally) (parts : List RunItem) → shown_lines detail tally parts ≡ items_text detail (tally.runs + 1) tally.place parts
 unfolding shown_lines
-parts_text full tally [] = refl
-parts_text full tally (part ∷ parts) =
-    ap (λ l. shown_line full tally part ++ l)
-    (parts_text full (tally_after tally part) parts
-    ∙ ap (λ n. items_text full (n + 1) (tally_after tally part).place parts) (tally_after-runs tally part)
-    ∙ ap (λ n. items_text full (tally.runs + 1) n parts) (tally_after-place tally part))
+parts_text detail tally [] = refl
+parts_text detail tally (part ∷ parts) =
+    ap (λ l. shown_line detail tally part ++ l)
+    (parts_text detail (tally_after tally part) parts
+    ∙ ap (λ n. items_text detail (n + 1) (tally_after tally part).place parts) (tally_after-runs tally part)
+    ∙ ap (λ n. items_text detail (tally.runs + 1) n parts) (tally_after-place tally part))
 
 -- what is counted of them
 pub record Counted (old new : Tally) (parts : List RunItem) : Type 0 where
@@ -120,21 +122,21 @@ run_counted tally run parts has r =
     (subst (λ t. CountedRun tally t parts) (sym step)
     (record { runs = ap (λ n. n + 1) c.runs; place = refl; packets = c.packets; skipped = c.skipped; refused = c.refused }))
 
-runs_text : (full : Bool) (tally : Tally) (runs : List (List ℕ)) (readings : List (List RunItem)) → tally.place ≡ 0 → AllByRecursion HasBytes runs → AreReadings runs readings
-    → runs_lines full tally runs ≡ readings_text full (tally.runs + 1) readings
+runs_text : (detail : Detail) (tally : Tally) (runs : List (List ℕ)) (readings : List (List RunItem)) → tally.place ≡ 0 → AllByRecursion HasBytes runs → AreReadings runs readings
+    → runs_lines detail tally runs ≡ readings_text detail (tally.runs + 1) readings
 unfolding runs_lines
-runs_text full tally [] [] none has r = refl
-runs_text full tally [] (parts ∷ readings) none has r = absurd r
-runs_text full tally (run ∷ runs) [] none has r = absurd r
-runs_text full tally (run ∷ runs) (parts ∷ readings) none has r =
+runs_text detail tally [] [] none has r = refl
+runs_text detail tally [] (parts ∷ readings) none has r = absurd r
+runs_text detail tally (run ∷ runs) [] none has r = absurd r
+runs_text detail tally (run ∷ runs) (parts ∷ readings) none has r =
     let is : parts ≡ reading run = reading_is run parts has.0.1 r.0 in
     let next = after_run (tally_after_all tally (reading run)) in
     let c = run_counted tally run parts has.0 r.0 in
-    let here : shown_lines full tally (reading run) ≡ items_text full (tally.runs + 1) 0 parts =
-    parts_text full tally (reading run) ∙ ap (λ n. items_text full (tally.runs + 1) n (reading run)) none ∙ ap (items_text full (tally.runs + 1) 0) (sym is) in
-    ap (λ l. l ++ runs_lines full next runs) here
-    ∙ ap (λ l. items_text full (tally.runs + 1) 0 parts ++ l)
-    (runs_text full next runs readings c.place has.1 r.1 ∙ ap (λ n. readings_text full (n + 1) readings) c.runs)
+    let here : shown_lines detail tally (reading run) ≡ items_text detail (tally.runs + 1) 0 parts =
+    parts_text detail tally (reading run) ∙ ap (λ n. items_text detail (tally.runs + 1) n (reading run)) none ∙ ap (items_text detail (tally.runs + 1) 0) (sym is) in
+    ap (λ l. l ++ runs_lines detail next runs) here
+    ∙ ap (λ l. items_text detail (tally.runs + 1) 0 parts ++ l)
+    (runs_text detail next runs readings c.place has.1 r.1 ∙ ap (λ n. readings_text detail (n + 1) readings) c.runs)
 
 record CountedRuns (old new : Tally) (readings : List (List RunItem)) : Type 0 where
   runs : new.runs ≡ old.runs + length readings
@@ -227,22 +229,22 @@ have_readings (run ∷ runs) h =
 
 -- ---- the laws
 
-end_text : (full : Bool) (readings : List (List RunItem)) (tally : Tally) → CountedRuns no_tally tally readings → end_line full tally ≡ cond full [] (counts_text readings)
-end_text true readings tally c = refl
-end_text false readings tally c =
+end_is : (detail : Detail) (readings : List (List RunItem)) (tally : Tally) → CountedRuns no_tally tally readings → end_line detail tally ≡ end_text detail readings
+end_is Full readings tally c = refl
+end_is Refusals readings tally c =
     ap (λ n. counts_line n tally.packets tally.skipped tally.refused) (c.runs ∙ zero-add (length readings))
     ∙ ap (λ n. counts_line (length readings) n tally.skipped tally.refused) (c.packets ∙ zero-add (count_items is_packet readings))
     ∙ ap (λ n. counts_line (length readings) (count_items is_packet readings) n tally.refused) (c.skipped ∙ zero-add (count_items is_skipped readings))
     ∙ ap (counts_line (length readings) (count_items is_packet readings) (count_items is_skipped readings)) (c.refused ∙ zero-add (count_items is_refusal readings))
 
-pub shown_is : (full : Bool) (form : Form) (bytes : List ℕ) (runs : List (List ℕ)) (readings : List (List RunItem)) → AreBytes bytes → HasRuns form bytes runs → AreReadings runs readings
-    → shown full form bytes ≡ readings_text full 1 readings ++ (cond full [] (counts_text readings))
-shown_is full form bytes runs readings fits has r =
+pub shown_is : (detail : Detail) (form : Form) (bytes : List ℕ) (runs : List (List ℕ)) (readings : List (List RunItem)) → AreBytes bytes → HasRuns form bytes runs → AreReadings runs readings
+    → shown detail form bytes ≡ readings_text detail 1 readings ++ end_text detail readings
+shown_is detail form bytes runs readings fits has r =
     let is = runs_are form bytes runs has in
     let r' = subst (λ l. AreReadings l readings) is r in
     let have = runs_have_bytes form bytes fits in
-    ap (λ l. l ++ end_line full (tally_of form bytes)) (runs_text full no_tally (runs_of form bytes) readings refl have r')
-    ∙ ap (λ l. readings_text full 1 readings ++ l) (end_text full readings (tally_of form bytes) (runs_counted no_tally (runs_of form bytes) readings have r'))
+    ap (λ l. l ++ end_line detail (tally_of form bytes)) (runs_text detail no_tally (runs_of form bytes) readings refl have r')
+    ∙ ap (λ l. readings_text detail 1 readings ++ l) (end_is detail readings (tally_of form bytes) (runs_counted no_tally (runs_of form bytes) readings have r'))
 
 pub refused_is : (form : Form) (bytes : List ℕ) (runs : List (List ℕ)) (readings : List (List RunItem)) → AreBytes bytes → HasRuns form bytes runs → AreReadings runs readings
     → is_refused_input form bytes ≡ nat_lt 0 (count_items is_refusal readings)
@@ -285,10 +287,10 @@ lines_have_bytes Raw is bytes = elim is [ inl j ↦ cc | inr a ↦ cc ]
 lines_have_bytes Joined is bytes = concat_bytes (good_front (ended_lines bytes)) (good_front-bytes (ended_lines bytes))
 lines_have_bytes Apart is bytes = AreBytes-nil
 
-pub shown_so_far_is : (full : Bool) (form : Form) (bytes : List ℕ) (runs : List (List ℕ)) (open_bytes : List ℕ) (readings : List (List RunItem)) (parts : List RunItem)
+pub shown_so_far_is : (detail : Detail) (form : Form) (bytes : List ℕ) (runs : List (List ℕ)) (open_bytes : List ℕ) (readings : List (List RunItem)) (parts : List RunItem)
     → AreBytes bytes → HasRunsSoFar form bytes runs open_bytes → AreReadings runs readings → Drains false open_bytes parts
-    → shown_so_far full form bytes ≡ readings_text full 1 readings ++ items_text full (length readings + 1) 0 parts
-shown_so_far_is full form bytes runs open_bytes readings parts fits has r d =
+    → shown_so_far detail form bytes ≡ readings_text detail 1 readings ++ items_text detail (length readings + 1) 0 parts
+shown_so_far_is detail form bytes runs open_bytes readings parts fits has r d =
     let is = so_far_are form bytes runs open_bytes has in
     let r' = subst (λ l. AreReadings l readings) is.0 r in
     let have = ended_have_bytes form bytes in
@@ -296,13 +298,13 @@ shown_so_far_is full form bytes runs open_bytes readings parts fits has r d =
     let c = runs_counted no_tally (ended_runs form bytes) readings have r' in
     let shown_items : parts ≡ items false (open_run form bytes) =
     drained_items false (open_run form bytes) parts (open_has_bytes form bytes fits) (subst (λ l. Drains false l parts) is.1 d) in
-    let last : shown_lines full t (items false (open_run form bytes)) ≡ items_text full (length readings + 1) 0 parts =
-    parts_text full t (items false (open_run form bytes))
-    ∙ ap (λ n. items_text full (n + 1) t.place (items false (open_run form bytes))) (c.runs ∙ zero-add (length readings))
-    ∙ ap (λ n. items_text full (length readings + 1) n (items false (open_run form bytes))) (after_runs-place no_tally (ended_runs form bytes) refl)
-    ∙ ap (items_text full (length readings + 1) 0) (sym shown_items) in
-    ap (λ l. l ++ shown_lines full t (items false (open_run form bytes))) (runs_text full no_tally (ended_runs form bytes) readings refl have r')
-    ∙ ap (λ l. readings_text full 1 readings ++ l) last
+    let last : shown_lines detail t (items false (open_run form bytes)) ≡ items_text detail (length readings + 1) 0 parts =
+    parts_text detail t (items false (open_run form bytes))
+    ∙ ap (λ n. items_text detail (n + 1) t.place (items false (open_run form bytes))) (c.runs ∙ zero-add (length readings))
+    ∙ ap (λ n. items_text detail (length readings + 1) n (items false (open_run form bytes))) (after_runs-place no_tally (ended_runs form bytes) refl)
+    ∙ ap (items_text detail (length readings + 1) 0) (sym shown_items) in
+    ap (λ l. l ++ shown_lines detail t (items false (open_run form bytes))) (runs_text detail no_tally (ended_runs form bytes) readings refl have r')
+    ∙ ap (λ l. readings_text detail 1 readings ++ l) last
 
 drain_within : (most : ℕ) (bytes : List ℕ) → AreBytes bytes → length bytes ≤ most → Drains false bytes (items false bytes)
 drain_within zero bytes fits short =

@@ -14,6 +14,7 @@ use Rattle.osdp_frame.proofs.Head.{AreBytes-append, AreBytes-drop, AreBytes-nil,
 use Rattle.osdp_frame_laws.proofs.LeftOver.{gap_items, items_nothing, left_bytes, left_is, left_nothing, left_over-append, reading_split}
 use Rattle.osdp_frame_laws.proofs.Readings.{items-append, left_undecided, sizes_reading, is_reading}
 use Rattle.osdp_tool_streams.specs.Runs.{closed_runs, with_bytes}
+use Rattle.osdp_tool_show.specs.declared.detail.Detail.{Detail}
 use Rattle.osdp_tool_show.specs.Tally.{no_tally, tally_after_all, after_run, counted}
 use Rattle.osdp_tool_show.specs.ToldItems.{shown_lines, after_runs, runs_lines, tally_so_far, lines_so_far}
 use Rattle.osdp_tool_show.proofs.Lines.{tally_after_all-nil, tally_after_all-append, shown_lines-nil, shown_lines-append, after_runs-append, after_runs-one, runs_lines-append, runs_lines-one, after_run-none, after_runs-place, counted-after_run}
@@ -25,47 +26,47 @@ use Rattle.osdp_tool_show.proofs.Beginnings.{stops_after, stops_longer}
 -- ---- a run that goes on
 
 -- nothing that it holds is decided
-pub stands_settled : (full : Bool) (start now : Option (List ℕ)) (ended : List (List ℕ)) (bytes : List ℕ) (held : Held) (report : Report)
-    → Stands full start ended bytes held report now → IsSettled held
-stands_settled full start now ended bytes held report s = record {
+pub stands_settled : (detail : Detail) (start now : Option (List ℕ)) (ended : List (List ℕ)) (bytes : List ℕ) (held : Held) (report : Report)
+    → Stands detail start ended bytes held report now → IsSettled held
+stands_settled detail start now ended bytes held report s = record {
   bytes = subst (λ (h : Held). AreBytes h.bytes) (sym s.held_is) (left_bytes bytes s.bytes);
   goes_on = ap (λ (h : Held). h.ended) s.held_is;
   none = subst (λ (h : Held). decided false h.bytes ≡ None) (sym s.held_is) (left_undecided bytes s.bytes);
 }
 
 -- the lines of a run that goes on by more bytes
-pub lines_more : (full : Bool) (ended : List (List ℕ)) (bytes xs : List ℕ) → AreBytes (bytes ++ xs)
-    → lines_so_far full ended (bytes ++ xs) ≡ lines_so_far full ended bytes ++ shown_lines full (tally_so_far ended bytes) (items false (left_over bytes ++ xs))
-lines_more full ended bytes xs all =
+pub lines_more : (detail : Detail) (ended : List (List ℕ)) (bytes xs : List ℕ) → AreBytes (bytes ++ xs)
+    → lines_so_far detail ended (bytes ++ xs) ≡ lines_so_far detail ended bytes ++ shown_lines detail (tally_so_far ended bytes) (items false (left_over bytes ++ xs))
+lines_more detail ended bytes xs all =
     let whole = items-append false bytes xs all in
-    ap (λ l. runs_lines full no_tally ended ++ shown_lines full (after_runs no_tally ended) l) whole
-    ∙ ap (λ l. runs_lines full no_tally ended ++ l) (shown_lines-append full (after_runs no_tally ended) (items false bytes) (items false (left_over bytes ++ xs)))
-    ∙ sym (append_assoc (runs_lines full no_tally ended) (shown_lines full (after_runs no_tally ended) (items false bytes)) (shown_lines full (tally_so_far ended bytes) (items false (left_over bytes ++ xs))))
+    ap (λ l. runs_lines detail no_tally ended ++ shown_lines detail (after_runs no_tally ended) l) whole
+    ∙ ap (λ l. runs_lines detail no_tally ended ++ l) (shown_lines-append detail (after_runs no_tally ended) (items false bytes) (items false (left_over bytes ++ xs)))
+    ∙ sym (append_assoc (runs_lines detail no_tally ended) (shown_lines detail (after_runs no_tally ended) (items false bytes)) (shown_lines detail (tally_so_far ended bytes) (items false (left_over bytes ++ xs))))
 
-pub stands_more : (full : Bool) (start before after : Option (List ℕ)) (ended : List (List ℕ)) (bytes xs : List ℕ) (held next : Held) (old new : Report)
-    → AreBytes xs → Stands full start ended bytes held old before
+pub stands_more : (detail : Detail) (start before after : Option (List ℕ)) (ended : List (List ℕ)) (bytes xs : List ℕ) (held next : Held) (old new : Report)
+    → AreBytes xs → Stands detail start ended bytes held old before
     → Drained (record { bytes = held.bytes ++ xs; ended = false }) next old new before after
-    → Stands full start ended (bytes ++ xs) next new after
-stands_more full start before after ended bytes xs held next old new fits s d =
+    → Stands detail start ended (bytes ++ xs) next new after
+stands_more detail start before after ended bytes xs held next old new fits s d =
     let all = AreBytes-append bytes xs s.bytes fits in
     let held_bytes : held.bytes ≡ left_over bytes = ap (λ (h : Held). h.bytes) s.held_is in
     let parts : items false (held.bytes ++ xs) ≡ items false (left_over bytes ++ xs) = ap (λ l. items false (l ++ xs)) held_bytes in
     let whole = items-append false bytes xs all in
     let tally_is : new.tally ≡ tally_after_all (tally_so_far ended bytes) (items false (left_over bytes ++ xs)) =
     d.tells.tally ∙ ap (λ t. tally_after_all t (items false (held.bytes ++ xs))) s.tally ∙ ap (tally_after_all (tally_so_far ended bytes)) parts in
-    let lines_are : shown_lines old.full old.tally (items false (held.bytes ++ xs)) ≡ shown_lines full (tally_so_far ended bytes) (items false (left_over bytes ++ xs)) =
-    ap (λ f. shown_lines f old.tally (items false (held.bytes ++ xs))) s.full_is
-    ∙ ap (λ t. shown_lines full t (items false (held.bytes ++ xs))) s.tally
-    ∙ ap (shown_lines full (tally_so_far ended bytes)) parts in
-    let grown = lines_more full ended bytes xs all in
+    let lines_are : shown_lines old.detail old.tally (items false (held.bytes ++ xs)) ≡ shown_lines detail (tally_so_far ended bytes) (items false (left_over bytes ++ xs)) =
+    ap (λ f. shown_lines f old.tally (items false (held.bytes ++ xs))) s.detail_is
+    ∙ ap (λ t. shown_lines detail t (items false (held.bytes ++ xs))) s.tally
+    ∙ ap (shown_lines detail (tally_so_far ended bytes)) parts in
+    let grown = lines_more detail ended bytes xs all in
     record {
-      full_is = d.tells.full ∙ s.full_is;
+      detail_is = d.tells.detail ∙ s.detail_is;
       tally = tally_is ∙ sym (ap (tally_after_all (after_runs no_tally ended)) whole ∙ tally_after_all-append (after_runs no_tally ended) (items false bytes) (items false (left_over bytes ++ xs)));
       held_is = d.held ∙ ap (λ (l : List ℕ). record { bytes = l; ended = false })
           (left_is (held.bytes ++ xs) ∙ ap (λ l. left_over (l ++ xs)) held_bytes ∙ sym (left_over-append bytes xs all));
       bytes = all;
       lines = subst (Appends start after) (sym grown)
-          (Appends-trans start before after (lines_so_far full ended bytes) _ s.lines (subst (Appends before after) lines_are d.tells.lines));
+          (Appends-trans start before after (lines_so_far detail ended bytes) _ s.lines (subst (Appends before after) lines_are d.tells.lines));
     }
 
 -- ---- a run that ends
@@ -91,59 +92,59 @@ closed_tally ended (b ∷ bytes) fits =
     ∙ after_runs-append no_tally ended (run ∷ []) ∙ after_runs-one t run ∙ ap (λ l. after_run (tally_after_all t l)) (reading_split run fits)
     ∙ ap after_run (tally_after_all-append t (items false run) (items true (left_over run)))
 
-pub closed_lines : (full : Bool) (ended : List (List ℕ)) (bytes : List ℕ) → AreBytes bytes
-    → lines_so_far full (closed_runs ended bytes) [] ≡ lines_so_far full ended bytes ++ shown_lines full (tally_so_far ended bytes) (items true (left_over bytes))
-closed_lines full ended [] fits =
+pub closed_lines : (detail : Detail) (ended : List (List ℕ)) (bytes : List ℕ) → AreBytes bytes
+    → lines_so_far detail (closed_runs ended bytes) [] ≡ lines_so_far detail ended bytes ++ shown_lines detail (tally_so_far ended bytes) (items true (left_over bytes))
+closed_lines detail ended [] fits =
     let left : items true (left_over []) ≡ [] = ap (items true) left_nothing ∙ items_nothing true in
-    ap (λ r. lines_so_far full r []) (append-nil ended) ∙ sym (append-nil (lines_so_far full ended []))
-    ∙ ap (λ l. lines_so_far full ended [] ++ l) (sym (ap (shown_lines full (tally_so_far ended [])) left ∙ shown_lines-nil full (tally_so_far ended [])))
-closed_lines full ended (b ∷ bytes) fits =
+    ap (λ r. lines_so_far detail r []) (append-nil ended) ∙ sym (append-nil (lines_so_far detail ended []))
+    ∙ ap (λ l. lines_so_far detail ended [] ++ l) (sym (ap (shown_lines detail (tally_so_far ended [])) left ∙ shown_lines-nil detail (tally_so_far ended [])))
+closed_lines detail ended (b ∷ bytes) fits =
     let t = after_runs no_tally ended in
     let run = b ∷ bytes in
     let closed = closed_runs ended run in
-    ap (λ l. runs_lines full no_tally closed ++ l) (ap (shown_lines full (after_runs no_tally closed)) (items_nothing false) ∙ shown_lines-nil full (after_runs no_tally closed))
-    ∙ append-nil (runs_lines full no_tally closed)
-    ∙ ap (λ l. runs_lines full no_tally (ended ++ l)) (with_bytes-some b bytes)
-    ∙ runs_lines-append full no_tally ended (run ∷ [])
-    ∙ ap (λ l. runs_lines full no_tally ended ++ l)
-    (runs_lines-one full t run ∙ ap (shown_lines full t) (reading_split run fits) ∙ shown_lines-append full t (items false run) (items true (left_over run)))
-    ∙ sym (append_assoc (runs_lines full no_tally ended) (shown_lines full t (items false run)) (shown_lines full (tally_so_far ended run) (items true (left_over run))))
+    ap (λ l. runs_lines detail no_tally closed ++ l) (ap (shown_lines detail (after_runs no_tally closed)) (items_nothing false) ∙ shown_lines-nil detail (after_runs no_tally closed))
+    ∙ append-nil (runs_lines detail no_tally closed)
+    ∙ ap (λ l. runs_lines detail no_tally (ended ++ l)) (with_bytes-some b bytes)
+    ∙ runs_lines-append detail no_tally ended (run ∷ [])
+    ∙ ap (λ l. runs_lines detail no_tally ended ++ l)
+    (runs_lines-one detail t run ∙ ap (shown_lines detail t) (reading_split run fits) ∙ shown_lines-append detail t (items false run) (items true (left_over run)))
+    ∙ sym (append_assoc (runs_lines detail no_tally ended) (shown_lines detail t (items false run)) (shown_lines detail (tally_so_far ended run) (items true (left_over run))))
 
 nothing_left : (bytes : List ℕ) → AreBytes bytes → drop (total_size (items (not (length bytes == 0)) bytes)) bytes ≡ []
 nothing_left bytes fits =
     let sizes = sizes_reading bytes (items true bytes) (is_reading bytes fits) in
     ap (λ l. drop (total_size l) bytes) (gap_items bytes) ∙ drop_all (total_size (items true bytes)) bytes (omega arith)
 
-pub stands_end : (full : Bool) (start before after : Option (List ℕ)) (ended : List (List ℕ)) (bytes : List ℕ) (held next : Held) (old mid new : Report)
-    → Stands full start ended bytes held old before
+pub stands_end : (detail : Detail) (start before after : Option (List ℕ)) (ended : List (List ℕ)) (bytes : List ℕ) (held next : Held) (old mid new : Report)
+    → Stands detail start ended bytes held old before
     → Drained (after_gap held) next old mid before after
-    → new.full ≡ mid.full → new.tally ≡ after_run mid.tally
-    → Stands full start (closed_runs ended bytes) [] next new after
-stands_end full start before after ended bytes held next old mid new s d same tally =
-    let settled = stands_settled full start before ended bytes held old s in
+    → new.detail ≡ mid.detail → new.tally ≡ after_run mid.tally
+    → Stands detail start (closed_runs ended bytes) [] next new after
+stands_end detail start before after ended bytes held next old mid new s d same tally =
+    let settled = stands_settled detail start before ended bytes held old s in
     let held_bytes : held.bytes ≡ left_over bytes = ap (λ (h : Held). h.bytes) s.held_is in
     let parts : items (not (length held.bytes == 0)) held.bytes ≡ items true (left_over bytes) = gap_items held.bytes ∙ ap (items true) held_bytes in
     let so_far = tally_so_far ended bytes in
     let mid_is : mid.tally ≡ tally_after_all so_far (items true (left_over bytes)) =
     d.tells.tally ∙ ap (λ t. tally_after_all t (items (not (length held.bytes == 0)) held.bytes)) s.tally ∙ ap (tally_after_all so_far) parts in
-    let lines_are : shown_lines old.full old.tally (items (not (length held.bytes == 0)) held.bytes) ≡ shown_lines full so_far (items true (left_over bytes)) =
-    ap (λ f. shown_lines f old.tally (items (not (length held.bytes == 0)) held.bytes)) s.full_is
-    ∙ ap (λ t. shown_lines full t (items (not (length held.bytes == 0)) held.bytes)) s.tally
-    ∙ ap (shown_lines full so_far) parts in
+    let lines_are : shown_lines old.detail old.tally (items (not (length held.bytes == 0)) held.bytes) ≡ shown_lines detail so_far (items true (left_over bytes)) =
+    ap (λ f. shown_lines f old.tally (items (not (length held.bytes == 0)) held.bytes)) s.detail_is
+    ∙ ap (λ t. shown_lines detail t (items (not (length held.bytes == 0)) held.bytes)) s.tally
+    ∙ ap (shown_lines detail so_far) parts in
     record {
-      full_is = same ∙ d.tells.full ∙ s.full_is;
+      detail_is = same ∙ d.tells.detail ∙ s.detail_is;
       tally = tally ∙ ap after_run mid_is ∙ sym (closed_tally ended bytes s.bytes);
       held_is = d.held ∙ ap (λ (l : List ℕ). record { bytes = l; ended = false }) (nothing_left held.bytes settled.bytes ∙ sym left_nothing);
       bytes = AreBytes-nil;
-      lines = subst (Appends start after) (sym (closed_lines full ended bytes s.bytes))
-          (Appends-trans start before after (lines_so_far full ended bytes) _ s.lines (subst (Appends before after) lines_are d.tells.lines));
+      lines = subst (Appends start after) (sym (closed_lines detail ended bytes s.bytes))
+          (Appends-trans start before after (lines_so_far detail ended bytes) _ s.lines (subst (Appends before after) lines_are d.tells.lines));
     }
 
 -- ---- piece by piece
 
 pub took_start : (held : Held) (old : Report) (before : Option (List ℕ)) → IsSettled held → Took [] held held old old before before
 took_start held old before settled = record {
-  stands = λ full start ended bytes s. subst (λ l. Stands full start ended l held old before) (sym (append-nil bytes)) s;
+  stands = λ detail start ended bytes s. subst (λ l. Stands detail start ended l held old before) (sym (append-nil bytes)) s;
   settled = settled;
   counts = omega arith;
 }
@@ -174,22 +175,22 @@ took_step bytes at start held pushed next first old new a b c fits within t push
     let last = t.counts in
     let now = drained.counts in
     record {
-      stands = λ full begin ended open_bytes s.
-          subst (λ l. Stands full begin ended l next new c) (append_assoc open_bytes (take at bytes) given ∙ ap (λ l. open_bytes ++ l) (sym piece))
-          (stands_more full begin b c ended (open_bytes ++ take at bytes) given held next old new given_fits (t.stands full begin ended open_bytes s) drained);
+      stands = λ detail begin ended open_bytes s.
+          subst (λ l. Stands detail begin ended l next new c) (append_assoc open_bytes (take at bytes) given ∙ ap (λ l. open_bytes ++ l) (sym piece))
+          (stands_more detail begin b c ended (open_bytes ++ take at bytes) given held next old new given_fits (t.stands detail begin ended open_bytes s) drained);
       settled = drained_settled (record { bytes = held.bytes ++ given; ended = false }) next old new b c (AreBytes-append held.bytes given t.settled.bytes given_fits) drained;
       counts = omega arith;
     }
 
 pub ended_run : (held next : Held) (old mid new : Report) (before after : Option (List ℕ)) → IsSettled held
-    → Drained (after_gap held) next old mid before after → new.full ≡ mid.full → new.tally ≡ after_run mid.tally
+    → Drained (after_gap held) next old mid before after → new.detail ≡ mid.detail → new.tally ≡ after_run mid.tally
     → EndedRun held next old new before after
 ended_run held next old mid new before after settled d same tally =
     let counts_of : counted new.tally ≡ counted (after_run mid.tally) = ap counted tally in
     let less = counted-after_run mid.tally in
     let last = d.counts in
     record {
-      stands = λ full start ended bytes s. stands_end full start before after ended bytes held next old mid new s d same tally;
+      stands = λ detail start ended bytes s. stands_end detail start before after ended bytes held next old mid new s d same tally;
       settled = drained_settled (after_gap held) next old mid before after settled.bytes d;
       counts = omega arith;
     }
@@ -199,40 +200,40 @@ ended_run held next old mid new before after settled d same tally =
 -- a longer piece of a run
 pub stops_longer_run : (bytes more : List ℕ) (held : Held) (old : Report) (before written : Option (List ℕ)) → AreBytes bytes → AreBytes more
     → StopsIn bytes held old before written → StopsIn (bytes ++ more) held old before written
-stops_longer_run bytes more held old before written fits fits_too h = λ full start ended open_bytes s.
+stops_longer_run bytes more held old before written fits fits_too h = λ detail start ended open_bytes s.
     let there = open_bytes ++ bytes in
     let all = AreBytes-append there more (AreBytes-append open_bytes bytes s.bytes fits) fits_too in
-    let text = lines_more full ended there more all in
+    let text = lines_more detail ended there more all in
     let regrouped : open_bytes ++ (bytes ++ more) ≡ there ++ more = sym (append_assoc open_bytes bytes more) in
-    stops_longer start written (lines_so_far full ended there) (lines_so_far full ended (open_bytes ++ (bytes ++ more)))
-    (shown_lines full (tally_so_far ended there) (items false (left_over there ++ more))) (h full start ended open_bytes s)
-    (ap (lines_so_far full ended) regrouped ∙ text)
+    stops_longer start written (lines_so_far detail ended there) (lines_so_far detail ended (open_bytes ++ (bytes ++ more)))
+    (shown_lines detail (tally_so_far ended there) (items false (left_over there ++ more))) (h detail start ended open_bytes s)
+    (ap (lines_so_far detail ended) regrouped ∙ text)
 
 -- after a front that was told
 pub stops_after_both : (xs ys : List ℕ) (start held : Held) (first old : Report) (a b written : Option (List ℕ))
     → Took xs start held first old a b → StopsIn ys held old b written → StopsIn (xs ++ ys) start first a written
-stops_after_both xs ys start held first old a b written t h = λ full begin ended open_bytes s.
-    subst (λ l. StopsWithin begin written (lines_so_far full ended l)) (append_assoc open_bytes xs ys)
-    (h full begin ended (open_bytes ++ xs) (t.stands full begin ended open_bytes s))
+stops_after_both xs ys start held first old a b written t h = λ detail begin ended open_bytes s.
+    subst (λ l. StopsWithin begin written (lines_so_far detail ended l)) (append_assoc open_bytes xs ys)
+    (h detail begin ended (open_bytes ++ xs) (t.stands detail begin ended open_bytes s))
 
 -- within the items that held bytes decide, once these were given
 pub held_stops : (given : List ℕ) (held : Held) (old : Report) (before written : Option (List ℕ)) → AreBytes given → IsSettled held
-    → StopsWithin before written (shown_lines old.full old.tally (items false (held.bytes ++ given))) → StopsIn given held old before written
-held_stops given held old before written fits settled h = λ full start ended open_bytes s.
+    → StopsWithin before written (shown_lines old.detail old.tally (items false (held.bytes ++ given))) → StopsIn given held old before written
+held_stops given held old before written fits settled h = λ detail start ended open_bytes s.
     let all = AreBytes-append open_bytes given s.bytes fits in
     let held_bytes : held.bytes ≡ left_over open_bytes = ap (λ (x : Held). x.bytes) s.held_is in
     let parts : items false (held.bytes ++ given) ≡ items false (left_over open_bytes ++ given) = ap (λ l. items false (l ++ given)) held_bytes in
-    let here : shown_lines old.full old.tally (items false (held.bytes ++ given)) ≡ shown_lines full (tally_so_far ended open_bytes) (items false (left_over open_bytes ++ given)) =
-    ap (λ f. shown_lines f old.tally (items false (held.bytes ++ given))) s.full_is
-    ∙ ap (λ t. shown_lines full t (items false (held.bytes ++ given))) s.tally
-    ∙ ap (shown_lines full (tally_so_far ended open_bytes)) parts in
-    stops_after start before written (lines_so_far full ended open_bytes) (shown_lines full (tally_so_far ended open_bytes) (items false (left_over open_bytes ++ given)))
-    (lines_so_far full ended (open_bytes ++ given)) [] s.lines (subst (StopsWithin before written) here h)
-    (lines_more full ended open_bytes given all ∙ sym (append-nil _))
+    let here : shown_lines old.detail old.tally (items false (held.bytes ++ given)) ≡ shown_lines detail (tally_so_far ended open_bytes) (items false (left_over open_bytes ++ given)) =
+    ap (λ f. shown_lines f old.tally (items false (held.bytes ++ given))) s.detail_is
+    ∙ ap (λ t. shown_lines detail t (items false (held.bytes ++ given))) s.tally
+    ∙ ap (shown_lines detail (tally_so_far ended open_bytes)) parts in
+    stops_after start before written (lines_so_far detail ended open_bytes) (shown_lines detail (tally_so_far ended open_bytes) (items false (left_over open_bytes ++ given)))
+    (lines_so_far detail ended (open_bytes ++ given)) [] s.lines (subst (StopsWithin before written) here h)
+    (lines_more detail ended open_bytes given all ∙ sym (append-nil _))
 
 -- .. of the bytes that a framer took
 pub pushed_stops : (given : List ℕ) (held pushed : Held) (old : Report) (before written : Option (List ℕ)) → AreBytes given → IsSettled held
-    → pushed ≡ after_push held given → StopsWithin before written (shown_lines old.full old.tally (items pushed.ended pushed.bytes))
+    → pushed ≡ after_push held given → StopsWithin before written (shown_lines old.detail old.tally (items pushed.ended pushed.bytes))
     → StopsIn given held old before written
 pushed_stops given held pushed old before written fits settled pushes h =
     let n = taken_count held given in
@@ -244,22 +245,22 @@ pushed_stops given held pushed old before written fits settled pushes h =
     subst (λ l. StopsIn l held old before written) (take-append-drop n given)
     (stops_longer_run front (drop n given) held old before written front_fits back_fits
     (held_stops front held old before written front_fits settled
-    (subst (λ (x : Held). StopsWithin before written (shown_lines old.full old.tally (items x.ended x.bytes))) pushed_is h)))
+    (subst (λ (x : Held). StopsWithin before written (shown_lines old.detail old.tally (items x.ended x.bytes))) pushed_is h)))
 
 -- at the end of a run
 pub run_end_stops : (held : Held) (old : Report) (before written : Option (List ℕ))
-    → StopsWithin before written (shown_lines old.full old.tally (items (after_gap held).ended (after_gap held).bytes)) → StopsAtRunEnd held old before written
-run_end_stops held old before written h = λ full start ended bytes s.
+    → StopsWithin before written (shown_lines old.detail old.tally (items (after_gap held).ended (after_gap held).bytes)) → StopsAtRunEnd held old before written
+run_end_stops held old before written h = λ detail start ended bytes s.
     let held_bytes : held.bytes ≡ left_over bytes = ap (λ (x : Held). x.bytes) s.held_is in
     let parts : items (not (length held.bytes == 0)) held.bytes ≡ items true (left_over bytes) = gap_items held.bytes ∙ ap (items true) held_bytes in
     let so_far = tally_so_far ended bytes in
-    let here : shown_lines old.full old.tally (items (not (length held.bytes == 0)) held.bytes) ≡ shown_lines full so_far (items true (left_over bytes)) =
-    ap (λ f. shown_lines f old.tally (items (not (length held.bytes == 0)) held.bytes)) s.full_is
-    ∙ ap (λ t. shown_lines full t (items (not (length held.bytes == 0)) held.bytes)) s.tally
-    ∙ ap (shown_lines full so_far) parts in
-    stops_after start before written (lines_so_far full ended bytes) (shown_lines full so_far (items true (left_over bytes)))
-    (lines_so_far full (closed_runs ended bytes) []) [] s.lines (subst (StopsWithin before written) here h)
-    (closed_lines full ended bytes s.bytes ∙ sym (append-nil _))
+    let here : shown_lines old.detail old.tally (items (not (length held.bytes == 0)) held.bytes) ≡ shown_lines detail so_far (items true (left_over bytes)) =
+    ap (λ f. shown_lines f old.tally (items (not (length held.bytes == 0)) held.bytes)) s.detail_is
+    ∙ ap (λ t. shown_lines detail t (items (not (length held.bytes == 0)) held.bytes)) s.tally
+    ∙ ap (shown_lines detail so_far) parts in
+    stops_after start before written (lines_so_far detail ended bytes) (shown_lines detail so_far (items true (left_over bytes)))
+    (lines_so_far detail (closed_runs ended bytes) []) [] s.lines (subst (StopsWithin before written) here h)
+    (closed_lines detail ended bytes s.bytes ∙ sym (append-nil _))
 
 -- after a front that was told, within a part of the rest
 pub stops_in_rest : (bytes : List ℕ) (at count : ℕ) (start held : Held) (first old : Report) (a b written : Option (List ℕ)) → AreBytes bytes

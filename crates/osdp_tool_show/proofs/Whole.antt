@@ -8,6 +8,7 @@ use Rattle.std.proofs.lemmas.Bool.{le-leb, lt-leb}
 use Rattle.osdp_tool_streams.specs.declared.form.Form.{Form}
 use Rattle.osdp_tool_streams.specs.Runs.{first_bad, first_bad_ended}
 use Rattle.osdp_tool_streams.proofs.FormLemmas.{bad_stays}
+use Rattle.osdp_tool_show.specs.declared.detail.Detail.{Detail}
 use Rattle.osdp_tool_show.specs.Tally.{no_tally}
 use Rattle.osdp_tool_show.specs.ToldItems.{after_runs, runs_lines, end_line}
 use Rattle.osdp_tool_streams.specs.declared.fault.ToolFault.{ToolFault}
@@ -38,28 +39,28 @@ cut_goes_on : (form : Form) (limit : ℕ) (bytes : List ℕ) → limit < length 
 cut_goes_on form limit bytes long none =
     ap (λ o. nat_le (length bytes) limit || is_some o) none ∙ ap (λ t. t || false) (lt-leb (length bytes) limit long)
 
-whole_ended : (full : Bool) (form : Form) (limit : ℕ) (bytes : List ℕ) (output : Stream) (result : Result Bool ToolFault) → ends_within form limit bytes ≡ true
-    → result ≡ answer_to form (take limit bytes) → Appends output.before output.after (shown full form (take limit bytes))
-    → IsWhole full form limit bytes output result
-whole_ended full form limit bytes output result ends answer text = record {
+whole_ended : (detail : Detail) (form : Form) (limit : ℕ) (bytes : List ℕ) (output : Stream) (result : Result Bool ToolFault) → ends_within form limit bytes ≡ true
+    → result ≡ answer_to form (take limit bytes) → Appends output.before output.after (shown detail form (take limit bytes))
+    → IsWhole detail form limit bytes output result
+whole_ended detail form limit bytes output result ends answer text = record {
   answer = answer ∙ sym (ap (λ t. cond t (answer_to form (take limit bytes)) (Err TooLong)) ends);
-  text = subst (Appends output.before output.after) (sym (ap (λ t. cond t (shown full form (take limit bytes)) (shown_so_far full form (take limit bytes))) ends)) text;
+  text = subst (Appends output.before output.after) (sym (ap (λ t. cond t (shown detail form (take limit bytes)) (shown_so_far detail form (take limit bytes))) ends)) text;
 }
 
-whole_cut : (full : Bool) (form : Form) (limit : ℕ) (bytes : List ℕ) (output : Stream) → ends_within form limit bytes ≡ false
-    → Appends output.before output.after (shown_so_far full form (take limit bytes)) → IsWhole full form limit bytes output (Err TooLong)
-whole_cut full form limit bytes output ends text = record {
+whole_cut : (detail : Detail) (form : Form) (limit : ℕ) (bytes : List ℕ) (output : Stream) → ends_within form limit bytes ≡ false
+    → Appends output.before output.after (shown_so_far detail form (take limit bytes)) → IsWhole detail form limit bytes output (Err TooLong)
+whole_cut detail form limit bytes output ends text = record {
   answer = sym (ap (λ t. cond t (answer_to form (take limit bytes)) (Err TooLong)) ends);
-  text = subst (Appends output.before output.after) (sym (ap (λ t. cond t (shown full form (take limit bytes)) (shown_so_far full form (take limit bytes))) ends)) text;
+  text = subst (Appends output.before output.after) (sym (ap (λ t. cond t (shown detail form (take limit bytes)) (shown_so_far detail form (take limit bytes))) ends)) text;
 }
 
 -- an input of which all was read, within the limit
-whole_within : (full : Bool) (form : Form) (limit : ℕ) (bytes : List ℕ) (output : Stream) (result : Result Bool ToolFault) → length bytes ≤ limit
-    → result ≡ answer_to form bytes → Appends output.before output.after (shown full form bytes) → IsWhole full form limit bytes output result
-whole_within full form limit bytes output result within answer text =
+whole_within : (detail : Detail) (form : Form) (limit : ℕ) (bytes : List ℕ) (output : Stream) (result : Result Bool ToolFault) → length bytes ≤ limit
+    → result ≡ answer_to form bytes → Appends output.before output.after (shown detail form bytes) → IsWhole detail form limit bytes output result
+whole_within detail form limit bytes output result within answer text =
     let all = take_all limit bytes within in
-    whole_ended full form limit bytes output result (within_ends form limit bytes within)
-    (answer ∙ sym (ap (answer_to form) all)) (subst (Appends output.before output.after) (sym (ap (shown full form) all)) text)
+    whole_ended detail form limit bytes output result (within_ends form limit bytes within)
+    (answer ∙ sym (ap (answer_to form) all)) (subst (Appends output.before output.after) (sym (ap (shown detail form) all)) text)
 
 answer_good : (form : Form) (bytes : List ℕ) (refused : Bool) → first_bad form bytes ≡ None → refused ≡ is_refused_input form bytes → Ok refused ≡ answer_to form bytes
 answer_good form bytes refused good is =
@@ -69,12 +70,12 @@ answer_bad : (form : Form) (bytes : List ℕ) (line : ℕ) → first_bad form by
 answer_bad form bytes line bad = sym (ap (λ o. option_map_or (λ n. Err (NotHex n)) o (Ok (is_refused_input form bytes))) bad)
 
 -- after a bad line nothing counts
-bad_shown : (full : Bool) (form : Form) (read more : List ℕ) (line : ℕ) → first_bad_ended form read ≡ Some line → shown full form (read ++ more) ≡ shown full form read
-bad_shown full form read more line bad =
+bad_shown : (detail : Detail) (form : Form) (read more : List ℕ) (line : ℕ) → first_bad_ended form read ≡ Some line → shown detail form (read ++ more) ≡ shown detail form read
+bad_shown detail form read more line bad =
     let one = (bad_stays form read more line bad).2 in
     let none = (bad_stays form read [] line bad).2 in
-    let text = λ (runs : List (List ℕ)). runs_lines full no_tally runs ++ end_line full (after_runs no_tally runs) in
-    ap text (one ∙ sym none) ∙ ap (shown full form) (append-nil read)
+    let text = λ (runs : List (List ℕ)). runs_lines detail no_tally runs ++ end_line detail (after_runs no_tally runs) in
+    ap text (one ∙ sym none) ∙ ap (shown detail form) (append-nil read)
 
 take_after : (n : ℕ) (xs ys : List ℕ) → length xs ≤ n → take n (xs ++ ys) ≡ xs ++ take (n - length xs) ys
 take_after n xs ys h =
@@ -83,57 +84,57 @@ take_after n xs ys h =
     ap (λ m. take m (xs ++ ys)) sum ∙ take-add (length xs) k (xs ++ ys)
     ∙ ap (λ l. l ++ take k (drop (length xs) (xs ++ ys))) (take-append_seam xs ys) ∙ ap (λ l. xs ++ take k l) (drop-append_seam xs ys)
 
-whole_at_bad_line : (full : Bool) (form : Form) (limit : ℕ) (bytes read rest : List ℕ) (output : Stream) (line : ℕ) → bytes ≡ read ++ rest → length read ≤ limit
-    → first_bad_ended form read ≡ Some line → Appends output.before output.after (shown full form read) → IsWhole full form limit bytes output (Err (NotHex line))
-whole_at_bad_line full form limit bytes read rest output line parts within bad text =
+whole_at_bad_line : (detail : Detail) (form : Form) (limit : ℕ) (bytes read rest : List ℕ) (output : Stream) (line : ℕ) → bytes ≡ read ++ rest → length read ≤ limit
+    → first_bad_ended form read ≡ Some line → Appends output.before output.after (shown detail form read) → IsWhole detail form limit bytes output (Err (NotHex line))
+whole_at_bad_line detail form limit bytes read rest output line parts within bad text =
     let more = take (limit - length read) rest in
     let front : take limit bytes ≡ read ++ more = ap (take limit) parts ∙ take_after limit read rest within in
     let stays = bad_stays form read more line bad in
-    whole_ended full form limit bytes output (Err (NotHex line)) (bad_ends form limit line bytes (ap (first_bad_ended form) front ∙ stays.1))
+    whole_ended detail form limit bytes output (Err (NotHex line)) (bad_ends form limit line bytes (ap (first_bad_ended form) front ∙ stays.1))
     (answer_bad form (read ++ more) line stays.0 ∙ sym (ap (answer_to form) front))
-    (subst (Appends output.before output.after) (sym (ap (shown full form) front ∙ bad_shown full form read more line bad)) text)
+    (subst (Appends output.before output.after) (sym (ap (shown detail form) front ∙ bad_shown detail form read more line bad)) text)
 
-whole_past : (full : Bool) (form : Form) (limit one : ℕ) (bytes read rest : List ℕ) (output : Stream) → bytes ≡ (read ++ one ∷ []) ++ rest → length read ≡ limit
-    → first_bad_ended form read ≡ None → Appends output.before output.after (shown_so_far full form read) → IsWhole full form limit bytes output (Err TooLong)
-whole_past full form limit one bytes read rest output parts whole good text =
+whole_past : (detail : Detail) (form : Form) (limit one : ℕ) (bytes read rest : List ℕ) (output : Stream) → bytes ≡ (read ++ one ∷ []) ++ rest → length read ≡ limit
+    → first_bad_ended form read ≡ None → Appends output.before output.after (shown_so_far detail form read) → IsWhole detail form limit bytes output (Err TooLong)
+whole_past detail form limit one bytes read rest output parts whole good text =
     let regrouped : bytes ≡ read ++ (one ∷ [] ++ rest) = parts ∙ append_assoc read (one ∷ []) rest in
     let front : take limit bytes ≡ read =
     ap (take limit) regrouped ∙ ap (λ n. take n (read ++ (one ∷ [] ++ rest))) (sym whole) ∙ take-append_seam read (one ∷ [] ++ rest) in
     let lengths = ap length parts in
     let a = length-append (read ++ one ∷ []) rest in
     let b = length-append read (one ∷ []) in
-    whole_cut full form limit bytes output (cut_goes_on form limit bytes (omega arith) (ap (first_bad_ended form) front ∙ good))
-    (subst (Appends output.before output.after) (sym (ap (shown_so_far full form) front)) text)
+    whole_cut detail form limit bytes output (cut_goes_on form limit bytes (omega arith) (ap (first_bad_ended form) front ∙ good))
+    (subst (Appends output.before output.after) (sym (ap (shown_so_far detail form) front)) text)
 
-whole_by : (full : Bool) (form : Form) (limit : ℕ) (bytes : List ℕ) (after : Option (List ℕ)) (failed : Bool) (output : Stream) (result : Result Bool ToolFault)
-    → Ends full form limit (streamed (Some bytes) after failed) output result → failed ≡ false → output.failed ≡ false → (result ≡ Err NoMemory → ⊥)
-    → IsWhole full form limit bytes output result
-whole_by full form limit bytes after failed output (Ok refused) e well well_too memory =
+whole_by : (detail : Detail) (form : Form) (limit : ℕ) (bytes : List ℕ) (after : Option (List ℕ)) (failed : Bool) (output : Stream) (result : Result Bool ToolFault)
+    → Ends detail form limit (streamed (Some bytes) after failed) output result → failed ≡ false → output.failed ≡ false → (result ≡ Err NoMemory → ⊥)
+    → IsWhole detail form limit bytes output result
+whole_by detail form limit bytes after failed output (Ok refused) e well well_too memory =
     let all = all_read bytes e.read after e.taken e.at_end in
-    whole_within full form limit bytes output (Ok refused) (subst (λ (l : List ℕ). length l ≤ limit) (sym all) e.within)
+    whole_within detail form limit bytes output (Ok refused) (subst (λ (l : List ℕ). length l ≤ limit) (sym all) e.within)
     (answer_good form e.read refused e.good e.answer ∙ ap (answer_to form) (sym all))
-    (subst (λ l. Appends output.before output.after (shown full form l)) (sym all) e.text)
-whole_by full form limit bytes after failed output (Err (NotHex line)) e well well_too memory =
+    (subst (λ l. Appends output.before output.after (shown detail form l)) (sym all) e.text)
+whole_by detail form limit bytes after failed output (Err (NotHex line)) e well well_too memory =
     let read = e.earlier ++ e.piece in
     elim e.ended [
       | inl bad ↦
           let c = consumed bytes read after e.taken in
-          whole_at_bad_line full form limit bytes read c.0 output line c.2 e.within bad e.text
+          whole_at_bad_line detail form limit bytes read c.0 output line c.2 e.within bad e.text
       | inr end ↦
           let all = all_read bytes read after e.taken end in
-          whole_within full form limit bytes output (Err (NotHex line)) (subst (λ (l : List ℕ). length l ≤ limit) (sym all) e.within)
+          whole_within detail form limit bytes output (Err (NotHex line)) (subst (λ (l : List ℕ). length l ≤ limit) (sym all) e.within)
           (answer_bad form read line e.bad ∙ ap (answer_to form) (sym all))
-          (subst (λ l. Appends output.before output.after (shown full form l)) (sym all) e.text)
+          (subst (λ l. Appends output.before output.after (shown detail form l)) (sym all) e.text)
     ]
-whole_by full form limit bytes after failed output (Err TooLong) e well well_too memory =
+whole_by detail form limit bytes after failed output (Err TooLong) e well well_too memory =
     let c = consumed bytes (e.read ++ e.one_more ∷ []) after e.taken in
-    whole_past full form limit e.one_more bytes e.read c.0 output c.2 e.whole e.good e.text
-whole_by full form limit bytes after failed output (Err ReadFailed) e well well_too memory = let told = e.input_failed in cc
-whole_by full form limit bytes after failed output (Err WriteFailed) e well well_too memory = let told = e.1 in cc
-whole_by full form limit bytes after failed output (Err NoMemory) e well well_too memory = absurd (memory refl)
-whole_by full form limit bytes after failed output (Err fault) e well well_too memory = absurd e
+    whole_past detail form limit e.one_more bytes e.read c.0 output c.2 e.whole e.good e.text
+whole_by detail form limit bytes after failed output (Err ReadFailed) e well well_too memory = let told = e.input_failed in cc
+whole_by detail form limit bytes after failed output (Err WriteFailed) e well well_too memory = let told = e.1 in cc
+whole_by detail form limit bytes after failed output (Err NoMemory) e well well_too memory = absurd (memory refl)
+whole_by detail form limit bytes after failed output (Err fault) e well well_too memory = absurd e
 
-pub ends_whole : (full : Bool) (form : Form) (limit : ℕ) (before after : Option (List ℕ)) (failed : Bool) (output : Stream) (result : Result Bool ToolFault)
-    → Ends full form limit (streamed before after failed) output result → EndsWhole full form limit (streamed before after failed) output result
-ends_whole full form limit None after failed output result e = tt
-ends_whole full form limit (Some bytes) after failed output result e = λ well well_too memory. whole_by full form limit bytes after failed output result e well well_too memory
+pub ends_whole : (detail : Detail) (form : Form) (limit : ℕ) (before after : Option (List ℕ)) (failed : Bool) (output : Stream) (result : Result Bool ToolFault)
+    → Ends detail form limit (streamed before after failed) output result → EndsWhole detail form limit (streamed before after failed) output result
+ends_whole detail form limit None after failed output result e = tt
+ends_whole detail form limit (Some bytes) after failed output result e = λ well well_too memory. whole_by detail form limit bytes after failed output result e well well_too memory

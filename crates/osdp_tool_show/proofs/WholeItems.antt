@@ -32,8 +32,8 @@ settled_new = record {
 pub took_more : (xs ys : List ℕ) (start held next : Held) (first old new : Report) (a b c : Option (List ℕ))
     → Took xs start held first old a b → Took ys held next old new b c → Took (xs ++ ys) start next first new a c
 took_more xs ys start held next first old new a b c s t = record {
-  stands = λ full begin ended open_bytes h.
-      subst (λ l. Stands full begin ended l next new c) (append_assoc open_bytes xs ys) (t.stands full begin ended (open_bytes ++ xs) (s.stands full begin ended open_bytes h));
+  stands = λ detail begin ended open_bytes h.
+      subst (λ l. Stands detail begin ended l next new c) (append_assoc open_bytes xs ys) (t.stands detail begin ended (open_bytes ++ xs) (s.stands detail begin ended open_bytes h));
   settled = t.settled;
   counts = omega (arith, s.counts, t.counts, length-append xs ys);
 }
@@ -52,7 +52,7 @@ pub took_drained : (given : List ℕ) (held next : Held) (old new : Report) (b c
 took_drained given held next old new b c fits settled d =
     let counts = d.counts in
     record {
-      stands = λ full begin ended open_bytes s. stands_more full begin b c ended open_bytes given held next old new fits s d;
+      stands = λ detail begin ended open_bytes s. stands_more detail begin b c ended open_bytes given held next old new fits s d;
       settled = drained_settled (record { bytes = held.bytes ++ given; ended = false }) next old new b c (AreBytes-append held.bytes given settled.bytes fits) d;
       counts = omega (arith, length-append held.bytes given);
     }
@@ -119,13 +119,13 @@ drained_none held old before settled none =
 -- at an item that its own bytes decide
 pub item_stops : (bytes : List ℕ) (at : ℕ) (first old : Report) (a b written : Option (List ℕ)) (part : RunItem) → AreBytes bytes → at ≤ length bytes
     → Took (take at bytes) new_run new_run first old a b → by_itself (decided false (drop at bytes)) ≡ Some part
-    → StopsWithin b written (shown_lines old.full old.tally (part ∷ [])) → StopsIn bytes new_run first a written
+    → StopsWithin b written (shown_lines old.detail old.tally (part ∷ [])) → StopsIn bytes new_run first a written
 item_stops bytes at first old a b written part fits within t is h =
-    let text = shown_lines old.full old.tally (part ∷ []) in
+    let text = shown_lines old.detail old.tally (part ∷ []) in
     let whole = append_known b text in
-    let told : Report = record { full = old.full; tally = tally_after old.tally part; text = old.text } in
+    let told : Report = record { detail = old.detail; tally = tally_after old.tally part; text = old.text } in
     let tells : Tells old told b whole (part ∷ []) = record {
-      full = refl;
+      detail = refl;
       tally = sym (tally_after_all-cons old.tally part [] ∙ tally_after_all-nil (tally_after old.tally part));
       lines = known_appends b text;
     } in
@@ -133,5 +133,5 @@ item_stops bytes at first old a b written part fits within t is h =
     let next = took_item bytes at first old told a b whole part fits within t is tells in
     subst (λ l. StopsIn l new_run first a written) (take-append-drop n bytes)
     (stops_longer_run (take n bytes) (drop n bytes) new_run first a written (AreBytes-take n bytes fits) (AreBytes-drop n bytes fits)
-    (λ full start ended open_bytes s.
-    stops_by start whole written _ _ [] ((next.stands full start ended open_bytes s).lines) h (sym (append-nil _))))
+    (λ detail start ended open_bytes s.
+    stops_by start whole written _ _ [] ((next.stands detail start ended open_bytes s).lines) h (sym (append-nil _))))

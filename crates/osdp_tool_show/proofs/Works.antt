@@ -12,6 +12,7 @@ use Rattle.osdp_tool_streams.specs.Cut.{line_feed, unended_line}
 use Rattle.osdp_tool_streams.specs.Line.{line_bytes}
 use Rattle.osdp_tool_streams.specs.Runs.{ended_runs, open_run, runs_of, first_bad, first_bad_ended, closed_runs}
 use Rattle.osdp_tool_streams.proofs.FormLemmas.{feed_joined, feed_apart, feed_bad, end_joined, end_apart, end_bad, bad_stays}
+use Rattle.osdp_tool_show.specs.declared.detail.Detail.{Detail}
 use Rattle.osdp_tool_show.specs.Tally.{no_tally, tally_after_all}
 use Rattle.osdp_tool_show.specs.ToldItems.{shown_lines, after_runs, runs_lines, end_line, tally_so_far, lines_so_far}
 use Rattle.osdp_tool_show.proofs.Lines.{tally_after_all-nil, shown_lines-nil}
@@ -107,27 +108,27 @@ read_failure limit left old new a b c x y h kept =
 
 -- ---- the end
 
-pub lines_closed : (full : Bool) (runs : List (List ℕ)) → lines_so_far full runs [] ≡ runs_lines full no_tally runs
-lines_closed full runs =
-    ap (λ l. runs_lines full no_tally runs ++ l) (ap (shown_lines full (after_runs no_tally runs)) (items_undecided false [] (decided_nothing false)) ∙ shown_lines-nil full (after_runs no_tally runs))
-    ∙ append-nil (runs_lines full no_tally runs)
+pub lines_closed : (detail : Detail) (runs : List (List ℕ)) → lines_so_far detail runs [] ≡ runs_lines detail no_tally runs
+lines_closed detail runs =
+    ap (λ l. runs_lines detail no_tally runs ++ l) (ap (shown_lines detail (after_runs no_tally runs)) (items_undecided false [] (decided_nothing false)) ∙ shown_lines-nil detail (after_runs no_tally runs))
+    ∙ append-nil (runs_lines detail no_tally runs)
 
 pub tally_closed : (runs : List (List ℕ)) → tally_so_far runs [] ≡ after_runs no_tally runs
 tally_closed runs = ap (tally_after_all (after_runs no_tally runs)) (items_undecided false [] (decided_nothing false)) ∙ tally_after_all-nil (after_runs no_tally runs)
 
 pub closed_by : (old new : Capture) (next : Held) (mid : Report) (before middle written : Option (List ℕ))
     → EndedRun old.framer next old.report mid before middle → new.report.tally ≡ mid.tally → new.ended ≡ old.ended
-    → Appends middle written (end_line mid.full mid.tally) → Closed old new before written
+    → Appends middle written (end_line mid.detail mid.tally) → Closed old new before written
 closed_by old new next mid before middle written e tally ended w = record {
-  text = λ full start runs open_bytes s.
+  text = λ detail start runs open_bytes s.
       let closed = closed_runs runs open_bytes in
-      let at = e.stands full start runs open_bytes s in
-      let last : end_line mid.full mid.tally ≡ end_line full (after_runs no_tally closed) =
-      ap (λ f. end_line f mid.tally) at.full_is ∙ ap (end_line full) (at.tally ∙ tally_closed closed) in
-      Appends-trans start middle written (runs_lines full no_tally closed) (end_line full (after_runs no_tally closed))
-      (subst (Appends start middle) (lines_closed full closed) at.lines) (subst (Appends middle written) last w);
-  tally = λ full start runs open_bytes s.
-      tally ∙ (e.stands full start runs open_bytes s).tally ∙ tally_closed (closed_runs runs open_bytes);
+      let at = e.stands detail start runs open_bytes s in
+      let last : end_line mid.detail mid.tally ≡ end_line detail (after_runs no_tally closed) =
+      ap (λ f. end_line f mid.tally) at.detail_is ∙ ap (end_line detail) (at.tally ∙ tally_closed closed) in
+      Appends-trans start middle written (runs_lines detail no_tally closed) (end_line detail (after_runs no_tally closed))
+      (subst (Appends start middle) (lines_closed detail closed) at.lines) (subst (Appends middle written) last w);
+  tally = λ detail start runs open_bytes s.
+      tally ∙ (e.stands detail start runs open_bytes s).tally ∙ tally_closed (closed_runs runs open_bytes);
   same = ended;
 }
 
@@ -158,30 +159,30 @@ fed_end form read is good = by_line form is good (line_bytes (unended_line read)
 
 pub ends_raw : (old : Capture) (before : Option (List ℕ)) → old.form ≡ Raw → IsSettled old.framer → EndsLine true old old before before
 ends_raw old before raw settled = record {
-  ends = λ full form start read f. by_form full form start read f (sym f.form_is ∙ raw);
+  ends = λ detail form start read f. by_form detail form start read f (sym f.form_is ∙ raw);
   settled = settled;
   load_is = omega arith;
 }
   where
-    by_form : (full : Bool) (form : Form) (start : Option (List ℕ)) (read : List ℕ) → HasShown full form start read old before → form ≡ Raw
-        → EndedInput full form start read true old before
-    by_form full Raw start read f is = record { ended = []; open_bytes = read; runs = refl; bad = refl; stands = f.stands }
-    by_form full Joined start read f is = cc
-    by_form full Apart start read f is = cc
+    by_form : (detail : Detail) (form : Form) (start : Option (List ℕ)) (read : List ℕ) → HasShown detail form start read old before → form ≡ Raw
+        → EndedInput detail form start read true old before
+    by_form detail Raw start read f is = record { ended = []; open_bytes = read; runs = refl; bad = refl; stands = f.stands }
+    by_form detail Joined start read f is = cc
+    by_form detail Apart start read f is = cc
 
 pub ends_line : (good : Bool) (old new : Capture) (before after : Option (List ℕ)) → (old.form ≡ Joined) ⊎ (old.form ≡ Apart)
     → TookPiece (line_feed ∷ []) good old new before after → EndsLine good old new before after
 ends_line good old new before after is t = record {
-  ends = λ full form start read f. by_good good full form start read (fed_end form read (subst (λ x. (x ≡ Joined) ⊎ (x ≡ Apart)) f.form_is is) f.good) (t.follows full form start read f);
+  ends = λ detail form start read f. by_good good detail form start read (fed_end form read (subst (λ x. (x ≡ Joined) ⊎ (x ≡ Apart)) f.form_is is) f.good) (t.follows detail form start read f);
   settled = t.settled;
   load_is = t.load_is;
 }
   where
-    ended : (g : Bool) (full : Bool) (form : Form) (start : Option (List ℕ)) (read : List ℕ) → EndsAsFed form read
+    ended : (g : Bool) (detail : Detail) (form : Form) (start : Option (List ℕ)) (read : List ℕ) → EndsAsFed form read
         → first_bad_ended form (read ++ line_feed ∷ []) ≡ (if g then None else Some new.ended)
-        → Stands full start (ended_runs form (read ++ line_feed ∷ [])) (open_run form (read ++ line_feed ∷ [])) new.framer new.report after
-        → EndedInput full form start read g new after
-    ended g full form start read fed bad stands = record {
+        → Stands detail start (ended_runs form (read ++ line_feed ∷ [])) (open_run form (read ++ line_feed ∷ [])) new.framer new.report after
+        → EndedInput detail form start read g new after
+    ended g detail form start read fed bad stands = record {
       ended = ended_runs form (read ++ line_feed ∷ []);
       open_bytes = open_run form (read ++ line_feed ∷ []);
       runs = fed.0;
@@ -189,33 +190,33 @@ ends_line good old new before after is t = record {
       stands = stands;
     }
 
-    by_good : (g : Bool) (full : Bool) (form : Form) (start : Option (List ℕ)) (read : List ℕ) → EndsAsFed form read
-        → HasShownIf g full form start (read ++ line_feed ∷ []) new after → EndedInput full form start read g new after
-    by_good true full form start read fed f = ended true full form start read fed f.good f.stands
-    by_good false full form start read fed f = ended false full form start read fed f.bad f.stands
+    by_good : (g : Bool) (detail : Detail) (form : Form) (start : Option (List ℕ)) (read : List ℕ) → EndsAsFed form read
+        → HasShownIf g detail form start (read ++ line_feed ∷ []) new after → EndedInput detail form start read g new after
+    by_good true detail form start read fed f = ended true detail form start read fed f.good f.stands
+    by_good false detail form start read fed f = ended false detail form start read fed f.bad f.stands
 
 -- ---- the answers
 
 -- a call stopped once the input had ended
-part_at_end : (full : Bool) (form : Form) (limit : ℕ) (start before middle written input_before input_after : Option (List ℕ)) (input_failed output_failed : Bool)
-    (old mid : Capture) → ReadToEnd limit old mid input_before input_after before middle → StopsAtEnd mid middle written → HasShown full form start [] old before
-    → EndsPartWay full form limit (streamed input_before input_after input_failed) (streamed start written output_failed)
-part_at_end full form limit start before middle written ib ia input_failed output_failed old mid r h f =
+part_at_end : (detail : Detail) (form : Form) (limit : ℕ) (start before middle written input_before input_after : Option (List ℕ)) (input_failed output_failed : Bool)
+    (old mid : Capture) → ReadToEnd limit old mid input_before input_after before middle → StopsAtEnd mid middle written → HasShown detail form start [] old before
+    → EndsPartWay detail form limit (streamed input_before input_after input_failed) (streamed start written output_failed)
+part_at_end detail form limit start before middle written ib ia input_failed output_failed old mid r h f =
     let within = r.within in
     record {
       read = r.read;
       more = [];
       taken = subst (Consumes ib ia) (sym (append-nil r.read)) r.taken;
       within = subst (λ (l : List ℕ). length l ≤ limit + 1) (sym (append-nil r.read)) (omega arith);
-      text = h full form start r.read (r.took.follows full form start [] f);
+      text = h detail form start r.read (r.took.follows detail form start [] f);
     }
 
 -- .. within a piece
-pub part_in_piece : (full : Bool) (form : Form) (limit : ℕ) (start before written input_before input_after : Option (List ℕ)) (input_failed output_failed : Bool)
-    (old : Capture) → ReadPart limit old input_before input_after before written → HasShown full form start [] old before
-    → EndsPartWay full form limit (streamed input_before input_after input_failed) (streamed start written output_failed)
-part_in_piece full form limit start before written ib ia input_failed output_failed old r f =
-    let g = r.stops full form start r.read (r.took.follows full form start [] f) in
+pub part_in_piece : (detail : Detail) (form : Form) (limit : ℕ) (start before written input_before input_after : Option (List ℕ)) (input_failed output_failed : Bool)
+    (old : Capture) → ReadPart limit old input_before input_after before written → HasShown detail form start [] old before
+    → EndsPartWay detail form limit (streamed input_before input_after input_failed) (streamed start written output_failed)
+part_in_piece detail form limit start before written ib ia input_failed output_failed old r f =
+    let g = r.stops detail form start r.read (r.took.follows detail form start [] f) in
     let regrouped : (r.read ++ g.0) ++ g.1 ≡ r.read ++ r.piece = append_assoc r.read g.0 g.1 ∙ ap (λ l. r.read ++ l) (sym g.2) in
     let within = r.within in
     record {
@@ -227,16 +228,16 @@ part_in_piece full form limit start before written ib ia input_failed output_fai
     }
 
 -- what is known where a bad line ended the input
-at_bad_line : (full : Bool) (form : Form) (limit : ℕ) (start before middle input_before input_after : Option (List ℕ)) (old mid : Capture)
-    → (r : ReadToBadLine limit old mid input_before input_after before middle) → HasShown full form start [] old before
+at_bad_line : (detail : Detail) (form : Form) (limit : ℕ) (start before middle input_before input_after : Option (List ℕ)) (old mid : Capture)
+    → (r : ReadToBadLine limit old mid input_before input_after before middle) → HasShown detail form start [] old before
     → (first_bad_ended form r.earlier ≡ None)
-    × Stands full start (ended_runs form (r.earlier ++ take r.most r.piece)) (open_run form (r.earlier ++ take r.most r.piece)) mid.framer mid.report middle
+    × Stands detail start (ended_runs form (r.earlier ++ take r.most r.piece)) (open_run form (r.earlier ++ take r.most r.piece)) mid.framer mid.report middle
     × ((first_bad form (r.earlier ++ r.piece) ≡ Some mid.ended) × (first_bad_ended form (r.earlier ++ r.piece) ≡ Some mid.ended)
     × (runs_of form (r.earlier ++ r.piece)
     ≡ closed_runs (ended_runs form (r.earlier ++ take r.most r.piece)) (open_run form (r.earlier ++ take r.most r.piece))))
-at_bad_line full form limit start before middle ib ia old mid r f =
-    let earlier = r.took_earlier.follows full form start [] f in
-    let stops = r.took.follows full form start r.earlier earlier in
+at_bad_line detail form limit start before middle ib ia old mid r f =
+    let earlier = r.took_earlier.follows detail form start [] f in
+    let stops = r.took.follows detail form start r.earlier earlier in
     let fed = r.earlier ++ take r.most r.piece in
     let more = drop r.most r.piece in
     let whole : fed ++ more ≡ r.earlier ++ r.piece =
@@ -248,27 +249,27 @@ at_bad_line full form limit start before middle ib ia old mid r f =
     )
 
 -- .. once a bad line had ended the input
-pub part_at_bad_line : (full : Bool) (form : Form) (limit : ℕ) (start before middle written input_before input_after : Option (List ℕ)) (input_failed output_failed : Bool)
-    (old mid : Capture) → ReadToBadLine limit old mid input_before input_after before middle → StopsClosing mid middle written → HasShown full form start [] old before
-    → EndsPartWay full form limit (streamed input_before input_after input_failed) (streamed start written output_failed)
-part_at_bad_line full form limit start before middle written ib ia input_failed output_failed old mid r h f =
-    let here = at_bad_line full form limit start before middle ib ia old mid r f in
+pub part_at_bad_line : (detail : Detail) (form : Form) (limit : ℕ) (start before middle written input_before input_after : Option (List ℕ)) (input_failed output_failed : Bool)
+    (old mid : Capture) → ReadToBadLine limit old mid input_before input_after before middle → StopsClosing mid middle written → HasShown detail form start [] old before
+    → EndsPartWay detail form limit (streamed input_before input_after input_failed) (streamed start written output_failed)
+part_at_bad_line detail form limit start before middle written ib ia input_failed output_failed old mid r h f =
+    let here = at_bad_line detail form limit start before middle ib ia old mid r f in
     let within = r.within in
     record {
       read = r.earlier ++ r.piece;
       more = [];
       taken = subst (Consumes ib ia) (sym (append-nil (r.earlier ++ r.piece))) r.taken;
       within = subst (λ (l : List ℕ). length l ≤ limit + 1) (sym (append-nil (r.earlier ++ r.piece))) (omega arith);
-      text = inr (subst (λ runs. StopsWithin start written (runs_lines full no_tally runs ++ end_line full (after_runs no_tally runs))) (sym here.2.2)
-          (h full start _ _ here.1));
+      text = inr (subst (λ runs. StopsWithin start written (runs_lines detail no_tally runs ++ end_line detail (after_runs no_tally runs))) (sym here.2.2)
+          (h detail start _ _ here.1));
     }
 
 -- .. past the limit
-pub part_past_limit : (full : Bool) (form : Form) (limit : ℕ) (start before middle written input_before input_after : Option (List ℕ)) (input_failed output_failed : Bool)
-    (old mid : Capture) → ReadToLimit limit old mid input_before input_after before middle → IsBeginning written middle → HasShown full form start [] old before
-    → EndsPartWay full form limit (streamed input_before input_after input_failed) (streamed start written output_failed)
-part_past_limit full form limit start before middle written ib ia input_failed output_failed old mid r h f =
-    let here = r.took.follows full form start [] f in
+pub part_past_limit : (detail : Detail) (form : Form) (limit : ℕ) (start before middle written input_before input_after : Option (List ℕ)) (input_failed output_failed : Bool)
+    (old mid : Capture) → ReadToLimit limit old mid input_before input_after before middle → IsBeginning written middle → HasShown detail form start [] old before
+    → EndsPartWay detail form limit (streamed input_before input_after input_failed) (streamed start written output_failed)
+part_past_limit detail form limit start before middle written ib ia input_failed output_failed old mid r h f =
+    let here = r.took.follows detail form start [] f in
     let whole = r.whole in
     let lengths = length-append r.read (r.one_more ∷ []) in
     record {
@@ -276,18 +277,18 @@ part_past_limit full form limit start before middle written ib ia input_failed o
       more = r.one_more ∷ [];
       taken = r.taken;
       within = omega arith;
-      text = inl (stops_by start middle written (shown_so_far full form r.read) (shown_so_far full form r.read) [] here.stands.lines h (sym (append-nil _)));
+      text = inl (stops_by start middle written (shown_so_far detail form r.read) (shown_so_far detail form r.read) [] here.stands.lines h (sym (append-nil _)));
     }
 
 -- .. before anything was read
-pub part_at_once : (full : Bool) (form : Form) (limit : ℕ) (input output : Option (List ℕ)) (input_failed output_failed : Bool)
-    → EndsPartWay full form limit (streamed input input input_failed) (streamed output output output_failed)
-part_at_once full form limit input output input_failed output_failed = record {
+pub part_at_once : (detail : Detail) (form : Form) (limit : ℕ) (input output : Option (List ℕ)) (input_failed output_failed : Bool)
+    → EndsPartWay detail form limit (streamed input input input_failed) (streamed output output output_failed)
+part_at_once detail form limit input output input_failed output_failed = record {
   read = [];
   more = [];
   taken = Consumes-nil input;
   within = omega arith;
-  text = inl (stops_by output output output [] (shown_so_far full form []) (shown_so_far full form []) (Appends-nil output) (begun_all output) refl);
+  text = inl (stops_by output output output [] (shown_so_far detail form []) (shown_so_far detail form []) (Appends-nil output) (begun_all output) refl);
 }
 
 -- a step that fails after one that went well
@@ -310,25 +311,25 @@ stopped_at_end r fault old was failed before written is s h =
     by_fault NoMemory s = (s, h)
     by_fault f s = absurd s
 
-pub stopped : (full : Bool) (form : Form) (limit : ℕ) (start written input_before input_after : Option (List ℕ)) (input_failed was failed : Bool)
+pub stopped : (detail : Detail) (form : Form) (limit : ℕ) (start written input_before input_after : Option (List ℕ)) (input_failed was failed : Bool)
     (r : Result Bool ToolFault) (fault : ToolFault)
     → IsErrAnd r (λ f. f ≡ fault) → IsStep {T = Unit {0}} (Err fault) was failed → input_failed ≡ false
-    → EndsPartWay full form limit (streamed input_before input_after input_failed) (streamed start written failed)
-    → Works full form limit (streamed input_before input_after input_failed) (streamed start written failed) r
-stopped full form limit start written ib ia input_failed was failed r fault is s well part =
-    subst (λ a. Works full form limit (streamed ib ia input_failed) (streamed start written failed) a) (sym (handed_on r fault is)) (by_fault fault s)
+    → EndsPartWay detail form limit (streamed input_before input_after input_failed) (streamed start written failed)
+    → Works detail form limit (streamed input_before input_after input_failed) (streamed start written failed) r
+stopped detail form limit start written ib ia input_failed was failed r fault is s well part =
+    subst (λ a. Works detail form limit (streamed ib ia input_failed) (streamed start written failed) a) (sym (handed_on r fault is)) (by_fault fault s)
   where
-    by_fault : (f : ToolFault) → IsStep {T = Unit {0}} (Err f) was failed → Works full form limit (streamed ib ia input_failed) (streamed start written failed) (Err f)
+    by_fault : (f : ToolFault) → IsStep {T = Unit {0}} (Err f) was failed → Works detail form limit (streamed ib ia input_failed) (streamed start written failed) (Err f)
     by_fault WriteFailed s = (well, s, part)
     by_fault NoMemory s = (well, part)
     by_fault f s = absurd s
 
-pub works_at_end : (full : Bool) (form : Form) (limit : ℕ) (start before middle written input_before input_after : Option (List ℕ)) (input_failed was output_failed : Bool)
+pub works_at_end : (detail : Detail) (form : Form) (limit : ℕ) (start before middle written input_before input_after : Option (List ℕ)) (input_failed was output_failed : Bool)
     (old mid : Capture) (result : Result Bool ToolFault) → ReadToEnd limit old mid input_before input_after before middle → input_failed ≡ false → was ≡ false
-    → Answered mid result was output_failed middle written → HasShown full form start [] old before
-    → Works full form limit (streamed input_before input_after input_failed) (streamed start written output_failed) result
-works_at_end full form limit start before middle written ib ia input_failed was output_failed old mid (Ok refused) r well quiet a f =
-    let here = a.1 full form start r.read (r.took.follows full form start [] f) in
+    → Answered mid result was output_failed middle written → HasShown detail form start [] old before
+    → Works detail form limit (streamed input_before input_after input_failed) (streamed start written output_failed) result
+works_at_end detail form limit start before middle written ib ia input_failed was output_failed old mid (Ok refused) r well quiet a f =
+    let here = a.1 detail form start r.read (r.took.follows detail form start [] f) in
     record {
       read = r.read;
       taken = r.taken;
@@ -340,33 +341,33 @@ works_at_end full form limit start before middle written ib ia input_failed was 
       input_well = well;
       output_well = a.0 ∙ quiet;
     }
-works_at_end full form limit start before middle written ib ia input_failed was output_failed old mid (Err (NotHex line)) r well quiet a f =
-    let here = a.1 full form start r.read (r.took.follows full form start [] f) in
+works_at_end detail form limit start before middle written ib ia input_failed was output_failed old mid (Err (NotHex line)) r well quiet a f =
+    let here = a.1 detail form start r.read (r.took.follows detail form start [] f) in
     record {
       earlier = r.read;
       piece = [];
       taken = subst (Consumes ib ia) (sym (append-nil r.read)) r.taken;
       within = subst (λ (l : List ℕ). length l ≤ limit) (sym (append-nil r.read)) r.within;
       one_piece = omega arith;
-      good = (r.took.follows full form start [] f).good;
+      good = (r.took.follows detail form start [] f).good;
       bad = subst (λ l. first_bad form l ≡ Some line) (sym (append-nil r.read)) here.0;
       ended = inr r.at_end;
-      text = subst (λ l. Appends start written (shown full form l)) (sym (append-nil r.read)) here.1;
+      text = subst (λ l. Appends start written (shown detail form l)) (sym (append-nil r.read)) here.1;
       input_well = well;
       output_well = a.0 ∙ quiet;
     }
-works_at_end full form limit start before middle written ib ia input_failed was output_failed old mid (Err WriteFailed) r well quiet a f =
-    (well, a.0, part_at_end full form limit start before middle written ib ia input_failed output_failed old mid r a.1 f)
-works_at_end full form limit start before middle written ib ia input_failed was output_failed old mid (Err NoMemory) r well quiet a f =
-    (well, part_at_end full form limit start before middle written ib ia input_failed output_failed old mid r a.1 f)
-works_at_end full form limit start before middle written ib ia input_failed was output_failed old mid (Err fault) r well quiet a f = absurd a
+works_at_end detail form limit start before middle written ib ia input_failed was output_failed old mid (Err WriteFailed) r well quiet a f =
+    (well, a.0, part_at_end detail form limit start before middle written ib ia input_failed output_failed old mid r a.1 f)
+works_at_end detail form limit start before middle written ib ia input_failed was output_failed old mid (Err NoMemory) r well quiet a f =
+    (well, part_at_end detail form limit start before middle written ib ia input_failed output_failed old mid r a.1 f)
+works_at_end detail form limit start before middle written ib ia input_failed was output_failed old mid (Err fault) r well quiet a f = absurd a
 
-pub works_at_bad_line : (full : Bool) (form : Form) (limit : ℕ) (start before middle written input_before input_after : Option (List ℕ)) (input_failed output_failed : Bool)
+pub works_at_bad_line : (detail : Detail) (form : Form) (limit : ℕ) (start before middle written input_before input_after : Option (List ℕ)) (input_failed output_failed : Bool)
     (old mid new : Capture) → ReadToBadLine limit old mid input_before input_after before middle → input_failed ≡ false → output_failed ≡ false
-    → Closed mid new middle written → HasShown full form start [] old before
-    → EndsAtBadLine full form limit (streamed input_before input_after input_failed) (streamed start written output_failed) new.ended
-works_at_bad_line full form limit start before middle written ib ia input_failed output_failed old mid new r well well_too c f =
-    let here = at_bad_line full form limit start before middle ib ia old mid r f in
+    → Closed mid new middle written → HasShown detail form start [] old before
+    → EndsAtBadLine detail form limit (streamed input_before input_after input_failed) (streamed start written output_failed) new.ended
+works_at_bad_line detail form limit start before middle written ib ia input_failed output_failed old mid new r well well_too c f =
+    let here = at_bad_line detail form limit start before middle ib ia old mid r f in
     let line : Some mid.ended ≡ Some new.ended = ap Some (sym c.same) in
     record {
       earlier = r.earlier;
@@ -377,8 +378,8 @@ works_at_bad_line full form limit start before middle written ib ia input_failed
       good = here.0;
       bad = here.2.0 ∙ line;
       ended = inl (here.2.1 ∙ line);
-      text = subst (λ runs. Appends start written (runs_lines full no_tally runs ++ end_line full (after_runs no_tally runs))) (sym here.2.2)
-          (c.text full start _ _ here.1);
+      text = subst (λ runs. Appends start written (runs_lines detail no_tally runs ++ end_line detail (after_runs no_tally runs))) (sym here.2.2)
+          (c.text detail start _ _ here.1);
       input_well = well;
       output_well = well_too;
     }
@@ -403,32 +404,32 @@ written_or_part : (r : Result (Unit {0}) ToolFault) (middle written : Option (Li
 written_or_part (Ok x) middle written kept stops = begun_kept middle written kept
 written_or_part (Err e) middle written kept stops = stops
 
-pub works_at_failed_read : (full : Bool) (form : Form) (limit : ℕ) (start before middle written input_before input_after : Option (List ℕ)) (input_failed was output_failed : Bool)
+pub works_at_failed_read : (detail : Detail) (form : Form) (limit : ℕ) (start before middle written input_before input_after : Option (List ℕ)) (input_failed was output_failed : Bool)
     (old mid : Capture) (r : Result (Unit {0}) ToolFault) → ReadToFailure limit old mid input_before input_after before middle → input_failed ≡ true
-    → IsStep r was output_failed → IfErr r (λ fault. fault ≡ WriteFailed) → OnOk r (Keeps middle written) → OnErr r (IsBeginning written middle) → HasShown full form start [] old before
-    → EndsAtFailedRead full form limit (streamed input_before input_after input_failed) (streamed start written output_failed)
-works_at_failed_read full form limit start before middle written ib ia input_failed was output_failed old mid r read failed step fault kept stops f =
-    let here = read.took.follows full form start [] f in
+    → IsStep r was output_failed → IfErr r (λ fault. fault ≡ WriteFailed) → OnOk r (Keeps middle written) → OnErr r (IsBeginning written middle) → HasShown detail form start [] old before
+    → EndsAtFailedRead detail form limit (streamed input_before input_after input_failed) (streamed start written output_failed)
+works_at_failed_read detail form limit start before middle written ib ia input_failed was output_failed old mid r read failed step fault kept stops f =
+    let here = read.took.follows detail form start [] f in
     record {
       read = read.read;
       taken = read.taken;
       within = read.within;
       good = here.good;
-      text = λ well. Appends-kept start middle written (lines_so_far full (ended_runs form read.read) (open_run form read.read)) here.stands.lines (written_well r was output_failed step fault kept well);
-      part = stops_by start middle written (shown_so_far full form read.read) (shown_so_far full form read.read) [] here.stands.lines
+      text = λ well. Appends-kept start middle written (lines_so_far detail (ended_runs form read.read) (open_run form read.read)) here.stands.lines (written_well r was output_failed step fault kept well);
+      part = stops_by start middle written (shown_so_far detail form read.read) (shown_so_far detail form read.read) [] here.stands.lines
           (written_or_part r middle written kept stops) (sym (append-nil _));
       input_failed = failed;
     }
 
 -- an input that failed before the call
-pub ends_at_once : (full : Bool) (form : Form) (limit : ℕ) (input output : Option (List ℕ)) (input_failed output_failed : Bool) → input_failed ≡ true
-    → EndsAtFailedRead full form limit (streamed input input input_failed) (streamed output output output_failed)
-ends_at_once full form limit input output input_failed output_failed failed = record {
+pub ends_at_once : (detail : Detail) (form : Form) (limit : ℕ) (input output : Option (List ℕ)) (input_failed output_failed : Bool) → input_failed ≡ true
+    → EndsAtFailedRead detail form limit (streamed input input input_failed) (streamed output output output_failed)
+ends_at_once detail form limit input output input_failed output_failed failed = record {
   read = [];
   taken = Consumes-nil input;
   within = omega arith;
   good = nothing_bad form;
-  text = λ well. told_nothing full form output;
-  part = stops_by output output output [] (shown_so_far full form []) (shown_so_far full form []) (Appends-nil output) (begun_all output) refl;
+  text = λ well. told_nothing detail form output;
+  part = stops_by output output output [] (shown_so_far detail form []) (shown_so_far detail form []) (Appends-nil output) (begun_all output) refl;
   input_failed = failed;
 }

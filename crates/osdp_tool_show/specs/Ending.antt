@@ -7,6 +7,7 @@ use Rattle.osdp_tool_streams.specs.declared.fault.ToolFault.{ToolFault}
 use Rattle.osdp_tool_streams.specs.declared.fault.ToolFault.TheVariants.{NotHex, TooLong, ReadFailed, WriteFailed, NoMemory}
 use Rattle.osdp_tool_streams.specs.declared.watch.Watched.{Watched}
 use Rattle.osdp_tool_streams.specs.Watched.{has_failed, inner_of}
+use Rattle.osdp_tool_show.specs.declared.detail.Detail.{Detail}
 use Rattle.osdp_tool_show.specs.Shown.{shown, shown_so_far, is_refused_input, limited_text, limited_answer}
 use Rattle.osdp_tool_show.specs.Written.{StopsWithin}
 
@@ -29,20 +30,20 @@ abbrev pub piece_size : ℕ
 piece_size = 65536
 
 -- the input was read to its end, and all of it is shown
-pub record EndsAtEnd (full : Bool) (form : Form) (limit : ℕ) (input output : Stream) (refused : Bool) : Type 0 where
+pub record EndsAtEnd (detail : Detail) (form : Form) (limit : ℕ) (input output : Stream) (refused : Bool) : Type 0 where
   pub read : List ℕ
   pub taken : Consumes input.before input.after read
   pub at_end : IsAtEnd input.after
   pub within : length read ≤ limit
   pub good : first_bad form read ≡ None
   pub answer : refused ≡ is_refused_input form read
-  pub text : Appends output.before output.after (shown full form read)
+  pub text : Appends output.before output.after (shown detail form read)
   pub input_well : input.failed ≡ false
   pub output_well : output.failed ≡ false
 
 -- A bad line ended the input, and what stands before it is shown. It has ended, at a line feed or with the
 -- input, and nothing was read after the piece in which it did.
-pub record EndsAtBadLine (full : Bool) (form : Form) (limit : ℕ) (input output : Stream) (line : ℕ) : Type 0 where
+pub record EndsAtBadLine (detail : Detail) (form : Form) (limit : ℕ) (input output : Stream) (line : ℕ) : Type 0 where
   pub earlier : List ℕ
   pub piece : List ℕ
   pub taken : Consumes input.before input.after (earlier ++ piece)
@@ -51,57 +52,57 @@ pub record EndsAtBadLine (full : Bool) (form : Form) (limit : ℕ) (input output
   pub good : first_bad_ended form earlier ≡ None
   pub bad : first_bad form (earlier ++ piece) ≡ Some line
   pub ended : (first_bad_ended form (earlier ++ piece) ≡ Some line) ⊎ IsAtEnd input.after
-  pub text : Appends output.before output.after (shown full form (earlier ++ piece))
+  pub text : Appends output.before output.after (shown detail form (earlier ++ piece))
   pub input_well : input.failed ≡ false
   pub output_well : output.failed ≡ false
 
 -- as many bytes as the limit were read and one more; the items that those within it decide are shown
-pub record EndsPastLimit (full : Bool) (form : Form) (limit : ℕ) (input output : Stream) : Type 0 where
+pub record EndsPastLimit (detail : Detail) (form : Form) (limit : ℕ) (input output : Stream) : Type 0 where
   pub read : List ℕ
   pub one_more : ℕ
   pub taken : Consumes input.before input.after (read ++ one_more ∷ [])
   pub whole : length read ≡ limit
   pub good : first_bad_ended form read ≡ None
-  pub text : Appends output.before output.after (shown_so_far full form read)
+  pub text : Appends output.before output.after (shown_so_far detail form read)
   pub input_well : input.failed ≡ false
   pub output_well : output.failed ≡ false
 
 -- the input failed; the items that the bytes read decide are shown, or a beginning of their text where the output failed too
-pub record EndsAtFailedRead (full : Bool) (form : Form) (limit : ℕ) (input output : Stream) : Type 0 where
+pub record EndsAtFailedRead (detail : Detail) (form : Form) (limit : ℕ) (input output : Stream) : Type 0 where
   pub read : List ℕ
   pub taken : Consumes input.before input.after read
   pub within : length read ≤ limit
   pub good : first_bad_ended form read ≡ None
-  pub text : output.failed ≡ false → Appends output.before output.after (shown_so_far full form read)
-  pub part : StopsWithin output.before output.after (shown_so_far full form read)
+  pub text : output.failed ≡ false → Appends output.before output.after (shown_so_far detail form read)
+  pub part : StopsWithin output.before output.after (shown_so_far detail form read)
   pub input_failed : input.failed ≡ true
 
 -- the output failed or memory ran out: what was written is a beginning of the text of the first bytes that were read, as those of an input that
 -- goes on or of one that has ended
-pub record EndsPartWay (full : Bool) (form : Form) (limit : ℕ) (input output : Stream) : Type 0 where
+pub record EndsPartWay (detail : Detail) (form : Form) (limit : ℕ) (input output : Stream) : Type 0 where
   pub read : List ℕ
   pub more : List ℕ
   pub taken : Consumes input.before input.after (read ++ more)
   pub within : length (read ++ more) ≤ limit + 1
-  pub text : StopsWithin output.before output.after (shown_so_far full form read) ⊎ StopsWithin output.before output.after (shown full form read)
+  pub text : StopsWithin output.before output.after (shown_so_far detail form read) ⊎ StopsWithin output.before output.after (shown detail form read)
 
 -- by the answer
-abbrev pub Ends : Bool → Form → ℕ → Stream → Stream → Result Bool ToolFault → Type 0
-Ends full form limit input output (Ok refused) = EndsAtEnd full form limit input output refused
-Ends full form limit input output (Err (NotHex line)) = EndsAtBadLine full form limit input output line
-Ends full form limit input output (Err TooLong) = EndsPastLimit full form limit input output
-Ends full form limit input output (Err ReadFailed) = EndsAtFailedRead full form limit input output
-Ends full form limit input output (Err WriteFailed) = (input.failed ≡ false) × (output.failed ≡ true) × EndsPartWay full form limit input output
-Ends full form limit input output (Err NoMemory) = (input.failed ≡ false) × (output.failed ≡ false) × EndsPartWay full form limit input output
-Ends full form limit input output (Err fault) = ⊥
+abbrev pub Ends : Detail → Form → ℕ → Stream → Stream → Result Bool ToolFault → Type 0
+Ends detail form limit input output (Ok refused) = EndsAtEnd detail form limit input output refused
+Ends detail form limit input output (Err (NotHex line)) = EndsAtBadLine detail form limit input output line
+Ends detail form limit input output (Err TooLong) = EndsPastLimit detail form limit input output
+Ends detail form limit input output (Err ReadFailed) = EndsAtFailedRead detail form limit input output
+Ends detail form limit input output (Err WriteFailed) = (input.failed ≡ false) × (output.failed ≡ true) × EndsPartWay detail form limit input output
+Ends detail form limit input output (Err NoMemory) = (input.failed ≡ false) × (output.failed ≡ false) × EndsPartWay detail form limit input output
+Ends detail form limit input output (Err fault) = ⊥
 
 -- where the bytes of the input are known, neither stream failed and memory did not run out, the answer and
 -- the text are those of these bytes, and nothing else is printed
-pub record IsWhole (full : Bool) (form : Form) (limit : ℕ) (bytes : List ℕ) (output : Stream) (result : Result Bool ToolFault) : Type 0 where
+pub record IsWhole (detail : Detail) (form : Form) (limit : ℕ) (bytes : List ℕ) (output : Stream) (result : Result Bool ToolFault) : Type 0 where
   pub answer : result ≡ limited_answer form limit bytes
-  pub text : Appends output.before output.after (limited_text full form limit bytes)
+  pub text : Appends output.before output.after (limited_text detail form limit bytes)
 
-abbrev pub EndsWhole : Bool → Form → ℕ → Stream → Stream → Result Bool ToolFault → Type 0
-EndsWhole full form limit input output result =
+abbrev pub EndsWhole : Detail → Form → ℕ → Stream → Stream → Result Bool ToolFault → Type 0
+EndsWhole detail form limit input output result =
     IfSome input.before (λ bytes. input.failed ≡ false → output.failed ≡ false → (result ≡ Err NoMemory → ⊥)
-    → IsWhole full form limit bytes output result)
+    → IsWhole detail form limit bytes output result)

@@ -13,6 +13,8 @@ use Rattle.osdp_msg.specs.CommandTable.{command_of}
 use Rattle.osdp_msg.specs.CommandText.{command_text}
 use Rattle.osdp_msg.specs.ReplyTable.{reply_of}
 use Rattle.osdp_msg.specs.ReplyText.{reply_text}
+use Rattle.osdp_tool_show.specs.declared.detail.Detail.{Detail}
+use Rattle.osdp_tool_show.specs.declared.detail.Detail.TheVariants.{Full, Refusals}
 
 -- ---- messages
 
@@ -92,6 +94,11 @@ is_refusal (PacketItem p) =
     if p.block then false else is_refused_message p.reply (slice_index p.body 0) (drop 1 p.body)
 is_refusal (SkippedItem b) = false
 is_refusal (RefusedItem fault) = true
+
+-- in full each item has a line, else refusals alone
+abbrev pub has_line : Detail → RunItem → Bool
+has_line Full part = true
+has_line Refusals part = is_refusal part
 
 -- the line of an item: the number of its run, from 1, its place in the run, its text
 abbrev pub item_line : ℕ → ℕ → RunItem → List ℕ

@@ -1,5 +1,5 @@
 -- The text of show and check in the words of captures: lines, runs, readings, items.
-use Rattle.std.specs.Prelude.{◌≡◌, ◌↔◌, ℕ, ◌+◌, ◌<◌, ◌^◌, ◌||◌, Bool, true, false, nat_lt, if◌then◌else◌, List, [], ◌∷◌, ◌++◌, length, flat_map, count_by, Some, None}
+use Rattle.std.specs.Prelude.{◌≡◌, ◌↔◌, ℕ, ◌+◌, ◌<◌, ◌^◌, Bool, true, false, nat_lt, if◌then◌else◌, List, [], ◌∷◌, ◌++◌, length, flat_map, count_by, Some, None}
 use Rattle.std.specs.List.{concat}
 use Rattle.osdp_frame.specs.Bytes.{AreBytes}
 use Rattle.osdp_frame.specs.Reading.{RunItem, PacketItem, SkippedItem, RefusedItem, item_size, IsReading}
@@ -9,7 +9,9 @@ use Rattle.osdp_tool_streams.specs.declared.form.Form.TheVariants.{Raw, Joined, 
 use Rattle.osdp_tool_streams.specs.Cut.{IsCut, last_line}
 use Rattle.osdp_tool_streams.specs.Line.{line_bytes}
 use Rattle.osdp_tool_streams.specs.Runs.{with_bytes}
-use Rattle.osdp_tool_show.specs.ItemText.{is_refusal, item_line, counts_line}
+use Rattle.osdp_tool_show.specs.declared.detail.Detail.{Detail}
+use Rattle.osdp_tool_show.specs.declared.detail.Detail.TheVariants.{Full, Refusals}
+use Rattle.osdp_tool_show.specs.ItemText.{has_line, is_refusal, item_line, counts_line}
 use Rattle.osdp_tool_show.specs.Shown.{shown, shown_so_far, is_refused_input}
 
 -- ---- the runs of an input
@@ -56,16 +58,16 @@ AreReadings (run ∷ runs) (parts ∷ readings) = IsReading run parts × AreRead
 
 -- ---- their text
 
--- the items of a run from a place on: a line for each in full, else for each refusal
-abbrev pub items_text : Bool → ℕ → ℕ → List RunItem → List ℕ
-items_text full run place [] = []
-items_text full run place (part ∷ parts) =
-    (if full || is_refusal part then item_line run place part else []) ++ items_text full run (place + item_size part) parts
+-- the items of a run from a place on, of those that have a line
+abbrev pub items_text : Detail → ℕ → ℕ → List RunItem → List ℕ
+items_text detail run place [] = []
+items_text detail run place (part ∷ parts) =
+    (if has_line detail part then item_line run place part else []) ++ items_text detail run (place + item_size part) parts
 
 -- the items of run after run, of which the first has this number
-abbrev pub readings_text : Bool → ℕ → List (List RunItem) → List ℕ
-readings_text full number [] = []
-readings_text full number (parts ∷ readings) = items_text full number 0 parts ++ readings_text full (number + 1) readings
+abbrev pub readings_text : Detail → ℕ → List (List RunItem) → List ℕ
+readings_text detail number [] = []
+readings_text detail number (parts ∷ readings) = items_text detail number 0 parts ++ readings_text detail (number + 1) readings
 
 abbrev pub is_packet : RunItem → Bool
 is_packet (PacketItem p) = true
@@ -81,18 +83,24 @@ is_skipped (RefusedItem fault) = false
 abbrev pub count_items : (RunItem → Bool) → List (List RunItem) → ℕ
 count_items fits readings = count_by fits (flat_map (λ parts. parts) readings)
 
+-- how many there are of each kind
 abbrev pub counts_text : List (List RunItem) → List ℕ
 counts_text readings =
     counts_line (length readings) (count_items is_packet readings) (count_items is_skipped readings) (count_items is_refusal readings)
+
+-- .. which stand after the lines of refusals
+abbrev pub end_text : Detail → List (List RunItem) → List ℕ
+end_text Full readings = []
+end_text Refusals readings = counts_text readings
 
 -- Every input has its runs and every run its reading, and the text is that of these readings: line by line in
 -- full, else the refusals and the counts. It is refused where one of them is.
 pub record ShowsReadings : Type 0 where
   pub some : (form : Form) (bytes : List ℕ) → AreBytes bytes
       → (runs : List (List ℕ)) × (readings : List (List RunItem)) × HasRuns form bytes runs × AreReadings runs readings
-  pub text : (full : Bool) (form : Form) (bytes : List ℕ) (runs : List (List ℕ)) (readings : List (List RunItem)) → AreBytes bytes
+  pub text : (detail : Detail) (form : Form) (bytes : List ℕ) (runs : List (List ℕ)) (readings : List (List RunItem)) → AreBytes bytes
       → HasRuns form bytes runs → AreReadings runs readings
-      → shown full form bytes ≡ readings_text full 1 readings ++ (if full then [] else counts_text readings)
+      → shown detail form bytes ≡ readings_text detail 1 readings ++ end_text detail readings
   pub refused : (form : Form) (bytes : List ℕ) (runs : List (List ℕ)) (readings : List (List RunItem)) → AreBytes bytes
       → HasRuns form bytes runs → AreReadings runs readings
       → is_refused_input form bytes ≡ nat_lt 0 (count_items is_refusal readings)
@@ -103,15 +111,15 @@ pub record ShowsDecided : Type 0 where
   pub some : (form : Form) (bytes : List ℕ) → AreBytes bytes
       → (runs : List (List ℕ)) × (open_bytes : List ℕ) × (readings : List (List RunItem)) × (parts : List RunItem)
       × HasRunsSoFar form bytes runs open_bytes × AreReadings runs readings × Drains false open_bytes parts
-  pub text : (full : Bool) (form : Form) (bytes : List ℕ) (runs : List (List ℕ)) (open_bytes : List ℕ) (readings : List (List RunItem)) (parts : List RunItem)
+  pub text : (detail : Detail) (form : Form) (bytes : List ℕ) (runs : List (List ℕ)) (open_bytes : List ℕ) (readings : List (List RunItem)) (parts : List RunItem)
       → AreBytes bytes → HasRunsSoFar form bytes runs open_bytes → AreReadings runs readings → Drains false open_bytes parts
-      → shown_so_far full form bytes ≡ readings_text full 1 readings ++ items_text full (length readings + 1) 0 parts
+      → shown_so_far detail form bytes ≡ readings_text detail 1 readings ++ items_text detail (length readings + 1) 0 parts
 
 -- The full text of an input tells its runs: two inputs, each in its form, have the same text exactly where they have the
 -- same runs. So raw bytes are told byte by byte. Runs and places are numbers of 64 bits.
 pub record TellsRuns : Type 0 where
   pub runs : (form other : Form) (a b : List ℕ) (first second : List (List ℕ))
       → AreBytes a → AreBytes b → length a < 2 ^ 64 → length b < 2 ^ 64 → HasRuns form a first → HasRuns other b second
-      → (shown true form a ≡ shown true other b) ↔ (first ≡ second)
+      → (shown Full form a ≡ shown Full other b) ↔ (first ≡ second)
   pub raw : (a b : List ℕ) → AreBytes a → AreBytes b → length a < 2 ^ 64 → length b < 2 ^ 64
-      → shown true Raw a ≡ shown true Raw b → a ≡ b
+      → shown Full Raw a ≡ shown Full Raw b → a ≡ b

@@ -3,6 +3,7 @@ use Rattle.std.specs.Prelude.{◌≡◌, ◌⊎◌, ℕ, ◌+◌, ◌≤◌, Boo
 use Rattle.std.specs.Io.KnownBytes.{Appends, Consumes, IsAtEnd}
 use Rattle.osdp_tool_streams.specs.declared.form.Form.{Form}
 use Rattle.osdp_tool_streams.specs.Runs.{runs_of, first_bad, closed_runs}
+use Rattle.osdp_tool_show.specs.declared.detail.Detail.{Detail}
 use Rattle.osdp_tool_show.specs.Tally.{no_tally}
 use Rattle.osdp_tool_show.specs.ToldItems.{after_runs, runs_lines, end_line}
 use Rattle.osdp_tool_streams.specs.declared.fault.ToolFault.{ToolFault}
@@ -18,26 +19,26 @@ use Rattle.osdp_tool_show.specs.Ending.{Stream, piece_size, Ends, EndsPartWay}
 
 -- the run has ended, and all that waited is written, with the counts where they are wanted
 pub record Closed (old new : Capture) (before written : Option (List ℕ)) : Type 0 where
-  pub text : (full : Bool) (start : Option (List ℕ)) (ended : List (List ℕ)) (open_bytes : List ℕ)
-      → Stands full start ended open_bytes old.framer old.report before
-      → Appends start written (runs_lines full no_tally (closed_runs ended open_bytes)
-      ++ end_line full (after_runs no_tally (closed_runs ended open_bytes)))
-  pub tally : (full : Bool) (start : Option (List ℕ)) (ended : List (List ℕ)) (open_bytes : List ℕ)
-      → Stands full start ended open_bytes old.framer old.report before
+  pub text : (detail : Detail) (start : Option (List ℕ)) (ended : List (List ℕ)) (open_bytes : List ℕ)
+      → Stands detail start ended open_bytes old.framer old.report before
+      → Appends start written (runs_lines detail no_tally (closed_runs ended open_bytes)
+      ++ end_line detail (after_runs no_tally (closed_runs ended open_bytes)))
+  pub tally : (detail : Detail) (start : Option (List ℕ)) (ended : List (List ℕ)) (open_bytes : List ℕ)
+      → Stands detail start ended open_bytes old.framer old.report before
       → new.report.tally ≡ after_runs no_tally (closed_runs ended open_bytes)
   pub same : new.ended ≡ old.ended
 
 -- the input has ended after these bytes, and its last line has been told
-pub record EndedInput (full : Bool) (form : Form) (start : Option (List ℕ)) (read : List ℕ) (good : Bool) (capture : Capture) (now : Option (List ℕ)) : Type 0 where
+pub record EndedInput (detail : Detail) (form : Form) (start : Option (List ℕ)) (read : List ℕ) (good : Bool) (capture : Capture) (now : Option (List ℕ)) : Type 0 where
   pub ended : List (List ℕ)
   pub open_bytes : List ℕ
   pub runs : runs_of form read ≡ closed_runs ended open_bytes
   pub bad : first_bad form read ≡ (if good then None else Some capture.ended)
-  pub stands : Stands full start ended open_bytes capture.framer capture.report now
+  pub stands : Stands detail start ended open_bytes capture.framer capture.report now
 
 pub record EndsLine (good : Bool) (old new : Capture) (before after : Option (List ℕ)) : Type 0 where
-  pub ends : (full : Bool) (form : Form) (start : Option (List ℕ)) (read : List ℕ)
-      → HasShown full form start read old before → EndedInput full form start read good new after
+  pub ends : (detail : Detail) (form : Form) (start : Option (List ℕ)) (read : List ℕ)
+      → HasShown detail form start read old before → EndedInput detail form start read good new after
   pub settled : IsSettled new.framer
   pub load_is : load new ≤ load old + 5
 
@@ -101,28 +102,28 @@ ReadTo AtFailedRead limit old new input_before input_after before after was_fail
 -- the input ended here, and a call stopped while it told of that: what was written is a beginning of the text of the input, as one that goes
 -- on or as one that has ended
 abbrev pub StopsAtEnd : Capture → Option (List ℕ) → Option (List ℕ) → Type 0
-StopsAtEnd old before now = (full : Bool) (form : Form) (start : Option (List ℕ)) (read : List ℕ) → HasShown full form start read old before
-    → StopsWithin start now (shown_so_far full form read) ⊎ StopsWithin start now (shown full form read)
+StopsAtEnd old before now = (detail : Detail) (form : Form) (start : Option (List ℕ)) (read : List ℕ) → HasShown detail form start read old before
+    → StopsWithin start now (shown_so_far detail form read) ⊎ StopsWithin start now (shown detail form read)
 
 -- a run was to end here, with the counts after it
 abbrev pub StopsClosing : Capture → Option (List ℕ) → Option (List ℕ) → Type 0
-StopsClosing old before now = (full : Bool) (start : Option (List ℕ)) (ended : List (List ℕ)) (open_bytes : List ℕ)
-    → Stands full start ended open_bytes old.framer old.report before
-    → StopsWithin start now (runs_lines full no_tally (closed_runs ended open_bytes) ++ end_line full (after_runs no_tally (closed_runs ended open_bytes)))
+StopsClosing old before now = (detail : Detail) (start : Option (List ℕ)) (ended : List (List ℕ)) (open_bytes : List ℕ)
+    → Stands detail start ended open_bytes old.framer old.report before
+    → StopsWithin start now (runs_lines detail no_tally (closed_runs ended open_bytes) ++ end_line detail (after_runs no_tally (closed_runs ended open_bytes)))
 
 -- the answer at the end of an input, told and written: it holds at whatever the capture followed
 abbrev pub Answered : Capture → Result Bool ToolFault → Bool → Bool → Option (List ℕ) → Option (List ℕ) → Type 0
 Answered old (Ok refused) was_failed failed before written = (failed ≡ was_failed)
-    × ((full : Bool) (form : Form) (start : Option (List ℕ)) (read : List ℕ) → HasShown full form start read old before
-    → (first_bad form read ≡ None) × (refused ≡ is_refused_input form read) × Appends start written (shown full form read))
+    × ((detail : Detail) (form : Form) (start : Option (List ℕ)) (read : List ℕ) → HasShown detail form start read old before
+    → (first_bad form read ≡ None) × (refused ≡ is_refused_input form read) × Appends start written (shown detail form read))
 Answered old (Err (NotHex line)) was_failed failed before written = (failed ≡ was_failed)
-    × ((full : Bool) (form : Form) (start : Option (List ℕ)) (read : List ℕ) → HasShown full form start read old before
-    → (first_bad form read ≡ Some line) × Appends start written (shown full form read))
+    × ((detail : Detail) (form : Form) (start : Option (List ℕ)) (read : List ℕ) → HasShown detail form start read old before
+    → (first_bad form read ≡ Some line) × Appends start written (shown detail form read))
 Answered old (Err WriteFailed) was_failed failed before written = (failed ≡ true) × StopsAtEnd old before written
 Answered old (Err NoMemory) was_failed failed before written = (failed ≡ was_failed) × StopsAtEnd old before written
 Answered old (Err fault) was_failed failed before written = ⊥
 
 -- how the work ends, before the output is flushed and the answer is settled between the streams: without memory the output may have failed
-abbrev pub Works : Bool → Form → ℕ → Stream → Stream → Result Bool ToolFault → Type 0
-Works full form limit input output (Err NoMemory) = (input.failed ≡ false) × EndsPartWay full form limit input output
-Works full form limit input output result = Ends full form limit input output result
+abbrev pub Works : Detail → Form → ℕ → Stream → Stream → Result Bool ToolFault → Type 0
+Works detail form limit input output (Err NoMemory) = (input.failed ≡ false) × EndsPartWay detail form limit input output
+Works detail form limit input output result = Ends detail form limit input output result

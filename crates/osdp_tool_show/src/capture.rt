@@ -6,9 +6,9 @@ ghost use Rattle.osdp_tool_streams.specs.Cut.{line_feed, IsLine};
 ghost use Rattle.osdp_tool_show.specs.Machine.{written_or_held, IsStep, IsSettled};
 ghost use Rattle.osdp_tool_show.specs.Feeds.{HasLine};
 
-use crate::Tally;
 use crate::report::Report;
 use crate::runs::{end_run, take};
+use crate::{Detail, Tally};
 use memchr::memchr;
 use osdp_frame::Framer;
 use osdp_tool_streams::{Digits, Form, ToolFault, Watched, keep, read_line};
@@ -41,8 +41,8 @@ impl Capture {
     ghost use Rattle.osdp_tool_show.specs.Capture.{load, HasShown, TookPiece, TookPart, StopsInPiece};
 
     /// Nothing has been read.
-    pub fn new(alloc: Global, full: bool, form: Form) -> Result<Capture, ToolFault>
-        ensures follows { IfOk result (λ capture. (start : Option (List ℕ)) → HasShown full form start [] capture (written_or_held start capture.report)) }
+    pub fn new(alloc: Global, detail: Detail, form: Form) -> Result<Capture, ToolFault>
+        ensures follows { IfOk result (λ capture. (start : Option (List ℕ)) → HasShown detail form start [] capture (written_or_held start capture.report)) }
         ensures settled { IfOk result (λ capture. IsSettled capture.framer) }
         ensures load { IfOk result (λ capture. load capture ≡ 0) }
         ensures form { IfOk result (λ capture. capture.form ≡ form) }
@@ -59,7 +59,11 @@ impl Capture {
             bytes: Vec::new(alloc),
             ended: 0,
             framer: Framer::new(),
-            report: Report { full, tally, text },
+            report: Report {
+                detail,
+                tally,
+                text,
+            },
         })
     }
 

@@ -7,6 +7,7 @@ ghost use Rattle.osdp_tool_show.specs.Ending.{watched, Ends, EndsWhole};
 ghost use Rattle.osdp_tool_show.specs.Shown.{form_of};
 ghost use Rattle.osdp_tool_show.specs.Works.{Works};
 
+use crate::Detail;
 use crate::capture::Capture;
 use osdp_tool_streams::{Form, LIMIT, Mode, ToolFault, Watched, finish};
 use std::alloc::Global;
@@ -25,7 +26,7 @@ fn form_of(mode: Mode) -> Form
 /// Reads the input and prints its lines. Where memory runs out nothing more is printed.
 fn work<R: Read, W: Write>(
     alloc: Global,
-    full: bool,
+    detail: Detail,
     form: Form,
     limit: usize,
     input: &mut Watched<R>,
@@ -34,27 +35,26 @@ fn work<R: Read, W: Write>(
     requires limit { limit < 2 ^ 40 }
     requires input { has_failed input.old ≡ false }
     requires output { has_failed output.old ≡ false }
-    ensures { Works full form limit (watched R.remaining input.old input.new) (watched W.contents output.old output.new) result }
+    ensures { Works detail form limit (watched R.remaining input.old input.new) (watched W.contents output.old output.new) result }
 {
-    let mut capture = Capture::new(alloc, full, form)?;
+    let mut capture = Capture::new(alloc, detail, form)?;
     capture.read(limit, input, output)
 }
 
-/// Either command over an input of this form, with a limit of the caller's own.
+/// Does what `show` does over an input of this form, with a limit of the caller's own.
 ///
-/// With `full` it prints as `show` does, else as `check`. An input of more than `limit` bytes, below 2^40, is `TooLong`, and what
-/// it holds after them is not shown. A stream that has failed before is told, the input first, and nothing is read or printed.
+/// An input of more than `limit` bytes, below 2^40, is `TooLong`, and what it holds after them is not shown. A stream that has failed before is told, the input first, and nothing is read or printed.
 pub fn command<R: Read, W: Write>(
     alloc: Global,
-    full: bool,
+    detail: Detail,
     form: Form,
     limit: usize,
     input: &mut Watched<R>,
     output: &mut Watched<W>,
 ) -> Result<bool, ToolFault>
     requires { limit < 2 ^ 40 }
-    ensures ends { Ends full form limit (watched R.remaining input.old input.new) (watched W.contents output.old output.new) result }
-    ensures whole { EndsWhole full form limit (watched R.remaining input.old input.new) (watched W.contents output.old output.new) result }
+    ensures ends { Ends detail form limit (watched R.remaining input.old input.new) (watched W.contents output.old output.new) result }
+    ensures whole { EndsWhole detail form limit (watched R.remaining input.old input.new) (watched W.contents output.old output.new) result }
 {
     if input.failed() {
         return Err(ToolFault::ReadFailed);
@@ -62,42 +62,27 @@ pub fn command<R: Read, W: Write>(
     if output.failed() {
         return Err(ToolFault::WriteFailed);
     }
-    let answer = work(alloc, full, form, limit, input, output);
+    let answer = work(alloc, detail, form, limit, input, output);
     finish(input.failed(), output, answer)
 }
 
-/// Prints a line for each item of the input.
+/// Prints of an input what is told in this detail: the command `show` tells it in full, and `check` its refusals, and then the counts.
 ///
 /// The input is lines of hexadecimal digits, each with digits a run, or all of them one run with `join`; or
 /// bytes of one run with `raw`. True where a refusal stands among the items.
 ///
 /// A line that holds anything but digits in pairs ends the input there, and is told as `NotHex` once what
-/// stands before it is printed. More than 67,108,864 bytes are `TooLong`. Where a read fails or the input is
-/// too long, the items that the bytes read decide are printed.
+/// stands before it is printed, with the counts where they are wanted. More than 67,108,864 bytes are `TooLong`. Where a read
+/// fails or the input is too long, the items that the bytes read decide are printed, and no counts.
 pub fn show<R: Read, W: Write>(
     alloc: Global,
+    detail: Detail,
     mode: Mode,
     input: &mut Watched<R>,
     output: &mut Watched<W>,
 ) -> Result<bool, ToolFault>
-    ensures ends { Ends true (form_of mode) LIMIT (watched R.remaining input.old input.new) (watched W.contents output.old output.new) result }
-    ensures whole { EndsWhole true (form_of mode) LIMIT (watched R.remaining input.old input.new) (watched W.contents output.old output.new) result }
+    ensures ends { Ends detail (form_of mode) LIMIT (watched R.remaining input.old input.new) (watched W.contents output.old output.new) result }
+    ensures whole { EndsWhole detail (form_of mode) LIMIT (watched R.remaining input.old input.new) (watched W.contents output.old output.new) result }
 {
-    command(alloc, true, form_of(mode), LIMIT, input, output)
-}
-
-/// Prints the lines of the refusals of the input, and after them a line of counts.
-///
-/// It reads its input and answers as `show` does. The counts are printed where the input has ended, also at a
-/// bad line.
-pub fn check<R: Read, W: Write>(
-    alloc: Global,
-    mode: Mode,
-    input: &mut Watched<R>,
-    output: &mut Watched<W>,
-) -> Result<bool, ToolFault>
-    ensures ends { Ends false (form_of mode) LIMIT (watched R.remaining input.old input.new) (watched W.contents output.old output.new) result }
-    ensures whole { EndsWhole false (form_of mode) LIMIT (watched R.remaining input.old input.new) (watched W.contents output.old output.new) result }
-{
-    command(alloc, false, form_of(mode), LIMIT, input, output)
+    command(alloc, detail, form_of(mode), LIMIT, input, output)
 }

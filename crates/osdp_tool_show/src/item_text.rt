@@ -6,6 +6,7 @@ ghost use Rattle.osdp_frame.specs.Reading.{PacketItem, SkippedItem, RefusedItem}
 ghost use Rattle.osdp_tool_show.specs.ItemText.{body_text, fault_name, head_text, is_refusal, item_line, counts_line};
 ghost use Rattle.osdp_tool_show.specs.ToldItems.{shown_line, end_line};
 
+use crate::Detail;
 use crate::hex_text::push_bytes;
 use crate::message_text::{Told, is_refused, push_message};
 use crate::number::push_number;
@@ -102,7 +103,7 @@ fn bare_name(view: &FrameView<'_>) -> Option<&'static str>
 #[inline(never)]
 fn push_read_packet<M: Told>(
     text: &mut String,
-    full: bool,
+    detail: Detail,
     tally: &Tally,
     view: &FrameView<'_>,
 ) -> Result<bool, AllocError>
@@ -110,13 +111,13 @@ fn push_read_packet<M: Told>(
     requires block { view.now.block ≡ false }
     requires reply { view.now.reply ≡ M.reply }
     ensures refused { IfOk result (λ refused. refused ≡ is_refusal (PacketItem view.now)) }
-    ensures line { OnOk result (string_bytes text.new ≡ string_bytes text.old ++ shown_line full tally.now (PacketItem view.now)) }
+    ensures line { OnOk result (string_bytes text.new ≡ string_bytes text.old ++ shown_line detail tally.now (PacketItem view.now)) }
 {
     let code = view.code();
     let bytes = view.payload();
     let read = M::read_message(code, bytes);
     let refused = is_refused(&read);
-    if !full && !refused {
+    if let (Detail::Refusals, false) = (detail, refused) {
         return Ok(false);
     }
     push_front(text, tally, view)?;
@@ -129,43 +130,43 @@ fn push_read_packet<M: Told>(
 #[inline(always)]
 pub(crate) fn push_packet(
     text: &mut String,
-    full: bool,
+    detail: Detail,
     tally: &Tally,
     view: &FrameView<'_>,
 ) -> Result<bool, AllocError>
     requires { tally.now.runs + 1 < 2 ^ 64 }
     ensures refused { IfOk result (λ refused. refused ≡ is_refusal (PacketItem view.now)) }
-    ensures line { OnOk result (string_bytes text.new ≡ string_bytes text.old ++ shown_line full tally.now (PacketItem view.now)) }
+    ensures line { OnOk result (string_bytes text.new ≡ string_bytes text.old ++ shown_line detail tally.now (PacketItem view.now)) }
 {
     if view.has_block() {
-        if full {
+        if let Detail::Full = detail {
             push_unread_packet(text, tally, view)?;
         }
         return Ok(false);
     }
     if let Some(name) = bare_name(view) {
-        if full {
+        if let Detail::Full = detail {
             push_named_packet(text, tally, view, name)?;
         }
         return Ok(false);
     }
     if view.is_reply() {
-        return push_read_packet::<Reply>(text, full, tally, view);
+        return push_read_packet::<Reply>(text, detail, tally, view);
     }
-    push_read_packet::<Command>(text, full, tally, view)
+    push_read_packet::<Command>(text, detail, tally, view)
 }
 
 /// Writes the line of a skipped byte, in full.
 pub(crate) fn push_skipped(
     text: &mut String,
-    full: bool,
+    detail: Detail,
     tally: &Tally,
     byte: u8,
 ) -> Result<(), AllocError>
     requires { tally.now.runs + 1 < 2 ^ 64 }
-    ensures { OnOk result (string_bytes text.new ≡ string_bytes text.old ++ shown_line full tally.now (SkippedItem byte)) }
+    ensures { OnOk result (string_bytes text.new ≡ string_bytes text.old ++ shown_line detail tally.now (SkippedItem byte)) }
 {
-    if !full {
+    if let Detail::Refusals = detail {
         return Ok(());
     }
     push_place(text, tally)?;
@@ -203,10 +204,10 @@ pub(crate) fn push_fault(
 }
 
 /// Writes the line of counts, where not all items have one.
-pub fn push_end(text: &mut String, full: bool, tally: &Tally) -> Result<(), AllocError>
-    ensures { OnOk result (string_bytes text.new ≡ string_bytes text.old ++ end_line full tally.now) }
+pub fn push_end(text: &mut String, detail: Detail, tally: &Tally) -> Result<(), AllocError>
+    ensures { OnOk result (string_bytes text.new ≡ string_bytes text.old ++ end_line detail tally.now) }
 {
-    if full {
+    if let Detail::Full = detail {
         return Ok(());
     }
     let runs = tally.runs;

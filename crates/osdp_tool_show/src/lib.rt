@@ -5,6 +5,7 @@
 
 mod capture;
 mod commands;
+mod detail;
 mod hex_text;
 mod item_text;
 pub mod laws;
@@ -17,7 +18,8 @@ mod runs;
 mod tally;
 mod telling;
 
-pub use commands::{check, command, show};
+pub use commands::{command, show};
+pub use detail::Detail;
 pub use item_text::push_end;
 pub use tally::Tally;
 pub use telling::tell;

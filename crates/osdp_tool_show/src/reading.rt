@@ -2,6 +2,7 @@
 
 ghost use Rattle.std.specs.Prelude.{◌≡◌, ◌+◌, ◌*◌, ◌<◌, ◌≤◌, ◌^◌, ◌↔◌, ℕ, List, [], length, take, Bool, Option, is_err, true, false, if◌then◌else◌, Result, IfOk, OnOk, OnErr, IfErr};
 ghost use Rattle.osdp_tool_streams.specs.declared.form.Form.{Form};
+ghost use Rattle.osdp_tool_show.specs.declared.detail.Detail.{Detail};
 ghost use Rattle.osdp_tool_streams.specs.Watched.{inner_of, has_failed};
 ghost use Rattle.osdp_tool_show.specs.Machine.{written_or_held, IsStep, IsSettled};
 
@@ -72,9 +73,9 @@ impl Capture {
         requires load { load self.old ≡ 0 }
         requires input { has_failed input.old ≡ false }
         requires output { has_failed output.old ≡ false }
-        ensures { (full : Bool) (form : Form) (start : Option (List ℕ))
-            → HasShown full form start [] self.old (written_or_held (W.contents (inner_of output.old)) self.old.report)
-            → Works full form limit
+        ensures { (detail : Detail) (form : Form) (start : Option (List ℕ))
+            → HasShown detail form start [] self.old (written_or_held (W.contents (inner_of output.old)) self.old.report)
+            → Works detail form limit
             (watched R.remaining input.old input.new)
             (streamed start (W.contents (inner_of output.new)) (has_failed output.new)) result }
     {

@@ -9,7 +9,7 @@ ghost use Rattle.osdp_tool_show.specs.ToldItems.{end_line, shown_lines};
 ghost use Rattle.osdp_tool_show.specs.Written.{IsBeginning, StopsWithin};
 ghost use Rattle.osdp_tool_streams.specs.Watched.{inner_of, has_failed};
 
-use crate::{Tally, push_end, tell};
+use crate::{Detail, Tally, push_end, tell};
 use osdp_frame::Item;
 use osdp_tool_streams::{ToolFault, Watched, write_out};
 use std::io::Write;
@@ -20,8 +20,8 @@ const GATHERED: usize = 65536;
 /// The text of the items told so far that is not written yet, and what they count for.
 #[derive(Drop)]
 pub struct Report {
-    /// Each item has a line, and not refusals alone.
-    pub full: bool,
+    /// Which items have a line.
+    pub detail: Detail,
     /// The counts so far.
     pub tally: Tally,
     /// The lines that aren't written yet.
@@ -57,9 +57,9 @@ impl Report {
         ensures tells { OnOk result (Tells self.old self.new (written_or_held (W.contents (inner_of output.old)) self.old)
             (written_or_held (W.contents (inner_of output.new)) self.new) (item_of item.now ∷ [])) }
         ensures stops { OnErr result (StopsWithin (written_or_held (W.contents (inner_of output.old)) self.old) (W.contents (inner_of output.new))
-            (shown_lines self.old.full self.old.tally (item_of item.now ∷ []))) }
+            (shown_lines self.old.detail self.old.tally (item_of item.now ∷ []))) }
     {
-        match tell(&mut self.text, self.full, &mut self.tally, item) {
+        match tell(&mut self.text, self.detail, &mut self.tally, item) {
             Ok(()) => {}
             Err(_) => return Err(ToolFault::NoMemory),
         }
@@ -73,10 +73,10 @@ impl Report {
     pub fn end<W: Write>(&mut self, output: &mut Watched<W>) -> Result<(), ToolFault>
         ensures step { IsStep result (has_failed output.old) (has_failed output.new) }
         ensures same { OnOk result (KeepsReport self.old self.new) }
-        ensures written { OnOk result (Appends (written_or_held (W.contents (inner_of output.old)) self.old) (W.contents (inner_of output.new)) (end_line self.old.full self.old.tally)) }
-        ensures stops { OnErr result (StopsWithin (written_or_held (W.contents (inner_of output.old)) self.old) (W.contents (inner_of output.new)) (end_line self.old.full self.old.tally)) }
+        ensures written { OnOk result (Appends (written_or_held (W.contents (inner_of output.old)) self.old) (W.contents (inner_of output.new)) (end_line self.old.detail self.old.tally)) }
+        ensures stops { OnErr result (StopsWithin (written_or_held (W.contents (inner_of output.old)) self.old) (W.contents (inner_of output.new)) (end_line self.old.detail self.old.tally)) }
     {
-        match push_end(&mut self.text, self.full, &self.tally) {
+        match push_end(&mut self.text, self.detail, &self.tally) {
             Ok(()) => {}
             Err(_) => return Err(ToolFault::NoMemory),
         }

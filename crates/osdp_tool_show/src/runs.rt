@@ -11,6 +11,7 @@ ghost use Rattle.osdp_tool_show.specs.ToldItems.{shown_lines};
 ghost use Rattle.osdp_tool_show.specs.Machine.{written_or_held, IsStep, Drained, IsSettled, Took, EndedRun, StopsIn, StopsAtRunEnd};
 ghost use Rattle.osdp_tool_show.specs.Written.{StopsWithin};
 
+use crate::Detail;
 use crate::report::Report;
 use osdp_frame::{Framer, Item, deciding_count, skipped_count, whole_item};
 use osdp_tool_streams::{ToolFault, Watched};
@@ -33,7 +34,7 @@ fn drain<W: Write>(
     ensures drained { OnOk result (Drained framer.old framer.new report.old report.new
         (written_or_held (W.contents (inner_of output.old)) report.old) (written_or_held (W.contents (inner_of output.new)) report.new)) }
     ensures stops { OnErr result (StopsWithin (written_or_held (W.contents (inner_of output.old)) report.old) (W.contents (inner_of output.new))
-        (shown_lines report.old.full report.old.tally (items framer.old.ended framer.old.bytes))) }
+        (shown_lines report.old.detail report.old.tally (items framer.old.ended framer.old.bytes))) }
 {
     'items: while let Some(item) = framer.next() {
         report.tell(&item, output)?;
@@ -51,22 +52,24 @@ fn pass_skipped(report: &mut Report, bytes: &[u8]) -> usize
     ensures took { (contents : Option (List ℕ)) → Took (take result bytes.now) new_run new_run report.old report.new
         (written_or_held contents report.old) (written_or_held contents report.new) }
 {
-    if report.full {
-        return 0;
+    match report.detail {
+        Detail::Full => 0,
+        Detail::Refusals => {
+            let count = skipped_count(bytes);
+            report.tally.pass(&bytes[..count]);
+            count
+        }
     }
-    let count = skipped_count(bytes);
-    report.tally.pass(&bytes[..count]);
-    count
 }
 
 /// What is told by itself at the head of the bytes: a packet, or a skipped byte where it has a line.
 #[inline(always)]
-fn own_item(full: bool, bytes: &[u8]) -> Option<Item<'_>>
+fn own_item(detail: Detail, bytes: &[u8]) -> Option<Item<'_>>
     ensures { IfSome result (λ item. by_itself (decided false bytes.now) ≡ Some (item_of item)) }
 {
-    match whole_item(bytes) {
-        Some(Item::Skipped(_)) if !full => None,
-        item => item,
+    match (whole_item(bytes), detail) {
+        (Some(Item::Skipped(_)), Detail::Refusals) => None,
+        (item, _) => item,
     }
 }
 
@@ -87,7 +90,7 @@ fn tell_whole<W: Write>(
 {
     let mut at = pass_skipped(report, bytes);
     'items: loop {
-        let Some(item) = own_item(report.full, &bytes[at..]) else {
+        let Some(item) = own_item(report.detail, &bytes[at..]) else {
             return Ok(at);
         };
         report.tell(&item, output)?;

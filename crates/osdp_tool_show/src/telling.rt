@@ -6,6 +6,7 @@ ghost use Rattle.osdp_frame.specs.Reading.{item_size};
 ghost use Rattle.osdp_tool_show.specs.Tally.{tally_after, counted};
 ghost use Rattle.osdp_tool_show.specs.ToldItems.{shown_line};
 
+use crate::Detail;
 use crate::item_text::{push_fault, push_packet, push_skipped};
 use crate::tally::Tally;
 use osdp_frame::Item;
@@ -15,24 +16,24 @@ use std::alloc::AllocError;
 #[inline(always)]
 pub fn tell(
     text: &mut String,
-    full: bool,
+    detail: Detail,
     tally: &mut Tally,
     item: &Item<'_>,
 ) -> Result<(), AllocError>
     requires { counted tally.old + item_size (item_of item.now) < 2 ^ 63 }
-    ensures line { OnOk result (string_bytes text.new ≡ string_bytes text.old ++ shown_line full tally.old (item_of item.now)) }
+    ensures line { OnOk result (string_bytes text.new ≡ string_bytes text.old ++ shown_line detail tally.old (item_of item.now)) }
     ensures tally { OnOk result (tally.new ≡ tally_after tally.old (item_of item.now)) }
 {
     match item {
         Item::Packet(view) => {
-            let refused = push_packet(text, full, tally, view)?;
+            let refused = push_packet(text, detail, tally, view)?;
             tally.packets += 1;
             if refused {
                 tally.refused += 1;
             }
         }
         Item::Skipped(byte) => {
-            push_skipped(text, full, tally, *byte)?;
+            push_skipped(text, detail, tally, *byte)?;
             tally.skipped += 1;
         }
         Item::Refused(fault) => {

@@ -2,7 +2,7 @@ mod failures;
 mod streams;
 
 use osdp_tool::Job;
-use osdp_tool_show::{check, show};
+use osdp_tool_show::{Detail, show};
 use osdp_tool_streams::{Mode, ToolFault, Watched};
 use std::alloc::Global;
 use std::io::Read;
@@ -44,8 +44,8 @@ fn told_from<R: Read>(alloc: Global, job: Job, input: &mut R) -> Shown {
     let mut input = Watched::new(input);
     let mut output = Watched::new(&mut printed);
     let answer = match job {
-        Job::Show(mode) => show(alloc, mode, &mut input, &mut output),
-        Job::Check(mode) => check(alloc, mode, &mut input, &mut output),
+        Job::Show(mode) => show(alloc, Detail::Full, mode, &mut input, &mut output),
+        Job::Check(mode) => show(alloc, Detail::Refusals, mode, &mut input, &mut output),
         Job::Make | Job::Sim => Err(ToolFault::BadWords),
     };
     (answer, printed)

@@ -113,8 +113,9 @@ fn parts_are_shown_up_to_a_failed_read(rt: HostRuntime) {
 fn checked_to(alloc: Global, failing_write: u64, refusal: Refusal, flush_fails: bool) -> Shown {
     let mut sink = make_sink(alloc, 3, failing_write, refusal, flush_fails);
     let mut input = REFUSED;
-    let answer = check(
+    let answer = show(
         alloc,
+        Detail::Refusals,
         LINES,
         &mut Watched::new(&mut input),
         &mut Watched::new(&mut sink),

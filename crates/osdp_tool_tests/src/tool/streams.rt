@@ -57,6 +57,7 @@ fn failed_reads_are_told(rt: HostRuntime) {
 fn shown_to(alloc: Global, sink: &mut Sink, failing_read: u64) -> Result<bool, ToolFault> {
     show(
         alloc,
+        Detail::Full,
         LINES,
         &mut Watched::new(&mut poll_pieces(100, failing_read)),
         &mut Watched::new(sink),
@@ -105,15 +106,27 @@ fn streams_that_failed_before_are_told(rt: HostRuntime) {
     let mut output = Watched::new(&mut refusing);
     let _ = output.write(b"x");
     let mut line = POLL_LINE.as_bytes();
-    let answer = show(alloc, LINES, &mut Watched::new(&mut line), &mut output);
+    let answer = show(
+        alloc,
+        Detail::Full,
+        LINES,
+        &mut Watched::new(&mut line),
+        &mut output,
+    );
     assert_eq!(rt; answer, Err(ToolFault::WriteFailed));
     let mut failing = poll_pieces(100, 1);
     let mut input = Watched::new(&mut failing);
     let _ = input.read(&mut [0]);
-    let answer = show(alloc, LINES, &mut input, &mut output);
+    let answer = show(alloc, Detail::Full, LINES, &mut input, &mut output);
     assert_eq!(rt; answer, Err(ToolFault::ReadFailed));
     let mut printed = Vec::new(alloc);
-    let answer = show(alloc, LINES, &mut input, &mut Watched::new(&mut printed));
+    let answer = show(
+        alloc,
+        Detail::Full,
+        LINES,
+        &mut input,
+        &mut Watched::new(&mut printed),
+    );
     expect(&rt, &(answer, printed), Err(ToolFault::ReadFailed), "");
 }
 
@@ -125,7 +138,7 @@ fn shown_within(alloc: Global, form: Form, limit: usize, bytes: &[u8]) -> Shown
     let mut output = Vec::new(alloc);
     let answer = command(
         alloc,
-        true,
+        Detail::Full,
         form,
         limit,
         &mut Watched::new(&mut input),

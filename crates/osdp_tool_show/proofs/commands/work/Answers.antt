@@ -11,6 +11,6 @@ returns-in_err-capture g c =
     let start = g.W.Write.contents (inner_of c.args.output.now) in
     let input_failed = has_failed c.args.input.now in
     let failed = has_failed c.args.output.now in
-    subst (λ r. Works c.args.full c.args.form c.args.limit (streamed ib ib input_failed) (streamed start start failed) r)
+    subst (λ r. Works c.args.detail c.args.form c.args.limit (streamed ib ib input_failed) (streamed start start failed) r)
     (sym (handed_on c.from_residual.result c.in_err-capture.field-0.0 c.from_residual.ensures.1 ∙ ap Err c.in_err-capture.ensures.fault))
-    (c.requires.input, part_at_once c.args.full c.args.form c.args.limit ib start input_failed failed)
+    (c.requires.input, part_at_once c.args.detail c.args.form c.args.limit ib start input_failed failed)

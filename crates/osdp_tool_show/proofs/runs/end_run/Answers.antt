@@ -13,7 +13,7 @@ pub returns-clause-ended : goal.returns-clause-ended
 returns-clause-ended g c =
     let joined = c.if-not-is_empty in
     let before = written_or_held (g.W.Write.contents (inner_of c.args.output.now)) c.args.report.now in
-    let last : Report = record { full = joined.report.full; tally = c.end_run.new.self; text = joined.report.text } in
+    let last : Report = record { detail = joined.report.detail; tally = c.end_run.new.self; text = joined.report.text } in
     let drained : Drained (after_gap c.args.framer.now) joined.framer c.args.report.now joined.report before
     (written_or_held (g.W.Write.contents (inner_of joined.output)) joined.report) =
     elim joined.branch [

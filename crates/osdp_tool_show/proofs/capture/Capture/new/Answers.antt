@@ -12,6 +12,6 @@ returns-clause-follows c = λ start.
       bytes = c.new-3.result;
       ended = 0;
       framer = c.new-4.result;
-      report = record { full = c.args.full; tally = c.new-tally.result; text = c.in-Ok.text };
+      report = record { detail = c.args.detail; tally = c.new-tally.result; text = c.in-Ok.text };
     } in
-    begins c.args.full capture start c.new-2.ensures.items refl c.new-4.ensures refl c.new-tally.ensures c.in-Ok.ensures.bytes
+    begins c.args.detail capture start c.new-2.ensures.items refl c.new-4.ensures refl c.new-tally.ensures c.in-Ok.ensures.bytes
