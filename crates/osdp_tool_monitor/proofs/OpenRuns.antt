@@ -11,6 +11,7 @@ use Rattle.osdp_frame_laws.proofs.LeftOver.{gap_items, left_is, left_over-append
 use Rattle.osdp_frame_laws.proofs.Readings.{is_reading, item_size-positive, item_size-decided, items-append, items_undecided, sizes_reading}
 use Rattle.osdp_tool_show.specs.Tally.{counted}
 use Rattle.osdp_tool_show.proofs.Lines.{counted-after_run, counted-tally_after}
+use Rattle.osdp_tool_show.proofs.OneByOne.{GoesOneByOne, TellsOneByOne, goes-append, tells-append}
 use Rattle.osdp_tool_show.proofs.Taking.{Taking, next_bytes, taken_all, taking_start, taking_step}
 use Rattle.osdp_tool_show.specs.declared.detail.Detail.{Detail}
 use Rattle.osdp_tool_monitor.specs.declared.listener.Listener.{Listener}
@@ -28,18 +29,20 @@ on_each_err (Err e) f p = f e p
 
 -- ---- items, one after the other
 
-pub heard_items-append : (l : Listening) (xs ys : List RunItem) → heard_items l (xs ++ ys) ≡ heard_items (heard_items l xs) ys
+heard_in_turn : GoesOneByOne heard_item heard_items
 unfolding heard_items
-heard_items-append l [] ys = refl
-heard_items-append l (x ∷ xs) ys = heard_items-append (heard_item l x) xs ys
+heard_in_turn = record { none = λ l. refl; more = λ l part parts. refl }
+
+reported_in_turn : (detail : Detail) → TellsOneByOne heard_item (item_report detail) (items_report detail)
+unfolding items_report
+reported_in_turn detail = record { none = λ l. refl; more = λ l part parts. refl }
+
+pub heard_items-append : (l : Listening) (xs ys : List RunItem) → heard_items l (xs ++ ys) ≡ heard_items (heard_items l xs) ys
+heard_items-append = goes-append heard_item heard_items heard_in_turn
 
 pub items_report-append : (detail : Detail) (l : Listening) (xs ys : List RunItem)
     → items_report detail l (xs ++ ys) ≡ items_report detail l xs ++ items_report detail (heard_items l xs) ys
-unfolding heard_items items_report
-items_report-append detail l [] ys = refl
-items_report-append detail l (x ∷ xs) ys =
-    ap (λ t. item_report detail l x ++ t) (items_report-append detail (heard_item l x) xs ys)
-    ∙ sym (append_assoc (item_report detail l x) (items_report detail (heard_item l x) xs) (items_report detail (heard_items (heard_item l x) xs) ys))
+items_report-append detail = tells-append heard_item heard_items (item_report detail) (items_report detail) heard_in_turn (reported_in_turn detail)
 
 pub hears_none : (l : Listener) (text : List ℕ) → HearsItems [] l l text text
 unfolding heard_items items_report
@@ -198,21 +201,13 @@ come_more a b old mid new before middle after a_fits b_fits is_open x y =
     ∙ append_assoc before (event_report p h (Come a)) (event_report p (after_event h (Come a)) (Come b)) ∙ ap (λ t. before ++ t) (come_told p h a b fits))
     y.is_open
 
-heard_none : (l : Listening) → heard_items l [] ≡ l
-unfolding heard_items
-heard_none l = refl
-
 come_nothing : (h : Hearing) → decided false h.held ≡ None → after_event h (Come []) ≡ h
 come_nothing h none =
     let same : h.held ++ [] ≡ h.held = append-nil h.held in
     let parts : items false (h.held ++ []) ≡ [] = ap (items false) same ∙ items_undecided false h.held none in
     ap (λ l. hearing (heard_items h.heard l) (left_over (h.held ++ []))) parts
-    ∙ ap (λ l. hearing l (left_over (h.held ++ []))) (heard_none h.heard)
+    ∙ ap (λ l. hearing l (left_over (h.held ++ []))) (heard_in_turn.none h.heard)
     ∙ ap (hearing h.heard) (sym (left_is (h.held ++ [])) ∙ ap (λ l. drop (total_size l) (h.held ++ [])) parts ∙ same)
-
-told_none : (detail : Detail) (l : Listening) → items_report detail l [] ≡ []
-unfolding items_report
-told_none detail l = refl
 
 -- no bytes
 pub come_none : (old : OpenLine) (text : List ℕ) → IsOpen old → Hears (Come [] ∷ []) old old text text
@@ -220,23 +215,26 @@ come_none old text is_open =
     let h = hearing_of old in
     hears_event (Come []) old old text text refl (sym (come_nothing h is_open.none))
     (sym (append-nil text) ∙ ap (λ t. text ++ t) (sym (ap (items_report (line_detail old) h.heard) (ap (items false) (append-nil h.held) ∙ items_undecided false h.held is_open.none)
-    ∙ told_none (line_detail old) h.heard)))
+    ∙ (reported_in_turn (line_detail old)).none h.heard)))
     is_open
 
 -- ---- events, one after the other
 
-pub after_events-append : (h : Hearing) (xs ys : List LineEvent) → after_events h (xs ++ ys) ≡ after_events (after_events h xs) ys
+events_in_turn : GoesOneByOne after_event after_events
 unfolding after_events
-after_events-append h [] ys = refl
-after_events-append h (x ∷ xs) ys = after_events-append (after_event h x) xs ys
+events_in_turn = record { none = λ h. refl; more = λ h event events. refl }
+
+pub after_events-append : (h : Hearing) (xs ys : List LineEvent) → after_events h (xs ++ ys) ≡ after_events (after_events h xs) ys
+after_events-append = goes-append after_event after_events events_in_turn
+
+event_reports_in_turn : (detail : Detail) → TellsOneByOne after_event (event_report detail) (events_report detail)
+unfolding events_report
+event_reports_in_turn detail = record { none = λ h. refl; more = λ h event events. refl }
 
 pub events_report-append : (detail : Detail) (h : Hearing) (xs ys : List LineEvent)
     → events_report detail h (xs ++ ys) ≡ events_report detail h xs ++ events_report detail (after_events h xs) ys
-unfolding after_events events_report
-events_report-append detail h [] ys = refl
-events_report-append detail h (x ∷ xs) ys =
-    ap (λ t. event_report detail h x ++ t) (events_report-append detail (after_event h x) xs ys)
-    ∙ sym (append_assoc (event_report detail h x) (events_report detail (after_event h x) xs) (events_report detail (after_events (after_event h x) xs) ys))
+events_report-append detail =
+    tells-append after_event after_events (event_report detail) (events_report detail) events_in_turn (event_reports_in_turn detail)
 
 pub hears_nothing : (l : OpenLine) (text : List ℕ) → IsOpen l → Hears [] l l text text
 unfolding after_events events_report

@@ -14,6 +14,7 @@ pub mod OneInput
 pub mod Stopping
 pub mod Finishing
 pub mod HexText
+pub mod OneByOne
 pub mod Lines
 pub mod BareMessages
 pub mod Decimals

@@ -1,41 +1,68 @@
 -- Lines and counts, piece by piece.
-use Rattle.std.proofs.Common.{◌≡◌, ℕ, ◌+◌, ◌*◌, ◌<◌, ◌≤◌, ◌==◌, cond, Bool, true, false, List, [], ◌∷◌, ◌++◌, length, drop, refl, sym, ap, ◌∙◌, arith, append_assoc, append-nil}
+use Rattle.std.proofs.Common.{◌≡◌, ℕ, ◌+◌, ◌*◌, ◌<◌, ◌≤◌, ◌==◌, cond, Bool, true, false, List, [], ◌∷◌, ◌++◌, length, drop, refl, ap, arith, append-nil}
 use Rattle.std.proofs.Common.{length-drop}
 use Rattle.std.proofs.lemmas.Bool.{eqb-true, eqb-false}
 use Rattle.osdp_frame.specs.Reading.{RunItem, PacketItem, SkippedItem, RefusedItem, item_size}
 use Rattle.osdp_frame.specs.Items.{reading}
 use Rattle.osdp_tool_show.specs.declared.detail.Detail.{Detail}
+use Rattle.osdp_tool_show.proofs.OneByOne.{GoesOneByOne, TellsOneByOne, goes-append, tells-append}
 use Rattle.osdp_tool_show.specs.declared.tally.Tally.{Tally}
 use Rattle.osdp_tool_show.specs.ItemText.{is_refusal}
 use Rattle.osdp_tool_show.specs.Tally.{one_if, tally_after, tally_after_all, after_run, counted}
 use Rattle.osdp_tool_show.specs.ToldItems.{shown_line, shown_lines, after_runs, runs_lines}
 
-pub tally_after_all-append : (tally : Tally) (xs ys : List RunItem) → tally_after_all tally (xs ++ ys) ≡ tally_after_all (tally_after_all tally xs) ys
+-- ---- items, one after the other
+
+pub tally_after_all-nil : (tally : Tally) → tally_after_all tally [] ≡ tally
 unfolding tally_after_all
-tally_after_all-append tally [] ys = refl
-tally_after_all-append tally (x ∷ xs) ys = tally_after_all-append (tally_after tally x) xs ys
+tally_after_all-nil tally = refl
+
+pub tally_after_all-cons : (tally : Tally) (part : RunItem) (parts : List RunItem) → tally_after_all tally (part ∷ parts) ≡ tally_after_all (tally_after tally part) parts
+unfolding tally_after_all
+tally_after_all-cons tally part parts = refl
+
+pub shown_lines-nil : (detail : Detail) (tally : Tally) → shown_lines detail tally [] ≡ []
+unfolding shown_lines
+shown_lines-nil detail tally = refl
+
+pub shown_lines-cons : (detail : Detail) (tally : Tally) (part : RunItem) (parts : List RunItem)
+    → shown_lines detail tally (part ∷ parts) ≡ shown_line detail tally part ++ shown_lines detail (tally_after tally part) parts
+unfolding shown_lines
+shown_lines-cons detail tally part parts = refl
+
+count_items_in_turn : GoesOneByOne tally_after tally_after_all
+count_items_in_turn = record { none = tally_after_all-nil; more = tally_after_all-cons }
+
+pub tally_after_all-append : (tally : Tally) (xs ys : List RunItem) → tally_after_all tally (xs ++ ys) ≡ tally_after_all (tally_after_all tally xs) ys
+tally_after_all-append = goes-append tally_after tally_after_all count_items_in_turn
 
 pub shown_lines-append : (detail : Detail) (tally : Tally) (xs ys : List RunItem)
     → shown_lines detail tally (xs ++ ys) ≡ shown_lines detail tally xs ++ shown_lines detail (tally_after_all tally xs) ys
-unfolding tally_after_all shown_lines
-shown_lines-append detail tally [] ys = refl
-shown_lines-append detail tally (x ∷ xs) ys =
-    ap (λ l. shown_line detail tally x ++ l) (shown_lines-append detail (tally_after tally x) xs ys)
-    ∙ sym (append_assoc (shown_line detail tally x) (shown_lines detail (tally_after tally x) xs) (shown_lines detail (tally_after_all (tally_after tally x) xs) ys))
+shown_lines-append detail =
+    tells-append tally_after tally_after_all (shown_line detail) (shown_lines detail) count_items_in_turn
+    (record { none = shown_lines-nil detail; more = shown_lines-cons detail })
+
+-- ---- runs, one after the other
+
+abbrev after_one_run : Tally → List ℕ → Tally
+after_one_run tally run = after_run (tally_after_all tally (reading run))
+
+count_runs_in_turn : GoesOneByOne after_one_run after_runs
+unfolding after_runs
+count_runs_in_turn = record { none = λ tally. refl; more = λ tally run runs. refl }
 
 pub after_runs-append : (tally : Tally) (xs ys : List (List ℕ)) → after_runs tally (xs ++ ys) ≡ after_runs (after_runs tally xs) ys
-unfolding after_runs
-after_runs-append tally [] ys = refl
-after_runs-append tally (x ∷ xs) ys = after_runs-append (after_run (tally_after_all tally (reading x))) xs ys
+after_runs-append = goes-append after_one_run after_runs count_runs_in_turn
+
+tell_runs_in_turn : (detail : Detail) → TellsOneByOne after_one_run (λ tally run. shown_lines detail tally (reading run)) (runs_lines detail)
+unfolding runs_lines
+tell_runs_in_turn detail = record { none = λ tally. refl; more = λ tally run runs. refl }
 
 pub runs_lines-append : (detail : Detail) (tally : Tally) (xs ys : List (List ℕ))
     → runs_lines detail tally (xs ++ ys) ≡ runs_lines detail tally xs ++ runs_lines detail (after_runs tally xs) ys
-unfolding after_runs runs_lines
-runs_lines-append detail tally [] ys = refl
-runs_lines-append detail tally (x ∷ xs) ys =
-    let next = after_run (tally_after_all tally (reading x)) in
-    ap (λ l. shown_lines detail tally (reading x) ++ l) (runs_lines-append detail next xs ys)
-    ∙ sym (append_assoc (shown_lines detail tally (reading x)) (runs_lines detail next xs) (runs_lines detail (after_runs next xs) ys))
+runs_lines-append detail =
+    tells-append after_one_run after_runs (λ tally run. shown_lines detail tally (reading run)) (runs_lines detail) count_runs_in_turn
+    (tell_runs_in_turn detail)
 
 -- one run
 pub after_runs-one : (tally : Tally) (run : List ℕ) → after_runs tally (run ∷ []) ≡ after_run (tally_after_all tally (reading run))
@@ -45,24 +72,6 @@ after_runs-one tally run = refl
 pub runs_lines-one : (detail : Detail) (tally : Tally) (run : List ℕ) → runs_lines detail tally (run ∷ []) ≡ shown_lines detail tally (reading run)
 unfolding runs_lines
 runs_lines-one detail tally run = append-nil (shown_lines detail tally (reading run))
-
--- no items
-pub tally_after_all-nil : (tally : Tally) → tally_after_all tally [] ≡ tally
-unfolding tally_after_all
-tally_after_all-nil tally = refl
-
-pub shown_lines-nil : (detail : Detail) (tally : Tally) → shown_lines detail tally [] ≡ []
-unfolding shown_lines
-shown_lines-nil detail tally = refl
-
-pub tally_after_all-cons : (tally : Tally) (part : RunItem) (parts : List RunItem) → tally_after_all tally (part ∷ parts) ≡ tally_after_all (tally_after tally part) parts
-unfolding tally_after_all
-tally_after_all-cons tally part parts = refl
-
-pub shown_lines-cons : (detail : Detail) (tally : Tally) (part : RunItem) (parts : List RunItem)
-    → shown_lines detail tally (part ∷ parts) ≡ shown_line detail tally part ++ shown_lines detail (tally_after tally part) parts
-unfolding shown_lines
-shown_lines-cons detail tally part parts = refl
 
 -- ---- places
 
