@@ -12,6 +12,7 @@ use Rattle.osdp_msg.specs.declared.fault.MsgFault.{MsgFault}
 use Rattle.osdp_msg.specs.declared.reply.Reply.{Reply}
 use Rattle.osdp_msg.specs.declared.reply.Reply.TheVariants as reply
 use Rattle.osdp_tool_show.specs.declared.tally.Tally.{Tally}
+use Rattle.osdp_tool_show.specs.ItemText.{counts_then}
 use Rattle.osdp_tool_monitor.specs.declared.counts.Counts.{Counts}
 use Rattle.osdp_tool_monitor.specs.declared.counts.ReplyKind.{ReplyKind}
 use Rattle.osdp_tool_monitor.specs.declared.counts.ReplyKind.TheVariants.{Busy, Refused, Event, Other}
@@ -80,18 +81,7 @@ after_packet p copy found c =
     if p.reply then after_reply (kind_of_reply (reply_told p)) found c else after_sent p copy found c
 
 abbrev pub no_counts : Counts
-no_counts = record {
-  asked = 0;
-  polls = 0;
-  repeats = 0;
-  answered = 0;
-  busy = 0;
-  nak = 0;
-  events = 0;
-  opened = 0;
-  moved = 0;
-  accused = 0;
-}
+no_counts = record { asked = 0; polls = 0; repeats = 0; answered = 0; busy = 0; nak = 0; events = 0; opened = 0; moved = 0; accused = 0 }
 
 -- those of each address, from 0 on
 abbrev pub counts_after : Packet → Bool → Found → List Counts → List Counts
@@ -112,17 +102,10 @@ unfoldable pub heading : List ℕ
 heading = codes "device  asked  polls repeats  answered  busy  nak  events  opened  moved  accused\n"
 
 -- a line for each address to which or from which something came: what was asked, what was answered, and the rest
-abbrev pub asked_columns : ℕ → Counts → List ℕ
-asked_columns address c = address_column address ++ (column 6 c.asked ++ (column 6 c.polls ++ column 7 c.repeats))
-
-abbrev pub answered_columns : Counts → List ℕ
-answered_columns c = column 9 c.answered ++ (column 5 c.busy ++ (column 4 c.nak ++ column 7 c.events))
-
-abbrev pub other_columns : Counts → List ℕ
-other_columns c = column 7 c.opened ++ (column 6 c.moved ++ (column 8 c.accused ++ codes "\n"))
-
 abbrev pub row : ℕ → Counts → List ℕ
-row address c = asked_columns address c ++ (answered_columns c ++ other_columns c)
+row address c =
+    address_column address ++ (column 6 c.asked ++ (column 6 c.polls ++ (column 7 c.repeats ++ (column 9 c.answered ++ (column 5 c.busy
+    ++ (column 4 c.nak ++ (column 7 c.events ++ (column 7 c.opened ++ (column 6 c.moved ++ (column 8 c.accused ++ codes "\n"))))))))))
 
 abbrev pub is_silent : Counts → Bool
 is_silent c = c.asked == 0 && c.answered == 0 && c.busy == 0 && c.nak == 0
@@ -137,8 +120,7 @@ rows_from address (c ∷ counts) = row_if address c ++ rows_from (address + 1) c
 -- the line of counts
 abbrev pub counts_line : Tally → ℕ → List ℕ
 counts_line tally accused =
-    codes "runs " ++ (decimal tally.runs ++ (codes " packets " ++ (decimal tally.packets ++ (codes " skipped "
-    ++ (decimal tally.skipped ++ (codes " refused " ++ (decimal tally.refused ++ (codes " accused " ++ (decimal accused ++ codes "\n")))))))))
+    counts_then tally.runs tally.packets tally.skipped tally.refused (codes " accused " ++ (decimal accused ++ codes "\n"))
 
 -- the table, with that line after it
 abbrev pub table_of : Tally → List Counts → ℕ → List ℕ

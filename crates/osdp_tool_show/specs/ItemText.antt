@@ -105,8 +105,12 @@ abbrev pub item_line : ℕ → ℕ → RunItem → List ℕ
 item_line run place part =
     (decimal run ++ (codes ":" ++ (decimal place ++ codes " "))) ++ (item_text part ++ codes "\n")
 
--- the line of counts: runs with bytes, packets, skipped bytes, refusals
-abbrev pub counts_line : ℕ → ℕ → ℕ → ℕ → List ℕ
-counts_line runs packets skipped refused =
+-- how many runs with bytes, packets, skipped bytes and refusals there are, and what stands after that
+abbrev pub counts_then : ℕ → ℕ → ℕ → ℕ → List ℕ → List ℕ
+counts_then runs packets skipped refused rest =
     codes "runs " ++ (decimal runs ++ (codes " packets " ++ (decimal packets ++ (codes " skipped "
-    ++ (decimal skipped ++ (codes " refused " ++ (decimal refused ++ codes "\n")))))))
+    ++ (decimal skipped ++ (codes " refused " ++ (decimal refused ++ rest)))))))
+
+-- the line of counts
+abbrev pub counts_line : ℕ → ℕ → ℕ → ℕ → List ℕ
+counts_line runs packets skipped refused = counts_then runs packets skipped refused (codes "\n")

@@ -3,7 +3,7 @@
 ghost use Rattle.std.specs.Prelude.{◌≡◌, ◌++◌, ◌+◌, ◌<◌, ◌^◌, ℕ, true, false, length, OnOk, IfOk, IfSome, string_bytes, codes};
 ghost use Rattle.std.specs.Fmt.{decimal};
 ghost use Rattle.osdp_frame.specs.Reading.{PacketItem, SkippedItem, RefusedItem};
-ghost use Rattle.osdp_tool_show.specs.ItemText.{body_text, fault_name, head_text, is_refusal, item_line, counts_line};
+ghost use Rattle.osdp_tool_show.specs.ItemText.{body_text, fault_name, head_text, is_refusal, item_line, counts_then};
 ghost use Rattle.osdp_tool_show.specs.ToldItems.{shown_line, end_line};
 
 use crate::Detail;
@@ -203,19 +203,27 @@ pub(crate) fn push_fault(
     push_refused(text, fault)
 }
 
-/// Writes the line of counts, where not all items have one.
-pub fn push_end(text: &mut String, detail: Detail, tally: &Tally) -> Result<(), AllocError>
-    ensures { OnOk result (string_bytes text.new ≡ string_bytes text.old ++ end_line detail tally.now) }
+/// Writes how many there are of each kind, and what is to stand after that.
+pub fn push_counts(text: &mut String, tally: &Tally, rest: &str) -> Result<(), AllocError>
+    ensures { OnOk result (string_bytes text.new ≡ string_bytes text.old
+        ++ counts_then tally.now.runs tally.now.packets tally.now.skipped tally.now.refused rest.now) }
 {
-    if let Detail::Full = detail {
-        return Ok(());
-    }
     let runs = tally.runs;
     let packets = tally.packets;
     let skipped = tally.skipped;
     let refused = tally.refused;
     write!(
         text,
-        "runs {runs} packets {packets} skipped {skipped} refused {refused}\n"
+        "runs {runs} packets {packets} skipped {skipped} refused {refused}{rest}"
     )
+}
+
+/// Writes the line of counts, where not all items have one.
+pub fn push_end(text: &mut String, detail: Detail, tally: &Tally) -> Result<(), AllocError>
+    ensures { OnOk result (string_bytes text.new ≡ string_bytes text.old ++ end_line detail tally.now) }
+{
+    match detail {
+        Detail::Full => Ok(()),
+        Detail::Refusals => push_counts(text, tally, "\n"),
+    }
 }

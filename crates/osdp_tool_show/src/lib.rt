@@ -20,6 +20,6 @@ mod telling;
 
 pub use commands::{command, show};
 pub use detail::Detail;
-pub use item_text::push_end;
+pub use item_text::{push_counts, push_end};
 pub use tally::Tally;
 pub use telling::tell;
