@@ -89,16 +89,17 @@ ends_final detail form limit start middle written ib ia false was true (Ok refus
 ends_final detail form limit start middle written ib ia false was true (Err (NotHex line)) e k stays = (
   refl,
   refl,
-  part_whole detail form limit start written ib ia false true (e.earlier ++ e.piece) [] (read_all ib ia (e.earlier ++ e.piece) e.taken)
-      (within_one limit (e.earlier ++ e.piece) e.within) (inr (Appends-kept start middle written (shown detail form (e.earlier ++ e.piece)) e.text k)),
+  part_whole detail form limit start written ib ia false true (e.read.earlier ++ e.read.piece) [] (read_all ib ia (e.read.earlier ++ e.read.piece) e.read.taken)
+      (within_one limit (e.read.earlier ++ e.read.piece) e.read.within)
+      (inr (Appends-kept start middle written (shown detail form (e.read.earlier ++ e.read.piece)) e.text k)),
 )
 ends_final detail form limit start middle written ib ia false was true (Err TooLong) e k stays =
-    let whole = e.whole in
-    let lengths = length-append e.read (e.one_more ∷ []) in (
+    let whole = e.read.whole in
+    let lengths = length-append e.read.within (e.read.byte ∷ []) in (
       refl,
       refl,
-      part_whole detail form limit start written ib ia false true e.read (e.one_more ∷ []) e.taken (omega arith)
-          (inl (Appends-kept start middle written (shown_so_far detail form e.read) e.text k)),
+      part_whole detail form limit start written ib ia false true e.read.within (e.read.byte ∷ []) e.read.taken (omega arith)
+          (inl (Appends-kept start middle written (shown_so_far detail form e.read.within) e.text k)),
     )
 ends_final detail form limit start middle written ib ia false was true (Err ReadFailed) e k stays = let ill = e.input_failed in cc
 ends_final detail form limit start middle written ib ia false was true (Err WriteFailed) e k stays =
@@ -117,25 +118,18 @@ ends_final detail form limit start middle written ib ia false was false (Ok refu
   output_well = refl;
 }
 ends_final detail form limit start middle written ib ia false was false (Err (NotHex line)) e k stays = record {
-  earlier = e.earlier;
-  piece = e.piece;
-  taken = e.taken;
-  within = e.within;
-  one_piece = e.one_piece;
+  read = e.read;
   good = e.good;
   bad = e.bad;
   ended = e.ended;
-  text = Appends-kept start middle written (shown detail form (e.earlier ++ e.piece)) e.text k;
+  text = Appends-kept start middle written (shown detail form (e.read.earlier ++ e.read.piece)) e.text k;
   input_well = refl;
   output_well = refl;
 }
 ends_final detail form limit start middle written ib ia false was false (Err TooLong) e k stays = record {
   read = e.read;
-  one_more = e.one_more;
-  taken = e.taken;
-  whole = e.whole;
   good = e.good;
-  text = Appends-kept start middle written (shown_so_far detail form e.read) e.text k;
+  text = Appends-kept start middle written (shown_so_far detail form e.read.within) e.text k;
   input_well = refl;
   output_well = refl;
 }

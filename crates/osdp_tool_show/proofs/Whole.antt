@@ -115,20 +115,20 @@ whole_by detail form limit bytes after failed output (Ok refused) e well well_to
     (answer_good form e.read refused e.good e.answer ∙ ap (answer_to form) (sym all))
     (subst (λ l. Appends output.before output.after (shown detail form l)) (sym all) e.text)
 whole_by detail form limit bytes after failed output (Err (NotHex line)) e well well_too memory =
-    let read = e.earlier ++ e.piece in
+    let read = e.read.earlier ++ e.read.piece in
     elim e.ended [
       | inl bad ↦
-          let c = consumed bytes read after e.taken in
-          whole_at_bad_line detail form limit bytes read c.0 output line c.2 e.within bad e.text
+          let c = consumed bytes read after e.read.taken in
+          whole_at_bad_line detail form limit bytes read c.0 output line c.2 e.read.within bad e.text
       | inr end ↦
-          let all = all_read bytes read after e.taken end in
-          whole_within detail form limit bytes output (Err (NotHex line)) (subst (λ (l : List ℕ). length l ≤ limit) (sym all) e.within)
+          let all = all_read bytes read after e.read.taken end in
+          whole_within detail form limit bytes output (Err (NotHex line)) (subst (λ (l : List ℕ). length l ≤ limit) (sym all) e.read.within)
           (answer_bad form read line e.bad ∙ ap (answer_to form) (sym all))
           (subst (λ l. Appends output.before output.after (shown detail form l)) (sym all) e.text)
     ]
 whole_by detail form limit bytes after failed output (Err TooLong) e well well_too memory =
-    let c = consumed bytes (e.read ++ e.one_more ∷ []) after e.taken in
-    whole_past detail form limit e.one_more bytes e.read c.0 output c.2 e.whole e.good e.text
+    let c = consumed bytes (e.read.within ++ e.read.byte ∷ []) after e.read.taken in
+    whole_past detail form limit e.read.byte bytes e.read.within c.0 output c.2 e.read.whole e.good e.text
 whole_by detail form limit bytes after failed output (Err ReadFailed) e well well_too memory = let told = e.input_failed in cc
 whole_by detail form limit bytes after failed output (Err WriteFailed) e well well_too memory = let told = e.1 in cc
 whole_by detail form limit bytes after failed output (Err NoMemory) e well well_too memory = absurd (memory refl)

@@ -62,11 +62,7 @@ pub read_bad : (limit left count : ℕ) (buffer : List ℕ) (old mid new : Captu
 read_bad limit left count buffer old mid new a b c x y z size piece h took =
     let more = further limit left count buffer old mid a b c x y piece h in
     record {
-      earlier = h.read;
-      piece = take count buffer;
-      taken = more.0;
-      within = omega (arith, more.1);
-      one_piece = omega (arith, more.2);
+      read = record { earlier = h.read; piece = take count buffer; taken = more.0; within = omega (arith, more.1); one_piece = omega (arith, more.2) };
       most = took.0;
       mid = mid;
       middle = y;
@@ -87,10 +83,7 @@ read_past limit left byte old new a b c x y h past =
     let was = h.count in
     let none = past.0 in
     record {
-      read = h.read;
-      one_more = byte;
-      taken = Consumes-trans a b c h.read (byte ∷ []) h.taken past.1;
-      whole = omega arith;
+      read = record { within = h.read; byte = byte; taken = Consumes-trans a b c h.read (byte ∷ []) h.taken past.1; whole = omega arith };
       took = h.took;
     }
 
@@ -230,18 +223,18 @@ part_in_piece detail form limit start before written ib ia input_failed output_f
 -- what is known where a bad line ended the input
 at_bad_line : (detail : Detail) (form : Form) (limit : ℕ) (start before middle input_before input_after : Option (List ℕ)) (old mid : Capture)
     → (r : ReadToBadLine limit old mid input_before input_after before middle) → HasShown detail form start [] old before
-    → (first_bad_ended form r.earlier ≡ None)
-    × Stands detail start (ended_runs form (r.earlier ++ take r.most r.piece)) (open_run form (r.earlier ++ take r.most r.piece)) mid.framer mid.report middle
-    × ((first_bad form (r.earlier ++ r.piece) ≡ Some mid.ended) × (first_bad_ended form (r.earlier ++ r.piece) ≡ Some mid.ended)
-    × (runs_of form (r.earlier ++ r.piece)
-    ≡ closed_runs (ended_runs form (r.earlier ++ take r.most r.piece)) (open_run form (r.earlier ++ take r.most r.piece))))
+    → (first_bad_ended form r.read.earlier ≡ None)
+    × Stands detail start (ended_runs form (r.read.earlier ++ take r.most r.read.piece)) (open_run form (r.read.earlier ++ take r.most r.read.piece)) mid.framer mid.report middle
+    × ((first_bad form (r.read.earlier ++ r.read.piece) ≡ Some mid.ended) × (first_bad_ended form (r.read.earlier ++ r.read.piece) ≡ Some mid.ended)
+    × (runs_of form (r.read.earlier ++ r.read.piece)
+    ≡ closed_runs (ended_runs form (r.read.earlier ++ take r.most r.read.piece)) (open_run form (r.read.earlier ++ take r.most r.read.piece))))
 at_bad_line detail form limit start before middle ib ia old mid r f =
     let earlier = r.took_earlier.follows detail form start [] f in
-    let stops = r.took.follows detail form start r.earlier earlier in
-    let fed = r.earlier ++ take r.most r.piece in
-    let more = drop r.most r.piece in
-    let whole : fed ++ more ≡ r.earlier ++ r.piece =
-    append_assoc r.earlier (take r.most r.piece) more ∙ ap (λ l. r.earlier ++ l) (take-append-drop r.most r.piece) in (
+    let stops = r.took.follows detail form start r.read.earlier earlier in
+    let fed = r.read.earlier ++ take r.most r.read.piece in
+    let more = drop r.most r.read.piece in
+    let whole : fed ++ more ≡ r.read.earlier ++ r.read.piece =
+    append_assoc r.read.earlier (take r.most r.read.piece) more ∙ ap (λ l. r.read.earlier ++ l) (take-append-drop r.most r.read.piece) in (
       earlier.good,
       stops.stands,
       subst (λ l. (first_bad form l ≡ Some mid.ended) × (first_bad_ended form l ≡ Some mid.ended)
@@ -254,12 +247,12 @@ pub part_at_bad_line : (detail : Detail) (form : Form) (limit : ℕ) (start befo
     → EndsPartWay detail form limit (streamed input_before input_after input_failed) (streamed start written output_failed)
 part_at_bad_line detail form limit start before middle written ib ia input_failed output_failed old mid r h f =
     let here = at_bad_line detail form limit start before middle ib ia old mid r f in
-    let within = r.within in
+    let within = r.read.within in
     record {
-      read = r.earlier ++ r.piece;
+      read = r.read.earlier ++ r.read.piece;
       more = [];
-      taken = subst (Consumes ib ia) (sym (append-nil (r.earlier ++ r.piece))) r.taken;
-      within = subst (λ (l : List ℕ). length l ≤ limit + 1) (sym (append-nil (r.earlier ++ r.piece))) (omega arith);
+      taken = subst (Consumes ib ia) (sym (append-nil (r.read.earlier ++ r.read.piece))) r.read.taken;
+      within = subst (λ (l : List ℕ). length l ≤ limit + 1) (sym (append-nil (r.read.earlier ++ r.read.piece))) (omega arith);
       text = inr (subst (λ runs. StopsWithin start written (runs_lines detail no_tally runs ++ end_line detail (after_runs no_tally runs))) (sym here.2.2)
           (h detail start _ _ here.1));
     }
@@ -270,14 +263,14 @@ pub part_past_limit : (detail : Detail) (form : Form) (limit : ℕ) (start befor
     → EndsPartWay detail form limit (streamed input_before input_after input_failed) (streamed start written output_failed)
 part_past_limit detail form limit start before middle written ib ia input_failed output_failed old mid r h f =
     let here = r.took.follows detail form start [] f in
-    let whole = r.whole in
-    let lengths = length-append r.read (r.one_more ∷ []) in
+    let whole = r.read.whole in
+    let lengths = length-append r.read.within (r.read.byte ∷ []) in
     record {
-      read = r.read;
-      more = r.one_more ∷ [];
-      taken = r.taken;
+      read = r.read.within;
+      more = r.read.byte ∷ [];
+      taken = r.read.taken;
       within = omega arith;
-      text = inl (stops_by start middle written (shown_so_far detail form r.read) (shown_so_far detail form r.read) [] here.stands.lines h (sym (append-nil _)));
+      text = inl (stops_by start middle written (shown_so_far detail form r.read.within) (shown_so_far detail form r.read.within) [] here.stands.lines h (sym (append-nil _)));
     }
 
 -- .. before anything was read
@@ -344,11 +337,13 @@ works_at_end detail form limit start before middle written ib ia input_failed wa
 works_at_end detail form limit start before middle written ib ia input_failed was output_failed old mid (Err (NotHex line)) r well quiet a f =
     let here = a.1 detail form start r.read (r.took.follows detail form start [] f) in
     record {
-      earlier = r.read;
-      piece = [];
-      taken = subst (Consumes ib ia) (sym (append-nil r.read)) r.taken;
-      within = subst (λ (l : List ℕ). length l ≤ limit) (sym (append-nil r.read)) r.within;
-      one_piece = omega arith;
+      read = record {
+        earlier = r.read;
+        piece = [];
+        taken = subst (Consumes ib ia) (sym (append-nil r.read)) r.taken;
+        within = subst (λ (l : List ℕ). length l ≤ limit) (sym (append-nil r.read)) r.within;
+        one_piece = omega arith;
+      };
       good = (r.took.follows detail form start [] f).good;
       bad = subst (λ l. first_bad form l ≡ Some line) (sym (append-nil r.read)) here.0;
       ended = inr r.at_end;
@@ -370,11 +365,7 @@ works_at_bad_line detail form limit start before middle written ib ia input_fail
     let here = at_bad_line detail form limit start before middle ib ia old mid r f in
     let line : Some mid.ended ≡ Some new.ended = ap Some (sym c.same) in
     record {
-      earlier = r.earlier;
-      piece = r.piece;
-      taken = r.taken;
-      within = r.within;
-      one_piece = r.one_piece;
+      read = r.read;
       good = here.0;
       bad = here.2.0 ∙ line;
       ended = inl (here.2.1 ∙ line);

@@ -29,6 +29,21 @@ watched bytes old new = streamed (bytes (inner_of old)) (bytes (inner_of new)) (
 abbrev pub piece_size : ℕ
 piece_size = 65536
 
+-- what was read of the input, in its last piece and before that
+pub record LastPiece (limit : ℕ) (before after : Option (List ℕ)) : Type 0 where
+  pub earlier : List ℕ
+  pub piece : List ℕ
+  pub taken : Consumes before after (earlier ++ piece)
+  pub within : length (earlier ++ piece) ≤ limit
+  pub one_piece : length piece ≤ piece_size
+
+-- as many bytes as the limit were read, and one more
+pub record OneMore (limit : ℕ) (before after : Option (List ℕ)) : Type 0 where
+  pub within : List ℕ
+  pub byte : ℕ
+  pub taken : Consumes before after (within ++ byte ∷ [])
+  pub whole : length within ≡ limit
+
 -- the input was read to its end, and all of it is shown
 pub record EndsAtEnd (detail : Detail) (form : Form) (limit : ℕ) (input output : Stream) (refused : Bool) : Type 0 where
   pub read : List ℕ
@@ -44,26 +59,19 @@ pub record EndsAtEnd (detail : Detail) (form : Form) (limit : ℕ) (input output
 -- A bad line ended the input, and what stands before it is shown. It has ended, at a line feed or with the
 -- input, and nothing was read after the piece in which it did.
 pub record EndsAtBadLine (detail : Detail) (form : Form) (limit : ℕ) (input output : Stream) (line : ℕ) : Type 0 where
-  pub earlier : List ℕ
-  pub piece : List ℕ
-  pub taken : Consumes input.before input.after (earlier ++ piece)
-  pub within : length (earlier ++ piece) ≤ limit
-  pub one_piece : length piece ≤ piece_size
-  pub good : first_bad_ended form earlier ≡ None
-  pub bad : first_bad form (earlier ++ piece) ≡ Some line
-  pub ended : (first_bad_ended form (earlier ++ piece) ≡ Some line) ⊎ IsAtEnd input.after
-  pub text : Appends output.before output.after (shown detail form (earlier ++ piece))
+  pub read : LastPiece limit input.before input.after
+  pub good : first_bad_ended form read.earlier ≡ None
+  pub bad : first_bad form (read.earlier ++ read.piece) ≡ Some line
+  pub ended : (first_bad_ended form (read.earlier ++ read.piece) ≡ Some line) ⊎ IsAtEnd input.after
+  pub text : Appends output.before output.after (shown detail form (read.earlier ++ read.piece))
   pub input_well : input.failed ≡ false
   pub output_well : output.failed ≡ false
 
--- as many bytes as the limit were read and one more; the items that those within it decide are shown
+-- one byte more than the limit was read; the items that those within it decide are shown
 pub record EndsPastLimit (detail : Detail) (form : Form) (limit : ℕ) (input output : Stream) : Type 0 where
-  pub read : List ℕ
-  pub one_more : ℕ
-  pub taken : Consumes input.before input.after (read ++ one_more ∷ [])
-  pub whole : length read ≡ limit
-  pub good : first_bad_ended form read ≡ None
-  pub text : Appends output.before output.after (shown_so_far detail form read)
+  pub read : OneMore limit input.before input.after
+  pub good : first_bad_ended form read.within ≡ None
+  pub text : Appends output.before output.after (shown_so_far detail form read.within)
   pub input_well : input.failed ≡ false
   pub output_well : output.failed ≡ false
 

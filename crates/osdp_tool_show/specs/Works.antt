@@ -15,7 +15,7 @@ use Rattle.osdp_tool_show.specs.Machine.{IsSettled, Stands}
 use Rattle.osdp_tool_show.specs.Shown.{shown, shown_so_far, is_refused_input}
 use Rattle.osdp_tool_show.specs.Written.{StopsWithin}
 use Rattle.osdp_tool_show.specs.Capture.{load, HasShown, TookPiece, StopsInPiece}
-use Rattle.osdp_tool_show.specs.Ending.{Stream, piece_size, Ends, EndsPartWay}
+use Rattle.osdp_tool_show.specs.Ending.{Ends, EndsPartWay, LastPiece, OneMore, Stream}
 
 -- the run has ended, and all that waited is written, with the counts where they are wanted
 pub record Closed (old new : Capture) (before written : Option (List ℕ)) : Type 0 where
@@ -52,24 +52,17 @@ pub record ReadToEnd (limit : ℕ) (old new : Capture) (input_before input_after
 
 -- a bad line in the last piece
 pub record ReadToBadLine (limit : ℕ) (old new : Capture) (input_before input_after before after : Option (List ℕ)) : Type 0 where
-  pub earlier : List ℕ
-  pub piece : List ℕ
-  pub taken : Consumes input_before input_after (earlier ++ piece)
-  pub within : length (earlier ++ piece) ≤ limit
-  pub one_piece : length piece ≤ piece_size
+  pub read : LastPiece limit input_before input_after
   pub most : ℕ
   pub mid : Capture
   pub middle : Option (List ℕ)
-  pub took_earlier : TookPiece earlier true old mid before middle
-  pub took : TookPiece (take most piece) false mid new middle after
+  pub took_earlier : TookPiece read.earlier true old mid before middle
+  pub took : TookPiece (take most read.piece) false mid new middle after
 
 -- the limit, and one byte more
 pub record ReadToLimit (limit : ℕ) (old new : Capture) (input_before input_after before after : Option (List ℕ)) : Type 0 where
-  pub read : List ℕ
-  pub one_more : ℕ
-  pub taken : Consumes input_before input_after (read ++ one_more ∷ [])
-  pub whole : length read ≡ limit
-  pub took : TookPiece read true old new before after
+  pub read : OneMore limit input_before input_after
+  pub took : TookPiece read.within true old new before after
 
 -- a failed read
 pub record ReadToFailure (limit : ℕ) (old new : Capture) (input_before input_after before after : Option (List ℕ)) : Type 0 where
