@@ -2,12 +2,24 @@
 use Rattle.std.proofs.Common.{◌≡◌, ◌↔◌, ℕ, List, [], ◌∷◌, ◌++◌, Option, Some, None, refl, sym, ap, ◌∙◌}
 use Rattle.std.specs.Prelude.{flat_map}
 use Rattle.std.specs.Fmt.{decimal}
+use Rattle.osdp_frame.specs.Times.{IsTime}
 use Rattle.osdp_tool_monitor.specs.declared.mode.MonitorMode.{MonitorMode}
 use Rattle.osdp_tool_monitor.specs.declared.mode.MonitorOption.{MonitorOption}
 use Rattle.osdp_tool_monitor.specs.declared.mode.MonitorOption.TheVariants.{Hex, Packets, Gap, Every}
 use Rattle.osdp_tool_monitor.specs.declared.mode.OptionName.{OptionName}
 use Rattle.osdp_tool_monitor.specs.declared.mode.OptionName.TheVariants as name
-use Rattle.osdp_tool_monitor.specs.Options.{AreOptions, OptionFits, ReadsMode, TakesOption, Words, default_mode, name_text, option_words, with_option, with_options}
+use Rattle.osdp_tool_monitor.specs.Options.{AreOptions, OptionFits, ReadsMode, TakesNumber, TakesOption, Words, default_mode, name_text, numbered, option_words, with_option, with_options}
+
+-- the number of an option is the one that stands there
+number_taken : (option : ℕ → MonitorOption) (o : MonitorOption) (n : Option ℕ) (k : ℕ) (left next rest : Words) → TakesNumber left next n
+    → Some o ≡ numbered option n → IsTime k → left ≡ decimal k ∷ rest → (o ≡ option k) × (next ≡ rest)
+number_taken option o None k left next rest takes took fit is = let none = takes.only k rest fit is in absurd cc
+number_taken option o (Some j) k left next rest takes took fit is =
+    let same = takes.only k rest fit is in
+    let front = takes.value.1 in
+    let one : o ≡ option k = cc in
+    let two : next ≡ rest = cc in
+    (one, two)
 
 -- what was read of the words, and what is left of them: options of what is left are the last of all
 pub record Left (given left : Words) (mode : MonitorMode) : Type 0 where
@@ -126,32 +138,12 @@ module _ (word : List ℕ) (left : Words) (found : Option OptionName) (is : (n :
     after_it name.Packets o (Every k) others e took h fit clash = absurd cc
     after_it name.Gap o Hex others e took h fit clash = absurd cc
     after_it name.Gap o Packets others e took h fit clash = absurd cc
-    after_it name.Gap o (Gap k) others e (None, takes, took) h fit clash =
-        let rest : left ≡ decimal k ∷ flat_map option_words others = cc in
-        let none = takes.only k (flat_map option_words others) fit rest in
-        absurd cc
-    after_it name.Gap o (Gap k) others e (Some j, takes, took) h fit clash =
-        let rest : left ≡ decimal k ∷ flat_map option_words others = cc in
-        let some = takes.only k (flat_map option_words others) fit rest in
-        let front = takes.value.1 in
-        let one : o ≡ Gap k = cc in
-        let two : next ≡ flat_map option_words others = cc in
-        (one, two)
+    after_it name.Gap o (Gap k) others e (n, takes, took) h fit clash = number_taken Gap o n k left next (flat_map option_words others) takes took fit cc
     after_it name.Gap o (Every k) others e took h fit clash = absurd cc
     after_it name.Every o Hex others e took h fit clash = absurd cc
     after_it name.Every o Packets others e took h fit clash = absurd cc
     after_it name.Every o (Gap k) others e took h fit clash = absurd cc
-    after_it name.Every o (Every k) others e (None, takes, took) h fit clash =
-        let rest : left ≡ decimal k ∷ flat_map option_words others = cc in
-        let none = takes.only k (flat_map option_words others) fit rest in
-        absurd cc
-    after_it name.Every o (Every k) others e (Some j, takes, took) h fit clash =
-        let rest : left ≡ decimal k ∷ flat_map option_words others = cc in
-        let some = takes.only k (flat_map option_words others) fit rest in
-        let front = takes.value.1 in
-        let one : o ≡ Every k = cc in
-        let two : next ≡ flat_map option_words others = cc in
-        (one, two)
+    after_it name.Every o (Every k) others e (n, takes, took) h fit clash = number_taken Every o n k left next (flat_map option_words others) takes took fit cc
 
     none_after : (m : OptionName) (p : MonitorOption) (others : List MonitorOption) → TakesOption m left next None → word ∷ left ≡ option_words p ++ flat_map option_words others
         → OptionFits p → m ≡ name_of p → ⊥
