@@ -1,5 +1,6 @@
 -- Which call a line is, where calls are words.
 use Rattle.std.specs.Prelude.{ℕ, ◌≤◌, List, length, IsUtf8}
+use Rattle.hex.specs.Hex.{IsBytes}
 use Rattle.osdp_words.specs.Word.{AllStandFor, Word, words_in}
 use Rattle.osdp_line_calls.specs.Answers.{longest}
 
@@ -13,3 +14,7 @@ pub record Says {C : Type 0} (words_of : C → List Word) (Fits : C → Type 0) 
 -- the line is no call
 abbrev pub SaysNothing : {C : Type 0} → (C → List Word) → (C → Type 0) → List ℕ → Type 0
 SaysNothing {C} words_of Fits line = (call : C) → Says words_of Fits line call → ⊥
+
+-- as many bytes as a line has room for
+abbrev pub IsLong : List ℕ → Type 0
+IsLong list = (length list ≤ 4096) × IsBytes list

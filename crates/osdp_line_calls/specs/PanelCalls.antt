@@ -1,9 +1,9 @@
 -- What a line may order, and its words.
-use Rattle.std.specs.Prelude.{ℕ, ◌+◌, ◌≤◌, ◌<◌, ◌^◌, List, [], ◌∷◌, codes, length}
-use Rattle.hex.specs.Hex.{IsBytes}
+use Rattle.std.specs.Prelude.{ℕ, ◌+◌, ◌<◌, ◌^◌, List, [], ◌∷◌, codes}
 use Rattle.osdp_msg.specs.CommandTable.{CommandFits}
 use Rattle.osdp_msg.specs.CommandText.{command_words}
 use Rattle.osdp_words.specs.Word.{Word, plain, bytes, number}
+use Rattle.osdp_line_calls.specs.Calls.{IsLong}
 use Rattle.osdp_line_calls.specs.declared.panel_call.PanelCall.{PanelCall}
 use Rattle.osdp_line_calls.specs.declared.panel_call.PanelCall.TheVariants.{At, Add, Begin, Submit, Withdraw, Retarget, Bytes, Silence, Tick}
 
@@ -43,10 +43,6 @@ IsEntry entry = entry + 1 < 2 ^ 32
 
 abbrev pub IsAddress : ℕ → Type 0
 IsAddress address = address < 128
-
--- as many bytes as a line has room for
-abbrev pub IsLong : List ℕ → Type 0
-IsLong list = (length list ≤ 4096) × IsBytes list
 
 abbrev pub CallFits : PanelCall → Type 0
 CallFits (At now) = now < 2 ^ 64

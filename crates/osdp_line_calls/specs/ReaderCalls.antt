@@ -4,6 +4,7 @@ use Rattle.hex.specs.Hex.{IsBytes}
 use Rattle.osdp_msg.specs.Events.{EventFits, event_words}
 use Rattle.osdp_msg.specs.Limits.{most_data}
 use Rattle.osdp_words.specs.Word.{Word, plain, bytes, number}
+use Rattle.osdp_line_calls.specs.Calls.{IsLong}
 use Rattle.osdp_line_calls.specs.declared.reader_call.ReaderCall.{ReaderCall}
 use Rattle.osdp_line_calls.specs.declared.reader_call.ReaderCall.TheVariants.{At, Bytes, Silence, Tick, Event, Busy, Inputs, Outputs, Readers, Local}
 
@@ -39,10 +40,7 @@ call_fields (Local tamper power) = number tamper ∷ number power ∷ []
 abbrev pub call_words : ReaderCall → List Word
 call_words call = plain (call_name call) ∷ call_fields call
 
--- as many bytes as a line has room for, and a byte for each input, output or reader
-abbrev pub IsLong : List ℕ → Type 0
-IsLong list = (length list ≤ 4096) × IsBytes list
-
+-- a byte for each input, output or reader
 abbrev pub AreStates : List ℕ → Type 0
 AreStates list = (length list ≤ most_data) × IsBytes list
 

@@ -49,6 +49,7 @@ mod reader_say;
 mod reader_session;
 mod run;
 mod values;
+mod words;
 mod wrong;
 
 pub use answering::answer_lines;

@@ -6,14 +6,13 @@ ghost use Rattle.osdp_bus.specs.Devices.{first_from, is_at};
 ghost use Rattle.osdp_bus.specs.Machine.{begin_refusal_at};
 ghost use Rattle.osdp_bus.specs.Private.{IsHeld, IsRead, rest_of};
 ghost use Rattle.osdp_frame.specs.Items.{items, left_over};
-ghost use Rattle.osdp_frame.specs.Reading.{PacketItem};
 ghost use Rattle.osdp_frame.specs.Shown.{item_of};
 ghost use Rattle.osdp_line_calls.specs.Passing.{Listening, hears_begin, hears_bytes, hears_end, hears_run, hears_silence, is_open, new_listening, opened_by, opened_told, passed_item, passed_items, sees, then_hears};
 
 use crate::passing::push_passed;
 use osdp_bus::{Bus, Entry};
 use osdp_controller::Report;
-use osdp_frame::{Address, FrameView, Framer, Item};
+use osdp_frame::{Address, Framer, Item};
 use std::alloc::AllocError;
 use std::marker::Model;
 
@@ -91,15 +90,19 @@ fn opened_told(report: &Report) -> Option<bool>
     }
 }
 
-/// Writes the line of a packet that is passed over, where it is one: a reply of a device whose session isn't open.
-fn push_packet(
+/// Writes the line of an item that is passed over, where it is one: a reply of a device whose session isn't open.
+fn push_item(
     text: &mut String,
     bus: &Bus,
     opened: &[bool; 16],
-    frame: &FrameView<'_>,
+    item: &Item<'_>,
 ) -> Result<(), AllocError>
-    ensures { OnOk result (string_bytes text.new ≡ string_bytes text.old ++ passed_item bus.now.devices.entries opened.now (PacketItem frame.now)) }
+    ensures { OnOk result (string_bytes text.new ≡ string_bytes text.old ++ passed_item bus.now.devices.entries opened.now (item_of item.now)) }
 {
+    let frame = match item {
+        Item::Packet(frame) => frame,
+        Item::Skipped(_) | Item::Refused(_) => return Ok(()),
+    };
     if !frame.is_reply() {
         return Ok(());
     }
@@ -110,21 +113,6 @@ fn push_packet(
         return Ok(());
     }
     push_passed(text, entry, frame)
-}
-
-/// Writes the line of an item that is passed over, where it is one.
-fn push_item(
-    text: &mut String,
-    bus: &Bus,
-    opened: &[bool; 16],
-    item: &Item<'_>,
-) -> Result<(), AllocError>
-    ensures { OnOk result (string_bytes text.new ≡ string_bytes text.old ++ passed_item bus.now.devices.entries opened.now (item_of item.now)) }
-{
-    match item {
-        Item::Packet(frame) => push_packet(text, bus, opened, frame),
-        Item::Skipped(_) | Item::Refused(_) => Ok(()),
-    }
 }
 
 /// Reads all items that the bytes held decide, and writes their lines.

@@ -1,19 +1,19 @@
 //! What a line may order.
 
-ghost use Rattle.std.specs.Prelude.{◌≡◌, ◌<◌, ◌^◌, ◌∷◌, ℕ, []};
+ghost use Rattle.std.specs.Prelude.{◌∷◌, ℕ, []};
 ghost use Rattle.osdp_msg.specs.declared.command.Command.{Command as Ordered};
 ghost use Rattle.osdp_msg.specs.CommandTable.{CommandFits};
 ghost use Rattle.osdp_msg.specs.CommandText.{command_words};
 ghost use Rattle.osdp_words.specs.Reading.{Reads, ReadsWords};
-ghost use Rattle.osdp_words.specs.Word.{bytes, number, texts};
-ghost use Rattle.osdp_line_calls.specs.PanelCalls.{CallFits, IsAddress, IsEntry, IsLong, call_words, entry_word};
+ghost use Rattle.osdp_words.specs.Word.{number, texts};
+ghost use Rattle.osdp_line_calls.specs.PanelCalls.{CallFits, IsAddress, IsEntry, call_words, entry_word};
 
-use crate::reader_call::one_word;
+use crate::words::{one_list, one_moment, one_word};
 use arrayvec::ArrayVec;
 use osdp_bus::Entry;
 use osdp_frame::Address;
 use osdp_msg::Command;
-use osdp_words::{byte_list, number_u8, number_u32, number_u64};
+use osdp_words::{number_u8, number_u32};
 
 /// What a line orders. An entry is that of the bus, which counts from 0; the line's word for it counts from 1.
 #[derive(Debug, Drop, PartialEq)]
@@ -55,13 +55,6 @@ fn parse_address(word: &str) -> Option<Address>
     Address::new(number_u8(word)?)
 }
 
-/// One word, and no other: a moment.
-fn one_moment(words: &[&str]) -> Option<u64>
-    ensures { ReadsWords (λ n. number n ∷ []) (λ n. n < 2 ^ 64) (texts words.now) result }
-{
-    number_u64(one_word(words)?)
-}
-
 /// One word, and no other: an address.
 fn one_address(words: &[&str]) -> Option<Address>
     ensures { ReadsWords (λ n. number n ∷ []) IsAddress (texts words.now) result }
@@ -74,13 +67,6 @@ fn one_entry(words: &[&str]) -> Option<Entry>
     ensures { ReadsWords (λ n. entry_word n ∷ []) IsEntry (texts words.now) result }
 {
     parse_entry(one_word(words)?)
-}
-
-/// One word, and no other: bytes of the line.
-fn one_list(words: &[&str]) -> Option<ArrayVec<u8, 4096>>
-    ensures { ReadsWords (λ list. bytes list.items ∷ []) (λ list. IsLong list.items) (texts words.now) result }
-{
-    byte_list(one_word(words)?)
 }
 
 /// An entry, and the words of a command.

@@ -1,14 +1,15 @@
 //! What a line may order.
 
-ghost use Rattle.std.specs.Prelude.{◌≡◌, ◌<◌, ◌^◌, ◌∷◌, ℕ, List, [], MatchOption};
+ghost use Rattle.std.specs.Prelude.{◌<◌, ◌^◌, ◌∷◌, ℕ, []};
 ghost use Rattle.osdp_msg.specs.Events.{EventFits, event_words};
 ghost use Rattle.osdp_words.specs.Reading.{ReadsWords};
 ghost use Rattle.osdp_words.specs.Word.{bytes, number, texts};
-ghost use Rattle.osdp_line_calls.specs.ReaderCalls.{AreStates, CallFits, IsLong, call_words, switch_word};
+ghost use Rattle.osdp_line_calls.specs.ReaderCalls.{AreStates, CallFits, call_words, switch_word};
 
+use crate::words::{one_list, one_moment, one_word};
 use arrayvec::ArrayVec;
 use osdp_msg::MAX_DATA;
-use osdp_words::{byte_list, number_u8, number_u64};
+use osdp_words::{byte_list, number_u8};
 
 /// What a line orders.
 #[derive(Debug, Drop, PartialEq)]
@@ -35,35 +36,21 @@ pub enum ReaderCall {
     Local(u8, u8),
 }
 
-/// One word, and no other.
-pub fn one_word<'a>(words: &[&'a str]) -> Option<&'a str>
-    ensures { MatchOption result ((word : List ℕ) → texts words.now ≡ word ∷ [] → ⊥) (λ word. texts words.now ≡ word.now ∷ []) }
-{
-    match words {
-        [word] => Some(*word),
-        _ => None,
-    }
-}
-
-/// One word, and no other: a moment.
-fn parse_moment(words: &[&str]) -> Option<u64>
-    ensures { ReadsWords (λ n. number n ∷ []) (λ n. n < 2 ^ 64) (texts words.now) result }
-{
-    number_u64(one_word(words)?)
-}
-
-/// One word, and no other: bytes of the line.
-fn parse_bytes(words: &[&str]) -> Option<ArrayVec<u8, 4096>>
-    ensures { ReadsWords (λ list. bytes list.items ∷ []) (λ list. IsLong list.items) (texts words.now) result }
-{
-    byte_list(one_word(words)?)
-}
-
 /// One word, and no other: a byte for each input, output or reader.
 fn parse_states(words: &[&str]) -> Option<ArrayVec<u8, MAX_DATA>>
     ensures { ReadsWords (λ list. bytes list.items ∷ []) (λ list. AreStates list.items) (texts words.now) result }
 {
     byte_list(one_word(words)?)
+}
+
+/// Two words, and no others: tamper and power.
+fn parse_local(words: &[&str]) -> Option<(u8, u8)>
+    ensures { ReadsWords (λ (x : ℕ × ℕ). number x.0 ∷ number x.1 ∷ []) (λ (x : ℕ × ℕ). (x.0 < 2 ^ 8) × (x.1 < 2 ^ 8)) (texts words.now) result }
+{
+    let [tamper, power] = words else {
+        return None;
+    };
+    Some((number_u8(tamper)?, number_u8(power)?))
 }
 
 /// The words of an event.
@@ -84,23 +71,13 @@ fn parse_switch(words: &[&str]) -> Option<bool>
     }
 }
 
-/// Two words, and no others: tamper and power.
-fn parse_local(words: &[&str]) -> Option<(u8, u8)>
-    ensures { ReadsWords (λ (x : ℕ × ℕ). number x.0 ∷ number x.1 ∷ []) (λ (x : ℕ × ℕ). (x.0 < 2 ^ 8) × (x.1 < 2 ^ 8)) (texts words.now) result }
-{
-    let [tamper, power] = words else {
-        return None;
-    };
-    Some((number_u8(tamper)?, number_u8(power)?))
-}
-
 /// The call whose words begin with a name and go on with these.
 pub(crate) fn parse_row(name: &str, words: &[&str]) -> Option<ReaderCall>
     ensures { ReadsWords call_words CallFits (name.now ∷ texts words.now) result }
 {
     match name {
-        "at" => Some(ReaderCall::At(parse_moment(words)?)),
-        "bytes" => Some(ReaderCall::Bytes(parse_bytes(words)?)),
+        "at" => Some(ReaderCall::At(one_moment(words)?)),
+        "bytes" => Some(ReaderCall::Bytes(one_list(words)?)),
         "silence" => words.is_empty().then_some(ReaderCall::Silence),
         "tick" => words.is_empty().then_some(ReaderCall::Tick),
         "event" => Some(ReaderCall::Event(parse_event(words)?)),

@@ -6,11 +6,11 @@ use Rattle.osdp_line_calls.specs.ReaderCalls.{CallFits, call_fields, call_name, 
 use Rattle.osdp_line_calls.proofs.ReaderRows.{local_call, row_at, row_busy, row_local}
 use Rattle.osdp_line_calls.proofs.reader_call.parse_row.Goals as goal
 
-pub returns-in_err-parse_moment-in-at : goal.returns-in_err-parse_moment-in-at
-returns-in_err-parse_moment-in-at c = rw c.in-at.is (row_read call_name call_fields CallFits (λ n. number n ∷ []) (λ n. n < 2 ^ 64) (codes "at") At row_at (texts c.args.words.now) None _ c.in_err-parse_moment-in-at.ensures c.from_residual.ensures)
+pub returns-in_err-one_moment-in-at : goal.returns-in_err-one_moment-in-at
+returns-in_err-one_moment-in-at c = rw c.in-at.is (row_read call_name call_fields CallFits (λ n. number n ∷ []) (λ n. n < 2 ^ 64) (codes "at") At row_at (texts c.args.words.now) None _ c.in_err-one_moment-in-at.ensures c.from_residual.ensures)
 
-pub returns-in_ok-parse_moment-in-at : goal.returns-in_ok-parse_moment-in-at
-returns-in_ok-parse_moment-in-at c = rw c.in-at.is (row_read call_name call_fields CallFits (λ n. number n ∷ []) (λ n. n < 2 ^ 64) (codes "at") At row_at (texts c.args.words.now) (Some c.in_ok-parse_moment-in-at.field-0) _ c.in_ok-parse_moment-in-at.ensures refl)
+pub returns-in_ok-one_moment-in-at : goal.returns-in_ok-one_moment-in-at
+returns-in_ok-one_moment-in-at c = rw c.in-at.is (row_read call_name call_fields CallFits (λ n. number n ∷ []) (λ n. n < 2 ^ 64) (codes "at") At row_at (texts c.args.words.now) (Some c.in_ok-one_moment-in-at.field-0) _ c.in_ok-one_moment-in-at.ensures refl)
 
 pub returns-in_err-parse_switch-in-busy : goal.returns-in_err-parse_switch-in-busy
 returns-in_err-parse_switch-in-busy c = rw c.in-busy.is (row_read call_name call_fields CallFits (λ busy. switch_word busy ∷ []) (λ busy. Unit {0}) (codes "busy") Busy row_busy (texts c.args.words.now) None _ c.in_err-parse_switch-in-busy.ensures c.from_residual-in_err-parse_switch-in-busy.ensures)
