@@ -269,15 +269,23 @@ struct osdp_states {
     uint8_t states[1432];
 };
 
-/* What a device is: of a PDID. 12 bytes. */
-struct osdp_pd_id {
-    uint32_t serial;
+/* What a device is, but for its serial number. 8 bytes. */
+struct osdp_product {
+    /* The maker's code. */
     uint8_t vendor[3];
+    /* The maker's numbers of the model and of its version. */
     uint8_t model;
     uint8_t version;
+    /* The three numbers of the firmware's version. */
     uint8_t firmware_major;
     uint8_t firmware_minor;
     uint8_t firmware_build;
+};
+
+/* What a device is: of a PDID. 12 bytes. */
+struct osdp_pd_id {
+    uint32_t serial;
+    struct osdp_product product;
 };
 
 /* Why a command wasn't done: of a NAK. 1,434 bytes. */
@@ -302,25 +310,24 @@ struct osdp_output {
     uint8_t control;
 };
 
-/* What one LED of a reader is to do: a record of a LED. Times are in 100 ms. Colors: 0 off, 1 red, 2 green, 3 amber, 4 blue, 5 magenta, 6 cyan,
- * 7 white. 14 bytes. */
+/* How an LED blinks. Times are in 100 ms. Colors: 0 off, 1 red, 2 green, 3 amber, 4 blue, 5 magenta, 6 cyan, 7 white. 5 bytes. */
+struct osdp_led_state {
+    /* 0 nothing is set; of a temporary state 1 cancel, 2 set; of the permanent state 1 set. */
+    uint8_t control;
+    uint8_t on_time;
+    uint8_t off_time;
+    uint8_t on_color;
+    uint8_t off_color;
+};
+
+/* What one LED of a reader is to do: a record of a LED. 14 bytes. */
 struct osdp_led {
-    /* How long the temporary state lasts. */
+    /* How long the temporary state lasts, in 100 ms. */
     uint16_t timer;
     uint8_t reader;
     uint8_t led;
-    /* 0 nothing, 1 cancel, 2 set. */
-    uint8_t temporary_control;
-    uint8_t temporary_on_time;
-    uint8_t temporary_off_time;
-    uint8_t temporary_on_color;
-    uint8_t temporary_off_color;
-    /* 0 nothing, 1 set. */
-    uint8_t permanent_control;
-    uint8_t permanent_on_time;
-    uint8_t permanent_off_time;
-    uint8_t permanent_on_color;
-    uint8_t permanent_off_color;
+    struct osdp_led_state temporary;
+    struct osdp_led_state permanent;
 };
 
 /* How the buzzer of a reader sounds: a BUZ. Times are in 100 ms. 5 bytes. */
@@ -595,15 +602,8 @@ struct osdp_device_config {
     uint32_t serial;
     /* How many milliseconds a moment may lie after the greatest one seen; 0 stands for a day. */
     uint32_t clock_limit;
-    /* What else it answers to ID: the maker's code, */
-    uint8_t vendor[3];
-    /* the maker's numbers of the model and of its version, */
-    uint8_t model;
-    uint8_t version;
-    /* and the three numbers of the firmware's version. */
-    uint8_t firmware_major;
-    uint8_t firmware_minor;
-    uint8_t firmware_build;
+    /* What else it answers to ID. */
+    struct osdp_product product;
 };
 
 /*
@@ -853,7 +853,7 @@ static inline const struct osdp_output *osdp_some_outputs(const struct osdp_outp
 
 static inline const struct osdp_led *osdp_some_leds(const struct osdp_led *leds)
 {
-    static const struct osdp_led none[1] = { { 0, 0, 0, 0, 0, 0, 0, 0, 0, 0, 0, 0, 0 } };
+    static const struct osdp_led none[1] = { { 0, 0, 0, { 0, 0, 0, 0, 0 }, { 0, 0, 0, 0, 0 } } };
     return leds != NULL ? leds : none;
 }
 

@@ -113,14 +113,14 @@ def rust():
     """What rust/src/sys.rs declares: the same."""
     text = re.sub(r"//.*", "", (TOP / "rust/src/sys.rs").read_text())
     functions = {}
-    for name, takes, gives in re.findall(r"pub fn (\w+)\(([^)]*)\)(?:\s*-> (\w+))?;", text):
-        functions[name] = ([tuple(one.split(": ")) for one in parts(takes, ",")], gives or "c_void")
+    for plain, name, takes in re.findall(r"^    (pub fn )?(osdp_\w+)\(([^)]*)\);", text, re.M):
+        functions[name] = ([tuple(one.split(": ")) for one in parts(takes, ",")], "c_void" if plain else "osdp_status")
     constants = {name: int(value, 0) for name, value in re.findall(r"pub const (OSDP_\w+): u32 = (\w+);", text)}
-    fields = {name: parts(body, ",") for name, body in re.findall(r"pub struct (\w+) \{(.*?)\n\}", text, re.S)}
+    fields = {name: parts(body, ",") for name, body in re.findall(r"^    (\w+), \d+ \{(.*?)\}", text, re.S | re.M)}
     numbers = {name: "u32" for name in re.findall(r"#\[repr\(u32\)\]\n(?:#.*\n)*pub enum (\w+)", text)}
     structs = {}
     for name, body in fields.items():
-        pairs = [one.removeprefix("pub ").split(": ") for one in body]
+        pairs = [one.split(": ") for one in body]
         structs[name] = [(field, numbers.get(kind, kind)) for field, kind in pairs]
     return functions, constants, structs
 

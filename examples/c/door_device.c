@@ -68,7 +68,7 @@ int main(int count, char **words)
 {
     static struct lines lines;
     static struct osdp_answer answer;
-    const struct osdp_device_config config = { .address = 5, .capacity = 64, .gap = 20, .serial = 1, .vendor = { 'S', 'I', 'M' } };
+    const struct osdp_device_config config = { .address = 5, .capacity = 64, .gap = 20, .serial = 1, .product.vendor = { 'S', 'I', 'M' } };
     const uint8_t outputs[2] = { 0, 0 };
     uint8_t bytes[4096];
     words = take_words(&count, words, 2, "door_device PORT RATE\n", NULL);

@@ -83,22 +83,22 @@ void set_panel(struct osdp_panel_config *config, const char *name, const char *v
 /* Sets what has several numbers, or digits. Whether the name and the value are such. */
 static bool set_bytes(struct reader_settings *settings, const char *name, const char *value)
 {
-    struct osdp_device_config *config = &settings->config;
+    struct osdp_product *product = &settings->config.product;
     if (strcmp(name, "vendor") == 0) {
-        return strlen(value) == 6 && digits(value, config->vendor, 3) == 3;
+        return strlen(value) == 6 && digits(value, product->vendor, 3) == 3;
     }
     if (strcmp(name, "model") == 0) {
-        return numbers(value, &config->model, 1);
+        return numbers(value, &product->model, 1);
     }
     if (strcmp(name, "version") == 0) {
-        return numbers(value, &config->version, 1);
+        return numbers(value, &product->version, 1);
     }
     if (strcmp(name, "firmware") == 0) {
         uint8_t version[3];
         bool is_version = numbers(value, version, 3);
-        config->firmware_major = is_version ? version[0] : 0;
-        config->firmware_minor = is_version ? version[1] : 0;
-        config->firmware_build = is_version ? version[2] : 0;
+        product->firmware_major = is_version ? version[0] : 0;
+        product->firmware_minor = is_version ? version[1] : 0;
+        product->firmware_build = is_version ? version[2] : 0;
         return is_version;
     }
     if (strcmp(name, "cap") == 0 && settings->length < 1431) {

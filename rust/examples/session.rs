@@ -1,7 +1,7 @@
 //! A panel and a reader in one program, joined in memory: a card opens a door. One answer in seven is lost on the way.
 use osdp::{
-    Card, Command, Device, DeviceConfig, Error, Moment, Order, Output, Panel, PanelConfig, Reply,
-    Report, Step,
+    Card, Command, Device, DeviceConfig, Error, Moment, Order, Output, Panel, PanelConfig, PdId,
+    Product, Reply, Report, Step,
 };
 use std::time::Duration;
 
@@ -57,16 +57,16 @@ fn main() -> Result<(), Error> {
     let mut panel = Panel::new(&PanelConfig::default())?;
     let door = panel.add(5)?;
     let mut device = Device::new(&DeviceConfig {
-        address: 5,
-        capacity: 64,
-        gap: Duration::from_millis(20),
         clock_limit: Duration::from_secs(60),
-        vendor: *b"SIM",
-        model: 1,
-        version: 1,
-        serial: 1,
-        firmware: [1, 0, 0],
+        id: PdId {
+            serial: 1,
+            product: Product {
+                vendor: *b"SIM",
+                ..Product::default()
+            },
+        },
         capabilities: &[[3, 1, 0]],
+        ..DeviceConfig::new(5)
     })?;
     device.set_outputs(&[0])?;
     for _ in 0..CARDS {

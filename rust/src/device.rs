@@ -1,7 +1,7 @@
 //! The device's end of a line.
 
 use crate::error::{Error, check};
-use crate::fields::NakReason;
+use crate::fields::{NakReason, PdId, Product};
 use crate::message::{Command, Unsent, no_burst, no_message};
 use crate::numbered::numbered;
 use crate::panel::milliseconds;
@@ -21,19 +21,23 @@ pub struct DeviceConfig<'a> {
     pub gap: Duration,
     /// How far a moment may lie after the greatest one seen, up to 49 days; no time stands for a day.
     pub clock_limit: Duration,
-    /// The maker's code.
-    pub vendor: [u8; 3],
-    /// The maker's number of the model.
-    pub model: u8,
-    /// The maker's number of the model's version.
-    pub version: u8,
-    /// The serial number.
-    pub serial: u32,
-    /// The three numbers of the firmware's version.
-    pub firmware: [u8; 3],
+    /// What is answered to ID.
+    pub id: PdId,
     /// What is answered to CAP: function, level and count of each capability.
     pub capabilities: &'a [[u8; 3]],
 }
+
+const NO_ID: PdId = PdId {
+    serial: 0,
+    product: Product {
+        vendor: [0; 3],
+        model: 0,
+        version: 0,
+        firmware_major: 0,
+        firmware_minor: 0,
+        firmware_build: 0,
+    },
+};
 
 impl DeviceConfig<'_> {
     /// A device at an address, with room for 64 events, a gap of 20 ms, a clock limit of a day, and all other numbers 0. It tells no capabilities.
@@ -43,11 +47,7 @@ impl DeviceConfig<'_> {
             capacity: 64,
             gap: Duration::from_millis(20),
             clock_limit: Duration::from_secs(86_400),
-            vendor: [0; 3],
-            model: 0,
-            version: 0,
-            serial: 0,
-            firmware: [0; 3],
+            id: NO_ID,
             capabilities: &[],
         }
     }
@@ -212,14 +212,9 @@ impl Device {
             address: config.address.into(),
             capacity: config.capacity,
             gap: milliseconds(config.gap),
-            serial: config.serial,
+            serial: config.id.serial,
             clock_limit: milliseconds(config.clock_limit),
-            vendor: config.vendor,
-            model: config.model,
-            version: config.version,
-            firmware_major: config.firmware[0],
-            firmware_minor: config.firmware[1],
-            firmware_build: config.firmware[2],
+            product: config.id.product,
         };
         let capabilities = config.capabilities.as_flattened();
         // SAFETY: the handle is none, and the pointers are good for as much as the call is told.

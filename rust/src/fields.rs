@@ -7,7 +7,10 @@ use crate::sys;
 use core::fmt;
 use core::mem::zeroed;
 
-pub use crate::sys::{osdp_buzzer as Buzzer, osdp_led as Led, osdp_output as Output};
+pub use crate::sys::{
+    osdp_buzzer as Buzzer, osdp_led as Led, osdp_led_state as LedState, osdp_output as Output,
+    osdp_pd_id as PdId, osdp_product as Product,
+};
 
 /// What the display of a reader shows.
 #[derive(Clone, Copy)]
@@ -180,21 +183,6 @@ impl fmt::Debug for Bytes {
     }
 }
 
-/// What a device is.
-#[derive(Clone, Copy, Debug, PartialEq, Eq)]
-pub struct PdId {
-    /// The maker's code.
-    pub vendor: [u8; 3],
-    /// The maker's number of the model.
-    pub model: u8,
-    /// The maker's number of the model's version.
-    pub version: u8,
-    /// The serial number.
-    pub serial: u32,
-    /// The three numbers of the firmware's version.
-    pub firmware: [u8; 3],
-}
-
 /// What a device can do in one respect.
 #[derive(Clone, Copy, Debug, PartialEq, Eq)]
 pub struct Capability {
@@ -301,16 +289,7 @@ impl Reply {
                     _ => return None,
                 }
             }
-            sys::OSDP_PDID => {
-                let id = read(reply, sys::osdp_pd_id_of)?;
-                Reply::PdId(PdId {
-                    vendor: id.vendor,
-                    model: id.model,
-                    version: id.version,
-                    serial: id.serial,
-                    firmware: [id.firmware_major, id.firmware_minor, id.firmware_build],
-                })
-            }
+            sys::OSDP_PDID => Reply::PdId(read(reply, sys::osdp_pd_id_of)?),
             sys::OSDP_PDCAP => Reply::PdCap(Capabilities(Bytes::new(reply.data())?)),
             sys::OSDP_LSTATR => match reply.data() {
                 [tamper, power] => Reply::LocalState(*tamper, *power),

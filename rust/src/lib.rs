@@ -83,7 +83,8 @@ mod time;
 pub use device::{Answer, Device, DeviceAnswer, DeviceConfig, Moved, Order, Said, Step};
 pub use error::Error;
 pub use fields::{
-    Buzzer, Bytes, Capabilities, Capability, Card, Led, NakReason, Output, PdId, Reply, Text,
+    Buzzer, Bytes, Capabilities, Capability, Card, Led, LedState, NakReason, Output, PdId, Product,
+    Reply, Text,
 };
 pub use message::{Command, RawReply, Unsent};
 pub use panel::{Check, Entry, LostCause, Panel, PanelConfig, Report};

@@ -101,27 +101,19 @@ pub const OSDP_ORDER_AGAIN: u32 = 2;
 pub const OSDP_ORDER_REFUSED: u32 = 3;
 pub const OSDP_ORDER_PENDING: u32 = 4;
 
-#[repr(C)]
-#[derive(Clone, Copy)]
-pub struct osdp_message {
-    pub length: u16,
-    pub present: u8,
-    pub code: u8,
-    pub data: [u8; 1432],
-}
+/// The structs of the header, each with the size that the header tells.
+macro_rules! structs {
+    ($($(#[$about:meta])* $name:ident, $size:literal { $($(#[$told:meta])* $field:ident: $kind:ty,)* })*) => {
+        $(
+            $(#[$about])*
+            #[repr(C)]
+            pub struct $name {
+                $($(#[$told])* pub $field: $kind,)*
+            }
 
-#[repr(C)]
-#[derive(Clone, Copy)]
-pub struct osdp_burst {
-    pub length: u32,
-    pub bytes: [u8; 1440],
-}
-
-#[repr(C)]
-#[derive(Debug)]
-pub struct osdp_panel {
-    pub panel: *mut c_void,
-    pub panel_live: usize,
+            const _: () = assert!(size_of::<$name>() == $size);
+        )*
+    };
 }
 
 /// The check that frames end with.
@@ -134,392 +126,238 @@ pub enum Check {
     Crc = OSDP_CHECK_CRC,
 }
 
-/// The settings of a panel. Times are in milliseconds, 1 to 3,600,000.
-#[repr(C)]
-#[derive(Clone, Copy, Debug, PartialEq, Eq)]
-pub struct osdp_panel_config {
-    /// Which check the frames end with.
-    pub check: Check,
-    /// How long an answer is waited for.
-    pub reply_wait: u32,
-    /// From an answer to the next POLL.
-    pub poll_interval: u32,
-    /// How often a frame is sent while no answer comes, 1 to 255.
-    pub sends: u32,
-    /// From a BUSY to the next send.
-    pub busy_wait: u32,
-    /// How often a reader may answer BUSY in one exchange, 0 to 255.
-    pub busy_limit: u32,
-    /// How long a device is left quiet before a session opens.
-    pub quiet_wait: u32,
-    /// After how long a silence a run of bytes is over.
-    pub gap: u32,
-    /// How many commands may wait for each device, 1 to 1,024.
-    pub capacity: u32,
-    pub clock_limit: u32,
+structs! {
+    #[derive(Clone, Copy)]
+    osdp_message, 1436 { length: u16, present: u8, code: u8, data: [u8; 1432], }
+
+    #[derive(Clone, Copy)]
+    osdp_burst, 1444 { length: u32, bytes: [u8; 1440], }
+
+    #[derive(Debug)]
+    osdp_panel, 16 { panel: *mut c_void, panel_live: usize, }
+
+    /// The settings of a panel. Times are in milliseconds, 1 to 3,600,000.
+    #[derive(Clone, Copy, Debug, PartialEq, Eq)]
+    osdp_panel_config, 40 {
+        /// Which check the frames end with.
+        check: Check,
+        /// How long an answer is waited for.
+        reply_wait: u32,
+        /// From an answer to the next POLL.
+        poll_interval: u32,
+        /// How often a frame is sent while no answer comes, 1 to 255.
+        sends: u32,
+        /// From a BUSY to the next send.
+        busy_wait: u32,
+        /// How often a reader may answer BUSY in one exchange, 0 to 255.
+        busy_limit: u32,
+        /// How long a device is left quiet before a session opens.
+        quiet_wait: u32,
+        /// After how long a silence a run of bytes is over.
+        gap: u32,
+        /// How many commands may wait for each device, 1 to 1,024.
+        capacity: u32,
+        clock_limit: u32,
+    }
+
+    #[derive(Clone, Copy)]
+    osdp_moment, 16 { moment: u64, present: u64, }
+
+    #[derive(Clone, Copy)]
+    osdp_report, 2888 { entry: usize, kind: u32, detail: u32, command: osdp_message, reply: osdp_message, }
+
+    #[derive(Debug)]
+    osdp_device, 16 { device: *mut c_void, device_live: usize, }
+
+    #[derive(Clone, Copy)]
+    osdp_device_config, 28 {
+        address: u32,
+        capacity: u32,
+        gap: u32,
+        serial: u32,
+        clock_limit: u32,
+        product: osdp_product,
+    }
+
+    #[derive(Clone, Copy)]
+    osdp_answer, 2900 {
+        kind: u32,
+        order: u32,
+        moved: u32,
+        address: u32,
+        baud_rate: u32,
+        command: osdp_message,
+        burst: osdp_burst,
+    }
+
+    #[derive(Clone, Copy)]
+    osdp_raw, 1434 { reader: u8, format: u8, bits: u16, length: u16, bytes: [u8; 1428], }
+
+    #[derive(Clone, Copy)]
+    osdp_keypad, 257 { reader: u8, count: u8, digits: [u8; 255], }
+
+    #[derive(Clone, Copy)]
+    osdp_states, 1434 { length: u16, states: [u8; 1432], }
+
+    /// What a device is, but for its serial number.
+    #[derive(Clone, Copy, Debug, Default, PartialEq, Eq)]
+    osdp_product, 8 {
+        /// The maker's code.
+        vendor: [u8; 3],
+        /// The maker's number of the model.
+        model: u8,
+        /// The maker's number of the model's version.
+        version: u8,
+        /// The first number of the firmware's version.
+        firmware_major: u8,
+        /// The second number of the firmware's version.
+        firmware_minor: u8,
+        /// The third number of the firmware's version.
+        firmware_build: u8,
+    }
+
+    /// What a device is.
+    #[derive(Clone, Copy, Debug, Default, PartialEq, Eq)]
+    osdp_pd_id, 12 {
+        /// The serial number.
+        serial: u32,
+        /// What it is otherwise.
+        product: osdp_product,
+    }
+
+    #[derive(Clone, Copy)]
+    osdp_nak, 1434 { length: u16, reason: u8, detail: [u8; 1431], }
+
+    /// What one output is to do: a record of an OUT.
+    #[derive(Clone, Copy, Debug, Default, PartialEq, Eq)]
+    osdp_output, 4 {
+        /// In 100 ms: how long it lasts, where the control is 5 or 6.
+        timer: u16,
+        /// The output of the device, counted from 0.
+        output: u8,
+        /// 0 no change; 1 off for good and 2 on for good, and a timed operation ends; 3 off for good and 4 on for good, and a timed operation
+        /// goes on to its end; 5 on for a time; 6 off for a time.
+        control: u8,
+    }
+
+    /// How an LED blinks. Times are in 100 ms. Colors: 0 off, 1 red, 2 green, 3 amber, 4 blue, 5 magenta, 6 cyan, 7 white.
+    #[derive(Clone, Copy, Debug, Default, PartialEq, Eq)]
+    osdp_led_state, 5 {
+        /// 0 nothing is set; of a temporary state 1 cancel, 2 set; of the permanent state 1 set.
+        control: u8,
+        /// How long it has the first color.
+        on_time: u8,
+        /// How long it has the second color.
+        off_time: u8,
+        /// The first color.
+        on_color: u8,
+        /// The second color.
+        off_color: u8,
+    }
+
+    /// What one LED of a reader is to do: a record of a LED.
+    #[derive(Clone, Copy, Debug, Default, PartialEq, Eq)]
+    osdp_led, 14 {
+        /// How long the temporary state lasts, in 100 ms.
+        timer: u16,
+        /// The reader of the device, counted from 0.
+        reader: u8,
+        /// The LED of the reader, counted from 0.
+        led: u8,
+        /// What it is to do for a time.
+        temporary: osdp_led_state,
+        /// What it is to do for good.
+        permanent: osdp_led_state,
+    }
+
+    /// How the buzzer of a reader sounds: a BUZ.
+    #[derive(Clone, Copy, Debug, Default, PartialEq, Eq)]
+    osdp_buzzer, 5 {
+        /// The reader of the device, counted from 0.
+        reader: u8,
+        /// 0 none, 1 off, 2 default.
+        tone: u8,
+        /// In 100 ms.
+        on_time: u8,
+        /// In 100 ms.
+        off_time: u8,
+        /// How often; 0 means until another command.
+        count: u8,
+    }
+
+    #[derive(Clone, Copy)]
+    osdp_text, 261 { reader: u8, command: u8, time: u8, row: u8, column: u8, count: u8, characters: [u8; 255], }
 }
 
-#[repr(C)]
-#[derive(Clone, Copy)]
-pub struct osdp_moment {
-    pub moment: u64,
-    pub present: u64,
+/// The calls of the header that give a status.
+macro_rules! calls {
+    ($($name:ident($($parameter:ident: $kind:ty),*);)*) => {
+        unsafe extern "C" {
+            $(pub fn $name($($parameter: $kind),*) -> osdp_status;)*
+        }
+    };
 }
 
-#[repr(C)]
-#[derive(Clone, Copy)]
-pub struct osdp_report {
-    pub entry: usize,
-    pub kind: u32,
-    pub detail: u32,
-    pub command: osdp_message,
-    pub reply: osdp_message,
-}
+calls! {
+    osdp_command_text_nonnull(code: u8, data: *const u8, length: usize, text: *mut c_char, room: usize, text_length: *mut usize);
+    osdp_reply_text_nonnull(code: u8, data: *const u8, length: usize, text: *mut c_char, room: usize, text_length: *mut usize);
 
-#[repr(C)]
-#[derive(Debug)]
-pub struct osdp_device {
-    pub device: *mut c_void,
-    pub device_live: usize,
-}
+    osdp_panel_new(panel: *mut osdp_panel, config: *const osdp_panel_config);
+    osdp_panel_free(panel: *mut osdp_panel);
+    osdp_panel_add(panel: *mut osdp_panel, address: u32, entry: *mut usize);
+    osdp_panel_begin(panel: *mut osdp_panel, entry: usize, now: u64);
+    osdp_panel_submit_nonnull(panel: *mut osdp_panel, entry: usize, code: u8, data: *const u8, length: usize);
+    osdp_panel_submit_text_nonnull(panel: *mut osdp_panel, entry: usize, text: *const c_char, length: usize);
+    osdp_panel_withdraw(panel: *mut osdp_panel, entry: usize, command: *mut osdp_message);
+    osdp_panel_retarget(panel: *mut osdp_panel, entry: usize, address: u32);
+    osdp_panel_bytes_nonnull(panel: *mut osdp_panel, bytes: *const u8, length: usize, now: u64);
+    osdp_panel_silence(panel: *mut osdp_panel, now: u64);
+    osdp_panel_set_moment(panel: *mut osdp_panel, now: u64);
+    osdp_panel_tick(panel: *mut osdp_panel, now: u64, burst: *mut osdp_burst);
+    osdp_panel_next_deadline(panel: *mut osdp_panel, deadline: *mut osdp_moment);
+    osdp_panel_next_report(panel: *mut osdp_panel, report: *mut osdp_report);
 
-#[repr(C)]
-#[derive(Clone, Copy)]
-pub struct osdp_device_config {
-    pub address: u32,
-    pub capacity: u32,
-    pub gap: u32,
-    pub serial: u32,
-    pub clock_limit: u32,
-    pub vendor: [u8; 3],
-    pub model: u8,
-    pub version: u8,
-    pub firmware_major: u8,
-    pub firmware_minor: u8,
-    pub firmware_build: u8,
-}
+    osdp_device_new_nonnull(device: *mut osdp_device, config: *const osdp_device_config, capabilities: *const u8, length: usize);
+    osdp_device_free(device: *mut osdp_device);
+    osdp_device_set_inputs_nonnull(device: *mut osdp_device, states: *const u8, length: usize);
+    osdp_device_set_outputs_nonnull(device: *mut osdp_device, states: *const u8, length: usize);
+    osdp_device_set_readers_nonnull(device: *mut osdp_device, states: *const u8, length: usize);
+    osdp_device_set_local(device: *mut osdp_device, tamper: u8, power: u8);
+    osdp_device_set_busy(device: *mut osdp_device, busy: u32);
+    osdp_device_event_nonnull(device: *mut osdp_device, code: u8, data: *const u8, length: usize);
+    osdp_device_event_text_nonnull(device: *mut osdp_device, text: *const c_char, length: usize);
+    osdp_device_waiting(device: *mut osdp_device, count: *mut usize);
+    osdp_device_step_nonnull(device: *mut osdp_device, bytes: *const u8, length: usize, now: u64, taken: *mut usize, answer: *mut osdp_answer);
+    osdp_device_tick(device: *mut osdp_device, now: u64, answer: *mut osdp_answer);
+    osdp_device_silence(device: *mut osdp_device, now: u64, answer: *mut osdp_answer);
 
-#[repr(C)]
-#[derive(Clone, Copy)]
-pub struct osdp_answer {
-    pub kind: u32,
-    pub order: u32,
-    pub moved: u32,
-    pub address: u32,
-    pub baud_rate: u32,
-    pub command: osdp_message,
-    pub burst: osdp_burst,
+    osdp_raw_of(reply: *const osdp_message, raw: *mut osdp_raw);
+    osdp_keypad_of(reply: *const osdp_message, keypad: *mut osdp_keypad);
+    osdp_inputs_of(reply: *const osdp_message, inputs: *mut osdp_states);
+    osdp_outputs_of(reply: *const osdp_message, outputs: *mut osdp_states);
+    osdp_pd_id_of(reply: *const osdp_message, id: *mut osdp_pd_id);
+    osdp_nak_of(reply: *const osdp_message, nak: *mut osdp_nak);
+    osdp_output_of(command: *const osdp_message, at: usize, output: *mut osdp_output);
+    osdp_out_nonnull(outputs: *const osdp_output, count: usize, command: *mut osdp_message);
+    osdp_led_nonnull(leds: *const osdp_led, count: usize, command: *mut osdp_message);
+    osdp_panel_entries(panel: *mut osdp_panel, count: *mut usize);
+    osdp_panel_address(panel: *mut osdp_panel, entry: usize, address: *mut u32);
+    osdp_panel_waiting(panel: *mut osdp_panel, entry: usize, count: *mut usize);
+    osdp_panel_is_closed(panel: *mut osdp_panel, entry: usize, closed: *mut u32);
+    osdp_device_address(device: *mut osdp_device, address: *mut u32);
+    osdp_device_is_closed(device: *mut osdp_device, closed: *mut u32);
+    osdp_device_set_moment(device: *mut osdp_device, now: u64);
+    osdp_device_pending(device: *mut osdp_device, command: *mut osdp_message);
+    osdp_device_answer_done(device: *mut osdp_device);
+    osdp_device_answer_local(device: *mut osdp_device, tamper: u8, power: u8);
+    osdp_device_answer_list_nonnull(device: *mut osdp_device, states: *const u8, length: usize);
+    osdp_device_answer_refused(device: *mut osdp_device, reason: u8);
+    osdp_device_answer_maker_nonnull(device: *mut osdp_device, vendor: *const u8, bytes: *const u8, length: usize);
 }
-
-#[repr(C)]
-#[derive(Clone, Copy)]
-pub struct osdp_raw {
-    pub reader: u8,
-    pub format: u8,
-    pub bits: u16,
-    pub length: u16,
-    pub bytes: [u8; 1428],
-}
-
-#[repr(C)]
-#[derive(Clone, Copy)]
-pub struct osdp_keypad {
-    pub reader: u8,
-    pub count: u8,
-    pub digits: [u8; 255],
-}
-
-#[repr(C)]
-#[derive(Clone, Copy)]
-pub struct osdp_states {
-    pub length: u16,
-    pub states: [u8; 1432],
-}
-
-#[repr(C)]
-#[derive(Clone, Copy)]
-pub struct osdp_pd_id {
-    pub serial: u32,
-    pub vendor: [u8; 3],
-    pub model: u8,
-    pub version: u8,
-    pub firmware_major: u8,
-    pub firmware_minor: u8,
-    pub firmware_build: u8,
-}
-
-#[repr(C)]
-#[derive(Clone, Copy)]
-pub struct osdp_nak {
-    pub length: u16,
-    pub reason: u8,
-    pub detail: [u8; 1431],
-}
-
-/// What one output is to do: a record of an OUT.
-#[repr(C)]
-#[derive(Clone, Copy, Debug, Default, PartialEq, Eq)]
-pub struct osdp_output {
-    /// In 100 ms: how long it lasts, where the control is 5 or 6.
-    pub timer: u16,
-    /// The output of the device, counted from 0.
-    pub output: u8,
-    /// 0 no change; 1 off for good and 2 on for good, and a timed operation ends; 3 off for good and 4 on for good, and a timed operation
-    /// goes on to its end; 5 on for a time; 6 off for a time.
-    pub control: u8,
-}
-
-/// What one LED of a reader is to do: a record of a LED.
-#[repr(C)]
-#[derive(Clone, Copy, Debug, Default, PartialEq, Eq)]
-pub struct osdp_led {
-    /// How long the temporary state lasts, in 100 ms.
-    pub timer: u16,
-    /// The reader of the device, counted from 0.
-    pub reader: u8,
-    /// The LED of the reader, counted from 0.
-    pub led: u8,
-    /// 0 nothing, 1 cancel, 2 set.
-    pub temporary_control: u8,
-    /// In 100 ms.
-    pub temporary_on_time: u8,
-    /// In 100 ms.
-    pub temporary_off_time: u8,
-    /// 0 off, 1 red, 2 green, 3 amber, 4 blue, 5 magenta, 6 cyan, 7 white.
-    pub temporary_on_color: u8,
-    /// As above.
-    pub temporary_off_color: u8,
-    /// 0 nothing, 1 set.
-    pub permanent_control: u8,
-    /// In 100 ms.
-    pub permanent_on_time: u8,
-    /// In 100 ms.
-    pub permanent_off_time: u8,
-    /// As above.
-    pub permanent_on_color: u8,
-    /// As above.
-    pub permanent_off_color: u8,
-}
-
-/// How the buzzer of a reader sounds: a BUZ.
-#[repr(C)]
-#[derive(Clone, Copy, Debug, Default, PartialEq, Eq)]
-pub struct osdp_buzzer {
-    /// The reader of the device, counted from 0.
-    pub reader: u8,
-    /// 0 none, 1 off, 2 default.
-    pub tone: u8,
-    /// In 100 ms.
-    pub on_time: u8,
-    /// In 100 ms.
-    pub off_time: u8,
-    /// How often; 0 means until another command.
-    pub count: u8,
-}
-
-#[repr(C)]
-#[derive(Clone, Copy)]
-pub struct osdp_text {
-    pub reader: u8,
-    pub command: u8,
-    pub time: u8,
-    pub row: u8,
-    pub column: u8,
-    pub count: u8,
-    pub characters: [u8; 255],
-}
-
-// The sizes that the header tells.
-const _: () = assert!(size_of::<osdp_raw>() == 1434);
-const _: () = assert!(size_of::<osdp_keypad>() == 257);
-const _: () = assert!(size_of::<osdp_states>() == 1434);
-const _: () = assert!(size_of::<osdp_pd_id>() == 12);
-const _: () = assert!(size_of::<osdp_nak>() == 1434);
-const _: () = assert!(size_of::<osdp_output>() == 4);
-const _: () = assert!(size_of::<osdp_led>() == 14);
-const _: () = assert!(size_of::<osdp_buzzer>() == 5);
-const _: () = assert!(size_of::<osdp_text>() == 261);
-const _: () = assert!(size_of::<osdp_message>() == 1436);
-const _: () = assert!(size_of::<osdp_burst>() == 1444);
-const _: () = assert!(size_of::<osdp_panel>() == 16);
-const _: () = assert!(size_of::<osdp_panel_config>() == 40);
-const _: () = assert!(size_of::<osdp_moment>() == 16);
-const _: () = assert!(size_of::<osdp_report>() == 2888);
-const _: () = assert!(size_of::<osdp_device>() == 16);
-const _: () = assert!(size_of::<osdp_device_config>() == 28);
-const _: () = assert!(size_of::<osdp_answer>() == 2900);
 
 unsafe extern "C" {
-    pub fn osdp_command_text_nonnull(
-        code: u8,
-        data: *const u8,
-        length: usize,
-        text: *mut c_char,
-        room: usize,
-        text_length: *mut usize,
-    ) -> osdp_status;
-    pub fn osdp_reply_text_nonnull(
-        code: u8,
-        data: *const u8,
-        length: usize,
-        text: *mut c_char,
-        room: usize,
-        text_length: *mut usize,
-    ) -> osdp_status;
-
     pub fn osdp_panel_defaults(config: *mut osdp_panel_config);
-    pub fn osdp_panel_new(panel: *mut osdp_panel, config: *const osdp_panel_config) -> osdp_status;
-    pub fn osdp_panel_free(panel: *mut osdp_panel) -> osdp_status;
-    pub fn osdp_panel_add(panel: *mut osdp_panel, address: u32, entry: *mut usize) -> osdp_status;
-    pub fn osdp_panel_begin(panel: *mut osdp_panel, entry: usize, now: u64) -> osdp_status;
-    pub fn osdp_panel_submit_nonnull(
-        panel: *mut osdp_panel,
-        entry: usize,
-        code: u8,
-        data: *const u8,
-        length: usize,
-    ) -> osdp_status;
-    pub fn osdp_panel_submit_text_nonnull(
-        panel: *mut osdp_panel,
-        entry: usize,
-        text: *const c_char,
-        length: usize,
-    ) -> osdp_status;
-    pub fn osdp_panel_withdraw(
-        panel: *mut osdp_panel,
-        entry: usize,
-        command: *mut osdp_message,
-    ) -> osdp_status;
-    pub fn osdp_panel_retarget(panel: *mut osdp_panel, entry: usize, address: u32) -> osdp_status;
-    pub fn osdp_panel_bytes_nonnull(
-        panel: *mut osdp_panel,
-        bytes: *const u8,
-        length: usize,
-        now: u64,
-    ) -> osdp_status;
-    pub fn osdp_panel_silence(panel: *mut osdp_panel, now: u64) -> osdp_status;
-    pub fn osdp_panel_set_moment(panel: *mut osdp_panel, now: u64) -> osdp_status;
-    pub fn osdp_panel_tick(panel: *mut osdp_panel, now: u64, burst: *mut osdp_burst)
-    -> osdp_status;
-    pub fn osdp_panel_next_deadline(
-        panel: *mut osdp_panel,
-        deadline: *mut osdp_moment,
-    ) -> osdp_status;
-    pub fn osdp_panel_next_report(panel: *mut osdp_panel, report: *mut osdp_report) -> osdp_status;
-
-    pub fn osdp_device_new_nonnull(
-        device: *mut osdp_device,
-        config: *const osdp_device_config,
-        capabilities: *const u8,
-        length: usize,
-    ) -> osdp_status;
-    pub fn osdp_device_free(device: *mut osdp_device) -> osdp_status;
-    pub fn osdp_device_set_inputs_nonnull(
-        device: *mut osdp_device,
-        states: *const u8,
-        length: usize,
-    ) -> osdp_status;
-    pub fn osdp_device_set_outputs_nonnull(
-        device: *mut osdp_device,
-        states: *const u8,
-        length: usize,
-    ) -> osdp_status;
-    pub fn osdp_device_set_readers_nonnull(
-        device: *mut osdp_device,
-        states: *const u8,
-        length: usize,
-    ) -> osdp_status;
-    pub fn osdp_device_set_local(device: *mut osdp_device, tamper: u8, power: u8) -> osdp_status;
-    pub fn osdp_device_set_busy(device: *mut osdp_device, busy: u32) -> osdp_status;
-    pub fn osdp_device_event_nonnull(
-        device: *mut osdp_device,
-        code: u8,
-        data: *const u8,
-        length: usize,
-    ) -> osdp_status;
-    pub fn osdp_device_event_text_nonnull(
-        device: *mut osdp_device,
-        text: *const c_char,
-        length: usize,
-    ) -> osdp_status;
-    pub fn osdp_device_waiting(device: *mut osdp_device, count: *mut usize) -> osdp_status;
-    pub fn osdp_device_step_nonnull(
-        device: *mut osdp_device,
-        bytes: *const u8,
-        length: usize,
-        now: u64,
-        taken: *mut usize,
-        answer: *mut osdp_answer,
-    ) -> osdp_status;
-    pub fn osdp_device_tick(
-        device: *mut osdp_device,
-        now: u64,
-        answer: *mut osdp_answer,
-    ) -> osdp_status;
-    pub fn osdp_device_silence(
-        device: *mut osdp_device,
-        now: u64,
-        answer: *mut osdp_answer,
-    ) -> osdp_status;
-
-    pub fn osdp_raw_of(reply: *const osdp_message, raw: *mut osdp_raw) -> osdp_status;
-    pub fn osdp_keypad_of(reply: *const osdp_message, keypad: *mut osdp_keypad) -> osdp_status;
-    pub fn osdp_inputs_of(reply: *const osdp_message, inputs: *mut osdp_states) -> osdp_status;
-    pub fn osdp_outputs_of(reply: *const osdp_message, outputs: *mut osdp_states) -> osdp_status;
-    pub fn osdp_pd_id_of(reply: *const osdp_message, id: *mut osdp_pd_id) -> osdp_status;
-    pub fn osdp_nak_of(reply: *const osdp_message, nak: *mut osdp_nak) -> osdp_status;
-    pub fn osdp_output_of(
-        command: *const osdp_message,
-        at: usize,
-        output: *mut osdp_output,
-    ) -> osdp_status;
-    pub fn osdp_out_nonnull(
-        outputs: *const osdp_output,
-        count: usize,
-        command: *mut osdp_message,
-    ) -> osdp_status;
-    pub fn osdp_led_nonnull(
-        leds: *const osdp_led,
-        count: usize,
-        command: *mut osdp_message,
-    ) -> osdp_status;
     pub fn osdp_buzzer(buzzer: *const osdp_buzzer, command: *mut osdp_message);
     pub fn osdp_text(text: *const osdp_text, command: *mut osdp_message);
     pub fn osdp_comset(address: u8, baud_rate: u32, command: *mut osdp_message);
-    pub fn osdp_panel_entries(panel: *mut osdp_panel, count: *mut usize) -> osdp_status;
-    pub fn osdp_panel_address(
-        panel: *mut osdp_panel,
-        entry: usize,
-        address: *mut u32,
-    ) -> osdp_status;
-    pub fn osdp_panel_waiting(
-        panel: *mut osdp_panel,
-        entry: usize,
-        count: *mut usize,
-    ) -> osdp_status;
-    pub fn osdp_panel_is_closed(
-        panel: *mut osdp_panel,
-        entry: usize,
-        closed: *mut u32,
-    ) -> osdp_status;
-    pub fn osdp_device_address(device: *mut osdp_device, address: *mut u32) -> osdp_status;
-    pub fn osdp_device_is_closed(device: *mut osdp_device, closed: *mut u32) -> osdp_status;
-    pub fn osdp_device_set_moment(device: *mut osdp_device, now: u64) -> osdp_status;
-    pub fn osdp_device_pending(device: *mut osdp_device, command: *mut osdp_message)
-    -> osdp_status;
-    pub fn osdp_device_answer_done(device: *mut osdp_device) -> osdp_status;
-    pub fn osdp_device_answer_local(device: *mut osdp_device, tamper: u8, power: u8)
-    -> osdp_status;
-    pub fn osdp_device_answer_list_nonnull(
-        device: *mut osdp_device,
-        states: *const u8,
-        length: usize,
-    ) -> osdp_status;
-    pub fn osdp_device_answer_refused(device: *mut osdp_device, reason: u8) -> osdp_status;
-    pub fn osdp_device_answer_maker_nonnull(
-        device: *mut osdp_device,
-        vendor: *const u8,
-        bytes: *const u8,
-        length: usize,
-    ) -> osdp_status;
 }

@@ -37,7 +37,7 @@ static struct osdp_panel_config panel_config(void)
 
 static struct osdp_device_config reader_config(void)
 {
-    struct osdp_device_config config = { .address = 6, .capacity = 2, .gap = 20, .vendor = { 'S', 'I', 'M' } };
+    struct osdp_device_config config = { .address = 6, .capacity = 2, .gap = 20, .product.vendor = { 'S', 'I', 'M' } };
     return config;
 }
 
@@ -362,7 +362,7 @@ static void nulls(void)
     demand(osdp_device_set_outputs(&told, NULL, 0) == OSDP_OK && osdp_device_set_readers(&told, NULL, 0) == OSDP_OK);
     demand(osdp_device_step(&told, NULL, 0, 0, &length, &answer) == OSDP_OK && length == 0 && answer.kind == OSDP_SAID_NONE);
     demand(osdp_device_answer_list(&told, NULL, 0) == OSDP_NOT_ASKED);
-    demand(osdp_device_answer_maker(&told, what.vendor, NULL, 0) == OSDP_NOT_ASKED && osdp_device_free(&told) == OSDP_OK);
+    demand(osdp_device_answer_maker(&told, what.product.vendor, NULL, 0) == OSDP_NOT_ASKED && osdp_device_free(&told) == OSDP_OK);
 }
 
 int main(void)

@@ -73,7 +73,7 @@ static void add_device(size_t i)
 /* A reader with room for two events. */
 static void new_reader(int i, uint32_t address)
 {
-    struct osdp_device_config config = { .capacity = 2, .gap = 20, .vendor = { 'S', 'I', 'M' }, .model = 1, .version = 2 };
+    struct osdp_device_config config = { .capacity = 2, .gap = 20, .product = { .vendor = { 'S', 'I', 'M' }, .model = 1, .version = 2 } };
     const uint8_t capabilities[] = { 2, 1, 8, 8, 1, 0 }, states[] = { 0, 1 };
     size_t count = 9, before = bytes_given;
     demand(osdp_device_waiting(&readers[i], &count) == OSDP_NO_MACHINE && count == 9);

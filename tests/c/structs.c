@@ -14,8 +14,8 @@ _Static_assert(sizeof(struct osdp_moment) == 16 && sizeof(struct osdp_report) ==
 _Static_assert(sizeof(struct osdp_device) == 16 && sizeof(struct osdp_device_config) == 28, "readers");
 _Static_assert(sizeof(struct osdp_answer) == 2900, "answers");
 _Static_assert(sizeof(struct osdp_raw) == 1434 && sizeof(struct osdp_keypad) == 257 && sizeof(struct osdp_states) == 1434, "fields");
-_Static_assert(sizeof(struct osdp_pd_id) == 12 && sizeof(struct osdp_nak) == 1434 && sizeof(struct osdp_output) == 4, "fields");
-_Static_assert(sizeof(struct osdp_led) == 14 && sizeof(struct osdp_buzzer) == 5 && sizeof(struct osdp_text) == 261, "commands");
+_Static_assert(sizeof(struct osdp_product) == 8 && sizeof(struct osdp_pd_id) == 12 && sizeof(struct osdp_nak) == 1434 && sizeof(struct osdp_output) == 4, "fields");
+_Static_assert(sizeof(struct osdp_led_state) == 5 && sizeof(struct osdp_led) == 14 && sizeof(struct osdp_buzzer) == 5 && sizeof(struct osdp_text) == 261, "commands");
 
 #define AROUND 64
 #define MOST 6144
@@ -155,7 +155,7 @@ static void no_machines(struct osdp_panel *panel, struct osdp_device *reader)
 static void new_machines(struct osdp_panel *panel, struct osdp_device *reader)
 {
     struct osdp_panel_config config, config_before;
-    struct osdp_device_config what = { 5, 3, 20, 0x04030201, 0, { 0x53, 0x49, 0x4D }, 7, 8, 9, 10, 11 }, what_before = what;
+    struct osdp_device_config what = { 5, 3, 20, 0x04030201, 0, { { 0x53, 0x49, 0x4D }, 7, 8, 9, 10, 11 } }, what_before = what;
     osdp_panel_defaults(&config);
     config_before = config;
     demand(osdp_panel_new(panel, &config) == OSDP_OK && !is_zero(panel, sizeof *panel));
@@ -240,11 +240,11 @@ static void fields(void)
     demand(osdp_inputs_of(&inputs, states) == OSDP_OK && states->length == 2 && states->states[0] == 1 && states->states[1] == 0);
     demand(osdp_outputs_of(&outputs, states) == OSDP_OK && states->length == 3 && states->states[2] == 1);
     demand_around(&first_place);
+    const struct osdp_product product = { { 0x53, 0x49, 0x4D }, 7, 8, 9, 10, 11 };
     struct osdp_pd_id *device = filled(&first_place, sizeof *device);
     demand(osdp_pd_id_of(&nak, device) == OSDP_OTHER_MESSAGE);
     demand_untouched(&first_place);
-    demand(osdp_pd_id_of(&id, device) == OSDP_OK && device->serial == 0x04030201 && memcmp(device->vendor, "SIM", 3) == 0);
-    demand(device->model == 7 && device->version == 8 && device->firmware_major == 9 && device->firmware_minor == 10 && device->firmware_build == 11);
+    demand(osdp_pd_id_of(&id, device) == OSDP_OK && device->serial == 0x04030201 && memcmp(&device->product, &product, sizeof product) == 0);
     demand_around(&first_place);
     struct osdp_nak *why = filled(&first_place, sizeof *why);
     demand(osdp_nak_of(&id, why) == OSDP_OTHER_MESSAGE);
@@ -257,7 +257,7 @@ static void fields(void)
 static void commands(void)
 {
     const struct osdp_output outs[] = { { 30, 0, 5 }, { 0x0201, 1, 2 } };
-    const struct osdp_led led = { 0x0201, 3, 4, 5, 6, 7, 8, 9, 10, 11, 12, 13, 14 };
+    const struct osdp_led led = { 0x0201, 3, 4, { 5, 6, 7, 8, 9 }, { 10, 11, 12, 13, 14 } };
     const struct osdp_buzzer buzzer = { 1, 2, 3, 4, 5 };
     const struct osdp_text text = { 1, 2, 3, 4, 5, 2, "OK" };
     const uint8_t out_data[] = { 0, 5, 30, 0, 1, 2, 1, 2 }, led_data[] = { 3, 4, 5, 6, 7, 8, 9, 1, 2, 10, 11, 12, 13, 14 };

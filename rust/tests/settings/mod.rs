@@ -1,5 +1,5 @@
 //! The settings of a reader that several tests begin with.
-use osdp::DeviceConfig;
+use osdp::{DeviceConfig, PdId, Product};
 use std::time::Duration;
 
 /// A reader at address 5, with room for four events.
@@ -8,10 +8,16 @@ pub const DEVICE: DeviceConfig<'static> = DeviceConfig {
     capacity: 4,
     gap: Duration::from_millis(20),
     clock_limit: Duration::from_millis(1000),
-    vendor: [1, 2, 3],
-    model: 1,
-    version: 1,
-    serial: 1,
-    firmware: [1, 0, 0],
+    id: PdId {
+        serial: 1,
+        product: Product {
+            vendor: [1, 2, 3],
+            model: 1,
+            version: 1,
+            firmware_major: 1,
+            firmware_minor: 0,
+            firmware_build: 0,
+        },
+    },
     capabilities: &[],
 };
