@@ -163,15 +163,21 @@ impl Maker<'_> {
     }
 }
 
+/// What a command may ask the states of, in the order of the codes.
+#[derive(Clone, Copy, Debug, PartialEq, Eq)]
+pub enum States {
+    Local,
+    Inputs,
+    Outputs,
+    Readers,
+}
+
 #[derive(Clone, Copy, Debug, PartialEq, Eq)]
 pub enum Command<'a> {
     Poll,
     Id(u8),
     Cap(u8),
-    LocalStatus,
-    InputStatus,
-    OutputStatus,
-    ReaderStatus,
+    Status(States),
     Output(Outputs<'a>),
     Led(Leds<'a>),
     Buzzer(Buzzer),
@@ -188,10 +194,10 @@ impl<'a> Command<'a> {
             (0x60, []) => Ok(Command::Poll),
             (0x61, &[byte]) => Ok(Command::Id(byte)),
             (0x62, &[byte]) => Ok(Command::Cap(byte)),
-            (0x64, []) => Ok(Command::LocalStatus),
-            (0x65, []) => Ok(Command::InputStatus),
-            (0x66, []) => Ok(Command::OutputStatus),
-            (0x67, []) => Ok(Command::ReaderStatus),
+            (0x64, []) => Ok(Command::Status(States::Local)),
+            (0x65, []) => Ok(Command::Status(States::Inputs)),
+            (0x66, []) => Ok(Command::Status(States::Outputs)),
+            (0x67, []) => Ok(Command::Status(States::Readers)),
             (0x68, records) => Outputs::new(records).map(Command::Output).ok_or(Fault::Length),
             (0x69, records) => Leds::new(records).map(Command::Led).ok_or(Fault::Length),
             _ => Command::read_fields(code, data),
@@ -227,10 +233,7 @@ impl<'a> Command<'a> {
             Command::Poll => to.put(&[0x60]),
             Command::Id(byte) => to.put(&[0x61, *byte]),
             Command::Cap(byte) => to.put(&[0x62, *byte]),
-            Command::LocalStatus => to.put(&[0x64]),
-            Command::InputStatus => to.put(&[0x65]),
-            Command::OutputStatus => to.put(&[0x66]),
-            Command::ReaderStatus => to.put(&[0x67]),
+            Command::Status(of) => to.put(&[0x64 + *of as u8]),
             Command::Output(records) => {
                 to.put(&[0x68]);
                 to.put(records.0);

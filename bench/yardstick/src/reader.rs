@@ -1,7 +1,7 @@
 //! A reader: it answers the packets of its address, and acts once on each command of a session.
 
 use crate::bytes::{Burst, Queue, Sink};
-use crate::commands::{Command, Communication, Fault};
+use crate::commands::{Command, Communication, Fault, Maker, States};
 use crate::packets::{next, Head, View, CONFIGURATION};
 use crate::replies::{Event, NakReason, PdCap, PdId, Reply};
 
@@ -14,8 +14,7 @@ pub enum Answer<'a> {
     /// A byte for each, at most 1432.
     List(&'a [u8]),
     Refuse(NakReason),
-    /// A vendor, and at most 1429 bytes.
-    Maker([u8; 3], &'a [u8]),
+    Maker(Maker<'a>),
 }
 
 /// What a device does with the commands that aren't the reader's own.
@@ -221,11 +220,11 @@ fn move_to(address: &mut u8, last: &mut Option<u8>, wanted: Communication) -> Re
 fn reply_to<'a>(command: &Command<'_>, answer: Answer<'a>) -> Reply<'a> {
     match (command, answer) {
         (Command::Output(_) | Command::Led(_) | Command::Buzzer(_) | Command::Text(_) | Command::Maker(_), Answer::Done) => Reply::Ack,
-        (Command::LocalStatus, Answer::Local(tamper, power)) => Reply::Event(Event::LocalState { tamper, power }),
-        (Command::InputStatus, Answer::List(list)) => Reply::Event(Event::Inputs(list)),
-        (Command::OutputStatus, Answer::List(list)) => Reply::Event(Event::Outputs(list)),
-        (Command::ReaderStatus, Answer::List(list)) => Reply::Event(Event::Readers(list)),
-        (Command::Maker(_), Answer::Maker(vendor, bytes)) => Reply::Maker(crate::commands::Maker { vendor, bytes }),
+        (Command::Status(States::Local), Answer::Local(tamper, power)) => Reply::Event(Event::LocalState { tamper, power }),
+        (Command::Status(States::Inputs), Answer::List(list)) => Reply::Event(Event::Inputs(list)),
+        (Command::Status(States::Outputs), Answer::List(list)) => Reply::Event(Event::Outputs(list)),
+        (Command::Status(States::Readers), Answer::List(list)) => Reply::Event(Event::Readers(list)),
+        (Command::Maker(_), Answer::Maker(maker)) => Reply::Maker(maker),
         (_, Answer::Refuse(reason @ (NakReason::LENGTH | NakReason::UNKNOWN | NakReason::RECORD))) => Reply::Nak(reason, &[]),
         _ => Reply::Nak(NakReason::RECORD, &[]),
     }

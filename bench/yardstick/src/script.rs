@@ -1,7 +1,7 @@
 //! Scripts of schedules for one reader, as `osdp sim` runs them, but with each message as digits. What they come to is printed with digits too.
 //! So `bench/accounts.py` can compare both programs on schedules at random.
 
-use crate::commands::{Command, Maker};
+use crate::commands::{Command, Maker, States};
 use crate::controller::{self, Cause};
 use crate::reader::{self, Answer, Handler};
 use crate::replies::{Event, NakReason, PdId, Reply};
@@ -18,9 +18,9 @@ struct ScriptReader {
 impl Handler for ScriptReader {
     fn answer<'a>(&'a mut self, command: &Command<'a>) -> Answer<'a> {
         match command {
-            Command::LocalStatus => Answer::Local(0, 0),
-            Command::InputStatus | Command::ReaderStatus => Answer::List(&[0]),
-            Command::OutputStatus => Answer::List(&self.outputs),
+            Command::Status(States::Local) => Answer::Local(0, 0),
+            Command::Status(States::Inputs | States::Readers) => Answer::List(&[0]),
+            Command::Status(States::Outputs) => Answer::List(&self.outputs),
             Command::Output(outputs) => {
                 if outputs.records().any(|record| record.output > 7 || record.control > 6) {
                     return Answer::Refuse(NakReason::RECORD);
@@ -30,7 +30,7 @@ impl Handler for ScriptReader {
                 }
                 Answer::Done
             }
-            Command::Maker(Maker { vendor: VENDOR, bytes }) => Answer::Maker(VENDOR, bytes),
+            Command::Maker(maker @ Maker { vendor: VENDOR, .. }) => Answer::Maker(*maker),
             Command::Maker(_) => Answer::Refuse(NakReason::RECORD),
             _ => Answer::Done,
         }

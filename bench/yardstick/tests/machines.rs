@@ -1,7 +1,7 @@
 //! Both machines, call by call.
 
 use yardstick::bytes::Burst;
-use yardstick::commands::{Command, Communication, Outputs};
+use yardstick::commands::{Command, Communication, Outputs, States};
 use yardstick::controller::{self, Cause, Controller, Refusal, Report, Step, Waits};
 use yardstick::packets::{Head, View};
 use yardstick::reader::{self, Answer, Full, Handler, OutOfRange, Reader, Response};
@@ -19,10 +19,10 @@ impl Handler for Door {
     fn answer<'a>(&'a mut self, command: &Command<'a>) -> Answer<'a> {
         self.told += 1;
         match command {
-            Command::LocalStatus => Answer::Local(0, 1),
-            Command::OutputStatus => Answer::List(&self.output),
+            Command::Status(States::Local) => Answer::Local(0, 1),
+            Command::Status(States::Outputs) => Answer::List(&self.output),
             Command::Led(_) => Answer::Refuse(NakReason::NUMBER),
-            Command::Maker(maker) => Answer::Maker(maker.vendor, maker.bytes),
+            Command::Maker(maker) => Answer::Maker(*maker),
             _ => Answer::Done,
         }
     }
@@ -197,7 +197,7 @@ fn refusals_of_a_controller() {
     assert_eq!(controller.begin(0), Err(Refusal::NotClosed));
     assert_eq!(controller.retarget(6), Err(Refusal::NotClosed));
     assert_eq!(controller.submit(&Command::Poll), Err(Refusal::Poll));
-    assert_eq!(controller.submit(&Command::LocalStatus), Ok(()));
+    assert_eq!(controller.submit(&Command::Status(States::Local)), Ok(()));
     assert_eq!(controller.submit(&Command::Id(0)), Ok(()));
     assert_eq!(controller.submit(&Command::Id(0)), Err(Refusal::Full));
     assert_eq!(controller.withdraw(), None);
@@ -221,21 +221,21 @@ fn exchanges_settle_and_polls_tell() {
     assert_eq!(hear(&mut controller, 3, &[0x41, 9], 510), Some(Report::PollAnswered(Reply::Nak(NakReason::RECORD, &[]))));
     assert!(is_sent(controller.tick(560), 1, &[0x60]));
     assert_eq!(hear(&mut controller, 1, &[0x79, 0], 560), Some(Report::Unread(None, 0x79)));
-    controller.submit(&Command::LocalStatus).unwrap();
+    controller.submit(&Command::Status(States::Local)).unwrap();
     assert!(is_sent(controller.tick(560), 2, &[0x64]));
-    assert_eq!(hear(&mut controller, 2, &[0x63], 560), Some(Report::Unread(Some(Command::LocalStatus), 0x63)));
+    assert_eq!(hear(&mut controller, 2, &[0x63], 560), Some(Report::Unread(Some(Command::Status(States::Local)), 0x63)));
 }
 
 #[test]
 fn repeats_and_lost() {
     let mut controller = opened();
-    controller.submit(&Command::LocalStatus).unwrap();
+    controller.submit(&Command::Status(States::Local)).unwrap();
     controller.submit(&Command::Id(0)).unwrap();
     for moment in [400, 600, 800] {
         assert!(is_sent(controller.tick(moment), 1, &[0x64]));
     }
     assert_eq!(controller.sent_in_exchange(), 3);
-    assert_eq!(controller.tick(1000), Step::Tell(Report::Lost(Cause::NoReply, Some(Command::LocalStatus))));
+    assert_eq!(controller.tick(1000), Step::Tell(Report::Lost(Cause::NoReply, Some(Command::Status(States::Local)))));
     assert!(controller.is_closed());
     assert_eq!(controller.withdraw(), Some(Command::Id(0)));
     assert_eq!(controller.withdraw(), None);

@@ -1,6 +1,6 @@
 //! Schedules, and what they come to.
 
-use yardstick::commands::{Command, Outputs};
+use yardstick::commands::{Command, Outputs, States};
 use yardstick::controller::{self, Cause};
 use yardstick::reader;
 use yardstick::replies::{Event, Keypad, PdId};
@@ -39,7 +39,7 @@ fn lists(messages: &Messages) -> Vec<&[u8]> {
 #[test]
 fn rounds_settle_and_then_report() {
     let buzzer = SimStep::Issue(1, Command::of(&[0x6a, 0, 2, 5, 5, 1]).unwrap());
-    let mut steps = vec![out(), buzzer, SimStep::Queue(1, PRESSED), SimStep::Queue(1, PRESSED), SimStep::Issue(2, Command::LocalStatus)];
+    let mut steps = vec![out(), buzzer, SimStep::Queue(1, PRESSED), SimStep::Queue(1, PRESSED), SimStep::Issue(2, Command::Status(States::Local))];
     steps.extend(clean(3));
     let account = run(&steps).unwrap();
     let both: [&[u8]; 2] = [&[0x68, 0, 2, 0, 0], &[0x6a, 0, 2, 5, 5, 1]];
