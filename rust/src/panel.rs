@@ -127,8 +127,13 @@ pub enum Report {
     Event(Reply),
     /// A POLL was answered by something that is neither an ACK nor an event.
     Answered(Reply),
-    /// The answer to a command, or to a POLL where there is none, can't be read. The number is its code.
-    Unread(Option<Command>, u8),
+    /// The answer to a command, or to a POLL where there is none, can't be read.
+    Unread {
+        /// The command.
+        command: Option<Command>,
+        /// The code of the answer.
+        code: u8,
+    },
     /// The session has ended. What became of the command, if there is one, is unknown, and it isn't sent again.
     Lost(LostCause, Option<Command>),
 }
@@ -145,7 +150,10 @@ fn report_of(panel: u32, raw: &sys::osdp_report) -> Option<(Entry, Report)> {
         sys::OSDP_REPORT_MOVED => Report::Moved(command?, reply?),
         sys::OSDP_REPORT_EVENT => Report::Event(reply?),
         sys::OSDP_REPORT_ANSWERED => Report::Answered(reply?),
-        sys::OSDP_REPORT_UNREAD => Report::Unread(command, raw.detail as u8),
+        sys::OSDP_REPORT_UNREAD => Report::Unread {
+            command,
+            code: raw.detail as u8,
+        },
         sys::OSDP_REPORT_LOST => Report::Lost(LostCause::of(raw.detail)?, command),
         _ => return None,
     };

@@ -9,6 +9,14 @@ fn bytes(of: &[u8]) -> Bytes {
     Bytes::new(of).expect("bytes")
 }
 
+fn told([function, level, count]: [u8; 3]) -> Capability {
+    Capability {
+        function,
+        level,
+        count,
+    }
+}
+
 #[test]
 fn states_are_typed() {
     assert_eq!(read(0x48, &[1, 0]), Reply::LocalState(1, 0));
@@ -19,19 +27,14 @@ fn states_are_typed() {
 
 #[test]
 fn capabilities_are_typed() {
-    let told = |function, level, count| Capability {
-        function,
-        level,
-        count,
-    };
-    let both = [told(2, 4, 1), told(8, 1, 0)];
+    let both = [[2, 4, 1], [8, 1, 0]].map(told);
     let Reply::PdCap(capabilities) = read(0x46, &[2, 4, 1, 8, 1, 0]) else {
         panic!("another reply");
     };
     assert!(capabilities.iter().eq(both));
     assert_eq!(Some(capabilities), Capabilities::new(&both));
-    assert_eq!(Capabilities::new(&[told(1, 1, 1); 478]), None);
-    assert!(Capabilities::new(&[told(1, 1, 1); 477]).is_some());
+    assert_eq!(Capabilities::new(&[told([1; 3]); 478]), None);
+    assert!(Capabilities::new(&[told([1; 3]); 477]).is_some());
 }
 
 #[test]
