@@ -4,14 +4,4 @@
 #![tactic(auto)]
 
 #[cfg(test)]
-mod accounts;
-#[cfg(test)]
-mod buses;
-#[cfg(test)]
-mod refusals;
-#[cfg(test)]
-mod schedules;
-#[cfg(test)]
-mod scripts;
-#[cfg(test)]
-mod steps;
+mod tests;

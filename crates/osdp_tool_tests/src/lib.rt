@@ -4,20 +4,4 @@
 #![tactic(auto)]
 
 #[cfg(test)]
-mod check;
-#[cfg(test)]
-mod faulty;
-#[cfg(test)]
-mod job;
-#[cfg(test)]
-mod listener;
-#[cfg(test)]
-mod make;
-#[cfg(test)]
-mod monitor;
-#[cfg(test)]
-mod stream;
-#[cfg(test)]
-mod tool;
-#[cfg(test)]
-mod words;
+mod tests;

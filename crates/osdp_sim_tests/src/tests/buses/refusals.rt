@@ -1,6 +1,6 @@
 //! Each request for memory of a run over a bus, refused by itself.
 
-use crate::buses::readers::config;
+use crate::tests::buses::readers::config;
 use osdp_frame::Address;
 use osdp_msg::Command;
 use osdp_reader::ReaderConfig;

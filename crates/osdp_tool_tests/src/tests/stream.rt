@@ -1,4 +1,4 @@
-use crate::faulty::{Pieces, Refusal, make_pieces, make_sink};
+use crate::tests::faulty::{Pieces, Refusal, make_pieces, make_sink};
 use osdp_tool_streams::*;
 use std::alloc::Global;
 use std::io::{ErrorKind, Read, Write};

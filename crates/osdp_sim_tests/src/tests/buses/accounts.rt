@@ -1,8 +1,8 @@
 //! Schedules and what comes of them. Times are the default ones: a session opens after 400 ms of quiet, a frame is sent three times, 200 ms
 //! apart.
 
-use crate::buses::readers::{config, readers};
-use crate::buses::steps::steps;
+use crate::tests::buses::readers::{config, readers};
+use crate::tests::buses::steps::steps;
 use osdp_session::run_bus;
 use osdp_sim::{Account, Cause, Fault};
 use osdp_tool_sim::account_text;

@@ -1,7 +1,7 @@
 //! Where and why a schedule stops, with the account of the steps before.
 
-use crate::accounts::account_text;
-use crate::schedules::{config, outcome};
+use crate::tests::accounts::account_text;
+use crate::tests::schedules::{config, outcome};
 use osdp_door::Door;
 use osdp_frame::Address;
 use osdp_msg::Command;

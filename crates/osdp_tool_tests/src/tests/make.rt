@@ -1,6 +1,6 @@
 //! `make` at outputs that fail. Which words order which packet stands in rows of `tests/rows/`.
 
-use crate::faulty::{Refusal, Sink, make_sink};
+use crate::tests::faulty::{Refusal, Sink, make_sink};
 use osdp_tool::make;
 use osdp_tool_streams::{ToolFault, Watched};
 use std::alloc::Global;

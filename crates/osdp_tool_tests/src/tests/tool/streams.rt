@@ -3,7 +3,7 @@
 ghost use Rattle.std.specs.Prelude.{◌<◌};
 
 use super::*;
-use crate::faulty::{Pieces, Refusal, Sink, make_pieces, make_sink};
+use crate::tests::faulty::{Pieces, Refusal, Sink, make_pieces, make_sink};
 use osdp_tool_show::command;
 use osdp_tool_streams::Form;
 use std::io::{ErrorKind, Write};

@@ -1,8 +1,8 @@
 //! Schedules and what comes of them. All times are the default ones: a session opens after 400 ms of quiet, a POLL follows an answer
 //! after 50 ms, a frame is sent three times, 200 ms apart.
 
-use crate::accounts::account_text;
-use crate::steps::steps;
+use crate::tests::accounts::account_text;
+use crate::tests::steps::steps;
 use arrayvec::ArrayVec;
 use osdp_controller::ControllerConfig;
 use osdp_door::Door;

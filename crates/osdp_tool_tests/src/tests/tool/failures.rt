@@ -1,7 +1,7 @@
 //! A read and a write that fail at each call in turn, in both commands and all forms of input.
 
 use super::*;
-use crate::faulty::{Pieces, Refusal, make_pieces, make_sink};
+use crate::tests::faulty::{Pieces, Refusal, make_pieces, make_sink};
 use std::io;
 use std::io::ErrorKind;
 use std::ops::Range;

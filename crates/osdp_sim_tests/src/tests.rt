@@ -1,0 +1,8 @@
+//! Schedules worked by hand over simulated lines, and scripts that are read.
+
+mod accounts;
+mod buses;
+mod refusals;
+mod schedules;
+mod scripts;
+mod steps;
