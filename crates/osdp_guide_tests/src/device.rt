@@ -25,8 +25,21 @@ impl Relays {
     }
 }
 
-/// What the device is, for ID, and what it can do, for CAP: it has inputs and outputs, and takes a CRC too.
-fn new_config(address: Address, inputs: u8, outputs: u8) -> ReaderConfig {
+/// What the device is, for ID.
+fn identity() -> PdId {
+    PdId {
+        vendor: [0x53, 0x49, 0x4d],
+        model: 1,
+        version: 1,
+        serial: 1,
+        firmware_major: 1,
+        firmware_minor: 0,
+        firmware_build: 0,
+    }
+}
+
+/// What it is, and what it can do, for CAP: it has inputs and outputs, and takes a CRC too.
+pub fn new_config(address: Address, inputs: u8, outputs: u8) -> ReaderConfig {
     let mut capabilities = ArrayVec::new();
     for (function, count) in [(1, inputs), (2, outputs), (8, 0)] {
         let _ = capabilities.try_push(Capability {
@@ -37,15 +50,7 @@ fn new_config(address: Address, inputs: u8, outputs: u8) -> ReaderConfig {
     }
     ReaderConfig {
         address,
-        id: PdId {
-            vendor: [0x53, 0x49, 0x4d],
-            model: 1,
-            version: 1,
-            serial: 1,
-            firmware_major: 1,
-            firmware_minor: 0,
-            firmware_build: 0,
-        },
+        id: identity(),
         caps: PdCap { capabilities },
     }
 }

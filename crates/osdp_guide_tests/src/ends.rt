@@ -1,12 +1,11 @@
 //! A panel and its devices as they are made.
 
 use crate::account::MOST;
-use arrayvec::ArrayVec;
+use crate::device::new_config;
 use osdp_bus::{Bus, BusConfig};
 use osdp_device::{Device, DeviceStatus};
 use osdp_frame::{Address, CheckKind};
-use osdp_msg::{PdCap, PdId};
-use osdp_reader::{Reader, ReaderConfig};
+use osdp_reader::Reader;
 use std::alloc::Global;
 use std::process::Abort;
 
@@ -28,21 +27,7 @@ pub fn new_bus(rt: &impl Abort, alloc: Global) -> Bus {
 
 /// A device with one output.
 pub fn new_device(rt: &impl Abort, alloc: Global, device: usize) -> Device<DeviceStatus> {
-    let config = ReaderConfig {
-        address: address_of(rt, device),
-        id: PdId {
-            vendor: [0x53, 0x49, 0x4d],
-            model: 1,
-            version: 1,
-            serial: 1,
-            firmware_major: 1,
-            firmware_minor: 0,
-            firmware_build: 0,
-        },
-        caps: PdCap {
-            capabilities: ArrayVec::new(),
-        },
-    };
+    let config = new_config(address_of(rt, device), 0, 1);
     let mut status = DeviceStatus::new();
     assert!(rt; status.outputs.try_push(0).is_ok());
     let reader = Reader::new(alloc, config, status, MOST)
