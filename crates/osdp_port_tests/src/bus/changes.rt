@@ -5,6 +5,7 @@ use osdp_bus::Bus;
 use osdp_check::{Check, Crc16};
 use osdp_controller::{LostCause, Report};
 use osdp_test_packets::{PACKETS, bytes_of, check_anew, is_spelled};
+use osdp_words::Fields;
 use std::alloc::Global;
 use std::process::Abort;
 
@@ -187,22 +188,14 @@ fn told_of(rt: &impl Abort, alloc: Global, digits: &str) -> Told {
     told
 }
 
-/// The number that stands in front of a row, and the rest of the row.
-fn number<'a>(rt: &impl Abort, row: &'a str) -> (usize, &'a str) {
-    let (word, rest) = row.split_once(' ').expect(rt, row);
-    (word.parse().ok().expect(rt, row), rest)
-}
-
 /// What was told is what a row says.
 fn is_row(rt: &impl Abort, told: &Told, row: &str) {
-    let (settled, rest) = number(rt, row);
-    let (unread, rest) = number(rt, rest);
-    let (lost, check) = number(rt, rest);
-    assert_eq!(rt;
-        (told.settled, told.unread, told.lost),
-        (settled, unread, lost),
-        "{row}"
-    );
+    let mut words = Fields::of_line(row);
+    for count in [told.settled, told.unread, told.lost] {
+        let wanted = words.number_u32().expect(rt, row);
+        assert_eq!(rt; count, wanted as usize, "{row}");
+    }
+    let check = words.word().expect(rt, row);
     assert!(rt; is_spelled(&told.check.spell(), check), "{row}");
 }
 
