@@ -5,6 +5,7 @@ mod controller;
 mod damage;
 mod door;
 mod identity;
+mod laws;
 mod link;
 mod reader;
 mod responses;

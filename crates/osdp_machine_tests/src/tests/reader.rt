@@ -7,6 +7,7 @@ mod answers;
 mod damage;
 
 use crate::tests::identity::config_at;
+use crate::tests::laws::cites;
 use crate::tests::responses::{response_to, response_to_digits};
 use arrayvec::ArrayVec;
 use osdp_frame::{Framer, Item};
@@ -332,20 +333,9 @@ fn out_of_memory_is_told(rt: HostRuntime) {
 /// The laws hold of a handler of one's own.
 #[test]
 fn laws_hold_of_any_handler(_rt: HostRuntime) {
-    osdp_reader_laws::acts_once::<Bench>();
-    osdp_reader_laws::keeps_what_it_took::<Bench>();
     osdp_reader_laws::repeats_byte_for_byte();
-    osdp_reader_laws::acts_at_zero::<Bench>();
-    osdp_reader_laws::begins_anew::<Bench>();
-    osdp_reader_laws::loses_no_event::<Bench>();
-    osdp_reader_laws::answers_polls::<Bench>();
-    osdp_reader_laws::changes_by_acting::<Bench>();
-    osdp_reader_laws::tells_its_command::<Bench>();
-    osdp_reader_laws::answers_plainly::<Bench>();
-    osdp_reader_laws::sends_what_it_says::<Bench>();
-    osdp_reader_laws::reader_stays_well::<Bench>();
-    osdp_reader_laws::answers_in_order::<Bench>();
     osdp_reader_laws::replies_to_its_command();
-    osdp_reader_laws::takes_the_next_number::<Bench>();
-    osdp_reader_laws::moves_by_comset_alone::<Bench>();
+    cites!(osdp_reader_laws, Bench:
+        acts_once acts_at_zero begins_anew takes_the_next_number keeps_what_it_took moves_by_comset_alone changes_by_acting reader_stays_well
+        loses_no_event answers_polls tells_its_command answers_plainly answers_in_order sends_what_it_says);
 }
