@@ -1,6 +1,7 @@
 //! Each request for memory of a run over a bus, refused by itself.
 
 use crate::tests::buses::readers::config;
+use arrayvec::ArrayVec;
 use osdp_frame::Address;
 use osdp_msg::Command;
 use osdp_reader::ReaderConfig;
@@ -26,29 +27,22 @@ fn two_readers(rt: &impl Abort, alloc: Global) -> Option<Vec<(ReaderConfig, usiz
 }
 
 /// Two sessions that open, and a command that is settled in each.
-fn opens() -> [SimStep; 14] {
-    [
-        SimStep::Issue(1, Command::LocalStatus),
-        SimStep::Issue(2, Command::InputStatus),
-        SimStep::Wait(400),
-        SimStep::ToReader(Move::Deliver),
-        SimStep::ToController(Move::Deliver),
-        SimStep::Wait(0),
-        SimStep::ToReader(Move::Deliver),
-        SimStep::ToController(Move::Deliver),
-        SimStep::Wait(0),
-        SimStep::ToReader(Move::Deliver),
-        SimStep::ToController(Move::Deliver),
-        SimStep::Wait(0),
-        SimStep::ToReader(Move::Deliver),
-        SimStep::ToController(Move::Deliver),
-    ]
+fn opens() -> ArrayVec<SimStep, 14> {
+    let mut steps = ArrayVec::new();
+    let _ = steps.try_push(SimStep::Issue(1, Command::LocalStatus));
+    let _ = steps.try_push(SimStep::Issue(2, Command::InputStatus));
+    for wait in [400, 0, 0, 0] {
+        let _ = steps.try_push(SimStep::Wait(wait));
+        let _ = steps.try_push(SimStep::ToReader(Move::Deliver));
+        let _ = steps.try_push(SimStep::ToController(Move::Deliver));
+    }
+    steps
 }
 
 /// The two accounts are those of the first of these steps.
 fn are_of_the_first(rt: &impl Abort, alloc: Global, told: &[Account], steps: usize) {
     let all = opens();
-    assert!(rt; steps <= 14);
+    assert!(rt; steps <= all.len());
     let readers = two_readers(rt, alloc).expect(rt, "memory");
     let accounts = run_bus(alloc, &config(), readers, &all[..steps]);
     let accounts = accounts.ok().expect(rt, "accounts");
@@ -86,7 +80,7 @@ fn out_of_memory_is_told(rt: HostRuntime) {
     let Some(readers) = two_readers(&rt, rt.alloc()) else {
         return;
     };
-    match run_bus(rt.alloc(), &config(), readers, &opens()) {
+    match run_bus(rt.alloc(), &config(), readers, opens().as_slice()) {
         Ok(accounts) => are_settled(&rt, accounts.as_slice()),
         Err(fault) => tells_of_the_steps_before(&rt, rt.alloc(), &fault),
     }
@@ -96,6 +90,6 @@ fn out_of_memory_is_told(rt: HostRuntime) {
 #[test]
 fn memory_is_needed(rt: HostRuntime) {
     let readers = two_readers(&rt, rt.alloc()).expect(&rt, "memory");
-    let ended = run_bus(rt.alloc(), &config(), readers, &opens());
+    let ended = run_bus(rt.alloc(), &config(), readers, opens().as_slice());
     are_settled(&rt, ended.ok().expect(&rt, "accounts").as_slice());
 }
