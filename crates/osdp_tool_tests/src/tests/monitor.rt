@@ -92,21 +92,11 @@ const FORGETTING: &str = "\
 5309070003603A none none none
 530A070000603C none none none
 538A07000040DC none opened none
-skip none none none
-skip none none none
-skip none none none
-skip none none none
-skip none none none
-skip none none none
+six-skips none none none
 530A070002603A sent-out-of-turn none none
 530B070000603B none none none
 538B07000040DB none opened none
-skip none none none
-skip none none none
-skip none none none
-skip none none none
-skip none none none
-skip none none none
+six-skips none none none
 skip none none none
 530B0700026039 none none none
 530C070000603A none none none
@@ -158,6 +148,13 @@ fn hears(rt: &impl Abort, monitor: &mut Monitor, digits: &str, expected: &mut Bu
     }
 }
 
+/// Six items come that are no packets.
+fn skips_six(monitor: &mut Monitor) {
+    for _ in 0..6 {
+        monitor.skip();
+    }
+}
+
 /// An item comes.
 fn comes(rt: &impl Abort, monitor: &mut Monitor, item: &str, expected: &mut Burst) -> Found {
     let mut found = Found {
@@ -166,6 +163,7 @@ fn comes(rt: &impl Abort, monitor: &mut Monitor, item: &str, expected: &mut Burs
     };
     match item {
         "skip" => monitor.skip(),
+        "six-skips" => skips_six(monitor),
         "refused" => monitor.forget(),
         _ => found = hears(rt, monitor, item, expected),
     }
