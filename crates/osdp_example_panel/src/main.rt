@@ -12,6 +12,12 @@ use std::io;
 
 /// The door: the first device of the panel.
 const DOOR: Entry = 0;
+/// Its strike, output 0, is on for three seconds.
+const STRIKE: OutputRecord = OutputRecord {
+    output: 0,
+    control: 5,
+    timer: 30,
+};
 
 /// From a lost session to the next one, in milliseconds.
 const PAUSE: u64 = 1000;
@@ -29,14 +35,9 @@ fn new_panel(alloc: Global) -> Option<Panel> {
     Some(panel)
 }
 
-/// Orders the door's strike, its output 0, on for three seconds. Where as many orders wait as may, the door stays closed.
+/// Orders the door's strike. Where as many orders wait as may, the door stays closed.
 fn open(panel: &mut Panel) {
-    let strike = OutputRecord {
-        output: 0,
-        control: 5,
-        timer: 30,
-    };
-    if let Some(outputs) = Outputs::new(&[strike]) {
+    if let Some(outputs) = Outputs::new(&[STRIKE]) {
         let _ = panel.submit(DOOR, Command::Output(outputs));
     }
 }
