@@ -21,6 +21,7 @@ use Rattle.osdp_c_values.specs.declared.fields.PdIdStruct.{PdIdStruct}
 use Rattle.osdp_c_values.specs.declared.fields.RawStruct.{RawStruct}
 use Rattle.osdp_c_values.specs.declared.fields.StatesStruct.{StatesStruct}
 use Rattle.osdp_c_values.specs.declared.message.MessageStruct.{MessageStruct}
+use Rattle.osdp_c_values.specs.declared.settings.ProductStruct.{ProductStruct}
 use Rattle.osdp_c_values.specs.declared.status.Status.{Status}
 use Rattle.osdp_c_values.specs.declared.status.Status.TheVariants as status
 use Rattle.osdp_c_values.specs.Structs.{filled}
@@ -85,16 +86,11 @@ outputs_of (Ok (reply.Outputs states)) out = reads (states_struct states.items o
 outputs_of (Ok other) out = another out
 outputs_of (Err fault) out = unread fault out
 
+abbrev pub product_of : PdId → ProductStruct
+product_of id = record { vendor = id.vendor; model = id.model; version = id.version; firmware_major = id.firmware_major; firmware_minor = id.firmware_minor; firmware_build = id.firmware_build }
+
 abbrev pub pd_id_struct : PdId → PdIdStruct
-pd_id_struct id = record {
-  serial = id.serial;
-  vendor = id.vendor;
-  model = id.model;
-  version = id.version;
-  firmware_major = id.firmware_major;
-  firmware_minor = id.firmware_minor;
-  firmware_build = id.firmware_build;
-}
+pd_id_struct id = record { serial = id.serial; product = product_of id }
 
 abbrev pub pd_id_of : Result Reply MsgFault → PdIdStruct → Read PdIdStruct
 pd_id_of (Ok (reply.PdId id)) out = reads (pd_id_struct id)

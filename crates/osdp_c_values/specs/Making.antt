@@ -23,17 +23,17 @@ abbrev pub led_record : LedStruct → LedRecord
 led_record s = record {
   reader = s.reader;
   led = s.led;
-  temporary_control = s.temporary_control;
-  temporary_on_time = s.temporary_on_time;
-  temporary_off_time = s.temporary_off_time;
-  temporary_on_color = s.temporary_on_color;
-  temporary_off_color = s.temporary_off_color;
   timer = s.timer;
-  permanent_control = s.permanent_control;
-  permanent_on_time = s.permanent_on_time;
-  permanent_off_time = s.permanent_off_time;
-  permanent_on_color = s.permanent_on_color;
-  permanent_off_color = s.permanent_off_color;
+  temporary_control = s.temporary.control;
+  temporary_on_time = s.temporary.on_time;
+  temporary_off_time = s.temporary.off_time;
+  temporary_on_color = s.temporary.on_color;
+  temporary_off_color = s.temporary.off_color;
+  permanent_control = s.permanent.control;
+  permanent_on_time = s.permanent.on_time;
+  permanent_off_time = s.permanent.off_time;
+  permanent_on_color = s.permanent.on_color;
+  permanent_off_color = s.permanent.off_color;
 }
 
 abbrev pub buzzer_in : BuzzerStruct → Buzzer
@@ -41,14 +41,7 @@ buzzer_in s = record { reader = s.reader; tone = s.tone; on_time = s.on_time; of
 
 -- as many characters as the count says
 abbrev pub text_in : TextStruct → Text
-text_in s = record {
-  reader = s.reader;
-  command = s.command;
-  time = s.time;
-  row = s.row;
-  column = s.column;
-  characters = record { items = take s.count s.characters };
-}
+text_in s = record { reader = s.reader; command = s.command; time = s.time; row = s.row; column = s.column; characters = record { items = take s.count s.characters } }
 
 -- the command is written, where there is one: one without records, and one with more than it may have, is none
 abbrev pub made : Option Command → MessageStruct → Read MessageStruct

@@ -5,6 +5,7 @@ use Rattle.osdp_frame.specs.declared.check_kind.CheckKind.{CheckKind}
 use Rattle.osdp_frame.specs.declared.check_kind.CheckKind.TheVariants.{Sum, Crc}
 use Rattle.osdp_msg.specs.declared.reply_fields.PdId.{PdId}
 use Rattle.osdp_c_values.specs.declared.settings.PanelSettings.{PanelSettings}
+use Rattle.osdp_c_values.specs.declared.settings.ProductStruct.{ProductStruct}
 use Rattle.osdp_c_values.specs.declared.settings.ReaderSettings.{ReaderSettings}
 
 abbrev pub check_of : ℕ → CheckKind
@@ -25,17 +26,21 @@ bus_config_of s =
       capacity = s.capacity;
     }) else None
 
+-- what a device is, by its serial number and what it is otherwise
+abbrev pub pd_id : ℕ → ProductStruct → PdId
+pd_id serial p = record {
+  vendor = p.vendor;
+  model = p.model;
+  version = p.version;
+  serial = serial;
+  firmware_major = p.firmware_major;
+  firmware_minor = p.firmware_minor;
+  firmware_build = p.firmware_build;
+}
+
 -- what a reader answers to ID
 abbrev pub id_of : ReaderSettings → PdId
-id_of s = record {
-  vendor = s.vendor;
-  model = s.model;
-  version = s.version;
-  serial = s.serial;
-  firmware_major = s.firmware_major;
-  firmware_minor = s.firmware_minor;
-  firmware_build = s.firmware_build;
-}
+id_of s = pd_id s.serial s.product
 
 -- a day, in milliseconds
 abbrev pub day : ℕ

@@ -5,6 +5,7 @@ ghost use Rattle.osdp_c_values.specs.Fields.{command_in, data_of, inputs_of, key
 
 use crate::arrays::fill;
 use crate::message::MessageStruct;
+use crate::settings::ProductStruct;
 use crate::status::Status;
 use osdp_msg::{
     Command, Keypad, MAX_CARD_BYTES, MAX_DATA, MAX_DETAIL, MsgFault, Nak, OutputRecord, PdId, Raw,
@@ -55,18 +56,8 @@ pub struct StatesStruct {
 pub struct PdIdStruct {
     /// The serial number.
     pub serial: u32,
-    /// The maker's code.
-    pub vendor: [u8; 3],
-    /// The maker's number of the model.
-    pub model: u8,
-    /// The maker's number of the model's version.
-    pub version: u8,
-    /// The first number of the firmware's version.
-    pub firmware_major: u8,
-    /// The second number of the firmware's version.
-    pub firmware_minor: u8,
-    /// The third number of the firmware's version.
-    pub firmware_build: u8,
+    /// What it is otherwise.
+    pub product: ProductStruct,
 }
 
 /// Why a command wasn't done.
@@ -218,12 +209,14 @@ impl PdIdStruct {
         ensures { self.new ≡ pd_id_struct id.now }
     {
         self.serial = id.serial;
-        self.vendor = id.vendor;
-        self.model = id.model;
-        self.version = id.version;
-        self.firmware_major = id.firmware_major;
-        self.firmware_minor = id.firmware_minor;
-        self.firmware_build = id.firmware_build;
+        self.product = ProductStruct {
+            vendor: id.vendor,
+            model: id.model,
+            version: id.version,
+            firmware_major: id.firmware_major,
+            firmware_minor: id.firmware_minor,
+            firmware_build: id.firmware_build,
+        };
     }
 
     /// Writes what the device of a message is.

@@ -14,36 +14,36 @@ use osdp_msg::{
     Buzzer, Command, Communication, LedRecord, Leds, MsgFault, OutputRecord, Outputs, Text,
 };
 
-/// What one LED of a reader is to do. Times are in 100 ms. Colors: 0 off, 1 red, 2 green, 3 amber, 4 blue, 5 magenta, 6 cyan, 7 white.
+/// How an LED blinks. Times are in 100 ms. Colors: 0 off, 1 red, 2 green, 3 amber, 4 blue, 5 magenta, 6 cyan, 7 white.
+#[repr(C)]
+#[derive(Drop)]
+pub struct LedState {
+    /// 0 nothing is set; of a temporary state 1 cancel, 2 set; of the permanent state 1 set.
+    pub control: u8,
+    /// How long it has the first color.
+    pub on_time: u8,
+    /// How long it has the second color.
+    pub off_time: u8,
+    /// The first color.
+    pub on_color: u8,
+    /// The second color.
+    pub off_color: u8,
+}
+
+/// What one LED of a reader is to do.
 #[repr(C)]
 #[derive(Drop)]
 pub struct LedStruct {
-    /// How long the temporary state lasts.
+    /// How long the temporary state lasts, in 100 ms.
     pub timer: u16,
     /// The reader of the device, counted from 0.
     pub reader: u8,
     /// The LED of the reader, counted from 0.
     pub led: u8,
-    /// 0 nothing, 1 cancel, 2 set.
-    pub temporary_control: u8,
-    /// In 100 ms.
-    pub temporary_on_time: u8,
-    /// In 100 ms.
-    pub temporary_off_time: u8,
-    /// 0 to 7.
-    pub temporary_on_color: u8,
-    /// 0 to 7.
-    pub temporary_off_color: u8,
-    /// 0 nothing, 1 set.
-    pub permanent_control: u8,
-    /// In 100 ms.
-    pub permanent_on_time: u8,
-    /// In 100 ms.
-    pub permanent_off_time: u8,
-    /// 0 to 7.
-    pub permanent_on_color: u8,
-    /// 0 to 7.
-    pub permanent_off_color: u8,
+    /// What it is to do for a time.
+    pub temporary: LedState,
+    /// What it is to do for good.
+    pub permanent: LedState,
 }
 
 /// How the buzzer of a reader sounds.
@@ -97,20 +97,21 @@ fn output_record(given: &OutputStruct) -> OutputRecord
 fn led_record(given: &LedStruct) -> LedRecord
     ensures { result ≡ led_record given.now }
 {
+    let (temporary, permanent) = (&given.temporary, &given.permanent);
     LedRecord {
         reader: given.reader,
         led: given.led,
-        temporary_control: given.temporary_control,
-        temporary_on_time: given.temporary_on_time,
-        temporary_off_time: given.temporary_off_time,
-        temporary_on_color: given.temporary_on_color,
-        temporary_off_color: given.temporary_off_color,
+        temporary_control: temporary.control,
+        temporary_on_time: temporary.on_time,
+        temporary_off_time: temporary.off_time,
+        temporary_on_color: temporary.on_color,
+        temporary_off_color: temporary.off_color,
         timer: given.timer,
-        permanent_control: given.permanent_control,
-        permanent_on_time: given.permanent_on_time,
-        permanent_off_time: given.permanent_off_time,
-        permanent_on_color: given.permanent_on_color,
-        permanent_off_color: given.permanent_off_color,
+        permanent_control: permanent.control,
+        permanent_on_time: permanent.on_time,
+        permanent_off_time: permanent.off_time,
+        permanent_on_color: permanent.on_color,
+        permanent_off_color: permanent.off_color,
     }
 }
 

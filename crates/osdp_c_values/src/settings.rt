@@ -102,20 +102,10 @@ impl PanelSettings {
     }
 }
 
-/// What a reader is, but for what it can do.
+/// What a device is, but for its serial number.
 #[repr(C)]
 #[derive(Drop)]
-pub struct ReaderSettings {
-    /// The address on the line, 0 to 126.
-    pub address: u32,
-    /// How many events may wait, 1 to 1024.
-    pub capacity: u32,
-    /// After how many milliseconds of silence a run of bytes is over, 1 to 3,600,000.
-    pub gap: u32,
-    /// The serial number.
-    pub serial: u32,
-    /// How far a moment may lie after the greatest one seen, in milliseconds; 0 stands for a day.
-    pub clock_limit: u32,
+pub struct ProductStruct {
     /// The maker's code.
     pub vendor: [u8; 3],
     /// The maker's number of the model.
@@ -130,6 +120,24 @@ pub struct ReaderSettings {
     pub firmware_build: u8,
 }
 
+/// What a reader is, but for what it can do.
+#[repr(C)]
+#[derive(Drop)]
+pub struct ReaderSettings {
+    /// The address on the line, 0 to 126.
+    pub address: u32,
+    /// How many events may wait, 1 to 1024.
+    pub capacity: u32,
+    /// After how many milliseconds of silence a run of bytes is over, 1 to 3,600,000.
+    pub gap: u32,
+    /// The serial number.
+    pub serial: u32,
+    /// How far a moment may lie after the greatest one seen, in milliseconds; 0 stands for a day.
+    pub clock_limit: u32,
+    /// What it is otherwise.
+    pub product: ProductStruct,
+}
+
 impl ReaderSettings {
     /// How far a moment may lie after the greatest one seen.
     pub fn clock_limit(&self) -> u32
@@ -142,14 +150,15 @@ impl ReaderSettings {
     pub fn to_id(&self) -> PdId
         ensures { result ≡ id_of self.now }
     {
+        let product = &self.product;
         PdId {
-            vendor: self.vendor,
-            model: self.model,
-            version: self.version,
+            vendor: product.vendor,
+            model: product.model,
+            version: product.version,
             serial: self.serial,
-            firmware_major: self.firmware_major,
-            firmware_minor: self.firmware_minor,
-            firmware_build: self.firmware_build,
+            firmware_major: product.firmware_major,
+            firmware_minor: product.firmware_minor,
+            firmware_build: product.firmware_build,
         }
     }
 }
