@@ -7,7 +7,7 @@ ghost use Rattle.osdp_msg.specs.CommandTable.{command_of};
 ghost use Rattle.osdp_msg.specs.CommandText.{command_text};
 ghost use Rattle.osdp_c_values.specs.Pieces.{HasTextOf, IsPut};
 
-use crate::pieces::{MAX_TEXT, NoRoom, Room, put, put_list, put_listed, put_plain};
+use crate::pieces::{MAX_TEXT, NoRoom, Room, numbers_of, put, put_list, put_listed, put_plain};
 use crate::records::put_records;
 use arrayvec::ArrayString;
 use osdp_msg::{Buzzer, Command, Communication, MakerMessage, MsgFault, Text};
@@ -16,13 +16,7 @@ use osdp_msg::{Buzzer, Command, Communication, MakerMessage, MsgFault, Text};
 fn put_buzzer(room: &mut Room, buzzer: &Buzzer) -> Result<(), NoRoom>
     ensures { IsPut MAX_TEXT room.old result room.new (text_of (plain (codes "BUZ") ∷ buzzer_words buzzer.now)) }
 {
-    let numbers = [
-        u32::from(buzzer.reader),
-        u32::from(buzzer.tone),
-        u32::from(buzzer.on_time),
-        u32::from(buzzer.off_time),
-        u32::from(buzzer.count),
-    ];
+    let numbers = numbers_of!(buzzer: reader tone on_time off_time count);
     put_plain(room, "BUZ", &numbers)
 }
 
@@ -30,13 +24,7 @@ fn put_buzzer(room: &mut Room, buzzer: &Buzzer) -> Result<(), NoRoom>
 fn put_text(room: &mut Room, text: &Text) -> Result<(), NoRoom>
     ensures { IsPut MAX_TEXT room.old result room.new (text_of (plain (codes "TEXT") ∷ text_words text.now)) }
 {
-    let numbers = [
-        u32::from(text.reader),
-        u32::from(text.command),
-        u32::from(text.time),
-        u32::from(text.row),
-        u32::from(text.column),
-    ];
+    let numbers = numbers_of!(text: reader command time row column);
     put_listed(room, "TEXT", &numbers, text.characters.as_slice())
 }
 
@@ -48,8 +36,7 @@ pub(crate) fn put_communication(
 ) -> Result<(), NoRoom>
     ensures { IsPut MAX_TEXT room.old result room.new (text_of (plain name.now ∷ communication_words communication.now)) }
 {
-    let numbers = [u32::from(communication.address), communication.baud_rate];
-    put_plain(room, name, &numbers)
+    put_plain(room, name, &numbers_of!(communication: address baud_rate))
 }
 
 /// Puts a name and a maker's message.

@@ -19,6 +19,13 @@ pub(crate) type Room = ArrayString<MAX_TEXT>;
 /// A text has no room.
 pub(crate) struct NoRoom;
 
+/// Fields of a value as numbers.
+macro_rules! numbers_of {
+    ($of:ident: $($field:ident)*) => { [$(u32::from($of.$field)),*] };
+}
+
+pub(crate) use numbers_of;
+
 const DIGITS: &[u8; 16] = b"0123456789ABCDEF";
 
 /// Puts characters.
@@ -79,20 +86,20 @@ pub(crate) fn put_list(room: &mut Room, list: &[u8]) -> Result<(), NoRoom>
     put_digits(room, list)
 }
 
-/// Puts a number, after a space.
-fn put_number(room: &mut Room, number: u32) -> Result<(), NoRoom>
-    ensures { IsPut MAX_TEXT room.old result room.new (codes " " ++ decimal number) }
+/// Puts a number, after a space or a colon.
+fn put_number(room: &mut Room, before: &str, number: u32) -> Result<(), NoRoom>
+    ensures { IsPut MAX_TEXT room.old result room.new (before.now ++ decimal number) }
 {
-    put(room, " ")?;
+    put(room, before)?;
     put_decimal(room, number)
 }
 
-/// Puts numbers, each after a space.
-pub(crate) fn put_numbers(room: &mut Room, numbers: &[u32]) -> Result<(), NoRoom>
-    ensures { IsPut MAX_TEXT room.old result room.new (flat_map (λ n. codes " " ++ decimal n) numbers.now) }
+/// Puts numbers, each after a space or a colon.
+pub(crate) fn put_numbers(room: &mut Room, before: &str, numbers: &[u32]) -> Result<(), NoRoom>
+    ensures { IsPut MAX_TEXT room.old result room.new (flat_map (λ n. before.now ++ decimal n) numbers.now) }
 {
     for one in numbers {
-        put_number(room, *one)?;
+        put_number(room, before, *one)?;
     }
     Ok(())
 }
@@ -102,7 +109,7 @@ pub(crate) fn put_plain(room: &mut Room, name: &str, numbers: &[u32]) -> Result<
     ensures { IsPut MAX_TEXT room.old result room.new (text_of (plain name.now ∷ map number numbers.now)) }
 {
     put(room, name)?;
-    put_numbers(room, numbers)
+    put_numbers(room, " ", numbers)
 }
 
 /// Puts a name, numbers and a list of bytes.

@@ -1,41 +1,22 @@
 //! Pieces that are records.
 
 ghost use Rattle.std.specs.Prelude.{◌≡◌, ◌++◌, ◌∷◌, codes, map};
-ghost use Rattle.std.specs.Fmt.{decimal};
 ghost use Rattle.std.specs.List.{flat_map};
 ghost use Rattle.osdp_words.specs.Word.{numbers, plain, printed, text_of};
 ghost use Rattle.osdp_msg.specs.CommandFields.{led_word, output_word};
 ghost use Rattle.osdp_msg.specs.ReplyFields.{capability_word};
 ghost use Rattle.osdp_c_values.specs.Pieces.{IsPut};
 
-use crate::pieces::{MAX_TEXT, NoRoom, Room, put, put_decimal};
+use crate::pieces::{MAX_TEXT, NoRoom, Room, numbers_of, put, put_decimal, put_numbers};
 use osdp_msg::{Capability, LedRecord, OutputRecord};
 
-/// Puts a number, after a colon.
-fn put_colon(room: &mut Room, number: u16) -> Result<(), NoRoom>
-    ensures { IsPut MAX_TEXT room.old result room.new (codes ":" ++ decimal number) }
-{
-    put(room, ":")?;
-    put_decimal(room, u32::from(number))
-}
-
-/// Puts numbers, each after a colon.
-fn put_colons(room: &mut Room, others: &[u16]) -> Result<(), NoRoom>
-    ensures { IsPut MAX_TEXT room.old result room.new (flat_map (λ n. codes ":" ++ decimal n) others.now) }
-{
-    for other in others {
-        put_colon(room, *other)?;
-    }
-    Ok(())
-}
-
 /// Puts a record of numbers, after a space.
-fn put_record(room: &mut Room, first: u8, others: &[u16]) -> Result<(), NoRoom>
+fn put_record(room: &mut Room, first: u8, others: &[u32]) -> Result<(), NoRoom>
     ensures { IsPut MAX_TEXT room.old result room.new (codes " " ++ printed (numbers (first ∷ others.now))) }
 {
     put(room, " ")?;
     put_decimal(room, u32::from(first))?;
-    put_colons(room, others)
+    put_numbers(room, ":", others)
 }
 
 /// What a record is in a text.
@@ -54,7 +35,8 @@ impl Recorded for OutputRecord {
     ghost word = { output_word };
 
     fn put_word(&self, room: &mut Room) -> Result<(), NoRoom> {
-        put_record(room, self.output, &[u16::from(self.control), self.timer])
+        let record = self;
+        put_record(room, self.output, &numbers_of!(record: control timer))
     }
 }
 
@@ -62,20 +44,10 @@ impl Recorded for LedRecord {
     ghost word = { led_word };
 
     fn put_word(&self, room: &mut Room) -> Result<(), NoRoom> {
-        let others = [
-            u16::from(self.led),
-            u16::from(self.temporary_control),
-            u16::from(self.temporary_on_time),
-            u16::from(self.temporary_off_time),
-            u16::from(self.temporary_on_color),
-            u16::from(self.temporary_off_color),
-            self.timer,
-            u16::from(self.permanent_control),
-            u16::from(self.permanent_on_time),
-            u16::from(self.permanent_off_time),
-            u16::from(self.permanent_on_color),
-            u16::from(self.permanent_off_color),
-        ];
+        let record = self;
+        let others = numbers_of!(record:
+            led temporary_control temporary_on_time temporary_off_time temporary_on_color temporary_off_color timer
+            permanent_control permanent_on_time permanent_off_time permanent_on_color permanent_off_color);
         put_record(room, self.reader, &others)
     }
 }
@@ -84,11 +56,8 @@ impl Recorded for Capability {
     ghost word = { capability_word };
 
     fn put_word(&self, room: &mut Room) -> Result<(), NoRoom> {
-        put_record(
-            room,
-            self.function,
-            &[u16::from(self.level), u16::from(self.count)],
-        )
+        let record = self;
+        put_record(room, self.function, &numbers_of!(record: level count))
     }
 }
 

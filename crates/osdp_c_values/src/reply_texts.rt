@@ -8,7 +8,9 @@ ghost use Rattle.osdp_msg.specs.ReplyText.{reply_text};
 ghost use Rattle.osdp_c_values.specs.Pieces.{HasTextOf, IsPut};
 
 use crate::command_texts::{put_communication, put_maker};
-use crate::pieces::{MAX_TEXT, NoRoom, Room, put, put_list, put_listed, put_numbers, put_plain};
+use crate::pieces::{
+    MAX_TEXT, NoRoom, Room, numbers_of, put, put_list, put_listed, put_numbers, put_plain,
+};
 use crate::records::put_records;
 use arrayvec::ArrayString;
 use osdp_msg::{Formatted, Keypad, LocalState, MsgFault, Nak, PdId, Raw, Reply};
@@ -28,28 +30,18 @@ fn put_nak(room: &mut Room, nak: &Nak) -> Result<(), NoRoom>
 fn put_pd_id(room: &mut Room, pd_id: &PdId) -> Result<(), NoRoom>
     ensures { IsPut MAX_TEXT room.old result room.new (text_of (plain (codes "PDID") ∷ pd_id_words pd_id.now)) }
 {
-    let numbers = [
-        u32::from(pd_id.model),
-        u32::from(pd_id.version),
-        pd_id.serial,
-        u32::from(pd_id.firmware_major),
-        u32::from(pd_id.firmware_minor),
-        u32::from(pd_id.firmware_build),
-    ];
+    let numbers =
+        numbers_of!(pd_id: model version serial firmware_major firmware_minor firmware_build);
     put(room, "PDID")?;
     put_list(room, &pd_id.vendor)?;
-    put_numbers(room, &numbers)
+    put_numbers(room, " ", &numbers)
 }
 
 /// Puts the text of an LSTATR.
 fn put_local_state(room: &mut Room, state: &LocalState) -> Result<(), NoRoom>
     ensures { IsPut MAX_TEXT room.old result room.new (text_of (plain (codes "LSTATR") ∷ local_state_words state.now)) }
 {
-    put_plain(
-        room,
-        "LSTATR",
-        &[u32::from(state.tamper), u32::from(state.power)],
-    )
+    put_plain(room, "LSTATR", &numbers_of!(state: tamper power))
 }
 
 /// Puts the text of a RAW.
@@ -68,7 +60,7 @@ fn put_raw(room: &mut Room, raw: &Raw) -> Result<(), NoRoom>
 fn put_formatted(room: &mut Room, card: &Formatted) -> Result<(), NoRoom>
     ensures { IsPut MAX_TEXT room.old result room.new (text_of (plain (codes "FMT") ∷ formatted_words card.now)) }
 {
-    let numbers = [u32::from(card.reader), u32::from(card.direction)];
+    let numbers = numbers_of!(card: reader direction);
     put_listed(room, "FMT", &numbers, card.digits.as_slice())
 }
 
@@ -76,12 +68,8 @@ fn put_formatted(room: &mut Room, card: &Formatted) -> Result<(), NoRoom>
 fn put_keypad(room: &mut Room, keypad: &Keypad) -> Result<(), NoRoom>
     ensures { IsPut MAX_TEXT room.old result room.new (text_of (plain (codes "KEYPAD") ∷ keypad_words keypad.now)) }
 {
-    put_listed(
-        room,
-        "KEYPAD",
-        &[u32::from(keypad.reader)],
-        keypad.digits.as_slice(),
-    )
+    let numbers = numbers_of!(keypad: reader);
+    put_listed(room, "KEYPAD", &numbers, keypad.digits.as_slice())
 }
 
 /// Puts the text of a reply.
