@@ -9,15 +9,31 @@ ghost use Rattle.osdp_c.specs.Reads.{IsRead};
 
 use osdp_c_values::{
     BuzzerStruct, KeypadStruct, LedStruct, MessageStruct, NakStruct, OutputStruct, PdIdStruct,
-    RawStruct, StatesStruct, TextStruct,
+    RawStruct, StatesStruct, Status, TextStruct,
 };
+use osdp_msg::Reply;
+
+/// Writes what a message tells, where it is such a reply. Gives the number of the call's status.
+macro_rules! written_of {
+    ($message:ident, $reply:pat => $write:expr) => {{
+        let status = match $message.read_reply() {
+            Ok($reply) => {
+                $write;
+                Status::Done
+            }
+            Ok(_) => Status::OtherMessage,
+            Err(fault) => Status::Message(fault),
+        };
+        status.number()
+    }};
+}
 
 /// Writes the card of a RAW.
 #[unsafe(no_mangle)]
 pub extern "C" fn osdp_raw_of(message: &MessageStruct, raw: &mut RawStruct) -> u32
     ensures { IsRead (raw_of (reply_in message.now) raw.old) result raw.new }
 {
-    raw.read(message).number()
+    written_of!(message, Reply::Raw(card) => raw.set(&card))
 }
 
 /// Writes the keys of a KEYPAD.
@@ -25,7 +41,7 @@ pub extern "C" fn osdp_raw_of(message: &MessageStruct, raw: &mut RawStruct) -> u
 pub extern "C" fn osdp_keypad_of(message: &MessageStruct, keys: &mut KeypadStruct) -> u32
     ensures { IsRead (keypad_of (reply_in message.now) keys.old) result keys.new }
 {
-    keys.read(message).number()
+    written_of!(message, Reply::Keypad(pressed) => keys.set(&pressed))
 }
 
 /// Writes the states of an ISTATR.
@@ -33,7 +49,7 @@ pub extern "C" fn osdp_keypad_of(message: &MessageStruct, keys: &mut KeypadStruc
 pub extern "C" fn osdp_inputs_of(message: &MessageStruct, inputs: &mut StatesStruct) -> u32
     ensures { IsRead (inputs_of (reply_in message.now) inputs.old) result inputs.new }
 {
-    inputs.read_inputs(message).number()
+    written_of!(message, Reply::Inputs(states) => inputs.set(states.as_slice()))
 }
 
 /// Writes the states of an OSTATR.
@@ -41,7 +57,7 @@ pub extern "C" fn osdp_inputs_of(message: &MessageStruct, inputs: &mut StatesStr
 pub extern "C" fn osdp_outputs_of(message: &MessageStruct, outputs: &mut StatesStruct) -> u32
     ensures { IsRead (outputs_of (reply_in message.now) outputs.old) result outputs.new }
 {
-    outputs.read_outputs(message).number()
+    written_of!(message, Reply::Outputs(states) => outputs.set(states.as_slice()))
 }
 
 /// Writes what the device of a PDID is.
@@ -49,7 +65,7 @@ pub extern "C" fn osdp_outputs_of(message: &MessageStruct, outputs: &mut StatesS
 pub extern "C" fn osdp_pd_id_of(message: &MessageStruct, id: &mut PdIdStruct) -> u32
     ensures { IsRead (pd_id_of (reply_in message.now) id.old) result id.new }
 {
-    id.read(message).number()
+    written_of!(message, Reply::PdId(told) => id.set(&told))
 }
 
 /// Writes the reason of a NAK.
@@ -57,7 +73,7 @@ pub extern "C" fn osdp_pd_id_of(message: &MessageStruct, id: &mut PdIdStruct) ->
 pub extern "C" fn osdp_nak_of(message: &MessageStruct, nak: &mut NakStruct) -> u32
     ensures { IsRead (nak_of (reply_in message.now) nak.old) result nak.new }
 {
-    nak.read(message).number()
+    written_of!(message, Reply::Nak(told) => nak.set(&told))
 }
 
 /// Writes the record of an OUT at a place, counted from 0.

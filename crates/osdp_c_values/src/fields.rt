@@ -1,7 +1,7 @@
 //! The fields of replies, and the records of an OUT, as structs of plain fields.
 
 ghost use Rattle.std.specs.Prelude.{◌≡◌, ◌≤◌, length};
-ghost use Rattle.osdp_c_values.specs.Fields.{command_in, data_of, inputs_of, keypad_of, keypad_struct, nak_of, nak_struct, output_of, output_struct, outputs_of, pd_id_of, pd_id_struct, raw_of, raw_struct, reply_in, states_struct};
+ghost use Rattle.osdp_c_values.specs.Fields.{command_in, data_of, keypad_struct, nak_struct, output_of, output_struct, pd_id_struct, raw_struct, reply_in, states_struct};
 
 use crate::arrays::fill;
 use crate::message::MessageStruct;
@@ -94,7 +94,7 @@ impl MessageStruct {
     }
 
     /// The reply that it is.
-    fn read_reply(&self) -> Result<Reply, MsgFault>
+    pub fn read_reply(&self) -> Result<Reply, MsgFault>
         ensures { result ≡ reply_in self.now }
     {
         Reply::read(self.code, self.data())
@@ -110,7 +110,7 @@ impl MessageStruct {
 
 impl RawStruct {
     /// Writes a card.
-    fn set(&mut self, card: &Raw)
+    pub fn set(&mut self, card: &Raw)
         ensures { self.new ≡ raw_struct card.now self.old }
     {
         self.reader = card.reader();
@@ -119,93 +119,33 @@ impl RawStruct {
         self.length = card.bytes().len() as u16;
         fill(&mut self.bytes, card.bytes());
     }
-
-    /// Writes the card of a message.
-    pub fn read(&mut self, message: &MessageStruct) -> Status
-        ensures status { result ≡ (raw_of (reply_in message.now) self.old).status }
-        ensures written { self.new ≡ (raw_of (reply_in message.now) self.old).out }
-    {
-        match message.read_reply() {
-            Ok(Reply::Raw(card)) => {
-                self.set(&card);
-                Status::Done
-            }
-            Ok(_) => Status::OtherMessage,
-            Err(fault) => Status::Message(fault),
-        }
-    }
 }
 
 impl KeypadStruct {
     /// Writes keys.
-    fn set(&mut self, keys: &Keypad)
+    pub fn set(&mut self, keys: &Keypad)
         ensures { self.new ≡ keypad_struct keys.now self.old }
     {
         self.reader = keys.reader;
         self.count = keys.digits.len() as u8;
         fill(&mut self.digits, keys.digits.as_slice());
     }
-
-    /// Writes the keys of a message.
-    pub fn read(&mut self, message: &MessageStruct) -> Status
-        ensures status { result ≡ (keypad_of (reply_in message.now) self.old).status }
-        ensures written { self.new ≡ (keypad_of (reply_in message.now) self.old).out }
-    {
-        match message.read_reply() {
-            Ok(Reply::Keypad(keys)) => {
-                self.set(&keys);
-                Status::Done
-            }
-            Ok(_) => Status::OtherMessage,
-            Err(fault) => Status::Message(fault),
-        }
-    }
 }
 
 impl StatesStruct {
     /// Writes states.
-    fn set(&mut self, states: &[u8])
+    pub fn set(&mut self, states: &[u8])
         requires { length states.now ≤ MAX_DATA }
         ensures { self.new ≡ states_struct states.now self.old }
     {
         self.length = states.len() as u16;
         fill(&mut self.states, states);
     }
-
-    /// Writes the states of the inputs that a message tells.
-    pub fn read_inputs(&mut self, message: &MessageStruct) -> Status
-        ensures status { result ≡ (inputs_of (reply_in message.now) self.old).status }
-        ensures written { self.new ≡ (inputs_of (reply_in message.now) self.old).out }
-    {
-        match message.read_reply() {
-            Ok(Reply::Inputs(states)) => {
-                self.set(states.as_slice());
-                Status::Done
-            }
-            Ok(_) => Status::OtherMessage,
-            Err(fault) => Status::Message(fault),
-        }
-    }
-
-    /// Writes the states of the outputs that a message tells.
-    pub fn read_outputs(&mut self, message: &MessageStruct) -> Status
-        ensures status { result ≡ (outputs_of (reply_in message.now) self.old).status }
-        ensures written { self.new ≡ (outputs_of (reply_in message.now) self.old).out }
-    {
-        match message.read_reply() {
-            Ok(Reply::Outputs(states)) => {
-                self.set(states.as_slice());
-                Status::Done
-            }
-            Ok(_) => Status::OtherMessage,
-            Err(fault) => Status::Message(fault),
-        }
-    }
 }
 
 impl PdIdStruct {
     /// Writes what a device is.
-    fn set(&mut self, id: &PdId)
+    pub fn set(&mut self, id: &PdId)
         ensures { self.new ≡ pd_id_struct id.now }
     {
         self.serial = id.serial;
@@ -218,46 +158,16 @@ impl PdIdStruct {
             firmware_build: id.firmware_build,
         };
     }
-
-    /// Writes what the device of a message is.
-    pub fn read(&mut self, message: &MessageStruct) -> Status
-        ensures status { result ≡ (pd_id_of (reply_in message.now) self.old).status }
-        ensures written { self.new ≡ (pd_id_of (reply_in message.now) self.old).out }
-    {
-        match message.read_reply() {
-            Ok(Reply::PdId(id)) => {
-                self.set(&id);
-                Status::Done
-            }
-            Ok(_) => Status::OtherMessage,
-            Err(fault) => Status::Message(fault),
-        }
-    }
 }
 
 impl NakStruct {
     /// Writes a NAK.
-    fn set(&mut self, nak: &Nak)
+    pub fn set(&mut self, nak: &Nak)
         ensures { self.new ≡ nak_struct nak.now self.old }
     {
         self.length = nak.detail.len() as u16;
         self.reason = u8::from(nak.reason);
         fill(&mut self.detail, nak.detail.as_slice());
-    }
-
-    /// Writes the NAK of a message.
-    pub fn read(&mut self, message: &MessageStruct) -> Status
-        ensures status { result ≡ (nak_of (reply_in message.now) self.old).status }
-        ensures written { self.new ≡ (nak_of (reply_in message.now) self.old).out }
-    {
-        match message.read_reply() {
-            Ok(Reply::Nak(nak)) => {
-                self.set(&nak);
-                Status::Done
-            }
-            Ok(_) => Status::OtherMessage,
-            Err(fault) => Status::Message(fault),
-        }
     }
 }
 
