@@ -1,9 +1,9 @@
 //! Commands made of structs of plain fields.
 
-ghost use Rattle.std.specs.Prelude.{◌≡◌, ◌≤◌, length, map, Some};
+ghost use Rattle.std.specs.Prelude.{◌≡◌, ◌≤◌, length, map, option_map, Some};
 ghost use Rattle.osdp_msg.specs.CommandFields.{records_within};
 ghost use Rattle.osdp_msg.specs.declared.command.Command.TheVariants as command;
-ghost use Rattle.osdp_c_values.specs.Making.{buzzer_in, led_record, made_led, made_out, output_record, text_in};
+ghost use Rattle.osdp_c_values.specs.Making.{buzzer_in, led_record, made, made_led, made_out, output_record, text_in};
 ghost use Rattle.osdp_c_values.specs.Structs.{command_struct};
 
 use crate::fields::OutputStruct;
@@ -115,16 +115,23 @@ fn led_record(given: &LedStruct) -> LedRecord
     }
 }
 
+/// What a function makes of each struct of a list, in their order.
+macro_rules! each_made {
+    ($given:ident, $record:ident) => {{
+        let mut records = ArrayVec::new();
+        for one in $given {
+            records.push($record(one));
+        }
+        records
+    }};
+}
+
 /// The records of outputs, in their order.
 fn output_records(given: &[OutputStruct]) -> ArrayVec<OutputRecord, 358>
     requires { length given.now ≤ 358 }
     ensures { result.items ≡ map output_record given.now }
 {
-    let mut records = ArrayVec::new();
-    for output in given {
-        records.push(output_record(output));
-    }
-    records
+    each_made!(given, output_record)
 }
 
 /// The records of LEDs, in their order.
@@ -132,46 +139,50 @@ fn led_records(given: &[LedStruct]) -> ArrayVec<LedRecord, 102>
     requires { length given.now ≤ 102 }
     ensures { result.items ≡ map led_record given.now }
 {
-    let mut records = ArrayVec::new();
-    for led in given {
-        records.push(led_record(led));
-    }
-    records
+    each_made!(given, led_record)
 }
 
-/// The outputs of an OUT. None where there are none or too many.
-fn outputs(given: &[OutputStruct]) -> Option<Outputs>
-    ensures { result ≡ records_within 358 (map output_record given.now) }
+/// The OUT of these outputs. None where there are none or too many.
+fn outputs(given: &[OutputStruct]) -> Option<Command>
+    ensures { result ≡ option_map command.Output (records_within 358 (map output_record given.now)) }
 {
     if given.len() > 358 {
         return None;
     }
-    Outputs::new(output_records(given).as_slice())
+    Outputs::new(output_records(given).as_slice()).map(Command::Output)
 }
 
-/// The LEDs of a LED. None where there are none or too many.
-fn leds(given: &[LedStruct]) -> Option<Leds>
-    ensures { result ≡ records_within 102 (map led_record given.now) }
+/// The LED of these LEDs. None where there are none or too many.
+fn leds(given: &[LedStruct]) -> Option<Command>
+    ensures { result ≡ option_map command.Led (records_within 102 (map led_record given.now)) }
 {
     if given.len() > 102 {
         return None;
     }
-    Leds::new(led_records(given).as_slice())
+    Leds::new(led_records(given).as_slice()).map(Command::Led)
 }
 
 impl MessageStruct {
+    /// Writes a command, where there is one.
+    fn make(&mut self, given: Option<Command>) -> Status
+        ensures status { result ≡ (made given self.old).status }
+        ensures written { self.new ≡ (made given self.old).out }
+    {
+        match given {
+            Some(given) => {
+                self.set_command(Some(&given));
+                Status::Done
+            }
+            None => Status::Message(MsgFault::Length),
+        }
+    }
+
     /// Writes an OUT of 1 to 358 records.
     pub fn make_out(&mut self, given: &[OutputStruct]) -> Status
         ensures status { result ≡ (made_out given.now self.old).status }
         ensures written { self.new ≡ (made_out given.now self.old).out }
     {
-        match outputs(given) {
-            Some(records) => {
-                self.set_command(Some(&Command::Output(records)));
-                Status::Done
-            }
-            None => Status::Message(MsgFault::Length),
-        }
+        self.make(outputs(given))
     }
 
     /// Writes a LED of 1 to 102 records.
@@ -179,13 +190,7 @@ impl MessageStruct {
         ensures status { result ≡ (made_led given.now self.old).status }
         ensures written { self.new ≡ (made_led given.now self.old).out }
     {
-        match leds(given) {
-            Some(records) => {
-                self.set_command(Some(&Command::Led(records)));
-                Status::Done
-            }
-            None => Status::Message(MsgFault::Length),
-        }
+        self.make(leds(given))
     }
 
     /// Writes a BUZ.

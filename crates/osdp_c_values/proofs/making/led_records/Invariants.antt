@@ -2,5 +2,5 @@ use Rattle.std.proofs.Common.{◌≡◌, ◌++◌, drop, map}
 use Rattle.osdp_c_values.specs.Making.{led_record}
 use Rattle.osdp_c_values.proofs.making.led_records.Given as goal
 
-abbrev pub invariant-loop-led : goal.invariant-loop-led
-invariant-loop-led l = l.records.items ++ map led_record (drop l.led-index l.given) ≡ map led_record l.given
+abbrev pub invariant-loop-one : goal.invariant-loop-one
+invariant-loop-one l = l.records.items ++ map led_record (drop l.one-index l.given) ≡ map led_record l.given
