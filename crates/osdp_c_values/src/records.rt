@@ -35,8 +35,7 @@ impl Recorded for OutputRecord {
     ghost word = { output_word };
 
     fn put_word(&self, room: &mut Room) -> Result<(), NoRoom> {
-        let record = self;
-        put_record(room, self.output, &numbers_of!(record: control timer))
+        put_record(room, self.output, &numbers_of!(self: control timer))
     }
 }
 
@@ -44,8 +43,7 @@ impl Recorded for LedRecord {
     ghost word = { led_word };
 
     fn put_word(&self, room: &mut Room) -> Result<(), NoRoom> {
-        let record = self;
-        let others = numbers_of!(record:
+        let others = numbers_of!(self:
             led temporary_control temporary_on_time temporary_off_time temporary_on_color temporary_off_color timer
             permanent_control permanent_on_time permanent_off_time permanent_on_color permanent_off_color);
         put_record(room, self.reader, &others)
@@ -56,8 +54,7 @@ impl Recorded for Capability {
     ghost word = { capability_word };
 
     fn put_word(&self, room: &mut Room) -> Result<(), NoRoom> {
-        let record = self;
-        put_record(room, self.function, &numbers_of!(record: level count))
+        put_record(room, self.function, &numbers_of!(self: level count))
     }
 }
 
