@@ -300,10 +300,10 @@ pub(crate) fn maker_answer(vendor: &[u8; 3], bytes: &[u8]) -> Option<Answer>
 fn refuses(reader: &Reader<ProgramAnswers>, seq: Seq) -> bool
     ensures { result ≡ refuses seq reader.now }
 {
-    let address = reader.address();
     // The calls bring in that both are in their ranges, without which the packet might be refused.
-    let _ranges = (address.get(), seq.get());
-    let made = FrameView::new(Header::plain(false, address, seq, CheckKind::Sum), &[0x60]);
+    let _ranges = (reader.address().get(), seq.get());
+    let header = Header::plain(false, reader.address(), seq, CheckKind::Sum);
+    let made = FrameView::new(header, &[0x60]);
     match reader.kind(&made.unwrap()) {
         Kind::Wrong => true,
         _ => false,
