@@ -22,6 +22,7 @@ pub mod Devices
 pub mod Sessions
 pub mod Taken
 pub mod InARow
+pub mod EachAccount
 pub mod Ordinary
 pub mod OrdinaryRuns
 pub mod Kept

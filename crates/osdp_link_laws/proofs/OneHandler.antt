@@ -35,7 +35,7 @@ use Rattle.osdp_link_laws.specs.Refusals.{KeepsReader}
 use Rattle.osdp_link_laws.proofs.Acting.{no_event, polled, same_answer, taken_is}
 use Rattle.osdp_link_laws.proofs.GivenAnswers.{poll_or_not}
 use Rattle.osdp_link_laws.proofs.InARow.{Assumed, Stands, all_once, assumed_of, begins, standing}
-use Rattle.osdp_link_laws.proofs.Kept.{KeepAll, all_kept}
+use Rattle.osdp_link_laws.proofs.Kept.{KeepsEvents, all_kept}
 use Rattle.osdp_link_laws.proofs.Removed.{as_waiting}
 use Rattle.osdp_link_laws.proofs.Lines.{both, each_map, each_of}
 use Rattle.osdp_link_laws.proofs.Moves.{Premises}
@@ -307,7 +307,7 @@ module _ {H : Type 0} (answer_of : H → Command → Answer) (after : H → Comm
   keep_handler (move ∷ moves) l keep = (keeps_handler move l keep.0, keep_handler moves (after_move answer_of after move l) keep.1)
 
   -- each session is once, from the answers given and the events kept
-  each_once : (config : ReaderConfig) (start : H) (ts : List Account) → EachIsOnce ts → AreItsAnswers answer_of after config start ts → KeepAll ts
+  each_once : (config : ReaderConfig) (start : H) (ts : List Account) → EachIsOnce ts → AreItsAnswers answer_of after config start ts → Each KeepsEvents ts
       → AreOnce answer_of after config start ts
   each_once config start [] once given kept = tt
   each_once config start (t ∷ earlier) (once, before) (given, gave) (kept, all) = (

@@ -1,104 +1,48 @@
 -- Where neither end restarts and nothing is withdrawn: no list of such moves grows.
-use Rattle.std.proofs.Common.{◌≡◌, ◌⊎◌, ◌≤◌, ℕ, Bool, true, false, List, [], ◌∷◌, ◌++◌, length, map, Option, Some, None, refl, sym, subst, ap, ◌∙◌, inl, inr, arith, append_assoc}
+use Rattle.std.proofs.Common.{◌≡◌, ◌⊎◌, ◌≤◌, List, [], ◌∷◌, ◌++◌, length, map, refl, sym, subst, ap, ◌∙◌, inl, inr, arith, append_assoc}
 use Rattle.std.proofs.lemmas.List.{append-nil}
-use Rattle.std.specs.Prelude.{◌==◌}
-use Rattle.osdp_frame.specs.Packet.{Packet}
 use Rattle.osdp_msg.specs.declared.command.Command.{Command}
 use Rattle.osdp_msg.specs.declared.event.Event.{Event}
-use Rattle.osdp_controller.specs.Hearing as controller
-use Rattle.osdp_controller.specs.Machine as controllers
-use Rattle.osdp_controller.specs.Ticking.{ticks}
-use Rattle.osdp_controller.specs.declared.fault.ControllerFault.{ControllerFault}
-use Rattle.osdp_controller.specs.declared.report.Report.{Report}
-use Rattle.osdp_controller.specs.declared.report.Report.TheVariants as report
-use Rattle.osdp_reader.specs.Table as reader
 use Rattle.osdp_reader.specs.declared.handler.Answer.{Answer}
 use Rattle.osdp_link_laws.specs.Headline.{IsWithout}
-use Rattle.osdp_link_laws.specs.Link as link
-use Rattle.osdp_link_laws.specs.Link.{Account, Delivered, Delivery, Link, Lost, Move, Queue as QueueEvent, Removal, Reopen, Repeated, RestartController, RestartReader, Retarget, SetBusy, SetHandler, Submit, Tick, ToController, ToReader, Withdraw, after_move, new_account, run, after_report, LoseToReader, LoseToController}
+use Rattle.osdp_link_laws.specs.Link.{Account, Link, Move, after_move, run}
 use Rattle.osdp_link_laws.specs.Ordinary.{AreUndisturbed, HaveLeftUndisturbed, IsOrdinary, IsUndisturbed, LeavesUndisturbed, OrdinaryIsUndisturbed, UndisturbedLeaves}
 use Rattle.osdp_link_laws.specs.Sessions.{HaveLeft, Leaves, LeavesEvents, removed_command, settled_commands}
-use Rattle.osdp_link_laws.proofs.Growing.{taken_takes}
+use Rattle.osdp_link_laws.proofs.EachAccount.{IsKept, each_kept}
 use Rattle.osdp_link_laws.proofs.Lines.{each_of}
 use Rattle.osdp_link_laws.proofs.Stages.{Each}
 use Rattle.osdp_link_laws.proofs.Without.{without_nothing}
 
--- the account goes on undisturbed, and so are those before it
-abbrev AllSo : {H : Type 0} → Link H → Type 0
-AllSo {H} l = AreUndisturbed (l.account ∷ l.earlier)
+undisturbed_kept : IsKept IsUndisturbed
+undisturbed_kept = record {
+  new = λ ws es. record { forgotten = refl; removed = refl; kept = refl; thrown_away = refl; restarts = refl };
+  queue = λ e t so. record {
+    forgotten = so.forgotten;
+    removed = so.removed;
+    kept = ap (λ es. es ++ e ∷ []) so.kept;
+    thrown_away = so.thrown_away;
+    restarts = so.restarts;
+  };
+  others = λ t u so. record { forgotten = so.forgotten; removed = so.removed; kept = so.kept; thrown_away = so.thrown_away; restarts = so.restarts };
+}
 
-new_so : (ws : List Command) (es : List Event) → IsUndisturbed (new_account ws es)
-new_so ws es = record { forgotten = refl; removed = refl; kept = refl; thrown_away = refl; restarts = refl }
+each_so : (ts : List Account) → AreUndisturbed ts → Each IsUndisturbed ts
+each_so [] so = tt
+each_so (t ∷ ts) so = (so.0, each_so ts so.1)
 
-told_so : (r : Option Report) (t : Account) → IsUndisturbed t → IsUndisturbed (after_report r t)
-told_so None t so = so
-told_so (Some (report.Opened id)) t so = so
-told_so r t so = record { forgotten = so.forgotten; removed = so.removed; kept = so.kept; thrown_away = so.thrown_away; restarts = so.restarts }
+so_each : (ts : List Account) → Each IsUndisturbed ts → AreUndisturbed ts
+so_each [] so = tt
+so_each (t ∷ ts) so = (so.0, so_each ts so.1)
 
 module _ {H : Type 0} (answer_of : H → Command → Answer) (after : H → Command → H) where
-  submits_so : (refusal : Option ControllerFault) (c : Command) (l : Link H) → AllSo l → AllSo (link.submits refusal c l)
-  submits_so (Some fault) c l so = so
-  submits_so None c l (so, earlier) =
-      (record { forgotten = so.forgotten; removed = so.removed; kept = so.kept; thrown_away = so.thrown_away; restarts = so.restarts }, earlier)
-
-  queues_so : (full : Bool) (e : Event) (l : Link H) → AllSo l → AllSo (link.queues full e l)
-  queues_so true e l so = so
-  queues_so false e l (so, earlier) = (
-    record {
-      forgotten = so.forgotten;
-      removed = so.removed;
-      kept = ap (λ es. es ++ e ∷ []) so.kept;
-      thrown_away = so.thrown_away;
-      restarts = so.restarts;
-    },
-    earlier,
-  )
-
-  reader_gets_so : (p : Packet) (l : Link H) → AllSo l → AllSo (link.reader_gets answer_of after p l)
-  reader_gets_so p l (so, earlier) =
-      let o = reader.hears answer_of after l.reader p in (
-        subst IsUndisturbed (sym (taken_takes (reader.kind_of l.reader p) o.command o.said (link.front_of l.reader) l.account).1)
-            (record { forgotten = so.forgotten; removed = so.removed; kept = so.kept; thrown_away = so.thrown_away; restarts = so.restarts }),
-        earlier,
-      )
-
-  to_reader_so : (how : Delivery) (ps : List Packet) (l : Link H) → AllSo l → AllSo (link.to_reader answer_of after ps how l)
-  to_reader_so how [] l so = so
-  to_reader_so Delivered (p ∷ ps) l so = reader_gets_so p (record l { to_reader = ps }) so
-  to_reader_so Lost (p ∷ ps) l so = so
-  to_reader_so Repeated (p ∷ ps) l so = reader_gets_so p l so
-
-  to_controller_so : (how : Delivery) (now : ℕ) (qs : List Packet) (l : Link H) → AllSo l → AllSo (link.to_controller qs how now l)
-  to_controller_so how now [] l so = so
-  to_controller_so Delivered now (q ∷ qs) l (so, earlier) = (told_so (controller.hears q now l.controller.session).report l.account so, earlier)
-  to_controller_so Lost now (q ∷ qs) l so = so
-  to_controller_so Repeated now (q ∷ qs) l (so, earlier) = (told_so (controller.hears q now l.controller.session).report l.account so, earlier)
-
-  reopens_so : (refusal : Option ControllerFault) (ps qs : List Packet) (now : ℕ) (l : Link H) → AllSo l → AllSo (link.reopens refusal ps qs now l)
-  reopens_so (Some fault) ps qs now l so = so
-  reopens_so None (p ∷ ps) qs now l so = so
-  reopens_so None [] (q ∷ qs) now l so = so
-  reopens_so None [] [] now l so = (new_so l.controller.waiting l.reader.queue.events, so)
-
-  retargets_so : (refusal : Option ControllerFault) (address : ℕ) (l : Link H) → AllSo l → AllSo (link.retargets refusal address l)
-  retargets_so (Some fault) address l so = so
-  retargets_so None address l so = so
+  -- the account goes on undisturbed, and so are those before it
+  abbrev AllSo : Link H → Type 0
+  AllSo l = AreUndisturbed (l.account ∷ l.earlier)
 
   move_so : (move : Move H) (l : Link H) → IsOrdinary move → AllSo l → AllSo (after_move answer_of after move l)
-  move_so (Submit c) l ordinary so = submits_so (controllers.submit_refusal c l.controller) c l so
-  move_so (QueueEvent e) l ordinary so = queues_so (length l.reader.queue.events == l.reader.queue.capacity) e l so
-  move_so (SetBusy busy) l ordinary so = so
-  move_so (Tick now) l ordinary (so, earlier) = (told_so (ticks now l.controller.session l.controller.waiting).step.report l.account so, earlier)
-  move_so (ToReader how) l ordinary so = to_reader_so how l.to_reader l so
-  move_so (ToController how now) l ordinary so = to_controller_so how now l.to_controller l so
-  move_so (Reopen now) l ordinary so = reopens_so (controllers.begin_refusal l.controller) l.to_reader l.to_controller now l so
-  move_so (LoseToReader place) l ordinary so = so
-  move_so (LoseToController place) l ordinary so = so
-  move_so (SetHandler handler) l ordinary so = so
-  move_so Withdraw l ordinary so = absurd ordinary
-  move_so (Retarget address) l ordinary so = retargets_so (controllers.retarget_refusal address l.controller) address l so
-  move_so (RestartReader address handler room) l ordinary so = absurd ordinary
-  move_so (RestartController config room) l ordinary so = absurd ordinary
+  move_so move l ordinary (so, earlier) =
+      let new = after_move answer_of after move l in
+      so_each (new.account ∷ new.earlier) (each_kept answer_of after IsUndisturbed undisturbed_kept move l ordinary (so, each_so l.earlier earlier))
 
   pub moves_so : (moves : List (Move H)) (l : Link H) → Each IsOrdinary moves → AllSo l → AllSo (run answer_of after moves l)
   moves_so [] l ordinary so = so
@@ -107,7 +51,7 @@ module _ {H : Type 0} (answer_of : H → Command → Answer) (after : H → Comm
   pub undisturbed : OrdinaryIsUndisturbed answer_of after
   undisturbed l moves b ordinary =
       moves_so moves l (each_of IsOrdinary moves ordinary) (
-        subst IsUndisturbed (sym b.account) (new_so l.controller.waiting l.reader.queue.events),
+        subst IsUndisturbed (sym b.account) (undisturbed_kept.new l.controller.waiting l.reader.queue.events),
         subst AreUndisturbed (sym b.earlier) tt,
       )
 
