@@ -230,7 +230,7 @@ module _ (fixed : ControllerConfig) {H : Type 0} (answer_of : H → Command → 
   settled_told Opening a events t told offered = told
   settled_told Polling a events t told offered =
       let u = record t { reported = t.reported ++ option_to_list (event_in a) } in
-      events_moved since [] (option_to_list (event_in a)) events t u refl refl refl (polled_past since) told
+      events_moved since since [] (option_to_list (event_in a)) events t u refl refl refl (polled_past since) told
     where
       polled_past : (s : Restarted) (past : List Event) → PastIs s past [] t
           → PastIs s past (option_to_list (event_in a)) (record t { reported = t.reported ++ option_to_list (event_in a) })

@@ -17,7 +17,7 @@ use Rattle.osdp_link_laws.specs.Headline.{IsWithout}
 use Rattle.osdp_link_laws.specs.Link as link
 use Rattle.osdp_link_laws.specs.Link.{Account, Link, reader_restarted}
 use Rattle.osdp_link_laws.proofs.Parts.{At}
-use Rattle.osdp_link_laws.proofs.Since.{Hears, has_acted, line_since}
+use Rattle.osdp_link_laws.proofs.Since.{Hears, events_moved, has_acted, line_since}
 use Rattle.osdp_link_laws.proofs.Stages.{After, Before, Behind, EventsAre, Fresh, Knows, Level, Never, Now, Offers, OffersEvent, PastIs, ReaderAt, Rest, Restarted, Stage, Start, number_after, shown, shown_at, unreported_at}
 use Rattle.osdp_link_laws.proofs.Without.{without_drops, without_keeps}
 
@@ -112,14 +112,7 @@ module _ (fixed : ControllerConfig) {H : Type 0} where
 module _ (fixed : ControllerConfig) {H : Type 0} (answer_of : H → Command → Answer) (after : H → Command → H) (settings : ReaderConfig) where
   -- the front that counts as reported is no matter once the reader knows no number
   any_front : (front shown : List Event) (events : List Event) (t : Account) → EventsAre Now front events t → EventsAre Now shown events t
-  any_front front shown events t are = record {
-    left = are.left;
-    past = are.past;
-    queued = are.queued;
-    kept = are.kept;
-    without = are.without;
-    reported = are.reported;
-  }
+  any_front front shown events t are = events_moved Now Now front shown events t t refl refl refl (λ past is. is) are
 
   gone : (since : Restarted) (at : Stage) (l : Link H) → At fixed answer_of after settings since at l → EventsAre Now [] [] (reader_restarted l.account)
   gone Never at l h =

@@ -20,7 +20,7 @@ use Rattle.osdp_link_laws.specs.Sessions.{LastsOrLeaves, Leaves, LeavesCommands,
 use Rattle.osdp_link_laws.proofs.Once.{Goes}
 use Rattle.osdp_link_laws.proofs.Removed.{IsQuiet, as_waiting, given_up_in, gone}
 use Rattle.osdp_link_laws.proofs.Restarts.{front_at}
-use Rattle.osdp_link_laws.proofs.Since.{Hears}
+use Rattle.osdp_link_laws.proofs.Since.{Hears, events_same, past_same}
 use Rattle.osdp_link_laws.proofs.Parts.{At}
 use Rattle.osdp_link_laws.proofs.Stages.{After, Before, Behind, EventsAre, Fresh, HasRestarted, Level, Never, Now, ReaderAt, Rest, Restarted, Stage, Start, given_up, given_up_at, owed, pending, shown, shown_at, unreported_at}
 
@@ -171,30 +171,19 @@ module _ (fixed : ControllerConfig) {H : Type 0} (answer_of : H → Command → 
     restart = inr (count, offered);
   }
 
-  -- .. of the account with no command told unsettled instead of forgotten
-  same_events : (t : Account) (u : List Command) (gone events : List Event) → LeavesEvents (record t { unsettled = u }) gone events → LeavesEvents t gone events
-  same_events t u gone events left = record {
-    queued = left.queued;
-    heard = left.heard;
-    without = left.without;
-    again = left.again;
-    unheard = left.unheard;
-    reported = left.reported;
-    front = left.front;
-    one = left.one;
-    restart = left.restart;
-  }
-
   pub leaves : (l : Link H) → Goes fixed answer_of after settings l → l.controller.session.state ≡ Closed
       → Leaves l.account l.controller.waiting l.reader.queue.events
   leaves l h closed =
       let s = as_waiting l in
+      let since = h.holds.0 in
+      let at = h.holds.1 in
       let held = h.holds.2 in
+      let told = events_same since (shown_at at) l.reader.queue.events s.account l.account refl refl refl
+      (λ past. past_same since (shown_at at) past s.account l.account refl refl) held.account.told in
       record {
-        of_commands = leaves_commands l (left h.holds.0 h.holds.1 s held closed);
-        left = held.account.told.left;
-        of_events = same_events l.account (given_up_in l.account) held.account.told.left l.reader.queue.events
-            (leaves_events h.holds.0 h.holds.1 l.reader s.account held.reader held.account.offered held.account.restarts held.account.told);
+        of_commands = leaves_commands l (left since at s held closed);
+        left = told.left;
+        of_events = leaves_events since at l.reader l.account held.reader held.account.offered held.account.restarts told;
       }
 
   -- a session that lasts has told nothing unsettled, and forgotten and removed none

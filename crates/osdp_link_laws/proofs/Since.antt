@@ -1,5 +1,5 @@
 -- What holds of the events and of the reader, by whether the reader has restarted in this session.
-use Rattle.std.proofs.Common.{◌≡◌, ℕ, List, sym, subst, ◌∙◌, inl, inr}
+use Rattle.std.proofs.Common.{◌≡◌, ℕ, List, refl, sym, subst, ◌∙◌, inl, inr}
 use Rattle.osdp_frame.specs.Packet.{Packet}
 use Rattle.osdp_msg.specs.declared.event.Event.{Event}
 use Rattle.osdp_msg.specs.declared.reply.Reply.{Reply}
@@ -30,10 +30,11 @@ past_heard Never front past t u hears reported is = reported ∙ is
 past_heard Before front past t u hears reported is = reported ∙ is
 past_heard Now front past t u hears reported is = absurd hears
 
-pub events_moved : (since : Restarted) (front shown events : List Event) (t u : Account) → u.queued ≡ t.queued → u.kept ≡ t.kept
-    → u.thrown_away ≡ t.thrown_away → ((past : List Event) → PastIs since past front t → PastIs since past shown u)
-    → EventsAre since front events t → EventsAre since shown events u
-events_moved since front shown events t u queued kept thrown past are = record {
+-- .. and the reader may have restarted, or heard the opening since
+pub events_moved : (since later : Restarted) (front shown events : List Event) (t u : Account) → u.queued ≡ t.queued → u.kept ≡ t.kept
+    → u.thrown_away ≡ t.thrown_away → ((past : List Event) → PastIs since past front t → PastIs later past shown u)
+    → EventsAre since front events t → EventsAre later shown events u
+events_moved since later front shown events t u queued kept thrown past are = record {
   left = are.left;
   past = are.past;
   queued = queued ∙ are.queued;
@@ -45,7 +46,7 @@ events_moved since front shown events t u queued kept thrown past are = record {
 pub events_same : (since : Restarted) (front events : List Event) (t u : Account) → u.queued ≡ t.queued → u.kept ≡ t.kept
     → u.thrown_away ≡ t.thrown_away → ((past : List Event) → PastIs since past front t → PastIs since past front u)
     → EventsAre since front events t → EventsAre since front events u
-events_same since front events t u queued kept thrown past are = events_moved since front front events t u queued kept thrown past are
+events_same since front events t u queued kept thrown past are = events_moved since since front front events t u queued kept thrown past are
 
 -- a reader that hears does so whether or not it has restarted
 pub past_of : (s u : Restarted) (front past : List Event) (t : Account) → Hears s → Hears u → PastIs s past front t → PastIs u past front t
@@ -57,14 +58,7 @@ past_of Now u front past t hears there is = absurd hears
 past_of s Now front past t hears there is = absurd there
 
 pub events_of : (s u : Restarted) (front events : List Event) (t : Account) → Hears s → Hears u → EventsAre s front events t → EventsAre u front events t
-events_of s u front events t hears there are = record {
-  left = are.left;
-  past = are.past;
-  queued = are.queued;
-  kept = are.kept;
-  without = are.without;
-  reported = past_of s u front are.past t hears there are.reported;
-}
+events_of s u front events t hears there are = events_moved s u front front events t t refl refl refl (λ past. past_of s u front past t hears there) are
 
 module _ (fixed : ControllerConfig) {H : Type 0} where
   pub knows : (since : Restarted) (n : ℕ) (x : Exchange) (a : Reply) (r : ReaderState H) → Hears since → HasActed fixed n x a r → Knows fixed since n x a r

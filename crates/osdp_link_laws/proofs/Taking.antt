@@ -25,7 +25,7 @@ use Rattle.osdp_link_laws.specs.Link.{Account, Link}
 use Rattle.osdp_link_laws.proofs.Acting.{kind_again, kind_away, kind_unknown, kind_zero}
 use Rattle.osdp_link_laws.proofs.Lines.{both}
 use Rattle.osdp_link_laws.proofs.Parts.{At, with_to_controller}
-use Rattle.osdp_link_laws.proofs.Since.{line_since}
+use Rattle.osdp_link_laws.proofs.Since.{events_moved, line_since}
 use Rattle.osdp_link_laws.proofs.Stages.{Accounts, Acted, Before, HasActed, Knows, Never, Now, PastIs, ReaderAt, Restarted, Says, Stage, ToControllerAt, answer, frame, given_up_at, owed_at, pending_at, shown, shown_at, unreported_at}
 
 module _ (fixed : ControllerConfig) {H : Type 0} (answer_of : H → Command → Answer) (after : H → Command → H) (settings : ReaderConfig) (since : Restarted) where
@@ -147,14 +147,8 @@ module _ (fixed : ControllerConfig) {H : Type 0} (answer_of : H → Command → 
     answered = a.answered;
     settled = a.settled;
     unsettled = a.unsettled;
-    told = record {
-      left = a.told.left;
-      past = a.told.past;
-      queued = a.told.queued;
-      kept = a.told.kept;
-      without = a.told.without;
-      reported = past_revived front a.told.past t (a.offered ∙ ap (λ es. t.reported ++ es) quiet) none a.told.reported;
-    };
+    told = events_moved Now Before front front events t t refl refl refl
+        (λ past. past_revived front past t (a.offered ∙ ap (λ es. t.reported ++ es) quiet) none) a.told;
     offered = a.offered;
     restarts = a.restarts;
   }
