@@ -59,27 +59,25 @@ module _ (fixed : ControllerConfig) where
   busy_in : (state : State) (number n : ℕ) (x : Exchange) (s : Session) → s.state ≡ state → Asks fixed state n x s
       → Ignored n x (given_up state x) (hears_in state number NotTaken s)
   busy_in Closed number n x s e asks = ignored Closed n x s e asks
-  busy_in (Quiet until) number n x s e asks = absurd asks
-  busy_in (Idle due) number n x s e asks = absurd asks
   busy_in (Waiting until k o) number n x s e asks =
       both (Ignored n x []) (is_numbered number NotTaken s) (hears_busy o s) (ignores s)
       (busy_heard n x o s asks.0 asks.1) (ignored (Waiting until k o) n x s e asks)
   busy_in (Pausing until o) number n x s e asks =
       both (Ignored n x []) (is_numbered number NotTaken s) (ignores s) (ignores s)
       (ignored (Pausing until o) n x s e asks) (ignored (Pausing until o) n x s e asks)
+  busy_in _ number n x s e asks = absurd asks
 
   -- a refused number ends the session, or is ignored
   refused_in : (state : State) (number n : ℕ) (x : Exchange) (s : Session) → s.state ≡ state → Asks fixed state n x s
       → Ignored n x (given_up state x) (hears_in state number NumberRefused s)
   refused_in Closed number n x s e asks = ignored Closed n x s e asks
-  refused_in (Quiet until) number n x s e asks = absurd asks
-  refused_in (Idle due) number n x s e asks = absurd asks
   refused_in (Waiting until k o) number n x s e asks =
       both (Ignored n x []) (is_numbered number NumberRefused s) (loses cause.NumberRefused o s) (ignores s)
       (ended cause.NumberRefused o.exchange x asks.1, tt) (ignored (Waiting until k o) n x s e asks)
   refused_in (Pausing until o) number n x s e asks =
       both (Ignored n x []) (is_numbered number NumberRefused s) (loses cause.NumberRefused o s) (ignores s)
       (ended cause.NumberRefused o.exchange x asks.1, tt) (ignored (Pausing until o) n x s e asks)
+  refused_in _ number n x s e asks = absurd asks
 
   pub hears_refused : (p : Packet) (now n : ℕ) (x : Exchange) (s : Session) → meaning_of p ≡ NumberRefused → Asks fixed s.state n x s
       → Ignored n x (given_up s.state x) (hears p now s)

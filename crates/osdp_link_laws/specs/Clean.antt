@@ -6,7 +6,7 @@ use Rattle.osdp_controller.specs.States.{is_closed, moment_of}
 use Rattle.osdp_reader.specs.declared.config.ReaderConfig.{ReaderConfig}
 use Rattle.osdp_reader.specs.declared.handler.Answer.{Answer}
 use Rattle.osdp_link_laws.specs.Headline.{MovesFit, Begins}
-use Rattle.osdp_link_laws.specs.Link.{Account, Link, Move, Queue, Reopen, RestartController, RestartReader, Retarget, SetBusy, SetHandler, Submit, Tick, ToController, ToReader, Withdraw, run, LoseToReader, LoseToController}
+use Rattle.osdp_link_laws.specs.Link.{Account, Link, Move, Queue, Submit, run}
 use Rattle.osdp_link_laws.specs.OneHandler.{with_answers}
 use Rattle.osdp_link_laws.specs.Progress.{SetsNoAddress, round, rounds}
 
@@ -14,18 +14,7 @@ use Rattle.osdp_link_laws.specs.Progress.{SetsNoAddress, round, rounds}
 abbrev pub IsOrder : {H : Type 0} → Move H → Type 0
 IsOrder (Submit command) = Unit {0}
 IsOrder (Queue event) = Unit {0}
-IsOrder (SetBusy busy) = ⊥
-IsOrder (Tick now) = ⊥
-IsOrder (ToReader how) = ⊥
-IsOrder (ToController how now) = ⊥
-IsOrder (Reopen now) = ⊥
-IsOrder (SetHandler handler) = ⊥
-IsOrder Withdraw = ⊥
-IsOrder (Retarget address) = ⊥
-IsOrder (RestartReader address handler room) = ⊥
-IsOrder (RestartController config room) = ⊥
-IsOrder (LoseToReader place) = ⊥
-IsOrder (LoseToController place) = ⊥
+IsOrder _ = ⊥
 
 module _ {H : Type 0} (answer_of : H → Command → Answer) (after : H → Command → H) where
   -- each of so many rounds settles a command, the oldest first, with the reader's answer to it after those before it; once all are
