@@ -16,7 +16,7 @@ use Rattle.osdp_link_laws.specs.Headline.{EachIsOnce, HoldsOnce, MovesFit, Begin
 use Rattle.osdp_link_laws.specs.Link as link
 use Rattle.osdp_link_laws.specs.Link.{Account, Link, Move, Reopen, after_move, run}
 use Rattle.osdp_link_laws.specs.Peers.{ReadEachOther}
-use Rattle.osdp_link_laws.specs.Sessions.{AreInARow, CommandsHavePlaces, EventsHavePlaces, HaveLeft, LastOneLasts, Leaves, StayInARow, TakesNoneTwice, all_queued, all_submitted, ended_commands, ended_in, queued, submitted}
+use Rattle.osdp_link_laws.specs.Sessions.{AreInARow, CommandsHavePlaces, EventsHavePlaces, HaveLeft, LastOneLasts, Leaves, SessionsInARow, StayInARow, TakesNoneTwice, all_queued, all_submitted, ended_commands, ended_in, queued, submitted}
 use Rattle.osdp_link_laws.proofs.Devices.{IsDevice, move_there}
 use Rattle.osdp_link_laws.proofs.Growing.{GoesOn, Grows, goes_on}
 use Rattle.osdp_link_laws.proofs.Lines.{each_of, each_rest}
@@ -261,7 +261,7 @@ module _ {H : Type 0} (answer_of : H → Command → Answer) (after : H → Comm
       let s = stands peers l moves b fits in
       (is_once s.fixed answer_of after l.reader.config (run answer_of after moves l) s.goes, s.once)
 
-  pub all_in_a_row : ReadEachOther answer_of after → StayInARow answer_of after
+  all_in_a_row : ReadEachOther answer_of after → StayInARow answer_of after
   all_in_a_row peers l moves b fits = (stands peers l moves b fits).row
 
   have_places : ReadEachOther answer_of after → (l : Link H) (moves : List (Move H)) → Begins l → MovesFit answer_of after moves l
@@ -273,22 +273,31 @@ module _ {H : Type 0} (answer_of : H → Command → Answer) (after : H → Comm
         events = ([], subst (λ earlier. HaveLeft l.reader.queue.events earlier []) (sym b.earlier) refl, sym (ap (λ t. t.queued) b.account));
       })
 
-  pub commands_have_places : ReadEachOther answer_of after → CommandsHavePlaces answer_of after
+  commands_have_places : ReadEachOther answer_of after → CommandsHavePlaces answer_of after
   commands_have_places peers l moves b fits = (have_places peers l moves b fits).commands
 
-  pub events_have_places : ReadEachOther answer_of after → EventsHavePlaces answer_of after
+  events_have_places : ReadEachOther answer_of after → EventsHavePlaces answer_of after
   events_have_places peers l moves b fits = (have_places peers l moves b fits).events
 
-  pub last_one_lasts : ReadEachOther answer_of after → LastOneLasts answer_of after
+  last_one_lasts : ReadEachOther answer_of after → LastOneLasts answer_of after
   last_one_lasts peers l moves b fits =
       let later = run answer_of after moves l in
       let s = stands peers l moves b fits in
       lasts_or_leaves s.fixed answer_of after l.reader.config later.controller.session.state later refl s.goes
 
-  pub takes_none_twice : ReadEachOther answer_of after → TakesNoneTwice answer_of after
+  takes_none_twice : ReadEachOther answer_of after → TakesNoneTwice answer_of after
   takes_none_twice peers l moves b fits =
       let later = run answer_of after moves l in
       let s = stands peers l moves b fits in
       let places = commands_have_places peers l moves b fits in
       taken_once later.account later.earlier (l.controller.waiting ++ all_submitted answer_of after moves l)
       (is_once s.fixed answer_of after l.reader.config later s.goes).taken s.row places
+
+  pub sessions_in_a_row : ReadEachOther answer_of after → SessionsInARow answer_of after
+  sessions_in_a_row peers = record {
+    row = all_in_a_row peers;
+    last = last_one_lasts peers;
+    commands = commands_have_places peers;
+    events = events_have_places peers;
+    taken = takes_none_twice peers;
+  }

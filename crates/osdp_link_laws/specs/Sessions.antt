@@ -152,3 +152,10 @@ module _ {H : Type 0} where
         × IsAmong left_out (unsettled_in (later.account ∷ later.earlier))
         × IsWithout left_out (l.controller.waiting ++ all_submitted moves l) others
         × IsBeginning (all_taken (later.account ∷ later.earlier)) others
+
+    pub record SessionsInARow : Type 0 where
+      pub row : StayInARow
+      pub last : LastOneLasts
+      pub commands : CommandsHavePlaces
+      pub events : EventsHavePlaces
+      pub taken : TakesNoneTwice

@@ -11,7 +11,7 @@ ghost use Rattle.osdp_link_laws.specs.Costs.{ControllerRestartCosts, ReaderResta
 ghost use Rattle.osdp_link_laws.specs.Progress.{ComesThrough, ComesThroughFromRest, ComesThroughInTime, ComesToRest};
 ghost use Rattle.osdp_link_laws.specs.Clean.{GoesInTurn};
 ghost use Rattle.osdp_link_laws.specs.Refusals.{RefusesNoNumber, RefusesNoNumberWithoutRestart, SaysAllPlainly};
-ghost use Rattle.osdp_link_laws.specs.Sessions.{CommandsHavePlaces, EventsHavePlaces, LastOneLasts, StayInARow, TakesNoneTwice};
+ghost use Rattle.osdp_link_laws.specs.Sessions.{SessionsInARow};
 ghost use Rattle.osdp_link_laws.specs.TwoLists.{IsReadOff, KeepsInStep, MovesInStep, OffersOnce};
 
 pub mod effects;
@@ -81,11 +81,7 @@ pub fn ordinary_runs_are_undisturbed<H: Handler>()
 /// in one is one of a later session, so none is taken twice. No event is skipped but those that a restart of the reader threw away, and each
 /// beginning tells again one at most, never one that was thrown away before it.
 pub fn sessions_in_a_row<H: Handler>()
-    ensures row { StayInARow H.answer_of H.after }
-    ensures last { LastOneLasts H.answer_of H.after }
-    ensures commands { CommandsHavePlaces H.answer_of H.after }
-    ensures events { EventsHavePlaces H.answer_of H.after }
-    ensures taken { TakesNoneTwice H.answer_of H.after }
+    ensures { SessionsInARow H.answer_of H.after }
 {
     read_each_other::<H>();
 }

@@ -12,7 +12,7 @@ use Rattle.osdp_link_laws.specs.Link as link
 use Rattle.osdp_link_laws.specs.Link.{Delivered, Delivery, Link, Lost, Move, Repeated, after_move}
 use Rattle.osdp_link_laws.specs.Peers.{ReadsWhatIsAsked}
 use Rattle.osdp_link_laws.specs.Refusals.{IsNoRefusal, RefusesNoNumber, told_by}
-use Rattle.osdp_link_laws.specs.Sessions.{AreInARow, CommandsHavePlaces, EventsHavePlaces, HaveLeft, IsAmong, LastOneLasts, LastsOrLeaves, StayInARow, TakesNoneTwice, all_queued, all_submitted, all_taken, ended_commands, unsettled_in}
+use Rattle.osdp_link_laws.specs.Sessions.{AreInARow, HaveLeft, IsAmong, LastsOrLeaves, SessionsInARow, all_queued, all_submitted, all_taken, ended_commands, unsettled_in}
 use Rattle.osdp_link_laws.proofs.Lines.{both}
 use Rattle.osdp_shared_line.specs.Addresses.{NetMoveFits, NetMovesFit, in_front}
 use Rattle.osdp_shared_line.specs.Line.{LoseToPanel, LoseToReader, Net, NetMove, Queue, Reopen, RestartPanel, RestartReader, Retarget, SetBusy, SetHandler, Site, Submit, Tick, ToPanel, ToReader, Withdraw, address_of, after_net, is_comset_refused, is_retarget_refused, run, site_at}
@@ -167,23 +167,22 @@ module _ {H : Type 0} (answer_of : H → Command → Answer) (after : H → Comm
         subst (λ (v : Link H). IfSome (told_by move v) IsNoRefusal) (sym same)
         (none (view k s n) (moves_of answer_of after k moves n) move (up.begins k s is) h.fits (sym (ap (λ (v : Link H). v.account.restarts) same) ∙ never))
 
-    pub each_stays_in_a_row : StayInARow answer_of after → LastOneLasts answer_of after → CommandsHavePlaces answer_of after
-        → EventsHavePlaces answer_of after → TakesNoneTwice answer_of after → EachHasSessionsInARow answer_of after
-    each_stays_in_a_row row lasts commands events taken n moves up fits k s last is there =
+    pub each_stays_in_a_row : SessionsInARow answer_of after → EachHasSessionsInARow answer_of after
+    each_stays_in_a_row each n moves up fits k s last is there =
         let h = links n moves up fits k s is in
         let ms = moves_of answer_of after k moves n in
         let l = view k s n in
         let begins = up.begins k s is in
         let same = sym (viewed n moves k s last h there) in
         record {
-          row = subst (λ (v : Link H). AreInARow v.account v.earlier) same (row l ms begins h.fits);
-          lasts = subst (λ (v : Link H). LastsOrLeaves v.controller.session.state v) same (lasts l ms begins h.fits);
+          row = subst (λ (v : Link H). AreInARow v.account v.earlier) same (each.row l ms begins h.fits);
+          lasts = subst (λ (v : Link H). LastsOrLeaves v.controller.session.state v) same (each.last l ms begins h.fits);
           commands = subst (λ (v : Link H). s.controller.waiting ++ all_submitted answer_of after ms l ≡ ended_commands v.earlier ++ v.account.issued) same
-              (commands l ms begins h.fits);
+              (each.commands l ms begins h.fits);
           events = subst (λ (v : Link H). let all = s.reader.queue.events ++ all_queued answer_of after ms l in
-              (gone : List Event) × HaveLeft all v.earlier gone × (all ≡ gone ++ v.account.queued)) same (events l ms begins h.fits);
+              (gone : List Event) × HaveLeft all v.earlier gone × (all ≡ gone ++ v.account.queued)) same (each.events l ms begins h.fits);
           taken = subst (λ (v : Link H). (left_out : List Command) × (others : List Command)
               × IsAmong left_out (unsettled_in (v.account ∷ v.earlier))
               × IsWithout left_out (s.controller.waiting ++ all_submitted answer_of after ms l) others
-              × IsBeginning (all_taken (v.account ∷ v.earlier)) others) same (taken l ms begins h.fits);
+              × IsBeginning (all_taken (v.account ∷ v.earlier)) others) same (each.taken l ms begins h.fits);
         }

@@ -145,12 +145,12 @@ module _ {H : Type 0} (answer_of : H → Command → Answer) (after : H → Comm
       let carried = follows.carried in
       let tells = carried.tells in
       let begun = begins config handler device in
-      let events = given.events l ms begun follows.moves in
+      let events = given.sessions.events l ms begun follows.moves in
       let gone : events.0 ≡ [] = subst (λ e. HaveLeft (all_queued answer_of after ms l) e events.0) none events.1 in
       record {
         settled = ap length (tells.settled ∙ ap (λ e. all_in (λ t. t.settled) (later.account ∷ e)) none);
         reported = ap length (tells.reported ∙ ap (λ e. all_in (λ t. t.reported) (later.account ∷ e)) none);
-        issued = carried.issued ∙ given.commands l ms begun follows.moves ∙ ap (λ e. ended_commands e ++ later.account.issued) none;
+        issued = carried.issued ∙ given.sessions.commands l ms begun follows.moves ∙ ap (λ e. ended_commands e ++ later.account.issued) none;
         queued = ap length (carried.queued ∙ events.2 ∙ ap (λ e. e ++ later.account.queued) gone);
         kept = (moves_so answer_of after ms l (steady_ordinary ms follows.ordinary) (begins_so l begun)).0.kept;
       }

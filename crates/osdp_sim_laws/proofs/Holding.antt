@@ -44,14 +44,7 @@ abbrev pub no_account : Account
 no_account = with_session empty_account
 
 pub tells_nothing : IsOf no_account (link.new_account [] []) []
-tells_nothing = record {
-  taken = refl;
-  settled = refl;
-  unsettled = refl;
-  reported = refl;
-  issued = refl;
-  queued = ([], (refl, refl), refl);
-}
+tells_nothing = record { issued = refl; queued = ([], (refl, refl), refl); taken = refl; settled = refl; unsettled = refl; reported = refl }
 
 -- so an only session begins, and that of each reader of several
 pub begins : {H : Type 0} (config : SimConfig) (handler : H) → config.controller.address < 127 → Begins (first_link config handler)
@@ -73,7 +66,7 @@ module _ {H : Type 0} (answer_of : H → Command → Answer) (after : H → Comm
     packets = record { to_reader = tt; to_controller = tt };
     tells = tells_nothing;
     ended = refl;
-    leave = λ ms moves. given.last (first_link config handler) ms (begins config handler device) moves;
+    leave = λ ms moves. given.sessions.last (first_link config handler) ms (begins config handler device) moves;
     undisturbed = begins_so (first_link config handler) (begins config handler device);
   }
 
@@ -136,11 +129,11 @@ module _ {H : Type 0} (answer_of : H → Command → Answer) (after : H → Comm
       let tells = follows.carried.tells in
       let so = moves_so answer_of after ms l (steady_ordinary ms follows.ordinary) (begins_so l begun) in
       let once = given.once l ms begun moves (keep_device ms follows.ordinary) in
-      let row = given.row l ms begun moves in
+      let row = given.sessions.row l ms begun moves in
       let ended = subst (λ (state : State). length a.ends + 1 ≡ length a.sessions + count (is_closed state))
       (ap (λ (t : SimState H). t.controller.session.state) follows.carried.state)
       (run_ended answer_of after given.told steps (set_up config handler) is.well refl) in
-      let last = last_one later.controller.session.state a later (given.last l ms begun moves) ended in
+      let last = last_one later.controller.session.state a later (given.sessions.last l ms begun moves) ended in
       let first = told_first config.reader _ a later.account so.0 once.0 last in
       record {
         last = later.account;

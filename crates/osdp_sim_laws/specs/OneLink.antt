@@ -9,7 +9,7 @@ use Rattle.osdp_controller_laws.specs.Commands.{TellsEnds}
 use Rattle.osdp_reader.specs.declared.handler.Answer.{Answer}
 use Rattle.osdp_link_laws.specs.OneHandler.{OneHandlerHoldsOnce}
 use Rattle.osdp_link_laws.specs.Refusals.{RefusesNoNumberWithoutRestart}
-use Rattle.osdp_link_laws.specs.Sessions.{CommandsHavePlaces, EventsHavePlaces, LastOneLasts, StayInARow}
+use Rattle.osdp_link_laws.specs.Sessions.{SessionsInARow}
 
 -- a packet that goes over the line is read as it is, and where nothing comes through nothing is read
 pub record ReadsPackets : Type 0 where
@@ -23,9 +23,6 @@ EndsAreTold = (now : ℕ) (s : Session) → TellsEnds now s
 pub record OneLink {H : Type 0} (answer_of : H → Command → Answer) (after : H → Command → H) : Type 0 where
   pub reads : ReadsPackets
   pub once : OneHandlerHoldsOnce answer_of after
-  pub row : StayInARow answer_of after
-  pub last : LastOneLasts answer_of after
-  pub commands : CommandsHavePlaces answer_of after
-  pub events : EventsHavePlaces answer_of after
+  pub sessions : SessionsInARow answer_of after
   pub causes : RefusesNoNumberWithoutRestart answer_of after
   pub told : EndsAreTold

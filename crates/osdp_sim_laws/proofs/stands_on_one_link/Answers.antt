@@ -9,10 +9,7 @@ returns g c = record {
     none = c.reads_packets.ensures.none;
   };
   once = c.answers_of_one_handler.ensures.once;
-  row = c.sessions_in_a_row.ensures.row;
-  last = c.sessions_in_a_row.ensures.last;
-  commands = c.sessions_in_a_row.ensures.commands;
-  events = c.sessions_in_a_row.ensures.events;
+  sessions = c.sessions_in_a_row.ensures;
   causes = c.refuses_no_number.ensures.never;
   told = c.endings_are_told.ensures;
 }
