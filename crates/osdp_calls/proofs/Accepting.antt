@@ -42,7 +42,7 @@ use Rattle.osdp_calls.proofs.Noticing.{Agrees}
 use Rattle.osdp_calls.proofs.Orders.{asked_same, beside_same, no_device_none, not_begun, or_taken_none, refused_same, refusal_same, unrefused}
 use Rattle.osdp_calls.proofs.Powers.{address_at, are_settings, as_many, settings_of, there_is, within}
 use Rattle.osdp_calls.proofs.Same.{Controls, IsNetOf, IsSame}
-use Rattle.osdp_calls.proofs.Stations.{Sites}
+use Rattle.osdp_calls.proofs.Stations.{Sites, of_site, of_station}
 
 some_at : {A : Type 0} (k : ℕ) (xs : List A) → k < length xs → (x : A) × (site_at k xs ≡ Some x)
 some_at k [] lt = absurd (omega (arith, lt))
@@ -50,38 +50,6 @@ some_at zero (x ∷ xs) lt = (x, refl)
 some_at (suc k) (x ∷ xs) lt = some_at k xs (omega (arith, lt))
 
 module _ {H : Type 0} where
-  -- ---- the entry and the station of a site, and those of a station
-
-  pub record OfSite (k : ℕ) (s : Site H) (l : InUse H) : Type 0 where
-    pub device : Device
-    pub station : Station H
-    pub entry : device_of k l.bus ≡ Some device
-    pub there : site_at k l.stations ≡ Some station
-    pub is : Sites l k device station s
-
-  pub of_site : (k : ℕ) (s : Site H) (l : InUse H) (n : Net H) → IsNetOf l n → site_at k n.sites ≡ Some s → OfSite k s l
-  of_site k s l n h at = by_found (found (Sites l) k l.bus.devices.entries l.stations n.sites h.sites)
-    where
-      by_found : FoundAt (Sites l) k k l.bus.devices.entries l.stations n.sites → OfSite k s l
-      by_found (Nobody a b c) = absurd (let e = sym c ∙ at in cc)
-      by_found (Somebody d t s1 a b c has) =
-          record { device = d; station = t; entry = a; there = b; is = subst (λ u. Sites l k d t u) (some_same s1 s (sym c ∙ at)) has }
-
-  pub record OfStation (k : ℕ) (t : Station H) (l : InUse H) (n : Net H) : Type 0 where
-    pub device : Device
-    pub site : Site H
-    pub entry : device_of k l.bus ≡ Some device
-    pub at : site_at k n.sites ≡ Some site
-    pub is : Sites l k device t site
-
-  pub of_station : (k : ℕ) (t : Station H) (l : InUse H) (n : Net H) → IsNetOf l n → site_at k l.stations ≡ Some t → OfStation k t l n
-  of_station k t l n h there = by_found (found (Sites l) k l.bus.devices.entries l.stations n.sites h.sites)
-    where
-      by_found : FoundAt (Sites l) k k l.bus.devices.entries l.stations n.sites → OfStation k t l n
-      by_found (Nobody a b c) = absurd (let e = sym b ∙ there in cc)
-      by_found (Somebody d t1 s a b c has) =
-          record { device = d; site = s; entry = a; at = c; is = subst (λ u. Sites l k d u s) (some_same t1 t (sym b ∙ there)) has }
-
   -- ---- the same addresses are known
 
   to_site : (k a : ℕ) (d : Device) (t : Station H) (s : Site H) (l : InUse H) (o : Option ℕ) (st : State) (x y : Note) → Sites l k d t s → Agrees o st x y

@@ -8,18 +8,16 @@ use Rattle.osdp_controller.specs.declared.config.ControllerConfig.{ControllerCon
 use Rattle.osdp_bus.specs.Machine.{new_device}
 use Rattle.osdp_bus.specs.declared.device.Device.{Device}
 use Rattle.osdp_link_laws.specs.Costs.{ControllerCosts, ReaderCosts}
-use Rattle.osdp_link_laws.specs.Effects.{SameCommands}
 use Rattle.osdp_link_laws.specs.Headline.{IsBeginning}
 use Rattle.osdp_link_laws.specs.Link as link
 use Rattle.osdp_link_laws.specs.Link.{Account, controller_restarted, reader_restarted}
 use Rattle.osdp_link_laws.specs.Sessions.{LeavesCommands, queued}
 use Rattle.osdp_link_laws.specs.Sessions as sessions
-use Rattle.osdp_link_laws.proofs.Doing.{forgets_all}
 use Rattle.osdp_link_laws.proofs.Lines.{each_all, each_map, each_of}
 use Rattle.osdp_link_laws.proofs.Stages.{Each}
 use Rattle.osdp_reader.specs.State.{ReaderState}
 use Rattle.osdp_reader.specs.declared.handler.Answer.{Answer}
-use Rattle.osdp_shared_line.specs.Addresses.{NetMovesFit, NobodyElseHears}
+use Rattle.osdp_shared_line.specs.Addresses.{IsSetUp, NetMovesFit, NobodyElseHears}
 use Rattle.osdp_shared_line.specs.Line as line
 use Rattle.osdp_shared_line.specs.Line.{Net, NetMove, RestartPanel, RestartReader, Site, after_net, all_restart, restarts, run, site_at}
 use Rattle.osdp_shared_line.specs.Restarts.{EachPanelRestartCosts, EachReaderRestartCosts, EachReportsNoMore, KeepsReaderOf}
@@ -29,10 +27,12 @@ use Rattle.osdp_shared_line.proofs.Sites.{at_changed, some_same}
 use Rattle.osdp_calls.specs.Accepted.{all_queued}
 use Rattle.osdp_calls.specs.Calls.{NewDevice, Step, after_call, after_calls, all_forget, changes_at, forgets, made_anew}
 use Rattle.osdp_calls.specs.Lines.{Station}
+use Rattle.osdp_calls.specs.Premises as premises
+use Rattle.osdp_calls.specs.Premises.{AllKeep}
 use Rattle.osdp_calls.specs.Promises.{link_of_entry}
 use Rattle.osdp_calls.specs.Restarts.{KeepsDevice, NewDeviceCosts, NewDeviceReportsNoMore, NewPanelCosts}
 use Rattle.osdp_calls.proofs.Counting.{AllHeard, all_heard, in_link}
-use Rattle.osdp_calls.proofs.Holding.{all_calls, comes, events_counted, its_site}
+use Rattle.osdp_calls.proofs.Holding.{IsItsSite, all_calls, comes, events_counted, its_site}
 use Rattle.osdp_calls.proofs.Losing.{fit_then, run_then}
 use Rattle.osdp_calls.proofs.Nexts.{each_at}
 use Rattle.osdp_calls.proofs.Powers.{address_at, are_settings, new_device_fits, new_device_is, outstanding_same, settings_of, there_is, waiting_too, within}
@@ -87,6 +87,38 @@ module _ {H : Type 0} where
         (λ x. Some (restarts answer_of after (settings (here x)) (some_same u s is x)))
     all_restart_at m i (suc k) settings s (u ∷ ss) at is = all_restart_at (suc m) i k settings s ss (omega (arith, at)) is
 
+    -- ---- an entry after a list of calls
+
+    -- the net on which the first sessions begin, the moves that lead to the one after the calls, and the entry's site on both
+    record Standing (l : InUse H) (steps : List (Step H)) (k : ℕ) (t : Station H) : Type 0 where
+      net : Net H
+      moves : List (NetMove H)
+      up : IsSetUp net
+      fits : NetMovesFit answer_of after moves net
+      same : IsNetOf (after_calls answer_of after steps l) (run answer_of after moves net)
+      began : Site H
+      was : site_at k net.sites ≡ Some began
+      its : IsItsSite answer_of after k t (after_calls answer_of after steps l) (run answer_of after moves net)
+
+    standing : (l : InUse H) (steps : List (Step H)) (k : ℕ) (first t : Station H) → premises.IsSetUp l → AllKeep answer_of after steps l
+        → site_at k l.stations ≡ Some first → site_at k (after_calls answer_of after steps l).stations ≡ Some t → Standing l steps k t
+    standing l steps k first t up keep was is =
+        let c = comes answer_of after l steps up keep in
+        let net = first_net c.start.config l.stations in
+        let moves = RestartPanel c.start.settings ∷ c.came.moves in
+        let ls = after_calls answer_of after steps l in
+        let same : IsNetOf ls (run answer_of after moves net) = subst (IsNetOf ls) (sym c.came.run) c.came.same in
+        record {
+          net = net;
+          moves = moves;
+          up = c.start.is_set_up;
+          fits = (c.start.fits, c.came.fit);
+          same = same;
+          began = first_site c.start.config first;
+          was = first_there c.start.config k first l.stations was;
+          its = its_site answer_of after k t ls (run answer_of after moves net) same is;
+        }
+
     -- ---- a device
 
     device_costs : (t : Station H) (s : Site H) (d e : Device) (address : ℕ) (handler : H) (room gap : ℕ) (before next : link.Link H)
@@ -96,36 +128,20 @@ module _ {H : Type 0} where
     device_costs t s d e address handler room gap before next reader account same b_reader b_account n_account c =
         let is : before.account ≡ t.account = b_account ∙ account in
         let then : next.account ≡ reader_restarted t.account = n_account ∙ ap reader_restarted account in
-        record {
-          front = c.front;
-          gone = c.gone;
-          queue = sym (ap (λ (r : ReaderState H). r.queue.events) (b_reader ∙ reader)) ∙ c.queue;
-          one = c.one;
-          before = c.before;
-          offered = subst (λ (a : Account). a.offered ≡ c.before ++ c.front) is c.offered;
-          kept = subst (λ (a : Account). a.kept ≡ a.offered ++ c.gone) is c.kept;
-          thrown_away = subst (λ (p : Account × Account). p.1.thrown_away ≡ p.0.thrown_away ++ c.gone) (λ i. (is i, then i)) c.thrown_away;
-          commands = subst (λ (p : Account × Account). SameCommands p.0 p.1) (λ i. (is i, then i)) c.commands;
-          controller = same;
-        }
+        let read : before.reader ≡ t.reader = b_reader ∙ reader in
+        subst (λ (p : ReaderState H × Account × Account). ReaderCosts (record (link_of_entry d t) { reader = p.0; account = p.1 })
+        (record (link_of_entry e (made_anew address handler room gap t)) { account = p.2 })) (λ i. (read i, is i, then i))
+        (record { events = c.events; thrown_away = c.thrown_away; commands = c.commands; controller = same })
 
     pub new_device_costs : EachReaderRestartCosts answer_of after → NewDeviceCosts answer_of after
     new_device_costs costs l steps places k address handler room gap first t u d e h =
-        let c = comes answer_of after l steps h.up h.keep in
-        let n0 = first_net c.start.config l.stations in
-        let moves = RestartPanel c.start.settings ∷ c.came.moves in
+        let b = standing l steps k first t h.up h.keep h.was h.station in
+        let s = b.its in
         let ls = after_calls answer_of after steps l in
-        let s = its_site answer_of after k t ls c.came.net c.came.same h.station in
-        let at : site_at k (run answer_of after moves n0).sites ≡ Some s.site = ap (λ (m : Net H). site_at k m.sites) c.came.run ∙ s.there in
-        let before = run answer_of after moves n0 in
+        let before = run answer_of after b.moves b.net in
         let new : Site H = line.calls answer_of after (link.RestartReader address handler room) s.site in
-        let cost = costs n0 moves k address handler room (first_site c.start.config first) s.site new (record {
-          up = c.start.is_set_up;
-          fits = (c.start.fits, c.came.fit);
-          was = first_there c.start.config k first l.stations h.was;
-          is = at;
-          comes = restart_at k address handler room s.site before at;
-        }) in
+        let cost = costs b.net b.moves k address handler room b.began s.site new
+        (record { up = b.up; fits = b.fits; was = b.was; is = s.there; comes = restart_at k address handler room s.site before s.there }) in
         subst (λ x. ReaderCosts (link_of_entry d t) (link_of_entry e x)) (sym (made_at k address handler room gap t u ls.stations h.station h.next_station))
         (device_costs t s.site d e address handler room gap (view k s.site before)
         (view k new (after_net answer_of after (RestartReader k address handler room) before)) s.reader s.account
@@ -135,25 +151,22 @@ module _ {H : Type 0} where
 
     pub new_panel_costs : EachPanelRestartCosts answer_of after → NewPanelCosts answer_of after
     new_panel_costs costs l steps places config addresses k first t u d e h =
-        let c = comes answer_of after l steps h.up h.keep in
-        let n0 = first_net c.start.config l.stations in
-        let moves = RestartPanel c.start.settings ∷ c.came.moves in
+        let b = standing l steps k first t h.up h.keep h.was h.station in
+        let s = b.its in
         let ls = after_calls answer_of after steps l in
-        let s = its_site answer_of after k t ls c.came.net c.came.same h.station in
-        let at : site_at k (run answer_of after moves n0).sites ≡ Some s.site = ap (λ (m : Net H). site_at k m.sites) c.came.run ∙ s.there in
-        let before = run answer_of after moves n0 in
+        let before = run answer_of after b.moves b.net in
         let settings = settings_of config addresses in
         let new : Site H = restarts answer_of after (settings k) s.site in
         let many : k < length addresses = (let less = within k t ls.stations h.station in let same = h.keeps.in_range.2 in omega (arith, less, same)) in
         let fits : AreSettings (settings k).0 (settings k).1 =
         are_settings config (address_at k addresses) h.keeps.in_range.0
         (each_at (λ a. a < 127) k (address_at k addresses) addresses (each_of (λ a. a < 127) addresses h.keeps.in_range.1) (there_is k addresses many)) in
-        let cost = costs n0 moves settings k (first_site c.start.config first) s.site new (record {
-          up = c.start.is_set_up;
-          fits = (c.start.fits, c.came.fit);
-          was = first_there c.start.config k first l.stations h.was;
-          is = at;
-          comes = all_restart_at 0 k k settings s.site before.sites (omega arith) at;
+        let cost = costs b.net b.moves settings k b.began s.site new (record {
+          up = b.up;
+          fits = b.fits;
+          was = b.was;
+          is = s.there;
+          comes = all_restart_at 0 k k settings s.site before.sites (omega arith) s.there;
         }) fits in
         let mine : s.entry ≡ d = some_same s.entry d (sym s.is_entry ∙ h.entry) in
         let made = from_map (λ a. new_device a config) k e addresses h.next_entry in
@@ -168,8 +181,8 @@ module _ {H : Type 0} where
         subst (λ x. ControllerCosts (link_of_entry d t) (link_of_entry e x) × (e.reserved ≡ None))
         (some_same (forgets (Some d) t) u (sym (forgot k d t ls.bus.devices.entries ls.stations h.entry h.station) ∙ h.next_station)) (
           record {
-            others = record { reader = refl; to_reader = refl; to_controller = refl; earlier = refl };
-            account = forgets_all d.controller t.account;
+            others = refl;
+            account = refl;
             ended = subst (λ a. LeavesCommands a []) to left;
           },
           ap (λ (x : Device). x.reserved) made.1,
@@ -180,44 +193,34 @@ module _ {H : Type 0} where
     pub new_device_reports_no_more : EachMoveIsItsOwn answer_of after → NobodyElseHears answer_of after → EachReportsNoMore answer_of after
         → NewDeviceReportsNoMore answer_of after
     new_device_reports_no_more own nobody since l steps more places k address handler room gap first t u last d e h keep devices there lasts =
-        let c = comes answer_of after l steps h.up h.keep in
-        let n0 = first_net c.start.config l.stations in
-        let moves = RestartPanel c.start.settings ∷ c.came.moves in
-        let fit : NetMovesFit answer_of after moves n0 = (c.start.fits, c.came.fit) in
+        let b = standing l steps k first t h.up h.keep h.was h.station in
+        let s = b.its in
         let ls = after_calls answer_of after steps l in
-        let s = its_site answer_of after k t ls c.came.net c.came.same h.station in
-        let before = run answer_of after moves n0 in
-        let at : site_at k before.sites ≡ Some s.site = ap (λ (m : Net H). site_at k m.sites) c.came.run ∙ s.there in
+        let before = run answer_of after b.moves b.net in
         let move : NetMove H = RestartReader k address handler room in
         let new : Site H = line.calls answer_of after (link.RestartReader address handler room) s.site in
         let next_line = after_call answer_of after (NewDevice k address handler room gap) places ls in
-        let here : IsNetOf ls before = subst (IsNetOf ls) (sym c.came.run) c.came.same in
-        let same = new_device_is answer_of after k address handler room gap ls before here in
-        let fits_one = new_device_fits answer_of after k address handler room ls before here h.keeps.addresses h.keeps.in_range in
+        let same = new_device_is answer_of after k address handler room gap ls before b.same in
+        let fits_one = new_device_fits answer_of after k address handler room ls before b.same h.keeps.addresses h.keeps.in_range in
         let next = after_net answer_of after move before in
         let came = all_calls answer_of after more next_line next same keep in
         let z = its_site answer_of after k last (after_calls answer_of after more next_line) came.net came.same there in
         let there_too : site_at k (run answer_of after came.moves next).sites ≡ Some z.site = ap (λ (m : Net H). site_at k m.sites) came.run ∙ z.there in
         let fits_all : NetMovesFit answer_of after (move ∷ came.moves) before = (fits_one, came.fit) in
-        let comes_to = restart_at k address handler room s.site before at in
+        let comes_to = restart_at k address handler room s.site before s.there in
         let keeps = each_all (KeepsReaderOf k) came.moves
         (each_map (IsOfOne more) (KeepsReaderOf k)
         (λ m is. keeps_reader k more m (each_of (λ (step : Step H). KeepsDevice k step.call) more devices) is) came.moves came.kinds) in
-        let begun = since n0 moves k address handler room came.moves (first_site c.start.config first) s.site new z.site (record {
-          up = c.start.is_set_up;
-          fits = fit;
-          was = first_there c.start.config k first l.stations h.was;
-          is = at;
-          comes = comes_to;
-        }) fits_all keeps there_too
+        let begun = since b.net b.moves k address handler room came.moves b.began s.site new z.site
+        (record { up = b.up; fits = b.fits; was = b.was; is = s.there; comes = comes_to }) fits_all keeps there_too
         (ap length z.earlier ∙ lasts ∙ sym (ap length s.earlier)) in
-        let heard = all_heard answer_of after nobody n0 c.start.is_set_up (moves ++ move ∷ []) came.moves
-        (subst (λ ms. NetMovesFit answer_of after ms n0) (sym (append_assoc moves (move ∷ []) came.moves))
-        (fit_then answer_of after moves (move ∷ came.moves) n0 fit fits_all)) in
+        let heard = all_heard answer_of after nobody b.net b.up (b.moves ++ move ∷ []) came.moves
+        (subst (λ ms. NetMovesFit answer_of after ms b.net) (sym (append_assoc b.moves (move ∷ []) came.moves))
+        (fit_then answer_of after b.moves (move ∷ came.moves) b.net b.fits fits_all)) in
         let counts : sessions.all_queued answer_of after (moves_of answer_of after k came.moves next) (view k new next) ≡ all_queued answer_of after k more next_line =
         events_counted answer_of after (moves_of answer_of after k came.moves next) (view k new next)
         ∙ in_link answer_of after queued own k came.moves next new
-        (subst (AllHeard answer_of after came.moves) (run_then answer_of after moves (move ∷ []) n0) heard) came.fit comes_to
+        (subst (AllHeard answer_of after came.moves) (run_then answer_of after b.moves (move ∷ []) b.net) heard) came.fit comes_to
         ∙ came.queued k in
         subst (λ (p : Account × Account × List Event). IsBeginning p.0.reported (p.1.offered ++ p.2))
         (λ i. (z.account i, s.account i, counts i)) begun

@@ -23,7 +23,6 @@ use Rattle.osdp_shared_line.specs.Addresses.{NetMovesFit, NoTwoAreTogether, Nobo
 use Rattle.osdp_shared_line.specs.Line.{Net, NetMove, RestartPanel, Site, after_net, run, site_at}
 use Rattle.osdp_shared_line.specs.Runs.{EachHasSessionsInARow, EachHoldsOnce, moves_of}
 use Rattle.osdp_shared_line.specs.Views.{EachMoveIsItsOwn, view}
-use Rattle.osdp_shared_line.proofs.Sites.{some_same}
 use Rattle.osdp_calls.specs.Accepted.{accepted_by, all_accepted, all_queued, queued_by}
 use Rattle.osdp_calls.specs.Calls.{Call, Next, NewDevice, NewPanel, OfPanel, Pending, SetBusy, SetHandler, Silence, Step, SubmitEvent, Take, TickDevice, after_call, after_calls}
 use Rattle.osdp_calls.specs.Lines.{InUse, Station}
@@ -32,14 +31,13 @@ use Rattle.osdp_calls.specs.Promises.{CallsHoldOnce, CallsKeepApart, link_of_ent
 use Rattle.osdp_calls.proofs.Counting.{LinkGivesNone, all_heard, counted, in_link, in_net, in_net_more, net_none}
 use Rattle.osdp_calls.proofs.Devices.{handling, lines_change, nexting, queueing}
 use Rattle.osdp_calls.proofs.Losing.{fit_then, run_then}
-use Rattle.osdp_calls.proofs.Matching.{FoundAt, Nobody, Somebody, found}
 use Rattle.osdp_calls.proofs.Orders.{beginning, retargeting, submitting, withdrawing}
 use Rattle.osdp_calls.proofs.Panel.{at_seen}
 use Rattle.osdp_calls.proofs.Powers.{device_anew, panel_anew, waiting_too}
 use Rattle.osdp_calls.proofs.Runs.{NotPast, reads_bytes, reads_end}
 use Rattle.osdp_calls.proofs.Same.{Controls, IsNetOf}
 use Rattle.osdp_calls.proofs.Setting.{Starts, first_net, first_site, first_there, starts}
-use Rattle.osdp_calls.proofs.Stations.{Makes, Sites, busying, make_none}
+use Rattle.osdp_calls.proofs.Stations.{Makes, busying, make_none, of_station}
 use Rattle.osdp_calls.proofs.Steps.{IsOf, IsOfOne, Made, StepsTo, by_plain, queues_none, submits_none}
 use Rattle.osdp_calls.proofs.Ticks.{ticking}
 
@@ -173,22 +171,19 @@ module _ {H : Type 0} (answer_of : H → Command → Answer) (after : H → Comm
     pub controller : Controls t.begun l.bus.greatest entry.controller site.controller
 
   pub its_site : (k : ℕ) (t : Station H) (l : InUse H) (n : Net H) → IsNetOf l n → site_at k l.stations ≡ Some t → IsItsSite k t l n
-  its_site k t l n h is = by_found (found (Sites l) k l.bus.devices.entries l.stations n.sites h.sites)
-    where
-      by_found : FoundAt (Sites l) k k l.bus.devices.entries l.stations n.sites → IsItsSite k t l n
-      by_found (Nobody a b c) = absurd (let e = sym b ∙ is in cc)
-      by_found (Somebody d t1 s a b c has) =
-          let mine : Sites l k d t s = subst (λ u. Sites l k d u s) (some_same t1 t (sym b ∙ is)) has in
-          record {
-            site = s;
-            there = c;
-            reader = mine.reader;
-            account = mine.account;
-            earlier = mine.earlier;
-            entry = d;
-            is_entry = a;
-            controller = mine.controller;
-          }
+  its_site k t l n h is =
+      let o = of_station k t l n h is in
+      let same = o.is in
+      record {
+        site = o.site;
+        there = o.at;
+        reader = same.reader;
+        account = same.account;
+        earlier = same.earlier;
+        entry = o.device;
+        is_entry = o.entry;
+        controller = same.controller;
+      }
 
   -- ---- a session that lasts, or what it leaves
 

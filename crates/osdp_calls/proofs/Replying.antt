@@ -1,13 +1,14 @@
 -- What readers say are replies, and a reader that stays silent stays as it is.
 use Rattle.std.proofs.Common.{◌≡◌, ℕ, Bool, true, false, cond, List, [], ◌∷◌, Option, Some, None, IfSome, Result, Ok, Err, refl, sym, ap}
+use Rattle.std.specs.Option.{option_map}
 use Rattle.std.specs.Prelude.{◌==◌, ◌||◌, not}
 use Rattle.osdp_frame.specs.Packet.{Packet}
 use Rattle.osdp_frame.specs.Held.{Held, later}
 use Rattle.osdp_frame.specs.Reading.{RunItem, PacketItem, SkippedItem, RefusedItem}
 use Rattle.osdp_msg.specs.declared.command.Command.{Command}
 use Rattle.osdp_msg.specs.declared.fault.MsgFault.{MsgFault}
-use Rattle.osdp_device.specs.Saying.{speaks}
-use Rattle.osdp_device.specs.Telling.{told_by}
+use Rattle.osdp_device.specs.Saying.{said_to, speaks, unless_silent}
+use Rattle.osdp_device.specs.Telling.{Told, told_by, told_or}
 use Rattle.osdp_reader.specs.Queue.{event_for, offering, released, withdrawn}
 use Rattle.osdp_reader.specs.State.{ReaderState}
 use Rattle.osdp_reader.specs.Table.{Outcome, answer_to, begun, command_in, event_or_answer, hears, kind_of, moved, new_address, outcome, taken}
@@ -85,25 +86,24 @@ module _ {H : Type 0} where
     reader_with None r = r
     reader_with (Some p) r = (hears answer_of after r p).reader
 
-    told_reader : (parts : List RunItem) (r : ReaderState H) (held : Held)
-        → (told_by answer_of after parts r held).reader ≡ reader_with (first_answered r (read_up_to r parts)) r
-    told_reader [] r held = refl
-    told_reader (SkippedItem byte ∷ parts) r held = told_reader parts r (later held (SkippedItem byte))
-    told_reader (RefusedItem fault ∷ parts) r held = told_reader parts r (later held (RefusedItem fault))
-    told_reader (PacketItem p ∷ parts) r held = by_kind (kind_of r p) refl (told_reader parts r (later held (PacketItem p)))
+    -- .. goes by the first that is answered, and so does what is said
+    abbrev pub IsTold : Told H → Option Packet → ReaderState H → Type 0
+    IsTold told first r = (told.said ≡ option_map (said_to answer_of after r) first) × (told.reader ≡ reader_with first r)
+
+    pub next_told : (parts : List RunItem) (r : ReaderState H) (held : Held)
+        → IsTold (told_by answer_of after parts r held) (first_answered r (read_up_to r parts)) r
+    next_told [] r held = (refl, refl)
+    next_told (SkippedItem byte ∷ parts) r held = next_told parts r (later held (SkippedItem byte))
+    next_told (RefusedItem fault ∷ parts) r held = next_told parts r (later held (RefusedItem fault))
+    next_told (PacketItem p ∷ parts) r held = by_kind (kind_of r p) refl (next_told parts r (later held (PacketItem p)))
       where
         Goal : Kind → Type 0
-        Goal k = (Rattle.osdp_device.specs.Telling.told_or answer_of after
-            (Rattle.osdp_device.specs.Saying.unless_silent k (Rattle.osdp_device.specs.Saying.said_to answer_of after r p))
-            (outcome answer_of after k r p).reader (later held (PacketItem p))
-            (told_by answer_of after parts (outcome answer_of after k r p).reader (later held (PacketItem p)))).reader
-            ≡ reader_with (cond (speaks k) (Some p) (first_answered r (cond (speaks k) [] (read_up_to r parts)))) r
+        Goal k = IsTold
+            (told_or answer_of after (unless_silent k (said_to answer_of after r p)) (outcome answer_of after k r p).reader (later held (PacketItem p))
+            (told_by answer_of after parts (outcome answer_of after k r p).reader (later held (PacketItem p))))
+            (cond (speaks k) (Some p) (first_answered r (cond (speaks k) [] (read_up_to r parts)))) r
 
         by_kind : (k : Kind) → kind_of r p ≡ k
-            → (told_by answer_of after parts r (later held (PacketItem p))).reader ≡ reader_with (first_answered r (read_up_to r parts)) r → Goal k
+            → IsTold (told_by answer_of after parts r (later held (PacketItem p))) (first_answered r (read_up_to r parts)) r → Goal k
         by_kind kind.Silent is rest = rest
-        by_kind _ is rest = ap (λ k. (outcome answer_of after k r p).reader) (sym is)
-
-    pub next_reader : (parts : List RunItem) (r : ReaderState H) (held : Held)
-        → (told_by answer_of after parts r held).reader ≡ reader_with (first_answered r (read_up_to r parts)) r
-    next_reader parts r held = told_reader parts r held
+        by_kind _ is rest = (refl, ap (λ k. (outcome answer_of after k r p).reader) (sym is))

@@ -12,7 +12,7 @@ use Rattle.osdp_bus.specs.declared.config.BusConfig.{BusConfig}
 use Rattle.osdp_bus.specs.declared.device.Device.{Device}
 use Rattle.osdp_bus_laws.specs.Calls as panel
 use Rattle.osdp_device.specs.Deciding.{passed}
-use Rattle.osdp_frame.specs.Receiving.{after_silence, after_take, after_tick}
+use Rattle.osdp_frame.specs.Receiving.{Received, after_silence, after_take, after_tick}
 use Rattle.osdp_device.specs.Telling.{items_of}
 use Rattle.osdp_link_laws.specs.Peers.{ReadsWhatIsAsked}
 use Rattle.osdp_link_laws.proofs.Stages.{Each}
@@ -29,7 +29,7 @@ use Rattle.osdp_calls.specs.Premises as premises
 use Rattle.osdp_calls.specs.Premises.{InOrder, InRange, QuietOpening}
 use Rattle.osdp_calls.specs.Programs.{AllKeepRule, CallsRuleSuffices, KeepsRule, RuledCallsHoldOnce, first_note, first_notes, noted_of, notes_after}
 use Rattle.osdp_calls.specs.Promises.{CallsHoldOnce}
-use Rattle.osdp_calls.proofs.Accepting.{of_site, of_station, panel_rule}
+use Rattle.osdp_calls.proofs.Accepting.{panel_rule}
 use Rattle.osdp_calls.proofs.Agreeing.{AllAgree, Ruled, begun_change, begun_changed}
 use Rattle.osdp_calls.proofs.Along.{IsFree, Path, free_rule, notes_along, still_free}
 use Rattle.osdp_calls.proofs.Heeded.{by_rest, by_steps, bytes_ruled, call_addresses, retarget_ruled, silence_ruled, submit_ruled, tick_ruled}
@@ -97,6 +97,21 @@ module _ {H : Type 0} where
           → Ruled answer_of after n0 (on_station k change l) (notes_after call l notes)
       station_ruled call k change begun mine s still =
           rests call (on_station k change l) s (still s) refl (λ j. begun_change j k change l.stations begun) mine
+
+      -- .. where its reader alone changes, or what it has received
+      reader_ruled : (call : Call H) (k : ℕ) (change : ReaderState H → ReaderState H) → ((j : ℕ) (d : Device) → noted_of j (Some d) call l (notes j) ≡ notes j)
+          → (s : StepsTo answer_of after call l n (on_station k (λ t. record t { reader = change t.reader }) l)) → Each IsStill s.moves
+          → Ruled answer_of after n0 (on_station k (λ t. record t { reader = change t.reader }) l) (notes_after call l notes)
+      reader_ruled call k change mine s still =
+          rests call (on_station k (λ t. record t { reader = change t.reader }) l) s still refl
+          (λ j. begun_change j k (λ t. record t { reader = change t.reader }) l.stations (λ t. refl)) mine
+
+      line_ruled : (call : Call H) (k : ℕ) (change : Received → Received) → ((j : ℕ) (d : Device) → noted_of j (Some d) call l (notes j) ≡ notes j)
+          → (s : StepsTo answer_of after call l n (on_station k (λ t. record t { line = change t.line }) l)) → Each IsStill s.moves
+          → Ruled answer_of after n0 (on_station k (λ t. record t { line = change t.line }) l) (notes_after call l notes)
+      line_ruled call k change mine s still =
+          rests call (on_station k (λ t. record t { line = change t.line }) l) s still refl
+          (λ j. begun_change j k (λ t. record t { line = change t.line }) l.stations (λ t. refl)) mine
 
       panel_ruled : (call : panel.Call) (places : List ℕ) → InOrder (OfPanel call) places l → QuietOpening (OfPanel call) places l
           → KeepsRule (OfPanel call) l notes → InRange answer_of after (OfPanel call) l
@@ -185,20 +200,15 @@ module _ {H : Type 0} where
           station_ruled (SubmitEvent k event) k (λ t. queues (length t.reader.queue.events == t.reader.queue.capacity) event t) (λ t. queues_begun (length t.reader.queue.events == t.reader.queue.capacity) event t) (λ j d. refl)
           (steps_to (SubmitEvent k event) places order quiet rule range) (λ s. s.made)
       call_ruled (SetBusy k busy) places order quiet rule range =
-          station_ruled (SetBusy k busy) k (λ t. record t { reader = after_set_busy busy t.reader }) (λ t. refl) (λ j d. refl)
-          (steps_to (SetBusy k busy) places order quiet rule range) (λ s. s.made)
+          let s = steps_to (SetBusy k busy) places order quiet rule range in reader_ruled (SetBusy k busy) k (after_set_busy busy) (λ j d. refl) s s.made
       call_ruled (SetHandler k handler) places order quiet rule range =
-          station_ruled (SetHandler k handler) k (λ t. record t { reader = after_set_handler handler t.reader }) (λ t. refl) (λ j d. refl)
-          (steps_to (SetHandler k handler) places order quiet rule range) (λ s. s.made)
+          let s = steps_to (SetHandler k handler) places order quiet rule range in reader_ruled (SetHandler k handler) k (after_set_handler handler) (λ j d. refl) s s.made
       call_ruled (Take k bytes now) places order quiet rule range =
-          station_ruled (Take k bytes now) k (λ t. record t { line = after_take bytes now t.line }) (λ t. refl) (λ j d. refl)
-          (steps_to (Take k bytes now) places order quiet rule range) (λ s. s.made)
+          let s = steps_to (Take k bytes now) places order quiet rule range in line_ruled (Take k bytes now) k (after_take bytes now) (λ j d. refl) s s.made
       call_ruled (TickDevice k now) places order quiet rule range =
-          station_ruled (TickDevice k now) k (λ t. record t { line = after_tick now t.line }) (λ t. refl) (λ j d. refl)
-          (steps_to (TickDevice k now) places order quiet rule range) (λ s. s.made)
+          let s = steps_to (TickDevice k now) places order quiet rule range in line_ruled (TickDevice k now) k (after_tick now) (λ j d. refl) s s.made
       call_ruled (Silence k now) places order quiet rule range =
-          station_ruled (Silence k now) k (λ t. record t { line = after_silence now t.line }) (λ t. refl) (λ j d. refl)
-          (steps_to (Silence k now) places order quiet rule range) (λ s. s.made)
+          let s = steps_to (Silence k now) places order quiet rule range in line_ruled (Silence k now) k (after_silence now) (λ j d. refl) s s.made
       call_ruled (Next k) places order quiet rule range =
           let s = steps_to (Next k) places order quiet rule range in
           rests (Next k) (after_call answer_of after (Next k) places l) s s.made (next_entries k places (site_at k l.stations) l)

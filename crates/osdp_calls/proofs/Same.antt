@@ -59,46 +59,22 @@ module _ {H : Type 0} where
       {m c : Machine} {kept reserved : Option ℕ} {a b : Account} → IsSiteOf openings said old i d t s → Controls begun top m c → reserved ≡ kept → b ≡ a
       → IsSiteOf openings said top i (record { controller = m; reserved = kept }) (record t { begun = begun; account = a })
       (record s { controller = c; reserved = reserved; account = b })
-  controlled_so is controller reserved account = record {
-    controller = controller;
-    reserved = reserved;
-    reader = is.reader;
-    coming = is.coming;
-    account = account;
-    earlier = is.earlier;
-    place = is.place;
-    stored = is.stored;
-  }
+  controlled_so is controller reserved account =
+      record { controller = controller; reserved = reserved; reader = is.reader; coming = is.coming; account = account; earlier = is.earlier; place = is.place; stored = is.stored }
 
   -- the device changes, and what is told of it
   pub read_so : {openings : List Opening} {said : List Burst} {top i : ℕ} {d : Device} {t : Station H} {s : Site H} {r q : ReaderState H} {line : Received}
       {a b : Account} → IsSiteOf openings said top i d t s → q ≡ r → b ≡ a → IfSome r.stored (λ p. p.reply ≡ true)
       → IsSiteOf openings said top i d (record t { reader = r; line = line; account = a }) (record s { reader = q; account = b })
-  read_so is reader account stored = record {
-    controller = is.controller;
-    reserved = is.reserved;
-    reader = reader;
-    coming = is.coming;
-    account = account;
-    earlier = is.earlier;
-    place = is.place;
-    stored = stored;
-  }
+  read_so is reader account stored =
+      record { controller = is.controller; reserved = is.reserved; reader = reader; coming = is.coming; account = account; earlier = is.earlier; place = is.place; stored = stored }
 
   -- what was said changes, or how far the device has read
   pub placed_so : {openings more : List Opening} {said told : List Burst} {top i : ℕ} {d : Device} {t : Station H} {s : Site H} {place : ℕ}
       {coming : List (ℕ × Packet)} → IsSiteOf openings said top i d t s → coming ≡ ahead_of_device i place more told → place ≤ length told
       → IsSiteOf more told top i d (record t { place = place }) (record s { coming = coming })
-  placed_so is coming place = record {
-    controller = is.controller;
-    reserved = is.reserved;
-    reader = is.reader;
-    coming = coming;
-    account = is.account;
-    earlier = is.earlier;
-    place = place;
-    stored = is.stored;
-  }
+  placed_so is coming place =
+      record { controller = is.controller; reserved = is.reserved; reader = is.reader; coming = coming; account = is.account; earlier = is.earlier; place = place; stored = is.stored }
 
   pub record IsNetOf (l : InUse H) (n : Net H) : Type 0 where
     pub sites : Match (IsSiteOf l.openings l.said l.bus.greatest) 0 l.bus.devices.entries l.stations n.sites

@@ -2,7 +2,6 @@
 use Rattle.std.proofs.Common.{◌≡◌, ◌||◌, ℕ, not, Bool, true, false, cond, List, [], ◌∷◌, ◌++◌, map, Option, Some, None, refl, sym, subst, ap, ◌∙◌, append-nil, append_assoc}
 use Rattle.std.specs.Option.{option_map}
 use Rattle.std.specs.Prelude.{option_to_list}
-use Rattle.osdp_frame.specs.Held.{Held, later}
 use Rattle.osdp_frame.specs.Items.{whole_packets}
 use Rattle.osdp_frame.specs.Packet.{Packet}
 use Rattle.osdp_frame.specs.Reading.{RunItem, PacketItem, SkippedItem, RefusedItem}
@@ -17,9 +16,8 @@ use Rattle.osdp_bus.specs.Ticking.{BusTicked, bus_ticks, is_due_at, is_held_and_
 use Rattle.osdp_bus.specs.declared.config.BusConfig.{BusConfig}
 use Rattle.osdp_bus_laws.specs.Calls as bus
 use Rattle.osdp_bus_laws.specs.Turns.{judged}
-use Rattle.osdp_device.specs.Saying.{but_poll, said_to, speaks, taken_by, unless_silent}
-use Rattle.osdp_device.specs.Telling as telling
-use Rattle.osdp_device.specs.Telling.{items_of, told_by}
+use Rattle.osdp_device.specs.Saying.{but_poll, said_to, speaks, taken_by}
+use Rattle.osdp_device.specs.Telling.{items_of}
 use Rattle.osdp_link_laws.specs.Link.{Account, front_of, taken, taken_command}
 use Rattle.osdp_link_laws.proofs.Lines.{each_all, each_of}
 use Rattle.osdp_link_laws.proofs.Stages.{Each}
@@ -31,7 +29,7 @@ use Rattle.osdp_reader.specs.declared.kind.Kind.TheVariants as kind
 use Rattle.osdp_calls.specs.Calls.{after_next, answers, asked_at, asked_by_holder, by_device, first_answered, panel_says, read_up_to, reply_to}
 use Rattle.osdp_calls.specs.Lines.{Burst, InUse, Station, bus_with}
 use Rattle.osdp_calls.specs.Sayings.{AddsMakeTheBus, ByDevice, IsSaid, NoneRefused, ReadsToFirst, SaysWhatGoesOut, acted_on, after_hearing}
-use Rattle.osdp_calls.proofs.Replying.{next_reader, reader_with}
+use Rattle.osdp_calls.proofs.Replying.{next_told, reader_with}
 
 -- ---- who is asked says what goes out
 
@@ -104,23 +102,6 @@ module _ {H : Type 0} (answer_of : H → Command → Answer) (after : H → Comm
       }
 
   -- ---- a device
-
-  response_is : (parts : List RunItem) (r : ReaderState H) (held : Held)
-      → (told_by answer_of after parts r held).said ≡ option_map (said_to answer_of after r) (first_answered r (read_up_to r parts))
-  response_is [] r held = refl
-  response_is (SkippedItem byte ∷ parts) r held = response_is parts r (later held (SkippedItem byte))
-  response_is (RefusedItem fault ∷ parts) r held = response_is parts r (later held (RefusedItem fault))
-  response_is (PacketItem p ∷ parts) r held = by_kind (kind_of r p) refl (response_is parts r (later held (PacketItem p)))
-    where
-      Goal : Kind → Type 0
-      Goal k = (telling.told_or answer_of after (unless_silent k (said_to answer_of after r p)) (outcome answer_of after k r p).reader (later held (PacketItem p))
-          (told_by answer_of after parts (outcome answer_of after k r p).reader (later held (PacketItem p)))).said
-          ≡ option_map (said_to answer_of after r) (cond (speaks k) (Some p) (first_answered r (cond (speaks k) [] (read_up_to r parts))))
-
-      by_kind : (k : Kind) → kind_of r p ≡ k
-          → (told_by answer_of after parts r (later held (PacketItem p))).said ≡ option_map (said_to answer_of after r) (first_answered r (read_up_to r parts)) → Goal k
-      by_kind kind.Silent is rest = rest
-      by_kind _ is rest = refl
 
   -- what is read ends with the first that is answered
   reads_to_first : (parts : List RunItem) (r : ReaderState H) → ReadsToFirst r (whole_packets parts) (read_up_to r parts) (first_answered r (read_up_to r parts))
@@ -218,10 +199,10 @@ module _ {H : Type 0} (answer_of : H → Command → Answer) (after : H → Comm
     device = λ k places t is. record {
       answered = first_answered t.reader (read_up_to t.reader (items_of t.line.held));
       read = reads_to_first (items_of t.line.held) t.reader;
-      reader = next_reader answer_of after (items_of t.line.held) t.reader t.line.held ∙ sym (hears_each (items_of t.line.held) t.reader);
-      response = response_is (items_of t.line.held) t.reader t.line.held;
+      reader = (next_told answer_of after (items_of t.line.held) t.reader t.line.held).1 ∙ sym (hears_each (items_of t.line.held) t.reader);
+      response = (next_told answer_of after (items_of t.line.held) t.reader t.line.held).0;
       acts = acts_so (first_answered t.reader (read_up_to t.reader (items_of t.line.held))) t
-          ∙ ap (λ o. t.account.taken ++ acted_on o) (sym (response_is (items_of t.line.held) t.reader t.line.held));
+          ∙ ap (λ o. t.account.taken ++ acted_on o) (sym ((next_told answer_of after (items_of t.line.held) t.reader t.line.held).0));
       said = subst (λ o. IsSaid (ByDevice k) (reply_to answer_of after (first_answered t.reader (read_up_to t.reader (items_of t.line.held))) t.reader) l.said
           (after_next answer_of after k places o l).said) (sym is)
           (device_bursts k (reply_to answer_of after (first_answered t.reader (read_up_to t.reader (items_of t.line.held))) t.reader) l.said);

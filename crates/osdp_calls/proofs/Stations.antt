@@ -1,6 +1,7 @@
 -- What changes a station and its site alone, and what calls come to.
-use Rattle.std.proofs.Common.{ℕ, Bool, List, [], ◌∷◌, refl, sym, subst, ap}
+use Rattle.std.proofs.Common.{◌≡◌, ℕ, Bool, List, [], ◌∷◌, Some, refl, sym, subst, ap, ◌∙◌}
 use Rattle.osdp_msg.specs.declared.command.Command.{Command}
+use Rattle.osdp_bus.specs.Buses.{device_of}
 use Rattle.osdp_bus.specs.declared.device.Device.{Device}
 use Rattle.osdp_link_laws.specs.Link as link
 use Rattle.osdp_link_laws.proofs.Stages.{Each}
@@ -9,6 +10,7 @@ use Rattle.osdp_reader.specs.declared.handler.Answer.{Answer}
 use Rattle.osdp_shared_line.specs.Addresses.{NetMoveFits}
 use Rattle.osdp_shared_line.specs.Line as line
 use Rattle.osdp_shared_line.specs.Line.{Net, NetMove, SetBusy, Site, after_net, changed, site_at}
+use Rattle.osdp_shared_line.proofs.Sites.{some_same}
 use Rattle.osdp_calls.specs.Calls.{changes_at, on_station}
 use Rattle.osdp_calls.specs.Lines.{InUse, Station}
 use Rattle.osdp_calls.proofs.Losing.{IsPlain, IsStill, Reaches, one_move, stays}
@@ -19,6 +21,40 @@ module _ {H : Type 0} where
   -- the sites of a line in use
   abbrev pub Sites : InUse H → ℕ → Device → Station H → Site H → Type 0
   Sites l = IsSiteOf l.openings l.said l.bus.greatest
+
+  -- ---- the entry and the station of a site, and those of a station
+
+  pub record OfSite (k : ℕ) (s : Site H) (l : InUse H) : Type 0 where
+    pub device : Device
+    pub station : Station H
+    pub entry : device_of k l.bus ≡ Some device
+    pub there : site_at k l.stations ≡ Some station
+    pub is : Sites l k device station s
+
+  pub of_site : (k : ℕ) (s : Site H) (l : InUse H) (n : Net H) → IsNetOf l n → site_at k n.sites ≡ Some s → OfSite k s l
+  of_site k s l n h at = by_found (found (Sites l) k l.bus.devices.entries l.stations n.sites h.sites)
+    where
+      by_found : FoundAt (Sites l) k k l.bus.devices.entries l.stations n.sites → OfSite k s l
+      by_found (Nobody a b c) = absurd (let e = sym c ∙ at in cc)
+      by_found (Somebody d t s1 a b c has) =
+          record { device = d; station = t; entry = a; there = b; is = subst (λ u. Sites l k d t u) (some_same s1 s (sym c ∙ at)) has }
+
+  pub record OfStation (k : ℕ) (t : Station H) (l : InUse H) (n : Net H) : Type 0 where
+    pub device : Device
+    pub site : Site H
+    pub entry : device_of k l.bus ≡ Some device
+    pub at : site_at k n.sites ≡ Some site
+    pub is : Sites l k device t site
+
+  pub of_station : (k : ℕ) (t : Station H) (l : InUse H) (n : Net H) → IsNetOf l n → site_at k l.stations ≡ Some t → OfStation k t l n
+  of_station k t l n h there = by_found (found (Sites l) k l.bus.devices.entries l.stations n.sites h.sites)
+    where
+      by_found : FoundAt (Sites l) k k l.bus.devices.entries l.stations n.sites → OfStation k t l n
+      by_found (Nobody a b c) = absurd (let e = sym b ∙ there in cc)
+      by_found (Somebody d t1 s a b c has) =
+          record { device = d; site = s; entry = a; at = c; is = subst (λ u. Sites l k d u s) (some_same t1 t (sym b ∙ there)) has }
+
+  -- ---- what changes a station
 
   -- a station changes, and its site is still that
   pub station_changes : (k : ℕ) (change : Station H → Station H) (l : InUse H) (n : Net H) → IsNetOf l n

@@ -12,7 +12,7 @@ use Rattle.osdp_controller.specs.declared.exchange.Exchange.TheVariants.{Opening
 use Rattle.osdp_reader.specs.State.{ReaderState}
 use Rattle.osdp_reader.specs.declared.config.ReaderConfig.{ReaderConfig}
 use Rattle.osdp_reader.specs.declared.handler.Answer.{Answer}
-use Rattle.osdp_link_laws.specs.Costs.{ControllerRestartCosts, ReaderCosts, ReaderRestartCosts, ReportsNoMore}
+use Rattle.osdp_link_laws.specs.Costs.{ControllerRestartCosts, IsParted, ReaderCosts, ReaderRestartCosts, ReportsNoMore}
 use Rattle.osdp_link_laws.specs.Headline.{IsBeginning}
 use Rattle.osdp_link_laws.specs.Link.{Account, Link, RestartController, RestartReader, after_move, run}
 use Rattle.osdp_link_laws.specs.Peers.{ReadEachOther}
@@ -46,19 +46,9 @@ one_in_front (Behind (After n y b) x) = subst (λ es. length es ≤ 1) (sym (app
 one_in_front (Level past x a) = one_shown x a
 one_in_front (Rest n x a) = subst (λ es. length es ≤ 1) (sym (append-nil (shown x a))) (one_shown x a)
 
--- the queue is what was offered of it in this session, and what goes
-record Parts (events : List Event) (t : Account) : Type 0 where
-  front : List Event
-  gone : List Event
-  queue : events ≡ front ++ gone
-  one : length front ≤ 1
-  before : List Event
-  offered : t.offered ≡ before ++ front
-  kept : t.kept ≡ t.offered ++ gone
-
 -- where the reader hears
 parted : (past front new rest events : List Event) (t : Account) → length (front ++ new) ≤ 1 → events ≡ (front ++ new) ++ rest → t.kept ≡ past ++ events
-    → t.reported ≡ past ++ front → t.offered ≡ t.reported ++ new → Parts events t
+    → t.reported ≡ past ++ front → t.offered ≡ t.reported ++ new → IsParted events t
 parted past front new rest events t one is kept reported offered =
     let all : t.offered ≡ past ++ (front ++ new) = offered ∙ ap (λ es. es ++ new) reported ∙ append_assoc past front new in
     record {
@@ -73,7 +63,7 @@ parted past front new rest events t one is kept reported offered =
 
 module _ (fixed : ControllerConfig) {H : Type 0} (answer_of : H → Command → Answer) (after : H → Command → H) (settings : ReaderConfig) where
   parts : (since : Restarted) (at : Stage) (r : ReaderState H) (t : Account) → ReaderAt fixed since at r → t.offered ≡ t.reported ++ unreported_at at
-      → EventsAre since (shown_at at) r.queue.events t → Parts r.queue.events t
+      → EventsAre since (shown_at at) r.queue.events t → IsParted r.queue.events t
   parts Never at r t is offered are =
       let f = front_at fixed Never at r tt is in
       parted are.past (shown_at at) (unreported_at at) f.0 r.queue.events t (one_in_front at) f.1 are.kept are.reported offered
@@ -97,15 +87,9 @@ module _ (fixed : ControllerConfig) {H : Type 0} (answer_of : H → Command → 
       let held = h.holds.2 in
       let p = parts h.holds.0 at l.reader (as_waiting l).account held.reader held.account.offered held.account.told in
       record {
-        front = p.front;
-        gone = p.gone;
-        queue = p.queue;
-        one = p.one;
-        before = p.before;
-        offered = p.offered;
-        kept = p.kept;
+        events = p;
         thrown_away = ap (λ es. l.account.thrown_away ++ es) (ap (drop (length l.account.offered)) p.kept ∙ drop_front l.account.offered p.gone);
-        commands = record { issued = refl; taken = refl; given = refl; settled = refl; unsettled = refl; forgotten = refl; removed = refl };
+        commands = refl;
         controller = refl;
       }
 

@@ -8,7 +8,7 @@ use Rattle.osdp_msg.specs.declared.command.Command.{Command}
 use Rattle.osdp_msg.specs.declared.event.Event.{Event}
 use Rattle.osdp_msg.specs.declared.nak.NakReason.TheVariants.{UnexpectedSequence}
 use Rattle.osdp_controller.specs.Machine as controllers
-use Rattle.osdp_controller.specs.Machine.{Machine}
+use Rattle.osdp_controller.specs.declared.config.ControllerConfig.{ControllerConfig}
 use Rattle.osdp_controller.specs.declared.fault.ControllerFault.{ControllerFault}
 use Rattle.osdp_controller.specs.declared.fault.ControllerFault.TheVariants.{NotClosed, OutOfRange}
 use Rattle.osdp_controller.specs.declared.state.State.{State}
@@ -21,9 +21,9 @@ use Rattle.osdp_reader.specs.Table.{event_or_answer, is_for_another, kind_by_num
 use Rattle.osdp_reader.specs.declared.handler.Answer.{Answer}
 use Rattle.osdp_reader.specs.declared.kind.Kind.TheVariants.{Silent, Secured, Zero, Busy, Wrong}
 use Rattle.osdp_reader_laws.specs.Laws.{ComesTo}
-use Rattle.osdp_link_laws.specs.Effects.{AnswersBy, Forgets, HasAddress, Loses, LosesOne, RefusesNumbers, RestartsController, RestartsReader, Retargets, SetsHandler, ThrowsAway, Withdraws}
+use Rattle.osdp_link_laws.specs.Effects.{AnswersBy, CountsRestarts, EachMoveDoes, HasAddress, HasHandler, HasNewController, HasNewReader, LosesOne, RefusesNumbers, Retargets, ThrowsAway, Withdraws}
 use Rattle.osdp_link_laws.specs.Link as link
-use Rattle.osdp_link_laws.specs.Link.{Account, Withdrawn, controller_restarted, lost_at, outstanding_command, reader_restarted}
+use Rattle.osdp_link_laws.specs.Link.{Account, Link, RestartController, RestartReader, SetHandler, Withdrawn, after_move, lost_at, reader_restarted}
 use Rattle.osdp_link_laws.proofs.Acting.{no_event}
 use Rattle.osdp_link_laws.proofs.Numbers.{is_false, is_true}
 use Rattle.osdp_link_laws.proofs.Restarts.{drop_front}
@@ -36,20 +36,6 @@ for_it false true all command here = refl
 for_it false false true command here = refl
 for_it false false false command (inl here) = absurd cc
 for_it false false false command (inr here) = absurd cc
-
--- ---- a controller that has restarted
-
-pub forgets_all : (m : Machine) (t : Account) → Forgets (outstanding_command m.session.state) m.waiting t (controller_restarted m t)
-forgets_all m t = record {
-  issued = refl;
-  taken = refl;
-  given = refl;
-  settled = refl;
-  unsettled = refl;
-  forgotten = refl;
-  removed = refl;
-  events = record { queued = refl; kept = refl; thrown_away = refl; offered = refl; reported = refl; restarts = refl };
-}
 
 module _ {H : Type 0} where
   comes_here : (r : ReaderState H) (p : Packet) → ComesTo r p → is_for_another r p ≡ false
@@ -88,55 +74,32 @@ module _ {H : Type 0} where
         new : ReaderState H
         new = after_set_handler handler r
 
-    pub sets_handler : SetsHandler answer_of after
-    sets_handler l handler = (
-      record {
-        others = record { controller = refl; to_reader = refl; to_controller = refl; earlier = refl };
-        account = refl;
-        handler = refl;
-        stored = refl;
-        reader = record { config = refl; last = refl; queue = refl; busy = refl };
-      },
-      answers_by handler l.reader,
-    )
+    sets_handler : (l : Link H) (handler : H) → HasHandler handler l (after_move answer_of after (SetHandler handler) l)
+    sets_handler l handler =
+        record { others = refl; account = refl; handler = refl; stored = refl; reader = record { config = refl; last = refl; queue = refl; busy = refl } }
 
     -- ---- restarts
 
     throws_away : (gone : List Event) (t : Account) → t.kept ≡ t.offered ++ gone → ThrowsAway gone t (reader_restarted t)
-    throws_away gone t is = record {
-      commands = record { issued = refl; taken = refl; given = refl; settled = refl; unsettled = refl; forgotten = refl; removed = refl };
-      queued = refl;
-      kept = refl;
-      thrown_away = ap (λ es. t.thrown_away ++ es) (ap (drop (length t.offered)) is ∙ drop_front t.offered gone);
-      offered = refl;
-      reported = refl;
-      restarts = refl;
-    }
+    throws_away gone t is =
+        ap (λ es. record t { kept = t.offered; thrown_away = t.thrown_away ++ es; restarts = t.restarts + 1 })
+        (ap (drop (length t.offered)) is ∙ drop_front t.offered gone)
 
-    pub restarts_reader : RestartsReader answer_of after
+    restarts_reader : (l : Link H) (address : ℕ) (handler : H) (room : ℕ)
+        → HasNewReader answer_of after address handler room l (after_move answer_of after (RestartReader address handler room) l)
     restarts_reader l address handler room = record {
-      others = record { controller = refl; to_reader = refl; to_controller = refl; earlier = refl };
-      reader = record {
-        address = refl;
-        id = refl;
-        caps = refl;
-        last = refl;
-        stored = refl;
-        events = refl;
-        capacity = refl;
-        offered = refl;
-        busy = refl;
-        handler = refl;
-      };
+      others = refl;
+      reader = record { config = refl; last = refl; stored = refl; queue = refl; busy = refl; handler = refl };
       refuses = refuses_numbers (new_reader (record l.reader.config { address = address }) handler room) refl;
       account = λ gone is. throws_away gone l.account is;
     }
 
-    pub restarts_controller : RestartsController answer_of after
+    pub restarts_controller : (l : Link H) (config : ControllerConfig) (room : ℕ)
+        → HasNewController config room l (after_move answer_of after (RestartController config room) l)
     restarts_controller l config room = record {
-      others = record { reader = refl; to_reader = refl; to_controller = refl; earlier = refl };
+      others = refl;
       controller = record { state = refl; config = refl; number = refl; greatest = refl; waiting = refl; capacity = refl };
-      account = forgets_all l.controller l.account;
+      account = refl;
     }
 
 -- ---- a command is taken back
@@ -192,23 +155,14 @@ loses_one place xs = (
 )
 
 module _ {H : Type 0} (answer_of : H → Command → Answer) (after : H → Command → H) where
-  pub withdraws : Withdraws answer_of after
+  withdraws : Withdraws answer_of after
   withdraws = record {
     first = λ l c ws closed is. let back = first_back l.controller.session.state c ws l.controller.waiting closed is in record {
-      others = record { reader = refl; to_reader = refl; to_controller = refl; earlier = refl };
+      others = refl;
       session = refl;
       waiting = back.0;
       capacity = refl;
-      account = record {
-        issued = refl;
-        taken = refl;
-        given = refl;
-        settled = refl;
-        unsettled = refl;
-        forgotten = refl;
-        removed = ap (λ o. l.account.removed ++ map Withdrawn (option_to_list o)) back.1;
-        events = record { queued = refl; kept = refl; thrown_away = refl; offered = refl; reported = refl; restarts = refl };
-      };
+      account = ap (λ o. record l.account { removed = l.account.removed ++ map Withdrawn (option_to_list o) }) back.1;
     };
     none = λ l why. let back = none_back l.controller.session.state l.controller.waiting why in
         ap (λ ws. record l {
@@ -219,11 +173,11 @@ module _ {H : Type 0} (answer_of : H → Command → Answer) (after : H → Comm
         ∙ ap (λ rs. record l { account = record l.account { removed = rs } }) (append-nil l.account.removed);
   }
 
-  pub retargets : Retargets answer_of after
+  retargets : Retargets answer_of after
   retargets = record {
     set = λ l address closed small.
         subst (λ fault. HasAddress address l (link.retargets fault address l)) (sym (may_set l.controller.session.state address closed small)) (record {
-          others = record { reader = refl; to_reader = refl; to_controller = refl; earlier = refl };
+          others = refl;
           address = refl;
           config = refl;
           state = closed;
@@ -236,14 +190,16 @@ module _ {H : Type 0} (answer_of : H → Command → Answer) (after : H → Comm
     refused = λ l address why. ap (λ fault. link.retargets fault address l) (may_not l.controller.session.state address why).1;
   }
 
-  pub loses : Loses answer_of after
-  loses = record {
-    to_reader = λ l place. (
-      loses_one place l.to_reader,
-      record { controller = refl; reader = refl; to_controller = refl; account = refl; earlier = refl },
-    );
-    to_controller = λ l place. (
-      loses_one place l.to_controller,
-      record { controller = refl; reader = refl; to_reader = refl; account = refl; earlier = refl },
-    );
+  pub each_move_does : CountsRestarts answer_of after → EachMoveDoes answer_of after
+  each_move_does counts = record {
+    handler = λ l handler. (sets_handler answer_of after l handler, answers_by answer_of after handler l.reader);
+    withdraw = withdraws;
+    retarget = retargets;
+    reader = restarts_reader answer_of after;
+    controller = restarts_controller answer_of after;
+    losses = record {
+      to_reader = λ l place. (loses_one place l.to_reader, refl);
+      to_controller = λ l place. (loses_one place l.to_controller, refl);
+    };
+    restarts = counts;
   }

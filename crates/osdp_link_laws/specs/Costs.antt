@@ -7,23 +7,27 @@ use Rattle.osdp_controller.specs.declared.config.ControllerConfig.{ControllerCon
 use Rattle.osdp_reader.specs.declared.handler.Answer.{Answer}
 use Rattle.osdp_link_laws.specs.Effects.{Forgets, SameButController, SameCommands}
 use Rattle.osdp_link_laws.specs.Headline.{Begins, IsBeginning, MovesFit}
-use Rattle.osdp_link_laws.specs.Link.{Link, Move, RestartController, RestartReader, after_move, outstanding_command, run}
+use Rattle.osdp_link_laws.specs.Link.{Account, Link, Move, RestartController, RestartReader, after_move, outstanding_command, run}
 use Rattle.osdp_link_laws.specs.Refusals.{KeepsReader}
 use Rattle.osdp_link_laws.specs.Sessions.{LeavesCommands, all_queued}
+
+-- a queue, by what was offered in this session: one event at most, which stands in front; and those that go where the reader restarts
+pub record IsParted (events : List Event) (t : Account) : Type 0 where
+  pub front : List Event
+  pub gone : List Event
+  pub queue : events ≡ front ++ gone
+  pub one : length front ≤ 1
+  pub before : List Event
+  pub offered : t.offered ≡ before ++ front
+  pub kept : t.kept ≡ t.offered ++ gone
 
 module _ {H : Type 0} where
   -- Of a reader: the events in its queue that it has not offered in this session, which are all but one at most. The one that it has offered
   -- stands in front: it is reported already, or its answer may be heard later. No command is lost: at most the session ends, where the next
   -- number is refused.
   pub record ReaderCosts (l next : Link H) : Type 0 where
-    pub front : List Event
-    pub gone : List Event
-    pub queue : l.reader.queue.events ≡ front ++ gone
-    pub one : length front ≤ 1
-    pub before : List Event
-    pub offered : l.account.offered ≡ before ++ front
-    pub kept : l.account.kept ≡ l.account.offered ++ gone
-    pub thrown_away : next.account.thrown_away ≡ l.account.thrown_away ++ gone
+    pub events : IsParted l.reader.queue.events l.account
+    pub thrown_away : next.account.thrown_away ≡ l.account.thrown_away ++ events.gone
     pub commands : SameCommands l.account next.account
     pub controller : next.controller ≡ l.controller
 

@@ -19,57 +19,25 @@ use Rattle.osdp_link_laws.specs.Link.{Account, Link, LoseToController, LoseToRea
 
 -- ---- accounts
 
--- all that is said of commands
-pub record SameCommands (t u : Account) : Type 0 where
-  pub issued : u.issued ≡ t.issued
-  pub taken : u.taken ≡ t.taken
-  pub given : u.given ≡ t.given
-  pub settled : u.settled ≡ t.settled
-  pub unsettled : u.unsettled ≡ t.unsettled
-  pub forgotten : u.forgotten ≡ t.forgotten
-  pub removed : u.removed ≡ t.removed
-
--- .. and of events
-pub record SameEvents (t u : Account) : Type 0 where
-  pub queued : u.queued ≡ t.queued
-  pub kept : u.kept ≡ t.kept
-  pub thrown_away : u.thrown_away ≡ t.thrown_away
-  pub offered : u.offered ≡ t.offered
-  pub reported : u.reported ≡ t.reported
-  pub restarts : u.restarts ≡ t.restarts
+-- all that is said of commands stays
+abbrev pub SameCommands : Account → Account → Type 0
+SameCommands t u = u ≡ record t { queued = u.queued; kept = u.kept; thrown_away = u.thrown_away; offered = u.offered; reported = u.reported; restarts = u.restarts }
 
 -- a restart of the reader throws these events away, which it had not offered in the session, and is counted; what it had offered stays, and
 -- all that is said of commands
-pub record ThrowsAway (gone : List Event) (t u : Account) : Type 0 where
-  pub commands : SameCommands t u
-  pub queued : u.queued ≡ t.queued
-  pub kept : u.kept ≡ t.offered
-  pub thrown_away : u.thrown_away ≡ t.thrown_away ++ gone
-  pub offered : u.offered ≡ t.offered
-  pub reported : u.reported ≡ t.reported
-  pub restarts : u.restarts ≡ t.restarts + 1
+abbrev pub ThrowsAway : List Event → Account → Account → Type 0
+ThrowsAway gone t u = u ≡ record t { kept = t.offered; thrown_away = t.thrown_away ++ gone; restarts = t.restarts + 1 }
 
--- a restart of the controller forgets the outstanding command, and throws away those that waited
-pub record Forgets (outstanding : Option Command) (waiting : List Command) (t u : Account) : Type 0 where
-  pub issued : u.issued ≡ t.issued
-  pub taken : u.taken ≡ t.taken
-  pub given : u.given ≡ t.given
-  pub settled : u.settled ≡ t.settled
-  pub unsettled : u.unsettled ≡ t.unsettled
-  pub forgotten : u.forgotten ≡ t.forgotten ++ option_to_list outstanding
-  pub removed : u.removed ≡ t.removed ++ map ThrownAway waiting
-  pub events : SameEvents t u
+-- a restart of the controller forgets the outstanding command, and throws away those that waited; all else stays
+abbrev pub Forgets : Option Command → List Command → Account → Account → Type 0
+Forgets outstanding waiting t u = u ≡ record t {
+  forgotten = t.forgotten ++ option_to_list outstanding;
+  removed = t.removed ++ map ThrownAway waiting;
+}
 
--- a command that waited is taken back
-pub record TakesBack (command : Command) (t u : Account) : Type 0 where
-  pub issued : u.issued ≡ t.issued
-  pub taken : u.taken ≡ t.taken
-  pub given : u.given ≡ t.given
-  pub settled : u.settled ≡ t.settled
-  pub unsettled : u.unsettled ≡ t.unsettled
-  pub forgotten : u.forgotten ≡ t.forgotten
-  pub removed : u.removed ≡ t.removed ++ Withdrawn command ∷ []
-  pub events : SameEvents t u
+-- a command that waited is taken back; all else stays
+abbrev pub TakesBack : Command → Account → Account → Type 0
+TakesBack command t u = u ≡ record t { removed = t.removed ++ Withdrawn command ∷ [] }
 
 -- ---- machines
 
@@ -94,32 +62,22 @@ module _ {H : Type 0} where
   -- the same device at this address, with this handler and this room: nothing was taken and nothing is stored, no event waits, and it isn't
   -- busy
   pub record IsNewReader (here : ℕ) (answering : H) (room : ℕ) (old new : ReaderState H) : Type 0 where
-    pub address : new.config.address ≡ here
-    pub id : new.config.id ≡ old.config.id
-    pub caps : new.config.caps ≡ old.config.caps
+    pub config : new.config ≡ record old.config { address = here }
     pub last : new.last ≡ None
     pub stored : new.stored ≡ None
-    pub events : new.queue.events ≡ []
-    pub capacity : new.queue.capacity ≡ room
-    pub offered : new.queue.offered ≡ false
+    pub queue : new.queue ≡ record { events = []; capacity = room; offered = false }
     pub busy : new.busy ≡ false
     pub handler : new.handler ≡ answering
 
   -- ---- links
 
-  -- where the reader alone is another: the controller, the line, and the sessions before
-  pub record SameButReader (l next : Link H) : Type 0 where
-    pub controller : next.controller ≡ l.controller
-    pub to_reader : next.to_reader ≡ l.to_reader
-    pub to_controller : next.to_controller ≡ l.to_controller
-    pub earlier : next.earlier ≡ l.earlier
+  -- where the reader alone is another, and its account
+  abbrev pub SameButReader : Link H → Link H → Type 0
+  SameButReader l next = next ≡ record l { reader = next.reader; account = next.account }
 
   -- .. and where the controller alone is
-  pub record SameButController (l next : Link H) : Type 0 where
-    pub reader : next.reader ≡ l.reader
-    pub to_reader : next.to_reader ≡ l.to_reader
-    pub to_controller : next.to_controller ≡ l.to_controller
-    pub earlier : next.earlier ≡ l.earlier
+  abbrev pub SameButController : Link H → Link H → Type 0
+  SameButController l next = next ≡ record l { controller = next.controller; account = next.account }
 
   -- the reader has this handler, and is as it was: its number, its stored reply and its events stay
   pub record HasHandler (answering : H) (l next : Link H) : Type 0 where
@@ -155,20 +113,6 @@ module _ {H : Type 0} where
     pub controller : IsNewController config room next.controller
     pub account : Forgets (outstanding_command l.controller.session.state) l.controller.waiting l.account next.account
 
-  pub record SameButToReader (l next : Link H) : Type 0 where
-    pub controller : next.controller ≡ l.controller
-    pub reader : next.reader ≡ l.reader
-    pub to_controller : next.to_controller ≡ l.to_controller
-    pub account : next.account ≡ l.account
-    pub earlier : next.earlier ≡ l.earlier
-
-  pub record SameButToController (l next : Link H) : Type 0 where
-    pub controller : next.controller ≡ l.controller
-    pub reader : next.reader ≡ l.reader
-    pub to_reader : next.to_reader ≡ l.to_reader
-    pub account : next.account ≡ l.account
-    pub earlier : next.earlier ≡ l.earlier
-
   -- how often the reader restarts
   abbrev pub restarts_in : List (Move H) → ℕ
   restarts_in [] = 0
@@ -200,18 +144,6 @@ module _ {H : Type 0} where
 
     -- ---- what each does
 
-    abbrev pub SetsHandler : Type 0
-    SetsHandler = (l : Link H) (handler : H) → let next = after_move answer_of after (SetHandler handler) l in
-        HasHandler handler l next × AnswersBy handler l.reader next.reader
-
-    abbrev pub RestartsReader : Type 0
-    RestartsReader = (l : Link H) (address : ℕ) (handler : H) (room : ℕ)
-        → HasNewReader address handler room l (after_move answer_of after (RestartReader address handler room) l)
-
-    abbrev pub RestartsController : Type 0
-    RestartsController = (l : Link H) (config : ControllerConfig) (room : ℕ)
-        → HasNewController config room l (after_move answer_of after (RestartController config room) l)
-
     -- where the controller is closed and a command waits, and only there
     pub record Withdraws : Type 0 where
       pub first : (l : Link H) (command : Command) (waiting : List Command) → l.controller.session.state ≡ Closed
@@ -227,9 +159,9 @@ module _ {H : Type 0} where
 
     pub record Loses : Type 0 where
       pub to_reader : (l : Link H) (place : ℕ) → let next = after_move answer_of after (LoseToReader place) l in
-          LosesOne place l.to_reader next.to_reader × SameButToReader l next
+          LosesOne place l.to_reader next.to_reader × (next ≡ record l { to_reader = next.to_reader })
       pub to_controller : (l : Link H) (place : ℕ) → let next = after_move answer_of after (LoseToController place) l in
-          LosesOne place l.to_controller next.to_controller × SameButToController l next
+          LosesOne place l.to_controller next.to_controller × (next ≡ record l { to_controller = next.to_controller })
 
     -- the account counts the restarts of the reader in its session: none where it begins, and one more with each as long as no other session
     -- begins
@@ -238,3 +170,16 @@ module _ {H : Type 0} where
           length next.earlier ≢ length l.earlier → next.account.restarts ≡ 0
       pub each : (l : Link H) (moves : List (Move H)) → let last = run answer_of after moves l in
           length last.earlier ≡ length l.earlier → last.account.restarts ≡ l.account.restarts + restarts_in moves
+
+    -- each move of a program, of a power failure or of the line
+    pub record EachMoveDoes : Type 0 where
+      pub handler : (l : Link H) (handler : H) → let next = after_move answer_of after (SetHandler handler) l in
+          HasHandler handler l next × AnswersBy handler l.reader next.reader
+      pub withdraw : Withdraws
+      pub retarget : Retargets
+      pub reader : (l : Link H) (address : ℕ) (handler : H) (room : ℕ)
+          → HasNewReader address handler room l (after_move answer_of after (RestartReader address handler room) l)
+      pub controller : (l : Link H) (config : ControllerConfig) (room : ℕ)
+          → HasNewController config room l (after_move answer_of after (RestartController config room) l)
+      pub losses : Loses
+      pub restarts : CountsRestarts

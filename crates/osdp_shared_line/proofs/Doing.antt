@@ -10,7 +10,7 @@ use Rattle.osdp_link_laws.specs.Effects as effects
 use Rattle.osdp_link_laws.specs.Effects.{AnswersBy, HasAddress, HasHandler, HasNewController, HasNewReader, HasTakenBack}
 use Rattle.osdp_link_laws.specs.Link as link
 use Rattle.osdp_link_laws.specs.Link.{Link, Move, after_move}
-use Rattle.osdp_shared_line.specs.Effects.{ChangesNoOther, EachRestartsPanel, EachRestartsReader, EachRetargets, EachSetsHandler, EachWithdraws, IsChanged}
+use Rattle.osdp_shared_line.specs.Effects.{ChangesNoOther, EachDoesAsOnALink, EachRetargets, EachWithdraws, IsChanged}
 use Rattle.osdp_shared_line.specs.Line as line
 use Rattle.osdp_shared_line.specs.Line.{LoseToPanel, LoseToReader, Net, NetMove, Queue, Reopen, RestartPanel, RestartReader, Retarget, SetBusy, SetHandler, Site, Submit, Tick, ToPanel, ToReader, Withdraw, after_net, calls, is_comset_refused, is_retarget_accepted, is_retarget_refused, site_at}
 use Rattle.osdp_shared_line.specs.Views.{OpensQuietly, move_of, one_if, view}
@@ -46,19 +46,14 @@ module _ {H : Type 0} (answer_of : H → Command → Answer) (after : H → Comm
   one_after n move k s t alone h quiet is =
       viewed_after n move k s t h quiet ∙ ap (λ ms. link.run answer_of after ms (view k s n)) (is ∙ one_is k k alone refl)
 
-  pub each_sets_handler : effects.SetsHandler answer_of after → EachSetsHandler answer_of after
-  each_sets_handler sets n k handler s t h =
-      subst (λ (v : Link H). HasHandler handler (view k s n) v × AnswersBy answer_of after handler s.reader v.reader)
-      (sym (one_after n (SetHandler k handler) k s t (link.SetHandler handler) h tt refl)) (sets (view k s n) handler)
-
-  pub each_withdraws : effects.Withdraws answer_of after → EachWithdraws answer_of after
+  each_withdraws : effects.Withdraws answer_of after → EachWithdraws answer_of after
   each_withdraws withdraws = record {
     first = λ n k c ws s t h closed is.
         subst (HasTakenBack c ws (view k s n)) (sym (one_after n (Withdraw k) k s t link.Withdraw h tt refl)) (withdraws.first (view k s n) c ws closed is);
     none = λ n k s t h why. one_after n (Withdraw k) k s t link.Withdraw h tt refl ∙ withdraws.none (view k s n) why;
   }
 
-  pub each_retargets : effects.Retargets answer_of after → EachRetargets answer_of after
+  each_retargets : effects.Retargets answer_of after → EachRetargets answer_of after
   each_retargets retargets = record {
     set = λ n k address s t h accepted.
         let both = both_accept (is_retarget_refused k address s n.sites) (controllers.retarget_refusal address s.controller) accepted in
@@ -78,19 +73,24 @@ module _ {H : Type 0} (answer_of : H → Command → Answer) (after : H → Comm
       given n k address s t h is =
           one_after n (Retarget k address) k s t (link.Retarget address) h tt (ap (λ b. cond b [] (one_if k k (link.Retarget address))) is)
 
-  pub each_restarts_reader : effects.RestartsReader answer_of after → EachRestartsReader answer_of after
-  each_restarts_reader restarts n k address handler room s t h =
-      subst (HasNewReader answer_of after address handler room (view k s n))
-      (sym (one_after n (RestartReader k address handler room) k s t (link.RestartReader address handler room) h tt refl))
-      (restarts (view k s n) address handler room)
-
-  pub each_restarts_panel : effects.RestartsController answer_of after → EachRestartsPanel answer_of after
-  each_restarts_panel restarts n settings k s t h =
-      let from = restart_from answer_of after 0 k k settings t n.sites (omega arith) h.comes in (
-        subst (HasNewController (settings k).0 (settings k).1 (view k s n)) (sym (viewed_after n (RestartPanel settings) k s t h tt))
-            (restarts (view k s n) (settings k).0 (settings k).1),
-        ap (λ (u : Site H). u.reserved) from.2,
-      )
+  pub each_does_as_on_a_link : effects.EachMoveDoes answer_of after → EachDoesAsOnALink answer_of after
+  each_does_as_on_a_link does = record {
+    handler = λ n k handler s t h.
+        subst (λ (v : Link H). HasHandler handler (view k s n) v × AnswersBy answer_of after handler s.reader v.reader)
+        (sym (one_after n (SetHandler k handler) k s t (link.SetHandler handler) h tt refl)) (does.handler (view k s n) handler);
+    withdraws = each_withdraws does.withdraw;
+    retargets = each_retargets does.retarget;
+    reader = λ n k address handler room s t h.
+        subst (HasNewReader answer_of after address handler room (view k s n))
+        (sym (one_after n (RestartReader k address handler room) k s t (link.RestartReader address handler room) h tt refl))
+        (does.reader (view k s n) address handler room);
+    panel = λ n settings k s t h.
+        let from = restart_from answer_of after 0 k k settings t n.sites (omega arith) h.comes in (
+          subst (HasNewController (settings k).0 (settings k).1 (view k s n)) (sym (viewed_after n (RestartPanel settings) k s t h tt))
+              (does.controller (view k s n) (settings k).0 (settings k).1),
+          ap (λ (u : Site H). u.reserved) from.2,
+        );
+  }
 
   -- ---- no other site changes
 

@@ -29,11 +29,6 @@ module _ {H : Type 0} where
       pub is : site_at k n.sites ≡ Some s
       pub comes : site_at k (after_net answer_of after move n).sites ≡ Some t
 
-    abbrev pub EachSetsHandler : Type 0
-    EachSetsHandler = (n : Net H) (k : ℕ) (handler : H) (s t : Site H) → IsChanged n (SetHandler k handler) k s t
-        → HasHandler handler (view k s n) (view k t (after_net answer_of after (SetHandler k handler) n))
-        × AnswersBy answer_of after handler s.reader t.reader
-
     pub record EachWithdraws : Type 0 where
       pub first : (n : Net H) (k : ℕ) (command : Command) (waiting : List Command) (s t : Site H) → IsChanged n (Withdraw k) k s t
           → s.controller.session.state ≡ Closed → s.controller.waiting ≡ command ∷ waiting
@@ -49,17 +44,19 @@ module _ {H : Type 0} where
       pub refused : (n : Net H) (k address : ℕ) (s t : Site H) → IsChanged n (Retarget k address) k s t
           → is_retarget_accepted k address s n.sites ≡ false → view k t (after_net answer_of after (Retarget k address) n) ≡ view k s n
 
-    abbrev pub EachRestartsReader : Type 0
-    EachRestartsReader = (n : Net H) (k address : ℕ) (handler : H) (room : ℕ) (s t : Site H)
-        → IsChanged n (RestartReader k address handler room) k s t
-        → HasNewReader answer_of after address handler room (view k s n)
-        (view k t (after_net answer_of after (RestartReader k address handler room) n))
-
-    -- each controller is new, and nothing is kept for any COMSET
-    abbrev pub EachRestartsPanel : Type 0
-    EachRestartsPanel = (n : Net H) (settings : ℕ → ControllerConfig × ℕ) (k : ℕ) (s t : Site H) → IsChanged n (RestartPanel settings) k s t
-        → HasNewController (settings k).0 (settings k).1 (view k s n) (view k t (after_net answer_of after (RestartPanel settings) n))
-        × (t.reserved ≡ None)
+    -- what each move does to its site is what it does to a link. Where the panel restarts each controller is new, and nothing is kept for any COMSET.
+    pub record EachDoesAsOnALink : Type 0 where
+      pub handler : (n : Net H) (k : ℕ) (handler : H) (s t : Site H) → IsChanged n (SetHandler k handler) k s t
+          → HasHandler handler (view k s n) (view k t (after_net answer_of after (SetHandler k handler) n))
+          × AnswersBy answer_of after handler s.reader t.reader
+      pub withdraws : EachWithdraws
+      pub retargets : EachRetargets
+      pub reader : (n : Net H) (k address : ℕ) (handler : H) (room : ℕ) (s t : Site H) → IsChanged n (RestartReader k address handler room) k s t
+          → HasNewReader answer_of after address handler room (view k s n)
+          (view k t (after_net answer_of after (RestartReader k address handler room) n))
+      pub panel : (n : Net H) (settings : ℕ → ControllerConfig × ℕ) (k : ℕ) (s t : Site H) → IsChanged n (RestartPanel settings) k s t
+          → HasNewController (settings k).0 (settings k).1 (view k s n) (view k t (after_net answer_of after (RestartPanel settings) n))
+          × (t.reserved ≡ None)
 
     -- what speaks of one site changes no other
     abbrev pub ChangesNoOther : Type 0

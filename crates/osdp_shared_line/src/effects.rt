@@ -1,7 +1,7 @@
 //! What each move of a program or of a power failure does to the site that it speaks of, and that it changes no other. The functions do
 //! nothing: their contracts are laws.
 
-ghost use Rattle.osdp_shared_line.specs.Effects.{ChangesNoOther, EachRestartsPanel, EachRestartsReader, EachRetargets, EachSetsHandler, EachWithdraws};
+ghost use Rattle.osdp_shared_line.specs.Effects.{ChangesNoOther, EachDoesAsOnALink};
 
 use osdp_reader::Handler;
 
@@ -10,16 +10,8 @@ use osdp_reader::Handler;
 ///
 /// A call, a loss to a reader or a restart of a reader changes no other site.
 pub fn each_move_does_as_on_a_link<H: Handler>()
-    ensures handler { EachSetsHandler H.answer_of H.after }
-    ensures withdraws { EachWithdraws H.answer_of H.after }
-    ensures retargets { EachRetargets H.answer_of H.after }
-    ensures reader { EachRestartsReader H.answer_of H.after }
-    ensures panel { EachRestartsPanel H.answer_of H.after }
+    ensures does { EachDoesAsOnALink H.answer_of H.after }
     ensures others { ChangesNoOther H.answer_of H.after }
 {
-    osdp_link_laws::effects::set_handler_answers_next::<H>();
-    osdp_link_laws::effects::withdraw_takes_the_oldest_back::<H>();
-    osdp_link_laws::effects::retarget_sets_the_address::<H>();
-    osdp_link_laws::effects::restarted_reader_is_new::<H>();
-    osdp_link_laws::effects::restarted_controller_is_new::<H>();
+    osdp_link_laws::effects::each_move_does::<H>();
 }

@@ -2,7 +2,6 @@
 
 use crate::tests::laws::cites;
 use osdp_door::Door;
-use osdp_link_laws::effects;
 
 /// The laws of one link hold with a door as the reader, whose inputs change, and where commands are withdrawn and both ends restart.
 #[test]
@@ -15,7 +14,5 @@ fn a_session_holds_with_a_door(_rt: HostRuntime) {
 /// What each move does to a link with a door.
 #[test]
 fn each_move_does_as_said_with_a_door(_rt: HostRuntime) {
-    cites!(effects, Door:
-        set_handler_answers_next withdraw_takes_the_oldest_back retarget_sets_the_address restarted_reader_is_new
-        restarted_controller_is_new losses_take_one restarts_are_counted);
+    osdp_link_laws::effects::each_move_does::<Door>();
 }
