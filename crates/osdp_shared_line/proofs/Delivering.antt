@@ -22,7 +22,7 @@ use Rattle.osdp_shared_line.specs.Line.{Net, Site, address_of, changed, first_ge
 use Rattle.osdp_shared_line.proofs.Apart.{Apart, IsAfter, IsAway, IsClosed, IsKept, IsOwnComset, IsToClosed, IsToDevice, NamesGo, Ordered, all_left, each_any, each_tagged, one_changes, ordered_more, others_ordered, own_ordered, reader_address, with_panel}
 use Rattle.osdp_shared_line.proofs.Changing.{Nothing, One, Quietly, fewer, quietly, same}
 use Rattle.osdp_shared_line.proofs.Controllers.{AreLeft, IsSent, hears_well, ticks_well}
-use Rattle.osdp_shared_line.proofs.Hearing.{closed_hears, silent}
+use Rattle.osdp_shared_line.proofs.Hearing.{by_address, closed_hears, silent}
 use Rattle.osdp_shared_line.proofs.Lists.{nowhere, somewhere_front, somewhere_split}
 use Rattle.osdp_shared_line.proofs.Readers.{ReadsWell, reads_well}
 use Rattle.osdp_shared_line.proofs.Sites.{at_changed, changed_from, map_from, some_same}
@@ -125,11 +125,7 @@ module _ {H : Type 0} (answer_of : H → Command → Answer) (after : H → Comm
   hearing : (i : ℕ) (p : Packet) (s u : Site H) (n : Net H) → site_at i n.sites ≡ Some s → Quietly s u → p.address < 127
       → ((to : ℕ) → SetsReader to p → MayComeTo to i s × Each (IsAway i to) u.coming) ⊎ (reader_address u ≢ p.address) → Apart n
       → Apart (line.hears_at answer_of after i p u n)
-  hearing i p s u n at quiet device sets a =
-      elim (eqb_tells (reader_address u) p.address) [
-        | inl equal ↦ elim sets [ inl goes ↦ heard goes equal.1 | inr other ↦ absurd (other equal.1) ]
-        | inr differs ↦ unheard differs.1
-      ]
+  hearing i p s u n at quiet device sets a = by_address (reader_address u) p.address sets heard unheard
     where
       o : reader.Outcome H
       o = reader.hears answer_of after u.reader p

@@ -20,6 +20,14 @@ use Rattle.osdp_link_laws.specs.Link.{Link}
 use Rattle.osdp_link_laws.proofs.Numbers.{is_false, is_true}
 use Rattle.osdp_shared_line.specs.Line.{Site, address_of, first_gets, gets, site_at}
 
+-- what is said to a reader comes to its address, or to another
+pub by_address : {X R : Type 0} (here to : ℕ) → X ⊎ (here ≢ to) → (X → here ≡ to → R) → (here ≢ to → R) → R
+by_address here to sets heard unheard =
+    elim (eqb_tells here to) [
+      | inl equal ↦ elim sets [ inl own ↦ heard own equal.1 | inr other ↦ absurd (other equal.1) ]
+      | inr differs ↦ unheard differs.1
+    ]
+
 -- ---- controllers
 
 module _ {H : Type 0} where

@@ -139,22 +139,13 @@ module _ {H : Type 0} (k : ℕ) where
   reader_kept _ keeps = λ e. tt
 
   device_kept : (move : NetMove H) → KeepsDeviceOf k move → HoldsOf KeepsDevice k move
-  device_kept (ToPanel how now) keeps = (λ by. tt, tt)
-  device_kept (LoseToReader i place) keeps = λ q. tt
-  device_kept (LoseToPanel place) keeps = λ q. tt
-  device_kept (RestartPanel settings) keeps = tt
-  device_kept (RestartReader i address handler room) keeps = λ e. absurd (keeps e)
   device_kept (SetHandler i h) keeps = λ e. absurd (keeps e)
-  device_kept _ keeps = λ e. tt
+  device_kept move keeps = reader_kept move keeps
 
   all_ordinary : (move : NetMove H) → IsOrdinaryOf k move → HoldsOf IsOrdinary k move
-  all_ordinary (ToPanel how now) is = (λ by. tt, tt)
-  all_ordinary (LoseToReader i place) is = λ q. tt
-  all_ordinary (LoseToPanel place) is = λ q. tt
   all_ordinary (RestartPanel settings) is = absurd is
-  all_ordinary (RestartReader i address handler room) is = λ e. absurd (is e)
   all_ordinary (Withdraw i) is = λ e. absurd (is e)
-  all_ordinary _ is = λ e. tt
+  all_ordinary move is = reader_kept move is
 
 module _ {H : Type 0} (answer_of : H → Command → Answer) (after : H → Command → H) where
   -- ---- one restart

@@ -22,7 +22,7 @@ use Rattle.osdp_shared_line.specs.Programs.{IsKnown, KeepsRule, Note, also_at, n
 use Rattle.osdp_shared_line.proofs.Apart.{Apart, IsAway, IsKept, IsOwnComset, IsToDevice, all_left, each_any, each_tagged, reader_address}
 use Rattle.osdp_shared_line.proofs.Changing.{One}
 use Rattle.osdp_shared_line.proofs.Controllers.{IsSent, TicksWell, ticks_well}
-use Rattle.osdp_shared_line.proofs.Hearing.{silent}
+use Rattle.osdp_shared_line.proofs.Hearing.{by_address, silent}
 use Rattle.osdp_shared_line.proofs.Lists.{somewhere_rest, somewhere_split}
 use Rattle.osdp_shared_line.proofs.Noting.{AsksFor, Goes, IsFresh, IsIn, IsNoted, Noted, OwnFrom, Softly, TakesNone, all_go, as_is, plainly, same_known, soft}
 use Rattle.osdp_shared_line.proofs.Openings.{ticks_opening}
@@ -159,11 +159,7 @@ module _ {H : Type 0} (answer_of : H → Command → Answer) (after : H → Comm
         → u.reader.stored ≡ s.reader.stored → p.address < 127
         → ((to : ℕ) → SetsReader to p → Somewhere (IsOwnComset i to) s.coming) ⊎ (reader_address u ≢ p.address)
         → Noted (line.hears_at answer_of after i p u n) (notes_after (ToReader i how) n notes)
-    hearing i how p s u at quiet there stored device sets =
-        elim (eqb_tells (reader_address u) p.address) [
-          | inl equal ↦ elim sets [ inl own ↦ heard own equal.1 | inr other ↦ absurd (other equal.1) ]
-          | inr differs ↦ unheard differs.1
-        ]
+    hearing i how p s u at quiet there stored device sets = by_address (reader_address u) p.address sets heard unheard
       where
         o : reader.Outcome H
         o = reader.hears answer_of after u.reader p

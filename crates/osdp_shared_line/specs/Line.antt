@@ -140,14 +140,7 @@ module _ {H : Type 0} where
 
   -- the link of a site, with this on the line, and the site as its link has left it
   abbrev pub link_of : Site H → List Packet → List Packet → Link H
-  link_of s ps qs = record {
-    controller = s.controller;
-    reader = s.reader;
-    to_reader = ps;
-    to_controller = qs;
-    account = s.account;
-    earlier = s.earlier;
-  }
+  link_of s ps qs = record { controller = s.controller; reader = s.reader; to_reader = ps; to_controller = qs; account = s.account; earlier = s.earlier }
 
   abbrev pub left_by : Site H → Link H → Site H
   left_by s l = record s { controller = l.controller; reader = l.reader; account = l.account; earlier = l.earlier }
