@@ -17,7 +17,7 @@ use Rattle.osdp_link_laws.specs.Link.{Delivered, Link}
 use Rattle.osdp_link_laws.specs.OneHandler.{with_answers}
 use Rattle.osdp_link_laws.specs.Progress as progress
 use Rattle.osdp_link_laws.specs.Progress.{SetsNoAddress}
-use Rattle.osdp_link_laws.specs.Sessions.{all_submitted, ended_commands}
+use Rattle.osdp_link_laws.specs.Sessions.{all_submitted}
 use Rattle.osdp_link_laws.specs.Headline as headline
 use Rattle.osdp_link_laws.proofs.Lines.{each_all, each_append, each_front, each_of}
 use Rattle.osdp_link_laws.proofs.Stages.{Each}
@@ -35,7 +35,7 @@ use Rattle.osdp_sim.specs.declared.fault.Cause.TheVariants.{HoldsPacket, NoMemor
 use Rattle.osdp_sim.specs.declared.step.SimStep.{SimStep}
 use Rattle.osdp_sim.specs.declared.step.SimStep.TheVariants.{Issue, Queue, Busy, Wait, ToReader, ToController, Reopen}
 use Rattle.osdp_sim_laws.specs.Accepted.{commands_of, events_of}
-use Rattle.osdp_sim_laws.specs.Accounts.{AreOver, IsInSession, all_in}
+use Rattle.osdp_sim_laws.specs.Accounts.{AreOver, IsInSession, IsOf}
 use Rattle.osdp_sim_laws.specs.Clean.{GoesInTurn, IsInTurn, IsOrder}
 use Rattle.osdp_sim_laws.specs.Moves.{clock_after, first_link, in_bytes, moves_of}
 use Rattle.osdp_sim_laws.specs.OneLink.{OneLink}
@@ -267,12 +267,8 @@ module _ {H : Type 0} (answer_of : H → Command → Answer) (after : H → Comm
   -- ---- the lists of one session
 
   record SameLists (a : Account) (t : link.Account) : Type 0 where
-    pub issued : a.issued ≡ t.issued
+    pub of : IsOf a t []
     pub queued : a.queued ≡ t.queued
-    pub taken : a.taken ≡ t.taken
-    pub settled : a.settled ≡ t.settled
-    pub unsettled : a.unsettled ≡ t.unsettled
-    pub reported : a.reported ≡ t.reported
     pub sessions : length a.sessions ≡ 1
 
   same_lists : (config : SimConfig) (handler : H) (s : SimState H) (ms : List (link.Move H)) (clock : ℕ)
@@ -286,12 +282,8 @@ module _ {H : Type 0} (answer_of : H → Command → Answer) (after : H → Comm
       let tells = follows.carried.tells in
       let over = subst (λ e. AreOver s.account.sessions t.queued e tells.queued.0) none tells.queued.1 in
       record {
-        issued = tells.issued ∙ ap (λ e. ended_commands e ++ t.issued) none;
+        of = subst (IsOf s.account t) none tells;
         queued = tells.queued.2 ∙ ap (λ e. e ++ t.queued) over.1;
-        taken = tells.taken ∙ ap (λ e. all_in (λ t. t.taken) (t ∷ e)) none;
-        settled = tells.settled ∙ ap (λ e. all_in (λ t. t.settled) (t ∷ e)) none;
-        unsettled = tells.unsettled ∙ ap (λ e. all_in (λ t. t.unsettled) (t ∷ e)) none;
-        reported = tells.reported ∙ ap (λ e. all_in (λ t. t.reported) (t ∷ e)) none;
         sessions = ap length over.0;
       }
 
@@ -346,7 +338,7 @@ module _ {H : Type 0} (answer_of : H → Command → Answer) (after : H → Comm
       let ended : run answer_of after (orders ++ more) start ≡ end = runs_on (after_step answer_of after) orders more start in
       let all_none = subst (λ s. Each SetsNoAddress s.account.issued) ended none in
       let first_lists = same_lists config handler before ms (clock_after orders 0) first kept in
-      let none_before = subst (Each SetsNoAddress) first_lists.issued
+      let none_before = subst (Each SetsNoAddress) first_lists.of.issued
       (each_front SetsNoAddress before.account.issued (all_submitted answer_of after ns later) (subst (Each SetsNoAddress) next.carried.issued all_none)) in
       let opening = moment_after 400 0 in
       let moments = moments_of n 50 opening in
@@ -375,13 +367,13 @@ module _ {H : Type 0} (answer_of : H → Command → Answer) (after : H → Comm
       in_turn config handler orders n a t m many accepted lists turn none = record {
         issued = accepted.0;
         queued = accepted.1;
-        taken = lists.taken ∙ turn.taken ∙ ap (λ k. take k t.issued) many ∙ ap (take n) (sym lists.issued);
-        settled = lists.settled ∙ turn.settled ∙ ap (λ k. with_answers answer_of after config.reader handler (take k t.issued)) many
-            ∙ ap (λ cs. with_answers answer_of after config.reader handler (take n cs)) (sym lists.issued);
-        reported = lists.reported ∙ turn.reported ∙ ap (λ k. take (k - length t.settled) t.queued) many
-            ∙ ap (λ ps. take (n - length ps) t.queued) (sym lists.settled)
+        taken = lists.of.taken ∙ turn.taken ∙ ap (λ k. take k t.issued) many ∙ ap (take n) (sym lists.of.issued);
+        settled = lists.of.settled ∙ turn.settled ∙ ap (λ k. with_answers answer_of after config.reader handler (take k t.issued)) many
+            ∙ ap (λ cs. with_answers answer_of after config.reader handler (take n cs)) (sym lists.of.issued);
+        reported = lists.of.reported ∙ turn.reported ∙ ap (λ k. take (k - length t.settled) t.queued) many
+            ∙ ap (λ ps. take (n - length ps) t.queued) (sym lists.of.settled)
             ∙ ap (take (n - length a.settled)) (sym lists.queued);
-        unsettled = lists.unsettled ∙ turn.unsettled;
+        unsettled = lists.of.unsettled ∙ turn.unsettled;
         ends = none;
       }
 
