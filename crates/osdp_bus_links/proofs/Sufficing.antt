@@ -96,15 +96,10 @@ module _ {H : Type 0} (answer_of : H → Command → Answer) (after : H → Comm
   fits (Reopen k now) n scheduled others linked = others
   fits _ n scheduled others linked = absurd scheduled
 
-  opens : (move : NetMove H) (n : Net H) → IsScheduled move → OthersFit answer_of after move n → OpensQuietly move n
-  opens (Submit k c) n scheduled others = tt
-  opens (Queue k e) n scheduled others = tt
-  opens (SetBusy k busy) n scheduled others = tt
-  opens (Tick k now) n scheduled others = tt
-  opens (ToReader k how) n scheduled others = tt
-  opens (ToPanel how now) n scheduled others = tt
-  opens (Reopen k now) n scheduled others = others
-  opens _ n scheduled others = absurd scheduled
+  opens : (move : NetMove H) (n : Net H) → OthersFit answer_of after move n → OpensQuietly move n
+  opens (Submit k c) n others = tt
+  opens (ToReader k how) n others = tt
+  opens move n others = others
 
   -- ---- one list of moves after another
 
@@ -122,15 +117,11 @@ module _ {H : Type 0} (answer_of : H → Command → Answer) (after : H → Comm
   others_more [] more n first last = last
   others_more (m ∷ ms) more n first last = (first.0, others_more ms more (after_net answer_of after m n) first.1 last)
 
-  others : (move : NetMove H) (n : Net H) → IsScheduled move → NetMoveFits answer_of after move n → OthersFit answer_of after move n
-  others (Submit k c) n scheduled fit = fit.0
-  others (Queue k e) n scheduled fit = tt
-  others (SetBusy k busy) n scheduled fit = tt
-  others (Tick k now) n scheduled fit = tt
-  others (ToReader k how) n scheduled fit = fit
-  others (ToPanel how now) n scheduled fit = tt
-  others (Reopen k now) n scheduled fit = fit
-  others _ n scheduled fit = absurd scheduled
+  others : (move : NetMove H) (n : Net H) → NetMoveFits answer_of after move n → OthersFit answer_of after move n
+  others (Submit k c) n fit = fit.0
+  others (ToReader k how) n fit = fit
+  others (Reopen k now) n fit = fit
+  others _ n fit = tt
 
   module _ (given : OfALink answer_of after) (its_own : EachMoveIsItsOwn answer_of after) (nobody : NobodyElseHears answer_of after) where
     linked_on : (first : Net H) (ms : List (NetMove H)) (move : NetMove H) → IsSetUp first → NetMovesFit answer_of after ms first
@@ -142,7 +133,7 @@ module _ {H : Type 0} (answer_of : H → Command → Answer) (after : H → Comm
         let next = after_net answer_of after move n in
         let heard = (nobody first ms up along).heard in
         let old = before answer_of after move k t n scheduled heard is in
-        let moved = its_own n move heard (opens move n scheduled others) k old.site old.there in
+        let moved = its_own n move heard (opens move n others) k old.site old.there in
         let may = moves_may answer_of after move k old.site n scheduled in
         let same : t ≡ moved.site = some_same t moved.site (sym is ∙ moved.there) in
         subst (λ (u : Site H). IsLinked answer_of after k u next) (sym same)
