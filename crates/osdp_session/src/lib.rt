@@ -13,7 +13,7 @@ mod laws;
 mod several_readers;
 
 use laws::holds_of_each_run;
-pub use laws::{each_holds_in_sessions, holds_in_sessions, one_session_is_once};
+pub use laws::{each_holds_in_sessions, holds_in_sessions};
 use osdp_reader::Handler;
 use osdp_sim::{Account, Fault, Schedule, SimConfig, SimStep};
 pub use several_readers::{run_bus, run_bus_schedule};

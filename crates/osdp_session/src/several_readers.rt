@@ -3,7 +3,7 @@
 ghost use Rattle.osdp_session.specs.SeveralReaders.{HoldsOfBusRun};
 ghost use Rattle.std.specs.Prelude.{◌<◌, ◌^◌, length};
 
-use crate::laws::holds_of_each_bus_run;
+use crate::laws::holds_of_each_run;
 use osdp_bus::BusConfig;
 use osdp_reader::{Handler, ReaderConfig};
 use osdp_sim::{Account, Fault, Schedule, SimStep};
@@ -36,7 +36,7 @@ pub fn run_bus<H: Handler>(
 ) -> Result<Vec<Account>, Fault<Vec<Account>>>
     ensures { HoldsOfBusRun H.answer_of H.after config.now readers.items steps.now result }
 {
-    holds_of_each_bus_run::<H>();
+    holds_of_each_run::<H>();
     osdp_sim_bus::run_bus(alloc, config, readers, steps)
 }
 
@@ -50,6 +50,6 @@ pub fn run_bus_schedule<H: Handler, S: Schedule>(
     requires { length (S.left schedule) < 2 ^ 64 }
     ensures { HoldsOfBusRun H.answer_of H.after config.now readers.items (S.left schedule) result }
 {
-    holds_of_each_bus_run::<H>();
+    holds_of_each_run::<H>();
     osdp_sim_bus::run_bus_schedule(alloc, config, readers, schedule)
 }

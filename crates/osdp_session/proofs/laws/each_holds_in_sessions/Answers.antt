@@ -4,5 +4,5 @@ pub returns : goal.returns
 returns g c readers told row = record {
   count = row.count;
   each = λ k given at.
-      let mine = row.each k given at in (mine.0, mine.1, c.holds_in_sessions.ensures given.0 given.2 mine.0 mine.2);
+      let mine = row.each k given at in (mine.0, mine.1, c.holds_in_sessions.ensures.each given.0 given.2 mine.0 mine.2);
 }
