@@ -40,7 +40,7 @@ use Rattle.osdp_sim_bus.specs.Steps.{StepFits, after_step, all_hear_each, fault_
 use Rattle.osdp_sim_laws.specs.OneLink.{ReadsPackets}
 use Rattle.osdp_sim_bus_laws.specs.Moves.{FollowsSites, SchedulesAreMoves, SitesOf, moves_of}
 use Rattle.osdp_sim_bus_laws.proofs.Beginning.{first_net, follows_first, is_set_up, none_is_kept}
-use Rattle.osdp_bus_progress.proofs.Round.{LinkLaws}
+use Rattle.osdp_bus_progress.specs.SeveralLinks.{LinkLaws}
 
 pub at_each : {A : Type 0} (P : A → Type 0) (k : ℕ) (x : A) (xs : List A) → Each P xs → site_at k xs ≡ Some x → P x
 at_each P k x [] all is = absurd cc

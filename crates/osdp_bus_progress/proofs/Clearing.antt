@@ -20,19 +20,17 @@ use Rattle.osdp_sim.specs.Rounds.{rounds}
 use Rattle.osdp_sim.specs.declared.step.Move.TheVariants.{Drop}
 use Rattle.osdp_sim.specs.declared.step.SimStep.{SimStep}
 use Rattle.osdp_sim.specs.declared.step.SimStep.TheVariants.{Busy, ToController, ToReader}
-use Rattle.osdp_sim_bus.specs.Laws.{HasAnAccountEach, TellsAtOnce}
+use Rattle.osdp_sim_bus.specs.Laws.{TellsAtOnce}
 use Rattle.osdp_sim_bus.specs.Runs as simulation
 use Rattle.osdp_sim_bus.specs.State.{LineState, ReaderSite, accounts, set_up}
 use Rattle.osdp_sim_bus.specs.Steps.{StepFits, after_step, all_hear_each, changed_site, fault_of, hears_run, report_told, site_is_busy, takes_report}
 use Rattle.osdp_sim_laws.specs.Accounts.{IsInSession}
 use Rattle.osdp_sim_laws.specs.Progress.{losses}
 use Rattle.osdp_sim_laws.proofs.Clearing.{losses_within}
-use Rattle.osdp_sim_laws.specs.OneLink.{ReadsPackets}
-use Rattle.osdp_sim_bus_laws.specs.Moves.{SchedulesAreMoves}
 use Rattle.osdp_bus_progress.specs.Progress.{EachComesOn, EachComesThrough, EachRecovers, IsClear, IsReady, NoneMoves, all_ready, clear}
 use Rattle.osdp_bus_progress.specs.Resting.{ClearsTheLine}
+use Rattle.osdp_bus_progress.specs.SeveralLinks.{SeveralLinks}
 use Rattle.osdp_bus_progress.proofs.Bursts.{AtMost, as_many_as_steps}
-use Rattle.osdp_bus_progress.proofs.Round.{LinkLaws}
 
 -- ---- the readers
 
@@ -213,21 +211,20 @@ module _ {H : Type 0} (answer_of : H → Command → Answer) (after : H → Comm
         same = told_same;
       })
 
-  pub clears_the_line : ReadsPackets → SchedulesAreMoves answer_of after → LinkLaws answer_of after → TellsAtOnce answer_of after
-      → HasAnAccountEach answer_of after → ClearsTheLine answer_of after
-  clears_the_line reads schedules laws tells counts config readers steps is moves =
+  pub clears_the_line : SeveralLinks answer_of after → TellsAtOnce answer_of after → ClearsTheLine answer_of after
+  clears_the_line on tells config readers steps is moves =
       let start = set_up config readers in
       let lost = clear (length readers) steps in
       let before = simulation.run answer_of after steps start in
       let waits = no_report before.bus.devices.report (tells config readers steps) in
       let places : length before.sites ≡ length readers =
-      sym (length-map before.sites (λ (site : ReaderSite H). site.account)) ∙ counts config readers steps in
-      let few = as_many_as_steps answer_of after schedules reads laws config readers is.settings steps
+      sym (length-map before.sites (λ (site : ReaderSite H). site.account)) ∙ on.counts config readers steps in
+      let few = as_many_as_steps answer_of after on.schedules on.reads on.laws config readers is.settings steps
       (well_on (after_step answer_of after) fault_of steps lost start is.well).0
       (holds_on (after_step answer_of after) (StepFits answer_of after) steps lost start is.fits).0 in
       let over : IsCleared before (simulation.run answer_of after (steps ++ lost) start) =
       subst (λ (t : LineState H). IsCleared before t) (sym (runs_on (after_step answer_of after) steps lost start))
-      (cleared reads.none before (length readers) steps waits places few moves) in
+      (cleared on.reads.none before (length readers) steps waits places few moves) in
       (over.line, over.same)
 
   pub each_recovers : EachComesThrough answer_of after → ClearsTheLine answer_of after → EachRecovers answer_of after

@@ -7,12 +7,11 @@ use Rattle.osdp_frame.specs.Packet.{Packet}
 use Rattle.osdp_frame.specs.Spelling.{spelling}
 use Rattle.osdp_msg.specs.declared.command.Command.{Command}
 use Rattle.osdp_controller.specs.Machine.{new_machine}
-use Rattle.osdp_controller_laws.specs.Calls.{ComesDue, IsInRange, StaysInRange, longest_wait}
+use Rattle.osdp_controller_laws.specs.Calls.{IsInRange, longest_wait}
 use Rattle.osdp_controller_laws.specs.Runs.{Begin}
 use Rattle.osdp_reader.specs.declared.handler.Answer.{Answer}
 use Rattle.osdp_bus.specs.Settings.{controller_config}
 use Rattle.osdp_bus.specs.declared.config.BusConfig.{BusConfig}
-use Rattle.osdp_link_laws.specs.Addresses.{StayWhereTheyAre}
 use Rattle.osdp_link_laws.specs.Headline.{MovesFit}
 use Rattle.osdp_link_laws.specs.Link as link
 use Rattle.osdp_link_laws.specs.Link.{Link}
@@ -28,7 +27,7 @@ use Rattle.osdp_shared_line.specs.Addresses.{IsSetUp, NetMovesFit}
 use Rattle.osdp_shared_line.specs.Line as line
 use Rattle.osdp_shared_line.specs.Line.{Net, NetMove, run, site_at}
 use Rattle.osdp_shared_line.specs.Progress.{IsEmpty}
-use Rattle.osdp_shared_line.specs.Runs.{AreItsSessions, EachHasSessionsInARow, EachIsALink, IsItsLink}
+use Rattle.osdp_shared_line.specs.Runs.{AreItsSessions, IsItsLink}
 use Rattle.osdp_shared_line.specs.Runs as runs
 use Rattle.osdp_shared_line.specs.Views.{own, view}
 use Rattle.osdp_shared_line.proofs.Running.{apart_all, apart_first}
@@ -41,7 +40,6 @@ use Rattle.osdp_bus_links.proofs.Names.{are_steady}
 use Rattle.osdp_sim.specs.Account.{Account}
 use Rattle.osdp_sim.specs.Rounds.{round, rounds}
 use Rattle.osdp_sim.specs.declared.step.SimStep.{SimStep}
-use Rattle.osdp_sim_bus.specs.Laws.{HasAnAccountEach}
 use Rattle.osdp_sim_bus.specs.Runs as simulation
 use Rattle.osdp_sim_bus.specs.Runs.{FitAlong}
 use Rattle.osdp_sim_bus.specs.State.{Given, LineState, ReaderSite, accounts, set_up}
@@ -49,17 +47,18 @@ use Rattle.osdp_sim_bus.specs.Steps.{StepFits, after_step, fault_of}
 use Rattle.osdp_sim_laws.specs.Accounts.{IsInSession, IsOf}
 use Rattle.osdp_sim_laws.proofs.Coming.{rounds_within}
 use Rattle.osdp_sim.proofs.Schedules.{holds_on, runs_on, well_on}
-use Rattle.osdp_sim_bus_laws.specs.Moves.{AreItsMoves, FollowsSites, SchedulesAreMoves, moves_of}
+use Rattle.osdp_sim_bus_laws.specs.Moves.{AreItsMoves, FollowsSites, moves_of}
 use Rattle.osdp_sim_bus_laws.proofs.Beginning.{first_net, first_site, follows_first, has_site, is_set_up, none_is_kept}
 use Rattle.osdp_sim_bus_laws.proofs.OneSession.{HasOne, none_earlier, one_first, one_run}
 use Rattle.osdp_sim_bus_laws.proofs.Scheduling.{moves_more}
 use Rattle.osdp_sim_bus_laws.proofs.Sites.{get_site, same_count}
 use Rattle.osdp_bus_progress.specs.Progress.{ComesOn, EachComesThrough, IsClear, IsReady, IsRun}
 use Rattle.osdp_bus_progress.specs.Resting.{EachRoundRests, IsAtRest}
+use Rattle.osdp_bus_progress.specs.SeveralLinks.{SeveralLinks}
 use Rattle.osdp_bus_progress.proofs.Along.{first_at, run_at_all}
 use Rattle.osdp_bus_progress.proofs.Bursts.{at_each}
 use Rattle.osdp_bus_progress.proofs.Ends.{NoEnd, lasts_there, none_before_rounds}
-use Rattle.osdp_bus_progress.proofs.Round.{fits_first, fits_then, AtRest, LinkLaws, site_within, sited}
+use Rattle.osdp_bus_progress.proofs.Round.{fits_first, fits_then, AtRest, site_within, sited}
 use Rattle.osdp_bus_progress.proofs.Rounds.{HasRounds, all_rounds, all_turns}
 use Rattle.osdp_bus_progress.proofs.Turns.{IsAway, IsTurn, once_around, some_turn}
 
@@ -131,10 +130,9 @@ module _ {H : Type 0} (answer_of : H → Command → Answer) (after : H → Comm
         queued = ap length (lists.queued.2 ∙ ap (λ es. es ++ t.queued) gone);
       }
 
-  module _ (schedules : SchedulesAreMoves answer_of after) (counts : HasAnAccountEach answer_of after)
-      (links : EachIsALink answer_of after) (rows : EachHasSessionsInARow answer_of after) (laws : LinkLaws answer_of after)
-      (in_time : progress.ComesThroughInTime answer_of after) (stays : StayWhereTheyAre answer_of after) (ranges : StaysInRange)
-      (comes : ComesDue) where
+  module _ (on : SeveralLinks answer_of after) where
+    open on use {schedules, counts, links, rows, laws, ranges, comes, laws.{in_time, stays}}
+
     module _ (config : BusConfig) (readers : List (Given H)) (steps : List SimStep) (m wait : ℕ)
         (is : IsRun answer_of after config readers (steps ++ rounds m wait)) (within : All IsInSession steps) where
       abbrev pub start : LineState H

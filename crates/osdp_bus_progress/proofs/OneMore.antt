@@ -4,11 +4,9 @@ use Rattle.std.specs.Prelude.{min, slice_get}
 use Rattle.osdp_msg.specs.declared.command.Command.{Command}
 use Rattle.osdp_controller.specs.Machine.{is_due}
 use Rattle.osdp_controller.specs.declared.state.State.TheVariants.{Idle}
-use Rattle.osdp_controller_laws.specs.Calls.{ComesDue, StaysInRange}
 use Rattle.osdp_reader.specs.declared.handler.Answer.{Answer}
 use Rattle.osdp_bus.specs.declared.config.BusConfig.{BusConfig}
 use Rattle.osdp_bus.specs.declared.device.Device.{Device}
-use Rattle.osdp_link_laws.specs.Addresses.{StayWhereTheyAre}
 use Rattle.osdp_link_laws.specs.Headline.{MovesFit}
 use Rattle.osdp_link_laws.specs.Link as link
 use Rattle.osdp_link_laws.specs.Link.{Link}
@@ -20,7 +18,6 @@ use Rattle.osdp_link_laws.proofs.OrdinaryRuns.{begins_so, steady_ordinary}
 use Rattle.osdp_shared_line.specs.Addresses.{NetMovesFit}
 use Rattle.osdp_shared_line.specs.Line.{Net, run}
 use Rattle.osdp_shared_line.specs.Runs as runs
-use Rattle.osdp_shared_line.specs.Runs.{EachHasSessionsInARow, EachIsALink}
 use Rattle.osdp_shared_line.specs.Views.{view}
 use Rattle.osdp_shared_line.proofs.Sites.{some_same}
 use Rattle.osdp_bus_links.specs.Links.{device_of}
@@ -28,23 +25,23 @@ use Rattle.osdp_sim.specs.Account.{Account}
 use Rattle.osdp_sim.specs.Rounds.{rounds}
 use Rattle.osdp_sim.specs.declared.step.SimStep.{SimStep}
 use Rattle.osdp_sim.proofs.Schedules.{runs_on}
-use Rattle.osdp_sim_bus.specs.Laws.{HasAnAccountEach}
 use Rattle.osdp_sim_bus.specs.Runs as simulation
 use Rattle.osdp_sim_bus.specs.State.{Given, LineState, ReaderSite, accounts, set_up}
 use Rattle.osdp_sim_bus.specs.Steps.{after_step}
 use Rattle.osdp_sim_laws.specs.Accounts.{IsInSession}
 use Rattle.osdp_sim_laws.specs.Resting.{BringsOneMore}
 use Rattle.osdp_sim_laws.proofs.Coming.{rounds_within}
-use Rattle.osdp_sim_bus_laws.specs.Moves.{FollowsSites, SchedulesAreMoves, moves_of}
+use Rattle.osdp_sim_bus_laws.specs.Moves.{FollowsSites, moves_of}
 use Rattle.osdp_sim_bus_laws.proofs.Beginning.{first_net, first_site}
 use Rattle.osdp_sim_bus_laws.proofs.OneSession.{none_earlier}
 use Rattle.osdp_sim_bus_laws.proofs.Sites.{get_site}
 use Rattle.osdp_bus_progress.specs.Progress.{IsRun}
 use Rattle.osdp_bus_progress.specs.Resting.{AreRounds, EachHasItsRound, EachIsIdle, EachRoundBringsOneMore, HasNotEnded, IsItsRound, after_rounds}
+use Rattle.osdp_bus_progress.specs.SeveralLinks.{SeveralLinks}
 use Rattle.osdp_bus_progress.proofs.Coming as coming
 use Rattle.osdp_bus_progress.proofs.Coming.{as_long, get_within, split_rounds, unmapped}
 use Rattle.osdp_bus_progress.proofs.Ends.{NoEnd, lasts_there, none_before_rounds}
-use Rattle.osdp_bus_progress.proofs.Round.{AtRest, LinkLaws, after_round, entry_there, next_round, round_net, sited}
+use Rattle.osdp_bus_progress.proofs.Round.{AtRest, after_round, entry_there, next_round, round_net, sited}
 use Rattle.osdp_bus_progress.proofs.Rounds.{Idles, idles_later, its_round, stands}
 use Rattle.osdp_bus_progress.proofs.Turns.{once_around}
 
@@ -65,10 +62,9 @@ module _ {H : Type 0} (answer_of : H → Command → Answer) (after : H → Comm
       let it = unmapped (λ (site : ReaderSite H). site.account) k a w.sites is.there in
       subst (λ (x : ReaderSite H). x.account.ends ≡ []) (some_same it.0 u (sym it.1 ∙ here)) (ap (λ (b : Account). b.ends) it.2 ∙ is.lasts)
 
-  module _ (schedules : SchedulesAreMoves answer_of after) (counts : HasAnAccountEach answer_of after)
-      (links : EachIsALink answer_of after) (rows : EachHasSessionsInARow answer_of after) (laws : LinkLaws answer_of after)
-      (in_time : progress.ComesThroughInTime answer_of after) (stays : StayWhereTheyAre answer_of after) (ranges : StaysInRange)
-      (comes : ComesDue) where
+  module _ (on : SeveralLinks answer_of after) where
+    open on use {counts, laws, ranges, comes, laws.{from_rest}}
+
     module _ (config : BusConfig) (readers : List (Given H)) (steps : List SimStep) (wait k : ℕ) where
       abbrev start : LineState H
       start = set_up config readers
@@ -104,16 +100,16 @@ module _ {H : Type 0} (answer_of : H → Command → Answer) (after : H → Comm
 
       between : (m : ℕ) → AreRounds answer_of after config readers steps m wait → NoEnd k (line_at m) → k < length readers → IsBetween m
       between m are none few =
-          let same = coming.sites_count answer_of after schedules counts links rows laws in_time stays ranges comes config readers steps m wait are.run_is are.within in
+          let same = coming.sites_count answer_of after on config readers steps m wait are.run_is are.within in
           let earlier = run answer_of after (moves_of answer_of after steps start) first in
           let s = simulation.run answer_of after steps start in
           let t = sited k earlier.sites (omega (arith, few, same)) in
-          let goes = coming.goes answer_of after schedules counts links rows laws in_time stays ranges comes config readers steps m wait are.run_is are.within in
-          let fit = coming.rounds_fit answer_of after schedules counts links rows laws in_time stays ranges comes config readers steps m wait are.run_is are.within in
-          let both_are = coming.both_are answer_of after schedules counts links rows laws in_time stays ranges comes config readers steps m wait are.run_is are.within m in
+          let goes = coming.goes answer_of after on config readers steps m wait are.run_is are.within in
+          let fit = coming.rounds_fit answer_of after on config readers steps m wait are.run_is are.within in
+          let both_are = coming.both_are answer_of after on config readers steps m wait are.run_is are.within m in
           let ran = runs_on (after_step answer_of after) steps (rounds m wait) start in
           let last = subst (NoEnd k) ran none in
-          let turn = coming.its_turn answer_of after schedules counts links rows laws in_time stays ranges comes config readers steps m wait are.run_is are.within are.long are.clear k t.0 t.1 last in
+          let turn = coming.its_turn answer_of after on config readers steps m wait are.run_is are.within are.long are.clear k t.0 t.1 last in
           let there = stands answer_of after laws ranges comes (length readers) wait k m turn.entry s earlier turn.rest goes fit last in
           record {
             entry = there.entry;
@@ -131,7 +127,7 @@ module _ {H : Type 0} (answer_of : H → Command → Answer) (after : H → Comm
       module _ (m more : ℕ) (are : AreRounds answer_of after config readers steps (m + more) wait) where
         are_first : AreRounds answer_of after config readers steps m wait
         are_first = record {
-          run_is = coming.fewer answer_of after schedules counts links rows laws in_time stays ranges comes config readers steps (m + more) wait are.run_is are.within m (omega arith);
+          run_is = coming.fewer answer_of after on config readers steps (m + more) wait are.run_is are.within m (omega arith);
           within = are.within;
           long = are.long;
           clear = are.clear;
@@ -147,10 +143,10 @@ module _ {H : Type 0} (answer_of : H → Command → Answer) (after : H → Comm
 
         goes_later : (r : ℕ) → r ≤ more
             → FollowsSites (simulation.run answer_of after (rounds r wait) (line_at m)) (run answer_of after (moves_of answer_of after (rounds r wait) (line_at m)) (sites_at m))
-        goes_later r few = coming.goes answer_of after schedules counts links rows laws in_time stays ranges comes config readers (steps ++ rounds m wait) more wait is_later within r few
+        goes_later r few = coming.goes answer_of after on config readers (steps ++ rounds m wait) more wait is_later within r few
 
         fits_later : NetMovesFit answer_of after (moves_of answer_of after (rounds more wait) (line_at m)) (sites_at m)
-        fits_later = coming.rounds_fit answer_of after schedules counts links rows laws in_time stays ranges comes config readers (steps ++ rounds m wait) more wait is_later within
+        fits_later = coming.rounds_fit answer_of after on config readers (steps ++ rounds m wait) more wait is_later within
 
         -- of as many rounds as there are readers one is its own
         has_round : NoEnd k (simulation.run answer_of after (rounds more wait) (line_at m)) → k < length readers → more ≡ length readers
@@ -166,7 +162,7 @@ module _ {H : Type 0} (answer_of : H → Command → Answer) (after : H → Comm
             (found.0, omega (arith, found.1, one), found.2)
 
       -- one round more, which is its own and not the first
-      module _ (from_rest : progress.ComesThroughFromRest answer_of after) (m : ℕ) (are : AreRounds answer_of after config readers steps (m + 1) wait) where
+      module _ (m : ℕ) (are : AreRounds answer_of after config readers steps (m + 1) wait) where
         abbrev next_line : LineState H
         next_line = after_round answer_of after laws wait (line_at m)
 
@@ -185,8 +181,8 @@ module _ {H : Type 0} (answer_of : H → Command → Answer) (after : H → Comm
             let same : it.at ≡ k = some_same it.at k (sym it.who ∙ own) in
             let now = it.now in
             let t = rest.there in
-            let l = coming.link_at answer_of after schedules counts links rows laws in_time stays ranges comes config readers more 1 wait is inside k t.0 t.1 in
-            let up = coming.up answer_of after schedules counts links rows laws in_time stays ranges comes config readers more 1 wait is inside in
+            let l = coming.link_at answer_of after on config readers more 1 wait is inside k t.0 t.1 in
+            let up = coming.up answer_of after on config readers more 1 wait is inside in
             let ms = runs.moves_of answer_of after k (moves_of answer_of after more start) first in
             let old = view k (first_site config l.given) first in
             let begun = up.begins k (first_site config l.given) l.begins in
@@ -211,9 +207,9 @@ module _ {H : Type 0} (answer_of : H → Command → Answer) (after : H → Comm
             let u_is = get_site k t.0 s.sites n.sites rest.follows.sites t.1 in
             let v_is = get_site k last next_line.sites net.sites it.rest.follows.sites seen.there in
             let u_long = as_long answer_of after u_is.0.account t.0.account t.0.earlier (none_earlier u_is.0.account t.0.account t.0.earlier u_is.2.tells
-            (coming.one_at answer_of after schedules counts links rows laws in_time stays ranges comes config readers more 1 wait is inside k u_is.0 u_is.1)) u_is.2.tells in
+            (coming.one_at answer_of after on config readers more 1 wait is inside k u_is.0 u_is.1)) u_is.2.tells in
             let v_long = as_long answer_of after v_is.0.account last.account last.earlier (none_earlier v_is.0.account last.account last.earlier v_is.2.tells
-            (coming.one_later answer_of after schedules counts links rows laws in_time stays ranges comes config readers more 1 wait is inside k v_is.0 v_is.1)) v_is.2.tells in
+            (coming.one_later answer_of after on config readers more 1 wait is inside k v_is.0 v_is.1)) v_is.2.tells in
             subst (λ (x : ReaderSite H). BringsOneMore x.account v.account) (some_same u_is.0 u (sym u_is.1 ∙ at))
             (subst (λ (y : ReaderSite H). BringsOneMore u_is.0.account y.account) (some_same v_is.0 v (sym v_is.1 ∙ there))
             (omega (arith, counted, u_long.settled, u_long.reported, v_long.settled, v_long.reported, v_long.issued, v_long.queued, ap length kept)))
@@ -235,8 +231,8 @@ module _ {H : Type 0} (answer_of : H → Command → Answer) (after : H → Comm
         some_same (device_of t.0) d (sym (entry_there answer_of after laws s (sites_at config readers steps wait k m) is.rest.follows k t.0 t.1) ∙ there) in
         subst (λ (e : Device). (due : ℕ) × (e.controller.session.state ≡ Idle due)) same (is.idles r few own t.0 t.1)
 
-    pub each_round_brings_one_more : progress.ComesThroughFromRest answer_of after → EachRoundBringsOneMore answer_of after
-    each_round_brings_one_more from_rest config readers steps r m wait k old new are few had own at lasts =
+    pub each_round_brings_one_more : EachRoundBringsOneMore answer_of after
+    each_round_brings_one_more config readers steps r m wait k old new are few had own at lasts =
         let one : suc m ≡ m + 1 = omega arith in
         let last = ap (λ c. after_rounds answer_of after config readers steps c wait) one ∙ later_is config readers steps wait k m 1 in
         let next = after_round answer_of after laws wait (after_rounds answer_of after config readers steps m wait) in
@@ -245,5 +241,5 @@ module _ {H : Type 0} (answer_of : H → Command → Answer) (after : H → Comm
         let v = unmapped (λ (site : ReaderSite H). site.account) k new next.sites there in
         subst (λ a. BringsOneMore a new) u.2
         (subst (λ b. BringsOneMore u.0.account b) v.2
-        (one_more config readers steps wait k from_rest m (subst (λ c. AreRounds answer_of after config readers steps c wait) one are) r few had own
+        (one_more config readers steps wait k m (subst (λ c. AreRounds answer_of after config readers steps c wait) one are) r few had own
         (below config readers steps wait k (suc m) new lasts) (no_end k new next (record { there = there; lasts = lasts.lasts })) u.0 v.0 u.1 v.1))

@@ -22,7 +22,6 @@ use Rattle.osdp_bus_laws.proofs.Places.{is_false as unless_true}
 use Rattle.osdp_link_laws.specs.Headline.{MovesFit}
 use Rattle.osdp_link_laws.specs.Link as link
 use Rattle.osdp_link_laws.specs.Link.{Delivered, Link}
-use Rattle.osdp_link_laws.specs.Peers.{ReadsWhatIsAsked}
 use Rattle.osdp_link_laws.specs.Progress as progress
 use Rattle.osdp_link_laws.proofs.Due.{closed_rests}
 use Rattle.osdp_link_laws.proofs.Numbers.{is_true}
@@ -47,6 +46,7 @@ use Rattle.osdp_sim_bus.proofs.Counts.{same_many}
 use Rattle.osdp_sim_laws.proofs.Resting.{EndsOrRests, IsLed, led_on, round_rests}
 use Rattle.osdp_sim_bus_laws.specs.Moves.{FollowsSites, each_reads, moment_of, moves_for, moves_of}
 use Rattle.osdp_sim_bus_laws.proofs.Sites.{same_count}
+use Rattle.osdp_bus_progress.specs.SeveralLinks.{LinkLaws}
 use Rattle.osdp_bus_progress.proofs.Along.{BusAt, DeviceAt, step_at}
 use Rattle.osdp_bus_progress.proofs.Ends.{NoEnd, lasts_there}
 use Rattle.osdp_bus_progress.proofs.Turns.{BusTicks, IsAfter, IsFirst, IsTurn, Lasts, LastingDue, first_around, next_turn, tick_is}
@@ -81,11 +81,6 @@ pub sited : {A : Type 0} (k : ℕ) (ss : List A) → k < length ss → (t : A) �
 sited k [] few = absurd (omega (arith, few))
 sited zero (t ∷ ss) few = (t, refl)
 sited (suc k) (t ∷ ss) few = sited k ss (omega (arith, few))
-
--- what is known of one link
-pub record LinkLaws {H : Type 0} (answer_of : H → Command → Answer) (after : H → Command → H) : Type 0 where
-  pub known : ReadsWhatIsAsked
-  pub rests : progress.ComesToRest answer_of after
 
 module _ {H : Type 0} (answer_of : H → Command → Answer) (after : H → Command → H) where
   -- of moves that fit, the first do, and so do the others after them

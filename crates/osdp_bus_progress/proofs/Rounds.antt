@@ -24,7 +24,8 @@ use Rattle.osdp_sim_bus.specs.State.{LineState}
 use Rattle.osdp_sim_bus_laws.specs.Moves.{FollowsSites, moves_of}
 use Rattle.osdp_shared_line.proofs.Sites.{some_same}
 use Rattle.osdp_bus_progress.specs.Resting.{IsItsRound}
-use Rattle.osdp_bus_progress.proofs.Round.{AtRest, LinkLaws, fits_then, NextRound, after_round, next_round, round_net, site_within}
+use Rattle.osdp_bus_progress.specs.SeveralLinks.{LinkLaws}
+use Rattle.osdp_bus_progress.proofs.Round.{AtRest, fits_then, NextRound, after_round, next_round, round_net, site_within}
 use Rattle.osdp_bus_progress.proofs.Ends.{NoEnd, lasts_there, none_before_rounds}
 use Rattle.osdp_bus_progress.proofs.Turns.{IsAway, away_next, once_around}
 

@@ -1,3 +1,4 @@
+pub mod SeveralLinks
 pub mod Progress
 pub mod Resting
 pub mod RowsOfRounds

@@ -10,17 +10,14 @@ ghost use Rattle.osdp_bus_progress.specs.RowsAfterLosses.{FourRoundsBringThree, 
 ghost use Rattle.osdp_bus_progress.specs.RowsOfRounds.{ThreeRoundsSettleTwoAndReportOne};
 ghost use Rattle.osdp_bus_progress.specs.RowsOfTaken.{OfTwoTakenOneIsSettled};
 ghost use Rattle.osdp_bus_progress.specs.RowsOfTurns.{ItsSecondRoundSettles, OneOfTwoIsItsRound};
+ghost use Rattle.osdp_bus_progress.specs.SeveralLinks.{SeveralLinks};
 
 use osdp_reader::Handler;
 use osdp_script::ScriptReader;
 
-/// Of n readers, over m rounds that lose nothing, m / n - 1 more commands and events of each are settled and reported, or all of them. m / n is rounded
-/// down.
-///
-/// This is said of each reader whose session has not ended. Each round is as long as the longest of the four waits, or longer. In the steps before the
-/// rounds no session begins again. They leave nothing on the line and no reader busy, and no COMSET to a device's address was issued.
-pub fn each_comes_through<H: Handler>()
-    ensures { EachComesThrough H.answer_of H.after }
+/// What the laws of progress stand on: the moves of a schedule, the theory of one link and of several, and progress of one link.
+fn stands_on_several_links<H: Handler>()
+    ensures { SeveralLinks H.answer_of H.after }
 {
     osdp_sim_bus_laws::schedules_are_moves::<H>();
     osdp_sim_bus::laws::has_an_account_each::<H>();
@@ -31,6 +28,17 @@ pub fn each_comes_through<H: Handler>()
     osdp_link_laws::stay_where_they_are::<H>();
     osdp_controller_laws::stays_in_range();
     osdp_controller_laws::ticks_come_due();
+}
+
+/// Of n readers, over m rounds that lose nothing, m / n - 1 more commands and events of each are settled and reported, or all of them. m / n is rounded
+/// down.
+///
+/// This is said of each reader whose session has not ended. Each round is as long as the longest of the four waits, or longer. In the steps before the
+/// rounds no session begins again. They leave nothing on the line and no reader busy, and no COMSET to a device's address was issued.
+pub fn each_comes_through<H: Handler>()
+    ensures { EachComesThrough H.answer_of H.after }
+{
+    stands_on_several_links::<H>();
 }
 
 /// A line that is cleared is empty, and each round after it ends at rest.
@@ -44,16 +52,8 @@ pub fn rests_between_rounds<H: Handler>()
     ensures cleared { ClearsTheLine H.answer_of H.after }
     ensures rest { EachRoundRests H.answer_of H.after }
 {
-    osdp_sim_bus_laws::schedules_are_moves::<H>();
-    osdp_sim_bus::laws::has_an_account_each::<H>();
+    stands_on_several_links::<H>();
     osdp_sim_bus::laws::tells_at_once::<H>();
-    osdp_shared_line::each_is_a_link::<H>();
-    osdp_shared_line::promises::each_has_sessions_in_a_row::<H>();
-    osdp_link_laws::reads_what_is_asked();
-    osdp_link_laws::comes_through::<H>();
-    osdp_link_laws::stay_where_they_are::<H>();
-    osdp_controller_laws::stays_in_range();
-    osdp_controller_laws::ticks_come_due();
 }
 
 /// A round is of the reader whose controller ticks in it. Of as many rounds as there are readers each reader has one, wherever they begin, where its session
@@ -66,15 +66,7 @@ pub fn each_round_brings_one_more<H: Handler>()
     ensures idle { EachIsIdle H.answer_of H.after }
     ensures more { EachRoundBringsOneMore H.answer_of H.after }
 {
-    osdp_sim_bus_laws::schedules_are_moves::<H>();
-    osdp_sim_bus::laws::has_an_account_each::<H>();
-    osdp_shared_line::each_is_a_link::<H>();
-    osdp_shared_line::promises::each_has_sessions_in_a_row::<H>();
-    osdp_link_laws::reads_what_is_asked();
-    osdp_link_laws::comes_through::<H>();
-    osdp_link_laws::stay_where_they_are::<H>();
-    osdp_controller_laws::stays_in_range();
-    osdp_controller_laws::ticks_come_due();
+    stands_on_several_links::<H>();
 }
 
 /// The same after any steps in which no session begins again, once the line is cleared (`rests_between_rounds`): over m such rounds each of n readers whose
