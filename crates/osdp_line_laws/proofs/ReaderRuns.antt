@@ -9,14 +9,12 @@ use Rattle.osdp_frame.specs.Receiving.{seen}
 use Rattle.osdp_device.specs.declared.status.DeviceStatus.{DeviceStatus}
 use Rattle.osdp_line_calls.specs.declared.reader_call.ReaderCall.{ReaderCall}
 use Rattle.osdp_line_calls.specs.declared.reader_call.ReaderCall.TheVariants.{At, Bytes, Silence, Tick, Event, Busy, Inputs, Outputs, Readers, Local}
-use Rattle.osdp_line_calls.specs.ReaderCalls.{CallFits, call_words}
 use Rattle.osdp_line_calls.specs.ReaderLines.{IsAnswered}
 use Rattle.osdp_line_calls.specs.ReaderSessions.{Called, Session, does}
 use Rattle.osdp_line_calls.specs.ReaderTexts.{waiting_line}
 use Rattle.osdp_line_laws.proofs.OfReaders.{call_steps}
-use Rattle.osdp_line_laws.specs.Calls.{IsCall}
 use Rattle.osdp_line_laws.specs.ReaderLines.{after_steps, ordered}
-use Rattle.osdp_line_laws.specs.ReaderRuns.{RunsAreCalls, after_all_said, after_said, all_said_text, line_after, moment_after, said_text, with_bytes}
+use Rattle.osdp_line_laws.specs.ReaderRuns.{IsSaid, RunsAreCalls, after_all_said, after_said, all_said_text, line_after, moment_after, said_text, with_bytes}
 
 -- ---- the whole device after a call
 
@@ -65,7 +63,7 @@ whole call s =
 
 record One (line : List ℕ) (s : Session) (text : List ℕ) (next : Session) : Type 0 where
   said : Option ReaderCall
-  is : IsCall call_words CallFits line said
+  is : IsSaid line said
   after : next ≡ after_said said s
   written : text ≡ said_text said s ++ waiting_line (length (after_said said s).reader.queue.events)
 
