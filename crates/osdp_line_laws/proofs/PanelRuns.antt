@@ -1,30 +1,25 @@
 -- A run of lines to a panel, line by line.
 use Rattle.std.proofs.Common.{◌≡◌, ◌∙◌, ap, subst, refl, ℕ, List, [], ◌∷◌, ◌++◌, Option, Some, None, inl, inr}
 use Rattle.osdp_line_calls.specs.Answers.{heard}
+use Rattle.osdp_line_calls.specs.Calls.{IsSaid}
 use Rattle.osdp_line_calls.specs.declared.panel_call.PanelCall.{PanelCall}
-use Rattle.osdp_line_calls.specs.declared.panel_call.PanelCall.TheVariants.{At, Add, Begin, Submit, Withdraw, Retarget, Bytes, Silence, Tick}
+use Rattle.osdp_line_calls.specs.declared.panel_call.PanelCall.TheVariants.{At}
+use Rattle.osdp_line_calls.specs.PanelCalls.{CallFits, call_words}
 use Rattle.osdp_line_calls.specs.PanelLines.{IsAnswered, refuses}
 use Rattle.osdp_line_calls.specs.PanelSessions.{Called, IsDue, Session, answered, ended, overhears}
 use Rattle.osdp_line_calls.specs.PanelTexts.{due_line}
 use Rattle.osdp_line_laws.proofs.OfPanels.{made}
-use Rattle.osdp_line_laws.specs.PanelRuns.{IsSaid, RunsAreCalls, Tells, after_said, said_text}
+use Rattle.osdp_line_laws.specs.PanelRuns.{RunsAreCalls, Tells, after_said, said_text}
 
 -- the whole panel after a call
 whole : (call : PanelCall) (s : Session) → (answered call s).session ≡ after_said (Some call) s
 whole (At later) s = refl
-whole (Add address) s = refl
-whole (Begin entry) s = refl
-whole (Submit entry command) s = refl
-whole (Withdraw entry) s = refl
-whole (Retarget entry address) s = refl
-whole (Bytes list) s = refl
-whole Silence s = refl
-whole Tick s = refl
+whole call s = refl
 
 -- one line: what it says, the panel after it, and what is told
 record One (line : List ℕ) (s : Session) (text : List ℕ) (next : Session) : Type 0 where
   said : Option PanelCall
-  is : IsSaid line said
+  is : IsSaid call_words CallFits line said
   after : next ≡ after_said said s
   due : Option ℕ
   is_due : IsDue (after_said said s) due

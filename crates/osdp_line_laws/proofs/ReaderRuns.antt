@@ -1,6 +1,7 @@
 -- A run of lines to a reader's device, line by line.
 use Rattle.std.proofs.Common.{◌≡◌, ◌∙◌, ap, refl, ℕ, List, [], ◌∷◌, ◌++◌, length, Option, Some, None, inl, inr}
 use Rattle.osdp_line_calls.specs.Answers.{heard}
+use Rattle.osdp_line_calls.specs.Calls.{IsSaid}
 use Rattle.osdp_reader.specs.State.{ReaderState}
 use Rattle.osdp_frame.specs.Receiving.{Received}
 use Rattle.osdp_device.specs.Status.{status_after, status_answer}
@@ -8,13 +9,14 @@ use Rattle.osdp_device.specs.Hearing.{hears_bytes}
 use Rattle.osdp_frame.specs.Receiving.{seen}
 use Rattle.osdp_device.specs.declared.status.DeviceStatus.{DeviceStatus}
 use Rattle.osdp_line_calls.specs.declared.reader_call.ReaderCall.{ReaderCall}
-use Rattle.osdp_line_calls.specs.declared.reader_call.ReaderCall.TheVariants.{At, Bytes, Silence, Tick, Event, Busy, Inputs, Outputs, Readers, Local}
+use Rattle.osdp_line_calls.specs.declared.reader_call.ReaderCall.TheVariants.{At, Bytes}
+use Rattle.osdp_line_calls.specs.ReaderCalls.{CallFits, call_words}
 use Rattle.osdp_line_calls.specs.ReaderLines.{IsAnswered}
 use Rattle.osdp_line_calls.specs.ReaderSessions.{Called, Session, does}
 use Rattle.osdp_line_calls.specs.ReaderTexts.{waiting_line}
 use Rattle.osdp_line_laws.proofs.OfReaders.{call_steps}
 use Rattle.osdp_line_laws.specs.ReaderLines.{after_steps, ordered}
-use Rattle.osdp_line_laws.specs.ReaderRuns.{IsSaid, RunsAreCalls, after_all_said, after_said, all_said_text, line_after, moment_after, said_text, with_bytes}
+use Rattle.osdp_line_laws.specs.ReaderRuns.{RunsAreCalls, after_all_said, after_said, all_said_text, line_after, moment_after, said_text, with_bytes}
 
 -- ---- the whole device after a call
 
@@ -23,29 +25,13 @@ line_with : (bytes : List ℕ) (now : ℕ) (r : ReaderState DeviceStatus) (l : R
 line_with [] now r l = refl
 line_with (byte ∷ bytes) now r l = refl
 
-line_is : (call : ReaderCall) (s : Session) → (does call s).session.line ≡ line_after call s.now s.line
-line_is (At later) s = refl
+pub line_is : (call : ReaderCall) (s : Session) → (does call s).session.line ≡ line_after call s.now s.line
 line_is (Bytes list) s = line_with list.items s.now s.reader s.line
-line_is Silence s = refl
-line_is Tick s = refl
-line_is (Event event) s = refl
-line_is (Busy busy) s = refl
-line_is (Inputs list) s = refl
-line_is (Outputs list) s = refl
-line_is (Readers list) s = refl
-line_is (Local tamper power) s = refl
+line_is call s = refl
 
 now_is : (call : ReaderCall) (s : Session) → (does call s).session.now ≡ moment_after call s.now
 now_is (At later) s = refl
-now_is (Bytes list) s = refl
-now_is Silence s = refl
-now_is Tick s = refl
-now_is (Event event) s = refl
-now_is (Busy busy) s = refl
-now_is (Inputs list) s = refl
-now_is (Outputs list) s = refl
-now_is (Readers list) s = refl
-now_is (Local tamper power) s = refl
+now_is call s = refl
 
 of_fields : (x : Session) (r : ReaderState DeviceStatus) (l : Received) (n : ℕ) → x.reader ≡ r → x.line ≡ l → x.now ≡ n
     → x ≡ record { reader = r; line = l; now = n }
@@ -63,7 +49,7 @@ whole call s =
 
 record One (line : List ℕ) (s : Session) (text : List ℕ) (next : Session) : Type 0 where
   said : Option ReaderCall
-  is : IsSaid line said
+  is : IsSaid call_words CallFits line said
   after : next ≡ after_said said s
   written : text ≡ said_text said s ++ waiting_line (length (after_said said s).reader.queue.events)
 

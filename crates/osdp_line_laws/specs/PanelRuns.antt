@@ -1,8 +1,8 @@
 -- A run of lines to a panel, from the first to the last: which calls the lines are, what is told of them, and what the panel is after them.
 use Rattle.std.specs.Prelude.{◌≡◌, ℕ, List, [], ◌∷◌, ◌++◌, Option, Some, None}
 use Rattle.osdp_bus_laws.specs.Calls.{Call, NextReport, after_calls}
-use Rattle.osdp_line_calls.specs.Answers.{Speaks, heard}
-use Rattle.osdp_line_calls.specs.Calls.{Says, SaysNothing}
+use Rattle.osdp_line_calls.specs.Answers.{Speaks}
+use Rattle.osdp_line_calls.specs.Calls as calls
 use Rattle.osdp_line_calls.specs.declared.panel_call.PanelCall.{PanelCall}
 use Rattle.osdp_line_calls.specs.declared.panel_call.PanelCall.TheVariants as line
 use Rattle.osdp_line_calls.specs.PanelCalls.{CallFits, call_words}
@@ -12,15 +12,8 @@ use Rattle.osdp_line_calls.specs.PanelSessions.{IsDue, Session, overhears}
 use Rattle.osdp_line_calls.specs.PanelTexts.{due_line, no_line}
 use Rattle.osdp_line_laws.specs.PanelLines.{calls_text, ordered}
 
--- a line says this call, or none
-abbrev pub IsSaid : List ℕ → Option PanelCall → Type 0
-IsSaid line (Some call) = Says call_words CallFits (heard line) call
-IsSaid line None = SaysNothing call_words CallFits (heard line)
-
 abbrev pub AreSaid : List (List ℕ) → List (Option PanelCall) → Type 0
-AreSaid [] [] = Unit {0}
-AreSaid (line ∷ lines) (said ∷ more) = IsSaid line said × AreSaid lines more
-AreSaid _ _ = ⊥
+AreSaid = calls.AreSaid call_words CallFits
 
 -- the moment of the calls to come is that of the last line of a moment
 abbrev pub moment_after : PanelCall → ℕ → ℕ

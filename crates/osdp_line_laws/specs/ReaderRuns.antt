@@ -3,8 +3,8 @@ use Rattle.std.specs.Prelude.{◌≡◌, ℕ, false, List, [], ◌∷◌, ◌++�
 use Rattle.osdp_frame.specs.Receiving.{Received, after_silence, after_tick, ends_silent, seen}
 use Rattle.osdp_device.specs.Telling.{after_all, items_of}
 use Rattle.osdp_frame.specs.Items.{left_over}
-use Rattle.osdp_line_calls.specs.Answers.{Speaks, heard}
-use Rattle.osdp_line_calls.specs.Calls.{Says, SaysNothing}
+use Rattle.osdp_line_calls.specs.Answers.{Speaks}
+use Rattle.osdp_line_calls.specs.Calls as calls
 use Rattle.osdp_line_calls.specs.declared.reader_call.ReaderCall.{ReaderCall}
 use Rattle.osdp_line_calls.specs.declared.reader_call.ReaderCall.TheVariants as line
 use Rattle.osdp_line_calls.specs.ReaderCalls.{CallFits, call_words}
@@ -13,15 +13,8 @@ use Rattle.osdp_line_calls.specs.ReaderSessions.{Session}
 use Rattle.osdp_line_calls.specs.ReaderTexts.{no_line, waiting_line}
 use Rattle.osdp_line_laws.specs.ReaderLines.{after_steps, ordered, steps_text}
 
--- a line says this call, or none
-abbrev pub IsSaid : List ℕ → Option ReaderCall → Type 0
-IsSaid line (Some call) = Says call_words CallFits (heard line) call
-IsSaid line None = SaysNothing call_words CallFits (heard line)
-
 abbrev pub AreSaid : List (List ℕ) → List (Option ReaderCall) → Type 0
-AreSaid [] [] = Unit {0}
-AreSaid (line ∷ lines) (said ∷ more) = IsSaid line said × AreSaid lines more
-AreSaid _ _ = ⊥
+AreSaid = calls.AreSaid call_words CallFits
 
 -- the moment of the calls to come is that of the last line of a moment
 abbrev pub moment_after : ReaderCall → ℕ → ℕ
