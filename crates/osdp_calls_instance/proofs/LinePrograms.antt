@@ -17,7 +17,7 @@ use Rattle.osdp_device.proofs.Pieces.{all_read, all_read_after, fewer_turns, las
 use Rattle.osdp_frame.proofs.Receipt.{received_new, received_silence, received_take, received_tick}
 use Rattle.osdp_device.proofs.Turning.{tells_in_turn}
 use Rattle.osdp_device.specs.Hearing.{Heard, hears_bytes, reads_all, then_hears, turns_left}
-use Rattle.osdp_frame.specs.Receiving.{IsAllRead, IsReceived, Received, after_silence, after_take, after_tick, count_taken, seen}
+use Rattle.osdp_frame.specs.Receiving.{IsAllRead, IsReceived, Received, after_silence, after_take, after_tick, count_taken}
 use Rattle.osdp_device.specs.Saying.{Said}
 use Rattle.osdp_device.specs.Status.{status_after, status_answer}
 use Rattle.osdp_device.specs.Telling.{after_all, after_items, items_of, listed, next_told, said_to_all}
@@ -30,6 +30,7 @@ use Rattle.osdp_line_calls.specs.declared.panel_call.PanelCall.TheVariants.{Add}
 use Rattle.osdp_line_calls.specs.declared.reader_call.ReaderCall.{ReaderCall}
 use Rattle.osdp_line_calls.specs.declared.reader_call.ReaderCall.TheVariants as line
 use Rattle.osdp_line_laws.proofs.OfReaders.{call_steps}
+use Rattle.osdp_line_laws.proofs.ReaderRuns.{line_is}
 use Rattle.osdp_line_laws.specs.PanelRuns as panel_runs
 use Rattle.osdp_line_laws.specs.ReaderRuns as device_runs
 use Rattle.osdp_link_laws.proofs.Lines.{each_all}
@@ -306,23 +307,6 @@ abbrev with_line : device.Session → Held DeviceStatus
 with_line s = record { reader = s.reader; line = s.line }
 
 -- what the whole device is after a line is what the call does
-hears_line : (bytes : List ℕ) (now : ℕ) (r : ReaderState DeviceStatus) (l : Received)
-    → (hears_bytes status_answer status_after bytes now r l).line ≡ device_runs.with_bytes bytes (seen now l)
-hears_line [] now r l = refl
-hears_line (b ∷ bytes) now r l = refl
-
-line_is : (call : ReaderCall) (s : device.Session) → (device.does call s).session.line ≡ device_runs.line_after call s.now s.line
-line_is (line.At later) s = refl
-line_is (line.Bytes list) s = hears_line list.items s.now s.reader s.line
-line_is line.Silence s = refl
-line_is line.Tick s = refl
-line_is (line.Event event) s = refl
-line_is (line.Busy busy) s = refl
-line_is (line.Inputs list) s = refl
-line_is (line.Outputs list) s = refl
-line_is (line.Readers list) s = refl
-line_is (line.Local tamper power) s = refl
-
 done_is : (call : ReaderCall) (s : device.Session) → with_line (device_runs.after_said (Some call) s) ≡ with_line (device.does call s).session
 done_is call s = same_device _ _ _ _ (sym (call_steps call s).reader) (sym (line_is call s))
 

@@ -21,7 +21,7 @@ use Rattle.osdp_reader.specs.State.{ReaderState}
 use Rattle.osdp_reader.specs.Table.{hears}
 use Rattle.osdp_reader.specs.declared.handler.Answer.{Answer}
 use Rattle.osdp_device.proofs.Pieces.{after_ended}
-use Rattle.osdp_calls.specs.Calls.{OfPanel, Silence}
+use Rattle.osdp_calls.specs.Calls.{Call, OfPanel, Silence}
 use Rattle.osdp_calls.specs.Ends.{Held, takes_event}
 use Rattle.osdp_calls.specs.Sayings.{after_hearing}
 use Rattle.osdp_calls_instance.proofs.LinePrograms.{both_own, bus_same, handing_own, hands, holding, more_calls, nexts_own, own_device, panels_own, read_out, reading_is}
@@ -101,18 +101,31 @@ module _ {H : Type 0} (answer_of : H → Command → Answer) (after : H → Comm
     undecided = ap (λ (h : frame.Held). Rattle.osdp_frame.specs.Held.decided false h.bytes) is ∙ decided_nothing false;
   }
 
+  -- the calls by which a burst is handed over, and those that read what is held as the line falls silent
+  abbrev pub handed_calls : ℕ → List ℕ → ℕ → Held H → List (Call H)
+  handed_calls k all now d = handing answer_of after (suc (turns_left all now d.line)) k all now d.reader d.line
+
+  abbrev pub read_calls : ℕ → List ℕ → ℕ → Held H → List (Call H)
+  read_calls k all now d =
+      let h = hears_bytes answer_of after all now d.reader d.line in
+      lines.reading answer_of after k h.reader (device.after_silence now h.line)
+
+  pub handed_over : (k : ℕ) (all : List ℕ) (now : ℕ) (d : Held H) → AreBytes all → d.line.held ≡ new_run → IsReceived d.line
+      → let h = hears_bytes answer_of after all now d.reader d.line in
+      device_after_each answer_of after (handed_calls k all now d) d ≡ holding h.reader h.line
+  handed_over k all now d fits none is =
+      (hands answer_of after (suc (turns_left all now d.line)) k all now d.reader d.line (omega arith) is (all_read_of d.line none) fits).is
+
   burst_is : (k b : ℕ) (bytes : List ℕ) (now : ℕ) (d : Held H) → AreBytes (b ∷ bytes) → d.line.held ≡ new_run → IsReceived d.line
       → hears_burst answer_of after (b ∷ bytes) now d ≡ device_after_each answer_of after (burst_calls answer_of after k (b ∷ bytes) now d) d
   burst_is k b bytes now d fits none is =
       let all = b ∷ bytes in
       let h = hears_bytes answer_of after all now d.reader d.line in
-      let turns = suc (turns_left all now d.line) in
-      let given = handing answer_of after turns k all now d.reader d.line in
-      let read = lines.reading answer_of after k h.reader (device.after_silence now h.line) in
-      let handed_over = hands answer_of after turns k all now d.reader d.line (omega arith) is (all_read_of d.line none) fits in
+      let given = handed_calls k all now d in
+      let read = read_calls k all now d in
       let goes : device_after_each answer_of after (given ++ Silence k now ∷ read) d ≡ silent_after now h =
       more_calls answer_of after given (Silence k now ∷ read) d
-      ∙ ap (device_after_each answer_of after (Silence k now ∷ read)) handed_over.is
+      ∙ ap (device_after_each answer_of after (Silence k now ∷ read)) (handed_over k all now d fits none is)
       ∙ reading_is answer_of after k h.reader (device.after_silence now h.line) in
       sym (goes ∙ ap (λ l. silent_after now (hears_bytes answer_of after all now d.reader l)) (quiet_is d.line none)
       ∙ burst_read b bytes now d.reader d.line fits)

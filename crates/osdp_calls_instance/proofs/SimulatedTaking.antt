@@ -27,8 +27,8 @@ use Rattle.osdp_calls.specs.Calls.{Silence}
 use Rattle.osdp_calls.specs.Ends.{Held}
 use Rattle.osdp_calls.specs.Sayings.{acted_on}
 use Rattle.osdp_frame.proofs.Receipt.{received_take}
-use Rattle.osdp_calls_instance.proofs.LinePrograms.{by_nexts, first_said, hands, holding, line_told, nothing_said, reading_is, received_read}
-use Rattle.osdp_calls_instance.proofs.SimulatedEnds.{all_read_of, first_read, quiet_is}
+use Rattle.osdp_calls_instance.proofs.LinePrograms.{by_nexts, first_said, holding, line_told, nothing_said, reading_is, received_read}
+use Rattle.osdp_calls_instance.proofs.SimulatedEnds.{all_read_of, first_read, handed_calls, handed_over, quiet_is, read_calls}
 use Rattle.osdp_calls_instance.proofs.SimulatedTakes.{more_takes, takes_each}
 use Rattle.osdp_calls_instance.specs.LinePrograms.{handing, nexts, unless_done}
 use Rattle.osdp_calls_instance.specs.LinePrograms as lines
@@ -160,10 +160,8 @@ module _ {H : Type 0} (answer_of : H → Command → Answer) (after : H → Comm
   burst_takes k b bytes now d fits none is =
       let all = b ∷ bytes in
       let h = hears_bytes answer_of after all now d.reader d.line in
-      let turns = suc (turns_left all now d.line) in
-      let given = handing answer_of after turns k all now d.reader d.line in
-      let read = lines.reading answer_of after k h.reader (device.after_silence now h.line) in
-      let handed = hands answer_of after turns k all now d.reader d.line (omega arith) is (all_read_of answer_of after d.line none) fits in
+      let given = handed_calls answer_of after k all now d in
+      let read = read_calls answer_of after k all now d in
       let both : Heard H → List Command =
       λ x. acted_on_all x.said ++ acted_on_all (said_to_all answer_of after (items_of (device.after_silence now x.line).held) x.reader) in
       let lo = left_over all in
@@ -177,8 +175,8 @@ module _ {H : Type 0} (answer_of : H → Command → Answer) (after : H → Comm
       ∙ ap (λ parts. acted_on_all (said_to_all answer_of after parts r)) (sym (reading_split all fits)) ∙ parts_take (reading all) r in
       more_takes answer_of after given (Silence k now ∷ read) d
       ∙ ap (λ x. x ++ takes_each answer_of after (Silence k now ∷ read) (device_after_each answer_of after given d))
-      (handing_acts turns k all now d.reader d.line (omega arith) is (all_read_of answer_of after d.line none) fits)
-      ∙ ap (λ x. acted_on_all h.said ++ takes_each answer_of after (Silence k now ∷ read) x) handed.is
+      (handing_acts (suc (turns_left all now d.line)) k all now d.reader d.line (omega arith) is (all_read_of answer_of after d.line none) fits)
+      ∙ ap (λ x. acted_on_all h.said ++ takes_each answer_of after (Silence k now ∷ read) x) (handed_over answer_of after k all now d fits none is)
       ∙ ap (λ x. acted_on_all h.said ++ x) (reading_acts k h.reader (device.after_silence now h.line))
       ∙ ap (λ l. both (hears_bytes answer_of after all now r l)) (quiet_is answer_of after d.line none)
       ∙ ap (λ x. both (then_reads answer_of after all x)) (first_read answer_of after now r d.line)

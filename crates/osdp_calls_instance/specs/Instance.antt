@@ -23,15 +23,7 @@ settings = default_config Sum 4
 abbrev pub device : ReaderConfig
 device = record {
   address = 0;
-  id = record {
-    vendor = 1 ∷ 2 ∷ 3 ∷ [];
-    model = 4;
-    version = 5;
-    serial = 6;
-    firmware_major = 7;
-    firmware_minor = 8;
-    firmware_build = 9;
-  };
+  id = record { vendor = 1 ∷ 2 ∷ 3 ∷ []; model = 4; version = 5; serial = 6; firmware_major = 7; firmware_minor = 8; firmware_build = 9 };
   caps = record { capabilities = record { items = [] } };
 }
 

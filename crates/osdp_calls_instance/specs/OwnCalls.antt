@@ -7,10 +7,17 @@ use Rattle.osdp_reader.specs.declared.handler.Answer.{Answer}
 use Rattle.osdp_shared_line.specs.Line.{changed, site_at}
 use Rattle.osdp_calls.specs.Accepted.{all_accepted, all_queued}
 use Rattle.osdp_calls.specs.Calls.{Call, NewPanel, OfPanel, Step, after_calls}
-use Rattle.osdp_calls.specs.Ends.{Held, device_after, held_by, is_of_device}
+use Rattle.osdp_calls.specs.Ends.{GoByTheirOwn, Held, device_after, held_by, is_of_device}
 use Rattle.osdp_calls.specs.Lines.{InUse, Station, bus_with}
 use Rattle.osdp_calls.specs.Premises.{AllKeep, IsSetUp}
-use Rattle.osdp_calls.specs.Promises.{HoldsPromises}
+use Rattle.osdp_calls.specs.Sayings.{AddsMakeTheBus}
+use Rattle.osdp_calls.specs.Promises.{CallsHoldOnce, HoldsPromises}
+
+-- what the laws of programs stand on: adding makes the bus, each end goes by its own calls, and the promises hold
+pub record StandsOnCalls {H : Type 0} (answer_of : H → Command → Answer) (after : H → Command → H) : Type 0 where
+  pub adds : AddsMakeTheBus
+  pub own : (l : InUse H) → GoByTheirOwn answer_of after l
+  pub hold : CallsHoldOnce answer_of after
 
 -- a kind of panel's program, beside devices with the handler H: what such a program is, and the bus in it; its own calls, what each makes of it,
 -- when it is one, and which calls of a line in use it is

@@ -6,7 +6,7 @@
 ghost use Rattle.osdp_calls_instance.specs.CPrograms.{MakesAnew, PanelCallsAreCalls, c_device, c_panel};
 ghost use Rattle.osdp_calls_instance.specs.Instance.{SomeCallsKeep};
 ghost use Rattle.osdp_calls_instance.specs.LinePrograms.{LinesAreThese, PanelLinesAreCalls, line_device, line_panel};
-ghost use Rattle.osdp_calls_instance.specs.OwnCalls.{CallTheLine, ProgramsHoldOnce};
+ghost use Rattle.osdp_calls_instance.specs.OwnCalls.{CallTheLine, ProgramsHoldOnce, StandsOnCalls};
 ghost use Rattle.osdp_calls_instance.specs.Rule.{TwoCallsKeepRule};
 ghost use Rattle.osdp_calls_instance.specs.SimulatedBus.{RunIsCalls, RunsFromASetUp};
 ghost use Rattle.osdp_calls_instance.specs.SimulatedOrder.{RunKeepsOrder, RunsHoldOnce};
@@ -37,6 +37,15 @@ pub fn rule_is_kept_by_two<H: Handler>()
     ensures { (handler : H) → TwoCallsKeepRule H.answer_of H.after handler }
 {}
 
+/// What the laws of programs stand on: adding makes the bus, each end goes by its own calls, and the promises hold of any calls.
+fn stands_on_calls<H: Handler>()
+    ensures { StandsOnCalls H.answer_of H.after }
+{
+    osdp_calls::adds_make_the_bus();
+    osdp_calls::ends_go_by_their_own_calls::<H>();
+    osdp_calls::calls_hold_once::<H>();
+}
+
 /// Whatever a panel's program in C and its devices' programs in C call, power losses among it, is a list of calls of a line in use: each call of a handle
 /// is the calls that `panel_calls` and `device_calls` name, and brings the bus and the devices to where these bring them. So the promises hold of
 /// them where these calls keep the premises. A panel whose handle is freed, made and given its devices, each call done, is one made anew.
@@ -45,9 +54,7 @@ pub fn calls_for_c_are_calls()
     ensures line { CallTheLine c_panel c_device program_answer program_after }
     ensures hold { ProgramsHoldOnce c_panel c_device program_answer program_after }
 {
-    osdp_calls::adds_make_the_bus();
-    osdp_calls::ends_go_by_their_own_calls::<ProgramAnswers>();
-    osdp_calls::calls_hold_once::<ProgramAnswers>();
+    stands_on_calls::<ProgramAnswers>();
 }
 
 /// What a run of lines to `osdp panel` and to `osdp reader` leaves is what the calls leave that these lines say. And whatever a panel and its devices
@@ -58,9 +65,7 @@ pub fn lines_are_calls()
     ensures line { CallTheLine line_panel line_device status_answer status_after }
     ensures hold { ProgramsHoldOnce line_panel line_device status_answer status_after }
 {
-    osdp_calls::adds_make_the_bus();
-    osdp_calls::ends_go_by_their_own_calls::<DeviceStatus>();
-    osdp_calls::calls_hold_once::<DeviceStatus>();
+    stands_on_calls::<DeviceStatus>();
     osdp_line_laws::a_panels_run_is_its_calls();
     osdp_line_laws::a_devices_run_is_its_calls();
 }
@@ -91,8 +96,7 @@ pub fn run_tells_the_same<H: Handler>()
     ensures reports { RunTellsTheSame H.answer_of H.after }
     ensures takes { RunTakesTheSame H.answer_of H.after }
 {
-    osdp_calls::adds_make_the_bus();
-    osdp_calls::ends_go_by_their_own_calls::<H>();
+    stands_on_calls::<H>();
     osdp_calls::says_what_goes_out::<H>();
     osdp_bus_laws::reports_are_told_once();
     osdp_sim_bus::laws::tells_at_once::<H>();

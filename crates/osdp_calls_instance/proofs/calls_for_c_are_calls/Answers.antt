@@ -6,8 +6,8 @@ use Rattle.osdp_calls_instance.proofs.calls_for_c_are_calls.Goals as goal
 
 pub returns : goal.returns
 returns c = record {
-  anew = makes_anew c.adds_make_the_bus.ensures;
-  line = call_the_line program_answer program_after c.ends_go_by_their_own_calls.ensures.own c_panel c_device panels_are devices_are;
-  hold = programs_hold program_answer program_after c.ends_go_by_their_own_calls.ensures.own c_panel c_device panels_are devices_are
-      c.calls_hold_once.ensures;
+  anew = makes_anew c.stands_on_calls.ensures.adds;
+  line = call_the_line program_answer program_after c.stands_on_calls.ensures.own c_panel c_device panels_are devices_are;
+  hold = programs_hold program_answer program_after c.stands_on_calls.ensures.own c_panel c_device panels_are devices_are
+      c.stands_on_calls.ensures.hold;
 }

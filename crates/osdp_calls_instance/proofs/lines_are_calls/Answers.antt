@@ -7,8 +7,8 @@ use Rattle.osdp_calls_instance.proofs.lines_are_calls.Goals as goal
 pub returns : goal.returns
 returns c = record {
   lines = lines_are_these c.a_panels_run_is_its_calls.ensures c.a_devices_run_is_its_calls.ensures;
-  line = call_the_line status_answer status_after c.ends_go_by_their_own_calls.ensures.own line_panel line_device
-      (panel_lines_are c.adds_make_the_bus.ensures) device_lines_are;
-  hold = programs_hold status_answer status_after c.ends_go_by_their_own_calls.ensures.own line_panel line_device
-      (panel_lines_are c.adds_make_the_bus.ensures) device_lines_are c.calls_hold_once.ensures;
+  line = call_the_line status_answer status_after c.stands_on_calls.ensures.own line_panel line_device
+      (panel_lines_are c.stands_on_calls.ensures.adds) device_lines_are;
+  hold = programs_hold status_answer status_after c.stands_on_calls.ensures.own line_panel line_device
+      (panel_lines_are c.stands_on_calls.ensures.adds) device_lines_are c.stands_on_calls.ensures.hold;
 }
