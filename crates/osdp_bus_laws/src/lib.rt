@@ -18,21 +18,16 @@ ghost use Rattle.osdp_bus_laws.specs.Settings.{DefaultsAreThese, DevicesAreSetAs
 ghost use Rattle.osdp_bus_laws.specs.Silences.{SilencesEndRuns};
 ghost use Rattle.osdp_bus_laws.specs.Turns.{TakesTurns};
 
-/// No address is that of, or reserved for, two entries.
-pub fn addresses_have_one_entry()
-    ensures { Always NoAddressOfTwo }
-{}
-
-/// A COMSET that waits or is outstanding is the only one of its entry, and its address is reserved for it.
-pub fn comsets_are_reserved()
-    ensures { Always ReserveTheirComsets }
-{}
-
+/// No address is that of, or reserved for, two entries. A COMSET that waits or is outstanding is the only one of its entry, and its address is
+/// reserved for it.
+///
 /// A reservation begins as a COMSET is accepted. It ends as the COMSET's Settled or Moved arises, as the COMSET is withdrawn or the
 /// device is sent to an address, and at nothing else: no refusal, no other withdrawal, and no report that leaves the COMSET unread
 /// or unsettled.
-pub fn reservations_last()
-    ensures { Always ReservationsLast }
+pub fn addresses_have_one_entry()
+    ensures apart { Always NoAddressOfTwo }
+    ensures comsets { Always ReserveTheirComsets }
+    ensures last { Always ReservationsLast }
 {}
 
 /// One exchange at most is outstanding on the whole line: that of who holds the line.
@@ -71,13 +66,11 @@ pub fn silences_end_runs()
 
 /// Bytes, also none of them, a silence, a tick and a session that begins leave the greater one of their moment and the greatest seen as the
 /// greatest; all other calls, and a session that may not begin, leave the greatest as it was.
-pub fn moments_are_seen()
-    ensures { (b : BusState) → MomentsAreSeen b }
-{}
-
+///
 /// What is held of a run that has ended is heard at the greatest moment seen as the call comes that ends it, and not at that of its last bytes.
-pub fn runs_are_heard_at_their_end()
-    ensures { Always RunsAreHeardAtTheirEnd }
+pub fn moments_are_seen()
+    ensures greatest { (b : BusState) → MomentsAreSeen b }
+    ensures runs { Always RunsAreHeardAtTheirEnd }
 {}
 
 /// A device that is sent to an address is at it, none is reserved for it, and its commands go on waiting; all other devices stay as they
@@ -88,30 +81,23 @@ pub fn retargets_set_the_address()
 
 /// Where nobody holds the line and no report waits, the first in turn that is due begins an exchange: its own frame goes out, all other
 /// devices stay as they are, the turn is that of the entry after it, and no report waits. Where none is due nothing happens.
-pub fn entries_take_turns()
-    ensures { (b : BusState) → TakesTurns b }
-{}
-
+///
 /// Turns are fair: between two exchanges of one entry, every other entry that was due all along has begun one.
-pub fn turns_are_fair()
-    ensures { Always TurnsAreFair }
+pub fn entries_take_turns()
+    ensures turns { (b : BusState) → TakesTurns b }
+    ensures fair { Always TurnsAreFair }
 {}
 
-/// A burst that goes out while an exchange holds the line is that exchange's own frame, and its deadline is reached.
-pub fn holders_send_their_frame()
-    ensures { (b : BusState) → HoldersSendTheirFrame b }
-{}
-
-/// It is, byte for byte, the burst that went out last on the line: the frame of an exchange that holds the line is the one that went out
-/// last, whatever was called since the bus was new.
-pub fn holders_send_the_same()
-    ensures { HoldersSendTheSame }
-{}
-
+/// A burst that goes out while an exchange holds the line is that exchange's own frame, and its deadline is reached. It is, byte for byte, the burst
+/// that went out last on the line: the frame of an exchange that holds the line is the one that went out last, whatever was called since the bus was
+/// new.
+///
 /// Where the holder is due, and its exchange still stands and is still due after the run has ended, the tick is its own: its burst, or
 /// the report that its session has ended. Else nothing goes out and nothing is told.
-pub fn due_holders_tick()
-    ensures { Always HoldersTick }
+pub fn holders_send_their_frame()
+    ensures frame { (b : BusState) → HoldersSendTheirFrame b }
+    ensures same { HoldersSendTheSame }
+    ensures due { Always HoldersTick }
 {}
 
 /// A session that begins leaves the waiting commands of its device in their order, none outstanding, and all other devices as they were.

@@ -1,5 +1,11 @@
-use Rattle.osdp_bus_laws.proofs.Moments.{moments_are_seen}
+use Rattle.osdp_bus.specs.Buses.{new_bus}
+use Rattle.osdp_bus_laws.specs.Calls.{after_calls}
+use Rattle.osdp_bus_laws.proofs.Calling.{always}
+use Rattle.osdp_bus_laws.proofs.Moments.{moments_are_seen, runs_are_heard}
 use Rattle.osdp_bus_laws.proofs.moments_are_seen.Goals as goal
 
 pub returns : goal.returns
-returns c = moments_are_seen
+returns c = record {
+  greatest = moments_are_seen;
+  runs = λ config calls is. runs_are_heard (after_calls calls (new_bus config)) (always config calls is);
+}

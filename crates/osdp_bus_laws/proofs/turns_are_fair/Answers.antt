@@ -1,8 +1,0 @@
-use Rattle.osdp_bus.specs.Buses.{new_bus}
-use Rattle.osdp_bus_laws.specs.Calls.{after_calls}
-use Rattle.osdp_bus_laws.proofs.Calling.{always}
-use Rattle.osdp_bus_laws.proofs.Fairness.{always_first, turns_are_fair}
-use Rattle.osdp_bus_laws.proofs.turns_are_fair.Goals as goal
-
-pub returns : goal.returns
-returns c = λ config calls is. turns_are_fair (after_calls calls (new_bus config)) (always config calls is) (always_first config calls is)
