@@ -124,3 +124,10 @@ abbrev pub HearsAsAMove : Type 0 → Type 0
 HearsAsAMove H = (b : BusState) (ss : List (Site H)) (now : ℕ) (bytes : List ℕ) → IsBusOf b ss → AreBytes bytes
     → (packets_in bytes ≡ [] → IsHeard b now bytes ss ss)
     × ((p : Packet) → packets_in bytes ≡ p ∷ [] → IsHeard b now bytes ss (first_gets p (max b.greatest now) ss))
+
+-- each call of a bus is a move of its controllers
+pub record CallsAreMoves {H : Type 0} (answer_of : H → Command → Answer) (after : H → Command → H) : Type 0 where
+  pub submits : SubmitsAsAMove answer_of after
+  pub begins : BeginsAsAMove answer_of after
+  pub ticks : TicksAsAMove answer_of after
+  pub hears : HearsAsAMove H

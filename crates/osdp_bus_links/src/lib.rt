@@ -2,7 +2,7 @@
 //! functions do nothing: their contracts are laws.
 #![tactic(auto)]
 
-ghost use Rattle.osdp_bus_links.specs.Links.{BeginsAsAMove, HearsAsAMove, SubmitsAsAMove, TicksAsAMove};
+ghost use Rattle.osdp_bus_links.specs.Links.{CallsAreMoves};
 ghost use Rattle.osdp_bus_links.specs.Premises.{BusSuffices};
 
 use osdp_reader::Handler;
@@ -16,10 +16,7 @@ use osdp_reader::Handler;
 /// over, a packet is heard by the first controller at its address; without a packet no controller changes. What a controller tells then
 /// waits to be told.
 pub fn calls_are_moves<H: Handler>()
-    ensures submits { SubmitsAsAMove H.answer_of H.after }
-    ensures begins { BeginsAsAMove H.answer_of H.after }
-    ensures ticks { TicksAsAMove H.answer_of H.after }
-    ensures hears { HearsAsAMove H }
+    ensures { CallsAreMoves H.answer_of H.after }
 {
     osdp_frame_laws::items_in_pieces();
     osdp_controller_laws::endings_are_told();

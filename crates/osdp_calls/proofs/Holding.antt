@@ -174,16 +174,7 @@ module _ {H : Type 0} (answer_of : H → Command → Answer) (after : H → Comm
   its_site k t l n h is =
       let o = of_station k t l n h is in
       let same = o.is in
-      record {
-        site = o.site;
-        there = o.at;
-        reader = same.reader;
-        account = same.account;
-        earlier = same.earlier;
-        entry = o.device;
-        is_entry = o.entry;
-        controller = same.controller;
-      }
+      record { site = o.site; there = o.at; reader = same.reader; account = same.account; earlier = same.earlier; entry = o.device; is_entry = o.entry; controller = same.controller }
 
   -- ---- a session that lasts, or what it leaves
 

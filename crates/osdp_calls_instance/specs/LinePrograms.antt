@@ -18,6 +18,9 @@ use Rattle.osdp_line_calls.specs.declared.panel_call.PanelCall.{PanelCall}
 use Rattle.osdp_line_calls.specs.declared.panel_call.PanelCall.TheVariants.{Add}
 use Rattle.osdp_line_calls.specs.declared.reader_call.ReaderCall.{ReaderCall}
 use Rattle.osdp_line_calls.specs.declared.reader_call.ReaderCall.TheVariants as line
+use Rattle.osdp_line_calls.specs.Calls.{AreSaid}
+use Rattle.osdp_line_calls.specs.PanelCalls as to_panel
+use Rattle.osdp_line_calls.specs.ReaderCalls as to_device
 use Rattle.osdp_line_laws.specs.PanelRuns as panel_runs
 use Rattle.osdp_line_laws.specs.ReaderRuns as device_runs
 use Rattle.osdp_reader.specs.State.{ReaderState}
@@ -146,9 +149,9 @@ after_device_lines (said ∷ more) s = after_device_lines more (after_device_lin
 
 pub record LinesAreThese : Type 0 where
   pub panel : (first last : panel.Session) (lines : List (List ℕ)) (text : List ℕ) → Speaks panel_lines.Answers first lines text last
-      → (said : List (Option PanelCall)) × panel_runs.AreSaid lines said × (last ≡ after_panel_lines said first)
+      → (said : List (Option PanelCall)) × AreSaid to_panel.call_words to_panel.CallFits lines said × (last ≡ after_panel_lines said first)
   pub device : (first last : device.Session) (lines : List (List ℕ)) (text : List ℕ) → Speaks device_lines.Answers first lines text last
-      → (said : List (Option ReaderCall)) × device_runs.AreSaid lines said × (last ≡ after_device_lines said first)
+      → (said : List (Option ReaderCall)) × AreSaid to_device.call_words to_device.CallFits lines said × (last ≡ after_device_lines said first)
 
 -- what lines are to a panel beside any devices, and to a device
 abbrev pub PanelLinesAreCalls : Type 0 → Type 0

@@ -2,7 +2,7 @@
 use Rattle.std.specs.Prelude.{◌≡◌, ℕ, List, [], ◌∷◌, ◌++◌, Option, Some, None}
 use Rattle.osdp_bus_laws.specs.Calls.{Call, NextReport, after_calls}
 use Rattle.osdp_line_calls.specs.Answers.{Speaks}
-use Rattle.osdp_line_calls.specs.Calls as calls
+use Rattle.osdp_line_calls.specs.Calls.{AreSaid}
 use Rattle.osdp_line_calls.specs.declared.panel_call.PanelCall.{PanelCall}
 use Rattle.osdp_line_calls.specs.declared.panel_call.PanelCall.TheVariants as line
 use Rattle.osdp_line_calls.specs.PanelCalls.{CallFits, call_words}
@@ -11,9 +11,6 @@ use Rattle.osdp_line_calls.specs.Passing.{Listening, opened_by}
 use Rattle.osdp_line_calls.specs.PanelSessions.{IsDue, Session, overhears}
 use Rattle.osdp_line_calls.specs.PanelTexts.{due_line, no_line}
 use Rattle.osdp_line_laws.specs.PanelLines.{calls_text, ordered}
-
-abbrev pub AreSaid : List (List ℕ) → List (Option PanelCall) → Type 0
-AreSaid = calls.AreSaid call_words CallFits
 
 -- the moment of the calls to come is that of the last line of a moment
 abbrev pub moment_after : PanelCall → ℕ → ℕ
@@ -53,4 +50,4 @@ Tells (said ∷ more) s text last =
 -- what a panel writes to a run of lines is what is told of the calls that these lines are, and it leaves the panel that these calls leave
 abbrev pub RunsAreCalls : Type 0
 RunsAreCalls = (first : Session) (lines : List (List ℕ)) (text : List ℕ) (last : Session) → Speaks Answers first lines text last
-    → (said : List (Option PanelCall)) × AreSaid lines said × Tells said first text last
+    → (said : List (Option PanelCall)) × AreSaid call_words CallFits lines said × Tells said first text last

@@ -4,7 +4,7 @@ use Rattle.osdp_frame.specs.Receiving.{Received, after_silence, after_tick, ends
 use Rattle.osdp_device.specs.Telling.{after_all, items_of}
 use Rattle.osdp_frame.specs.Items.{left_over}
 use Rattle.osdp_line_calls.specs.Answers.{Speaks}
-use Rattle.osdp_line_calls.specs.Calls as calls
+use Rattle.osdp_line_calls.specs.Calls.{AreSaid}
 use Rattle.osdp_line_calls.specs.declared.reader_call.ReaderCall.{ReaderCall}
 use Rattle.osdp_line_calls.specs.declared.reader_call.ReaderCall.TheVariants as line
 use Rattle.osdp_line_calls.specs.ReaderCalls.{CallFits, call_words}
@@ -12,9 +12,6 @@ use Rattle.osdp_line_calls.specs.ReaderLines.{Answers}
 use Rattle.osdp_line_calls.specs.ReaderSessions.{Session}
 use Rattle.osdp_line_calls.specs.ReaderTexts.{no_line, waiting_line}
 use Rattle.osdp_line_laws.specs.ReaderLines.{after_steps, ordered, steps_text}
-
-abbrev pub AreSaid : List (List ℕ) → List (Option ReaderCall) → Type 0
-AreSaid = calls.AreSaid call_words CallFits
 
 -- the moment of the calls to come is that of the last line of a moment
 abbrev pub moment_after : ReaderCall → ℕ → ℕ
@@ -63,4 +60,4 @@ after_all_said (said ∷ more) s = after_all_said more (after_said said s)
 -- what a device writes to a run of lines is what is told of the calls that these lines are, and it leaves the device that these calls leave
 abbrev pub RunsAreCalls : Type 0
 RunsAreCalls = (first : Session) (lines : List (List ℕ)) (text : List ℕ) (last : Session) → Speaks Answers first lines text last
-    → (said : List (Option ReaderCall)) × AreSaid lines said × (text ≡ all_said_text said first) × (last ≡ after_all_said said first)
+    → (said : List (Option ReaderCall)) × AreSaid call_words CallFits lines said × (text ≡ all_said_text said first) × (last ≡ after_all_said said first)

@@ -176,17 +176,8 @@ module _ {H : Type 0} (answer_of : H → Command → Answer) (after : H → Comm
   retargets : Retargets answer_of after
   retargets = record {
     set = λ l address closed small.
-        subst (λ fault. HasAddress address l (link.retargets fault address l)) (sym (may_set l.controller.session.state address closed small)) (record {
-          others = refl;
-          address = refl;
-          config = refl;
-          state = closed;
-          number = refl;
-          greatest = refl;
-          waiting = refl;
-          capacity = refl;
-          account = refl;
-        });
+        subst (λ fault. HasAddress address l (link.retargets fault address l)) (sym (may_set l.controller.session.state address closed small))
+        (record { others = refl; address = refl; config = refl; state = closed; number = refl; greatest = refl; waiting = refl; capacity = refl; account = refl });
     refused = λ l address why. ap (λ fault. link.retargets fault address l) (may_not l.controller.session.state address why).1;
   }
 

@@ -128,3 +128,9 @@ module _ {H : Type 0} (answer_of : H → Command → Answer) (after : H → Comm
       → let later = run answer_of after moves l in
       MoveFits answer_of after move later
       → IsOneOrNone move later (two_lists later.account) (two_lists (after_move answer_of after move later).account)
+
+  -- a link is such a machine
+  pub record IsTwoLists : Type 0 where
+    pub read : IsReadOff
+    pub moves : MovesInStep
+    pub offers : OffersOnce

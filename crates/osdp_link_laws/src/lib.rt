@@ -12,7 +12,7 @@ ghost use Rattle.osdp_link_laws.specs.Progress.{ComesThrough, ComesThroughFromRe
 ghost use Rattle.osdp_link_laws.specs.Clean.{GoesInTurn};
 ghost use Rattle.osdp_link_laws.specs.Refusals.{RefusesNoNumber, RefusesNoNumberWithoutRestart, SaysAllPlainly};
 ghost use Rattle.osdp_link_laws.specs.Sessions.{SessionsInARow};
-ghost use Rattle.osdp_link_laws.specs.TwoLists.{IsReadOff, KeepsInStep, MovesInStep, OffersOnce};
+ghost use Rattle.osdp_link_laws.specs.TwoLists.{IsTwoLists, KeepsInStep};
 
 pub mod effects;
 pub mod ends;
@@ -153,9 +153,7 @@ pub fn keeps_in_step()
 /// offered are a beginning of those queued, and hold those reported. Of the last command taken and the last event offered at most one isn't
 /// told yet.
 pub fn moves_in_step<H: Handler>()
-    ensures read { IsReadOff H.answer_of H.after }
-    ensures moves { MovesInStep H.answer_of H.after }
-    ensures offers { OffersOnce H.answer_of H.after }
+    ensures { IsTwoLists H.answer_of H.after }
 {
     read_each_other::<H>();
 }

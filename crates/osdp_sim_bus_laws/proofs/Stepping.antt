@@ -143,7 +143,7 @@ module _ {H : Type 0} (answer_of : H → Command → Answer) (after : H → Comm
                 tt,
               );
               follows = subst (FollowsSites (reopened place s)) (sym same) (unsaid answer_of after s (reopened place s) n next h
-                  (subst (λ (m : Net H). IsBusOf (reopened place s).bus m.sites) same (given.begins s.bus n place s.clock h.bus refusal))
+                  (subst (λ (m : Net H). IsBusOf (reopened place s).bus m.sites) same (given.calls.begins s.bus n place s.clock h.bus refusal))
                   (one_changes place site_begins t (begins_by None g t) s.sites n.sites h.sites at (λ u is. site_begun g u t closed leaves (known.accounts place t at) is))
                   (λ before all. same_coming place t (begins_by None g t) before n.sites at refl all) refl refl refl);
             }
@@ -155,14 +155,14 @@ module _ {H : Type 0} (answer_of : H → Command → Answer) (after : H → Comm
 
     step_comes : (step : SimStep) (s : LineState H) (n : Net H) → fault_of step s ≡ None → StepFits answer_of after step s
         → IsKnown n → FollowsSites s n → Comes answer_of after (moves_for step s) (after_step answer_of after step s) n
-    step_comes (step.Issue number c) s n well fits known h = issuing answer_of after given.submits number c s n fits h
+    step_comes (step.Issue number c) s n well fits known h = issuing answer_of after given.calls.submits number c s n fits h
     step_comes (step.Queue number e) s n well fits known h = queueing answer_of after number e s n h
     step_comes (step.Busy number busy) s n well fits known h = setting answer_of after number busy s n h
-    step_comes (step.Wait wait) s n well fits known h = waiting answer_of after given.ticks (moment_after wait s.clock) s n fits h
+    step_comes (step.Wait wait) s n well fits known h = waiting answer_of after given.calls.ticks (moment_after wait s.clock) s n fits h
     step_comes (step.ToReader move) s n well fits known h =
         to_readers answer_of after given.reads move s n well (each_of (λ (u : ReaderSite H). SaysFit answer_of after (packets_in (handed move s.to_readers)) u.reader) s.sites fits) h
     step_comes (step.ToController move) s n well fits known h =
-        to_bus answer_of after given.hears given.reads given.spells n.to_panel move s n refl well fits given.no_bytes
+        to_bus answer_of after given.calls.hears given.reads given.spells n.to_panel move s n refl well fits given.no_bytes
         (each_of (λ (q : ℕ × Packet). IsPlainlySaid q.1) n.to_panel known.plain) h
     step_comes (step.Reopen number) s n well fits known h =
         where_reopened (is_there number s) (number - 1) s n (quiet_where (is_there number s) (is_quiet (number - 1) s) well) known h

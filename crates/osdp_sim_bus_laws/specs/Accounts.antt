@@ -52,3 +52,7 @@ module _ {H : Type 0} where
     AccountsAreOnce = (config : BusConfig) (readers : List (Given H)) (steps : List SimStep) (answer : BusAnswer)
         → IsAnswer config readers steps answer → WasSetUp answer → All IsInSession (steps_done steps answer)
         → EachMeets (IsOnce answer_of after) readers (accounts_in answer)
+
+    pub record EachHoldsOnce : Type 0 where
+      pub row : StaysInARow
+      pub once : AccountsAreOnce

@@ -16,7 +16,7 @@ use Rattle.osdp_shared_line.specs.Line as line
 use Rattle.osdp_shared_line.specs.Line.{Net, NetMove, run, site_at}
 use Rattle.osdp_shared_line.specs.Views.{view}
 use Rattle.osdp_bus.specs.declared.config.BusConfig.{BusConfig}
-use Rattle.osdp_bus_links.specs.Links.{BeginsAsAMove, HearsAsAMove, IsBusOf, SubmitsAsAMove, TicksAsAMove, packets_on, tick_moves}
+use Rattle.osdp_bus_links.specs.Links.{CallsAreMoves, IsBusOf, packets_on, tick_moves}
 use Rattle.osdp_bus_links.specs.Premises.{AllOthersFit, BusSuffices, IsScheduled, NoneIsKept}
 use Rattle.osdp_sim.specs.Steps.{moment_after}
 use Rattle.osdp_sim.specs.declared.step.SimStep.{SimStep}
@@ -97,10 +97,7 @@ module _ {H : Type 0} where
   module _ (answer_of : H → Command → Answer) (after : H → Command → H) where
     -- what this stands on: the calls of a bus, and what its bytes are
     pub record OneBus : Type 0 where
-      pub submits : SubmitsAsAMove answer_of after
-      pub begins : BeginsAsAMove answer_of after
-      pub ticks : TicksAsAMove answer_of after
-      pub hears : HearsAsAMove H
+      pub calls : CallsAreMoves answer_of after
       pub suffices : BusSuffices answer_of after
       pub reads : ReadsPackets
       pub spells : SpellsBytes

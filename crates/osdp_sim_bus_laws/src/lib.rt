@@ -3,7 +3,7 @@
 #![tactic(auto)]
 
 ghost use Rattle.osdp_sim_bus_laws.specs.Accepted.{EachAccepts};
-ghost use Rattle.osdp_sim_bus_laws.specs.Accounts.{AccountsAreOnce, StaysInARow};
+ghost use Rattle.osdp_sim_bus_laws.specs.Accounts.{EachHoldsOnce};
 ghost use Rattle.osdp_sim_bus_laws.specs.Begun.{EachBeginsByReopens};
 ghost use Rattle.osdp_sim_bus_laws.specs.Moves.{BeginsAsSites, OneBus, SchedulesAreMoves, StepsAreMoves};
 
@@ -43,8 +43,7 @@ pub fn schedules_are_moves<H: Handler>()
 /// with the answer that this reader gave, and one more at most; the events reported are a beginning of those queued at it; its session ends
 /// at most once, and not by a refused number.
 pub fn each_account_holds_once<H: Handler>()
-    ensures row { StaysInARow H.answer_of H.after }
-    ensures once { AccountsAreOnce H.answer_of H.after }
+    ensures { EachHoldsOnce H.answer_of H.after }
 {
     schedules_are_moves::<H>();
     osdp_shared_line::each_is_a_link::<H>();

@@ -141,3 +141,7 @@ module _ {H : Type 0} (answer_of : H → Command → Answer) (after : H → Comm
   AnswersHoldOnce = (config : SimConfig) (handler : H) (steps : List SimStep) (answer : Result declared.Account (Fault declared.Account))
       → IsAnswer config handler steps answer → WasSetUp answer → All IsInSession (steps_done steps answer)
       → IsOnce config.reader handler (account_in answer)
+
+  pub record ScheduleHoldsOnce : Type 0 where
+    pub row : StaysInARow
+    pub once : AnswersHoldOnce

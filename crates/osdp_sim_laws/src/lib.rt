@@ -2,7 +2,7 @@
 #![tactic(auto)]
 
 ghost use Rattle.osdp_sim_laws.specs.Accepted.{AcceptsByRoom};
-ghost use Rattle.osdp_sim_laws.specs.Accounts.{AnswersHoldOnce, StaysInARow};
+ghost use Rattle.osdp_sim_laws.specs.Accounts.{ScheduleHoldsOnce};
 ghost use Rattle.osdp_sim_laws.specs.Begun.{BeginsByReopens};
 ghost use Rattle.osdp_sim_laws.specs.Clean.{GoesInTurn};
 ghost use Rattle.osdp_sim_laws.specs.Moves.{ScheduleIsMoves};
@@ -38,8 +38,7 @@ pub fn schedule_is_moves<H: Handler>()
 /// the answer that the reader gave, and one more at most; the events that the controller reported are a beginning of those queued; it ends
 /// at most once, and not by a refused number.
 pub fn schedule_holds_once<H: Handler>()
-    ensures row { StaysInARow H.answer_of H.after }
-    ensures once { AnswersHoldOnce H.answer_of H.after }
+    ensures { ScheduleHoldsOnce H.answer_of H.after }
 {
     stands_on_one_link::<H>();
 }

@@ -7,10 +7,7 @@ use Rattle.osdp_sim_bus_laws.proofs.schedules_are_moves.Goals as goal
 
 pub returns-clause-bus : goal.returns-clause-bus
 returns-clause-bus g c = record {
-  submits = c.calls_are_moves.ensures.submits;
-  begins = c.calls_are_moves.ensures.begins;
-  ticks = c.calls_are_moves.ensures.ticks;
-  hears = c.calls_are_moves.ensures.hears;
+  calls = c.calls_are_moves.ensures;
   suffices = c.bus_suffices.ensures;
   reads = record {
     one = λ p packet. c.reads_packets.ensures.one p (spelling p) ((c.one_spelling.ensures p (spelling p)).1 (packet, refl));
