@@ -175,7 +175,7 @@ module _ {H : Type 0} (answer_of : H → Command → Answer) (after : H → Comm
     linked_all first ms (move ∷ moves) up along scheduled fit linked =
         let n = run answer_of after ms first in
         let same : run answer_of after (ms ++ move ∷ []) first ≡ after_net answer_of after move n = net_run_more ms (move ∷ []) first in
-        let next = linked_on first ms move up along scheduled.0 (others move n scheduled.0 fit.0) fit.0 linked in
+        let next = linked_on first ms move up along scheduled.0 (others move n fit.0) fit.0 linked in
         subst (λ m. AreLinked answer_of after (run answer_of after moves m)) same
         (linked_all first (ms ++ move ∷ []) moves up (net_fits_more ms (move ∷ []) first along (fit.0, tt)) scheduled.1
         (subst (NetMovesFit answer_of after moves) (sym same) fit.1) (subst (AreLinked answer_of after) (sym same) next))

@@ -1,6 +1,5 @@
 -- Where no session begins again, each reader's account is that of one session.
 use Rattle.std.proofs.Common.{◌≡◌, ◌-◌, ◌==◌, ℕ, zero, suc, Bool, true, false, if◌then◌else◌, List, [], ◌∷◌, length, map, Option, Some, None, refl, subst, ap, ◌∙◌, arith}
-use Rattle.std.proofs.lemmas.List.{length-append}
 use Rattle.std.specs.Prelude.{slice_get, slice_set}
 use Rattle.std.specs.Option.{option_map_or}
 use Rattle.osdp_frame.specs.Items.{packets_in}
@@ -18,14 +17,14 @@ use Rattle.osdp_link_laws.proofs.Stages.{Each}
 use Rattle.osdp_sim.specs.Account.{Account}
 use Rattle.osdp_sim.specs.Line.{handed, left}
 use Rattle.osdp_sim.specs.Steps.{moment_after}
-use Rattle.osdp_sim.specs.declared.account.Lengths.{Lengths}
 use Rattle.osdp_sim.specs.declared.step.SimStep.{SimStep}
 use Rattle.osdp_sim.specs.declared.step.SimStep.TheVariants as step
 use Rattle.osdp_sim_bus.specs.Runs as simulation
 use Rattle.osdp_sim_bus.specs.Runs.{steps_done}
 use Rattle.osdp_sim_bus.specs.State.{Given, LineState, ReaderSite, new_site, set_up}
 use Rattle.osdp_sim_bus.specs.Steps.{after_step, all_hear, all_hear_each, changed_site, hears_run, is_there, issued, report_told, site_hears, site_is_busy, site_is_told, site_issues, site_queues, site_queues_unless, waited}
-use Rattle.osdp_sim_laws.specs.Accounts.{AreOver, IsInSession, IsOf}
+use Rattle.osdp_sim_laws.specs.Accounts.{IsInSession, IsOf}
+use Rattle.osdp_sim_laws.proofs.Accounts.{begun}
 use Rattle.osdp_sim_laws.proofs.Ends.{sessions_of_report}
 use Rattle.osdp_sim_laws.proofs.Holding.{of_one}
 use Rattle.osdp_sim_bus_laws.specs.Accounts.{AccountsAreOnce, StaysInARow, accounts_in}
@@ -130,19 +129,10 @@ module _ {H : Type 0} where
 
 -- ---- so it is one
 
-sessions_are : (cuts : List Lengths) (next : List Event) (earlier : List link.Account) (gone : List Event) → AreOver cuts next earlier gone
-    → length cuts ≡ suc (length earlier)
-sessions_are cuts next [] gone over = ap length over.0
-sessions_are cuts next (t ∷ earlier) gone (before, past, over, is) =
-    let more = sessions_are before t.queued earlier past over in
-    let begins = ap length is.begins in
-    let last = length-append before (is.at ∷ []) in
-    omega (arith, more, begins, last)
-
 pub none_earlier : (a : Account) (t : link.Account) (earlier : List link.Account) → IsOf a t earlier → HasOne a → earlier ≡ []
 none_earlier a t [] lists one = refl
 none_earlier a t (u ∷ earlier) lists one =
-    let many = sessions_are a.sessions t.queued (u ∷ earlier) lists.queued.0 lists.queued.1 in absurd (omega (arith, many, one))
+    let many = begun a.sessions t.queued (u ∷ earlier) lists.queued.0 lists.queued.1 in absurd (omega (arith, many, one))
 
 module _ {H : Type 0} (answer_of : H → Command → Answer) (after : H → Command → H) where
   pub all_once : StaysInARow answer_of after → AccountsAreOnce answer_of after
