@@ -5,6 +5,7 @@ pub mod Taking
 pub mod Drains
 pub mod Standing
 pub mod WholeItems
+pub mod Deciding
 pub mod Passed
 pub mod Pieces
 pub mod Works

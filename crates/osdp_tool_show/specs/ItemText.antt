@@ -95,10 +95,10 @@ is_refusal (PacketItem p) =
 is_refusal (SkippedItem b) = false
 is_refusal (RefusedItem fault) = true
 
--- in full each item has a line, else refusals alone
-abbrev pub has_line : Detail → RunItem → Bool
-has_line Full part = true
-has_line Refusals part = is_refusal part
+-- each item has a line, and not refusals alone
+abbrev pub is_full : Detail → Bool
+is_full Full = true
+is_full Refusals = false
 
 -- the line of an item: the number of its run, from 1, its place in the run, its text
 abbrev pub item_line : ℕ → ℕ → RunItem → List ℕ

@@ -1,5 +1,5 @@
 -- The text of show and check in the words of captures: lines, runs, readings, items.
-use Rattle.std.specs.Prelude.{◌≡◌, ◌↔◌, ℕ, ◌+◌, ◌<◌, ◌^◌, Bool, true, false, nat_lt, if◌then◌else◌, List, [], ◌∷◌, ◌++◌, length, flat_map, count_by, Some, None}
+use Rattle.std.specs.Prelude.{◌≡◌, ◌↔◌, ℕ, ◌+◌, ◌<◌, ◌^◌, ◌||◌, Bool, true, false, nat_lt, if◌then◌else◌, List, [], ◌∷◌, ◌++◌, length, flat_map, count_by, Some, None}
 use Rattle.std.specs.List.{concat}
 use Rattle.osdp_frame.specs.Bytes.{AreBytes}
 use Rattle.osdp_frame.specs.Reading.{RunItem, PacketItem, SkippedItem, RefusedItem, item_size, IsReading}
@@ -11,7 +11,7 @@ use Rattle.osdp_tool_streams.specs.Line.{line_bytes}
 use Rattle.osdp_tool_streams.specs.Runs.{with_bytes}
 use Rattle.osdp_tool_show.specs.declared.detail.Detail.{Detail}
 use Rattle.osdp_tool_show.specs.declared.detail.Detail.TheVariants.{Full, Refusals}
-use Rattle.osdp_tool_show.specs.ItemText.{has_line, is_refusal, item_line, counts_line}
+use Rattle.osdp_tool_show.specs.ItemText.{counts_line, is_full, is_refusal, item_line}
 use Rattle.osdp_tool_show.specs.Shown.{shown, shown_so_far, is_refused_input}
 
 -- ---- the runs of an input
@@ -62,7 +62,7 @@ AreReadings (run ∷ runs) (parts ∷ readings) = IsReading run parts × AreRead
 abbrev pub items_text : Detail → ℕ → ℕ → List RunItem → List ℕ
 items_text detail run place [] = []
 items_text detail run place (part ∷ parts) =
-    (if has_line detail part then item_line run place part else []) ++ items_text detail run (place + item_size part) parts
+    (if is_full detail || is_refusal part then item_line run place part else []) ++ items_text detail run (place + item_size part) parts
 
 -- the items of run after run, of which the first has this number
 abbrev pub readings_text : Detail → ℕ → List (List RunItem) → List ℕ

@@ -1,5 +1,8 @@
 //! How much is told of a capture.
 
+ghost use Rattle.std.specs.Prelude.{◌≡◌};
+ghost use Rattle.osdp_tool_show.specs.ItemText.{is_full};
+
 /// How much is told of a capture.
 #[derive(Clone, Copy, Debug, PartialEq, Eq)]
 pub enum Detail {
@@ -7,4 +10,17 @@ pub enum Detail {
     Full,
     /// Refusals alone have one, as `osdp check` prints it: a line of counts tells of the rest.
     Refusals,
+}
+
+impl Detail {
+    /// Whether each item has a line.
+    #[inline(always)]
+    pub fn is_full(self) -> bool
+        ensures { result ≡ is_full self }
+    {
+        match self {
+            Detail::Full => true,
+            Detail::Refusals => false,
+        }
+    }
 }

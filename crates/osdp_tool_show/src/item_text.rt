@@ -117,7 +117,7 @@ fn push_read_packet<M: Told>(
     let bytes = view.payload();
     let read = M::read_message(code, bytes);
     let refused = is_refused(&read);
-    if let (Detail::Refusals, false) = (detail, refused) {
+    if !detail.is_full() && !refused {
         return Ok(false);
     }
     push_front(text, tally, view)?;
@@ -139,13 +139,13 @@ pub(crate) fn push_packet(
     ensures line { OnOk result (string_bytes text.new ≡ string_bytes text.old ++ shown_line detail tally.now (PacketItem view.now)) }
 {
     if view.has_block() {
-        if let Detail::Full = detail {
+        if detail.is_full() {
             push_unread_packet(text, tally, view)?;
         }
         return Ok(false);
     }
     if let Some(name) = bare_name(view) {
-        if let Detail::Full = detail {
+        if detail.is_full() {
             push_named_packet(text, tally, view, name)?;
         }
         return Ok(false);
@@ -166,7 +166,7 @@ pub(crate) fn push_skipped(
     requires { tally.now.runs + 1 < 2 ^ 64 }
     ensures { OnOk result (string_bytes text.new ≡ string_bytes text.old ++ shown_line detail tally.now (SkippedItem byte)) }
 {
-    if let Detail::Refusals = detail {
+    if !detail.is_full() {
         return Ok(());
     }
     push_place(text, tally)?;

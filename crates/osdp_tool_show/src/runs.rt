@@ -67,9 +67,9 @@ fn pass_skipped(report: &mut Report, bytes: &[u8]) -> usize
 fn own_item(detail: Detail, bytes: &[u8]) -> Option<Item<'_>>
     ensures { IfSome result (λ item. by_itself (decided false bytes.now) ≡ Some (item_of item)) }
 {
-    match (whole_item(bytes), detail) {
-        (Some(Item::Skipped(_)), Detail::Refusals) => None,
-        (item, _) => item,
+    match whole_item(bytes) {
+        Some(Item::Skipped(_)) if !detail.is_full() => None,
+        item => item,
     }
 }
 
@@ -148,6 +148,7 @@ fn take_held<W: Write>(
 /// How many of these bytes the framer is given, where so many before them needed none: none then, since the next may
 /// need none either. A framer that holds nothing is given as many as decide the first item. One that holds some is given
 /// one at a time at first, since where nothing is held after an item the next ones need no framer.
+#[tactic(auto, using(crate::proofs::Deciding::decides_some))]
 fn given_count(is_empty: bool, whole: usize, tries: u8, bytes: &[u8]) -> usize
     ensures within { result ≤ length bytes.now }
     ensures some { 0 < length bytes.now → 0 < whole + result }
