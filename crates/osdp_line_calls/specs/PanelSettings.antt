@@ -11,7 +11,7 @@ use Rattle.osdp_line_calls.specs.declared.panel_command.PanelSetting.{PanelSetti
 use Rattle.osdp_line_calls.specs.declared.panel_command.PanelSetting.TheVariants.{Check, ReplyWait, PollInterval, Sends, BusyWait, BusyLimit, QuietWait, Gap, Capacity}
 use Rattle.osdp_line_calls.specs.declared.wrong.WrongSetting.{WrongSetting}
 use Rattle.osdp_line_calls.specs.Wrong.{IsWrong}
-use Rattle.osdp_line_calls.specs.Settings.{Entry, IsSends, Make, ReadsSettings, SettingFits, setting_words}
+use Rattle.osdp_line_calls.specs.Settings.{Entry, IsSends, Make, SettingFits, setting_words}
 
 -- the name of each, its value as a word, and the range that is asked of it
 abbrev pub entry : PanelSetting → Entry
@@ -42,9 +42,6 @@ put s c = Some (with_setting s c)
 -- without settings packets end with a CRC, and 64 commands may wait for each device
 abbrev pub defaults : BusConfig
 defaults = default_config Crc 64
-
-abbrev pub ReadsPanel : List (List ℕ) → Option BusConfig → Type 0
-ReadsPanel = ReadsSettings (setting_words entry) (SettingFits entry) put defaults
 
 -- the words are settings of a panel, and they make this bus of the defaults
 abbrev pub AreOfPanel : List (List ℕ) → BusConfig → Type 0

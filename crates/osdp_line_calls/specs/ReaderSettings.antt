@@ -11,7 +11,7 @@ use Rattle.osdp_line_calls.specs.declared.reader_command.ReaderSetting.TheVarian
 use Rattle.osdp_line_calls.specs.declared.reader_command.ReaderSettings.{ReaderSettings}
 use Rattle.osdp_line_calls.specs.declared.wrong.WrongSetting.{WrongSetting}
 use Rattle.osdp_line_calls.specs.Wrong.{IsWrong}
-use Rattle.osdp_line_calls.specs.Settings.{Entry, IsTriple, IsVendor, Make, ReadsSettings, SettingFits, setting_words}
+use Rattle.osdp_line_calls.specs.Settings.{Entry, IsTriple, IsVendor, Make, SettingFits, setting_words}
 
 -- the name of each, its value as a word, and the range that is asked of it
 abbrev pub entry : ReaderSetting → Entry
@@ -63,9 +63,6 @@ defaults = record {
   room = 64;
   gap = 20;
 }
-
-abbrev pub ReadsReader : List (List ℕ) → Option ReaderSettings → Type 0
-ReadsReader = ReadsSettings (setting_words entry) (SettingFits entry) put defaults
 
 -- the words are settings of a reader, and they make this one of the defaults
 abbrev pub AreOfReader : List (List ℕ) → ReaderSettings → Type 0

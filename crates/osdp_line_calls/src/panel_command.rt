@@ -5,9 +5,9 @@ ghost use Rattle.std.specs.Result.{result_ok};
 ghost use Rattle.osdp_bus.specs.Settings.{IsBusConfig};
 ghost use Rattle.osdp_words.specs.Reading.{ReadsWords};
 ghost use Rattle.osdp_words.specs.Word.{texts};
-ghost use Rattle.osdp_line_calls.specs.PanelSettings.{IsWrongOfPanel, ReadsPanel, entry, with_setting};
+ghost use Rattle.osdp_line_calls.specs.PanelSettings.{IsWrongOfPanel, defaults, entry, put, with_setting};
 ghost use Rattle.osdp_line_calls.specs.Runs.{IsPanelOf};
-ghost use Rattle.osdp_line_calls.specs.Settings.{SettingFits, setting_words};
+ghost use Rattle.osdp_line_calls.specs.Settings.{ReadsSettings, SettingFits, setting_words};
 
 use crate::panel_session::LinePanel;
 use crate::run::LineCommand;
@@ -82,7 +82,7 @@ impl PanelSetting {
 /// The bus that the words set: each name, in any order, with its value after it. What no word sets has its default, and where
 /// a name stands twice, its later value holds. Where the words are no settings, the first that are none.
 pub fn panel_settings<'a>(words: &'a [&'a str]) -> Result<BusConfig, WrongSetting<'a>>
-    ensures reads { ReadsPanel (texts words.now) (result_ok result) }
+    ensures reads { ReadsSettings (setting_words entry) (SettingFits entry) put defaults (texts words.now) (result_ok result) }
     ensures range { IfOk result IsBusConfig }
     ensures wrong { IfErr result (λ wrong. IsWrongOfPanel (texts words.now) wrong) }
 {

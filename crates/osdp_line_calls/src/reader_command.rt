@@ -4,9 +4,9 @@ ghost use Rattle.std.specs.Prelude.{◌≡◌, ◌∷◌, [], IfErr, IfOk};
 ghost use Rattle.std.specs.Result.{result_ok};
 ghost use Rattle.osdp_words.specs.Reading.{ReadsWords};
 ghost use Rattle.osdp_words.specs.Word.{texts};
-ghost use Rattle.osdp_line_calls.specs.ReaderSettings.{AreInRange, IsWrongOfReader, ReadsReader, defaults, entry, put, put_capability};
+ghost use Rattle.osdp_line_calls.specs.ReaderSettings.{AreInRange, IsWrongOfReader, defaults, entry, put, put_capability};
 ghost use Rattle.osdp_line_calls.specs.Runs.{IsDeviceOf};
-ghost use Rattle.osdp_line_calls.specs.Settings.{SettingFits, setting_words};
+ghost use Rattle.osdp_line_calls.specs.Settings.{ReadsSettings, SettingFits, setting_words};
 
 use crate::reader_session::LineDevice;
 use crate::run::LineCommand;
@@ -146,7 +146,7 @@ fn default_settings() -> ReaderSettings
 /// name stands twice, its later value holds, but each `cap` adds a capability, 477 at most. Where the words are no settings, the
 /// first that are none.
 pub fn reader_settings<'a>(words: &'a [&'a str]) -> Result<ReaderSettings, WrongSetting<'a>>
-    ensures reads { ReadsReader (texts words.now) (result_ok result) }
+    ensures reads { ReadsSettings (setting_words entry) (SettingFits entry) put defaults (texts words.now) (result_ok result) }
     ensures range { IfOk result AreInRange }
     ensures wrong { IfErr result (λ wrong. IsWrongOfReader (texts words.now) wrong) }
 {
