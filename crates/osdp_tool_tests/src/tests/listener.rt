@@ -2,6 +2,7 @@
 
 use osdp_test_packets::bytes_of;
 use osdp_tool_monitor::Listener;
+use osdp_tool_show::Detail;
 use std::process::Abort;
 
 /// Each line is a run. The reader answers a repeat anew, and the panel goes on without an answer.
@@ -39,7 +40,7 @@ fn hears(rt: &impl Abort, listener: &mut Listener, digits: &str, text: &mut Stri
 
 /// One listener hears all runs, and prints this of them.
 fn prints(rt: &(impl Abort + AllocGlobal), runs: &str, report: &str) {
-    let mut listener = Listener::new(rt.alloc(), false).expect(rt, "memory");
+    let mut listener = Listener::new(rt.alloc(), Detail::Refusals).expect(rt, "memory");
     let mut text = String::new(rt.alloc());
     for digits in runs.lines() {
         hears(rt, &mut listener, digits, &mut text);
