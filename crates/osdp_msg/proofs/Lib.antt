@@ -13,4 +13,3 @@ pub mod RecordWordRows
 pub mod RowTexts
 pub mod CommandTextRows
 pub mod ReplyTextRows
-pub mod EventTextRows

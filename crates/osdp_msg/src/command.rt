@@ -12,6 +12,7 @@ use crate::command_fields::{Buzzer, Communication, MakerMessage, Text};
 use crate::fault::{BadWords, MsgFault};
 use crate::leds::Leds;
 use crate::limits::MAX_MESSAGE;
+use crate::making::row;
 use crate::outputs::Outputs;
 use crate::parsing::parse_byte;
 use crate::placing::{copy_list, place_list};
@@ -138,12 +139,12 @@ fn parse_row(name: &str, fields: Fields<'_>) -> Option<Command>
         "ISTAT" => fields.is_empty().then_some(Command::InputStatus),
         "OSTAT" => fields.is_empty().then_some(Command::OutputStatus),
         "RSTAT" => fields.is_empty().then_some(Command::ReaderStatus),
-        "OUT" => Outputs::parse(fields).map(Command::Output),
-        "LED" => Leds::parse(fields).map(Command::Led),
+        "OUT" => row(Outputs::parse, fields, Command::Output),
+        "LED" => row(Leds::parse, fields, Command::Led),
         "BUZ" => Buzzer::parse(fields).map(Command::Buzzer),
-        "TEXT" => Text::parse(fields).map(Command::Text),
+        "TEXT" => row(Text::parse, fields, Command::Text),
         "COMSET" => Communication::parse(fields).map(Command::Comset),
-        "MFG" => MakerMessage::parse(fields).map(Command::Maker),
+        "MFG" => row(MakerMessage::parse, fields, Command::Maker),
         _ => None,
     }
 }

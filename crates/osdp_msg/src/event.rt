@@ -10,9 +10,8 @@ ghost use Rattle.osdp_msg.specs.ReplyTable.{reply_code, reply_data};
 use crate::fault::BadWords;
 use crate::limits::{MAX_DATA, MAX_MESSAGE};
 use crate::making::put;
-use crate::parsing::parse_states;
 use crate::raw::Raw;
-use crate::reply::Reply;
+use crate::reply::{self, Reply};
 use crate::reply_fields::{Formatted, Keypad, LocalState};
 use crate::spelling::{list_of, put_bytes};
 use arrayvec::ArrayVec;
@@ -44,29 +43,11 @@ const UNTOLD: LocalState = LocalState {
     power: 0,
 };
 
-/// The event whose text begins with a name and goes on with these fields.
-// These are rows of the table of replies. They stand here too, so that no whole reply has to stand beside the event on the stack.
-fn parse_row(name: &str, fields: Fields<'_>) -> Option<Event>
-    ensures { ReadsWords event_words EventFits (name.now ∷ fields.entry) result }
-{
-    match name {
-        "LSTATR" => LocalState::parse(fields).map(Event::LocalState),
-        "ISTATR" => parse_states(fields).map(Event::Inputs),
-        "OSTATR" => parse_states(fields).map(Event::Outputs),
-        "RSTATR" => parse_states(fields).map(Event::Readers),
-        "RAW" => Raw::parse(fields).map(Event::Raw),
-        "FMT" => Formatted::parse(fields).map(Event::Formatted),
-        "KEYPAD" => Keypad::parse(fields).map(Event::Keypad),
-        _ => None,
-    }
-}
-
 /// The event whose text has these words.
-fn parse_fields(mut fields: Fields<'_>) -> Option<Event>
+fn parse_fields(fields: Fields<'_>) -> Option<Event>
     ensures { ReadsWords event_words EventFits fields.entry result }
 {
-    let name = fields.word()?;
-    parse_row(name, fields)
+    reply::parse_fields(fields)?.to_event().ok()
 }
 
 impl Event {

@@ -1,5 +1,9 @@
 //! Messages that are made in a function of their own.
 
+ghost use Rattle.std.specs.Prelude.{◌≡◌, Option, None, MatchOption, IsSomeAnd};
+
+use osdp_words::Fields;
+
 /// Puts what is made there.
 // It is not inlined, so that a function with a row for each kind of message has no place on the stack for each.
 #[inline(never)]
@@ -8,4 +12,19 @@ pub(crate) fn put<M: Drop, F: FnOnce() -> M>(make: F, place: &mut M)
     ensures { F.post make place.new }
 {
     *place = make();
+}
+
+/// What is made of the value that the fields of a text are read as, or none.
+// It is not inlined, for the same.
+#[inline(never)]
+pub(crate) fn row<'a, X, M, P: FnOnce(Fields<'a>) -> Option<X>, F: FnOnce(X) -> M>(
+    parse: P,
+    fields: Fields<'a>,
+    make: F,
+) -> Option<M>
+    requires parse { P.IsAlwaysCallable parse }
+    requires make { F.IsAlwaysCallable make }
+    ensures { (read : Option X) × P.post parse fields.entry read × MatchOption read (result ≡ None) (λ x. IsSomeAnd result (F.post make x)) }
+{
+    parse(fields).map(make)
 }

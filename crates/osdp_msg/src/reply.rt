@@ -9,6 +9,7 @@ ghost use Rattle.osdp_msg.specs.ReplyText.{reply_words, reply_text};
 use crate::command_fields::{Communication, MakerMessage};
 use crate::fault::{BadWords, MsgFault};
 use crate::limits::{MAX_DATA, MAX_MESSAGE};
+use crate::making::row;
 use crate::parsing::{parse_records, parse_states};
 use crate::printing::{print_bytes, print_records};
 use crate::raw::Raw;
@@ -141,27 +142,29 @@ fn parse_row(name: &str, fields: Fields<'_>) -> Option<Reply>
 {
     match name {
         "ACK" => fields.is_empty().then_some(Reply::Ack),
-        "NAK" => Nak::parse(fields).map(Reply::Nak),
+        "NAK" => row(Nak::parse, fields, Reply::Nak),
         "PDID" => PdId::parse(fields).map(Reply::PdId),
-        "PDCAP" => Some(Reply::PdCap(PdCap {
-            capabilities: parse_records(fields)?,
-        })),
+        "PDCAP" => row(
+            parse_records,
+            fields,
+            |capabilities| Reply::PdCap(PdCap { capabilities }),
+        ),
         "LSTATR" => LocalState::parse(fields).map(Reply::LocalState),
-        "ISTATR" => parse_states(fields).map(Reply::Inputs),
-        "OSTATR" => parse_states(fields).map(Reply::Outputs),
-        "RSTATR" => parse_states(fields).map(Reply::Readers),
-        "RAW" => Raw::parse(fields).map(Reply::Raw),
-        "FMT" => Formatted::parse(fields).map(Reply::Formatted),
-        "KEYPAD" => Keypad::parse(fields).map(Reply::Keypad),
+        "ISTATR" => row(parse_states, fields, Reply::Inputs),
+        "OSTATR" => row(parse_states, fields, Reply::Outputs),
+        "RSTATR" => row(parse_states, fields, Reply::Readers),
+        "RAW" => row(Raw::parse, fields, Reply::Raw),
+        "FMT" => row(Formatted::parse, fields, Reply::Formatted),
+        "KEYPAD" => row(Keypad::parse, fields, Reply::Keypad),
         "COM" => Communication::parse(fields).map(Reply::Com),
         "BUSY" => fields.is_empty().then_some(Reply::Busy),
-        "MFGREP" => MakerMessage::parse(fields).map(Reply::MakerReply),
+        "MFGREP" => row(MakerMessage::parse, fields, Reply::MakerReply),
         _ => None,
     }
 }
 
 /// The reply whose text has these words.
-fn parse_fields(mut fields: Fields<'_>) -> Option<Reply>
+pub(crate) fn parse_fields(mut fields: Fields<'_>) -> Option<Reply>
     ensures { ReadsWords reply_words ReplyFits fields.entry result }
 {
     let name = fields.word()?;

@@ -12,7 +12,7 @@ pub returns-in-CAP : goal.returns-in-CAP
 returns-in-CAP c = rw c.in-CAP.is (made_row_read command_name command_fields CommandFits (codes "CAP") Cap (λ x. refl) (λ m. (made_by_names m).1) c.args.fields c.parse_byte-in-CAP.result _ c.parse_byte-in-CAP.ensures (mapped Cap _ _ c.map-in-CAP.ensures.cases))
 
 pub returns-in-BUZ : goal.returns-in-BUZ
-returns-in-BUZ c = rw c.in-BUZ.is (made_row_read command_name command_fields CommandFits (codes "BUZ") Buzzer (λ x. refl) (λ m. (made_by_names m).2) c.args.fields c.parse-in-BUZ.result _ c.parse-in-BUZ.ensures (mapped Buzzer _ _ c.map-in-BUZ.ensures.cases))
+returns-in-BUZ c = rw c.in-BUZ.is (made_row_read command_name command_fields CommandFits (codes "BUZ") Buzzer (λ x. refl) (λ m. (made_by_names m).2) c.args.fields c.parse.result _ c.parse.ensures (mapped Buzzer _ _ c.map-in-BUZ.ensures.cases))
 
 pub returns-in-COMSET : goal.returns-in-COMSET
 returns-in-COMSET c = rw c.in-COMSET.is (made_row_read command_name command_fields CommandFits (codes "COMSET") Comset (λ x. refl) (λ m. (made_by_names m).3) c.args.fields c.parse-in-COMSET.result _ c.parse-in-COMSET.ensures (mapped Comset _ _ c.map-in-COMSET.ensures.cases))
