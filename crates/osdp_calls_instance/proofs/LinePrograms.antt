@@ -179,6 +179,40 @@ module _ {H : Type 0} where
           ≡ holding (heard_of bytes now r l).reader (heard_of bytes now r l).line
       pub received : IsReceived (heard_of bytes now r l).line
 
+    -- a turn took bytes, and these are left: what they bring the device to is what all of them do
+    pub record TurnedOn (bytes rest : List ℕ) (now : ℕ) (r : ReaderState H) (l : Received) : Type 0 where
+      pub fewer : turns_left rest now (reads_all answer_of after r (after_take bytes now l)).line < turns_left bytes now l
+      pub received : IsReceived (reads_all answer_of after r (after_take bytes now l)).line
+      pub read : IsAllRead (reads_all answer_of after r (after_take bytes now l)).line
+      pub fits : AreBytes rest
+      pub whole : then_hears answer_of after rest now (reads_all answer_of after r (after_take bytes now l)) ≡ hears_bytes answer_of after bytes now r l
+
+    pub turned_on : (bytes : List ℕ) (b : ℕ) (left : List ℕ) (now : ℕ) (r : ReaderState H) (l : Received) → IsReceived l → IsAllRead l → AreBytes bytes
+        → drop (count_taken bytes now l) bytes ≡ b ∷ left → TurnedOn bytes (b ∷ left) now r l
+    turned_on bytes b left now r l is all fits some =
+        let taken = after_take bytes now l in
+        let taken_so = received_take bytes now l is fits in
+        let h = reads_all answer_of after r taken in
+        let count = count_taken bytes now l in
+        let length_is : length (drop count bytes) ≡ suc (length left) = ap length some in
+        let any : 0 < length bytes = omega (arith, length-drop count bytes, length_is) in
+        record {
+          fewer = subst (λ x. turns_left x now h.line < turns_left bytes now l) some (fewer_turns answer_of after bytes now r l is all fits any);
+          received = received_read r taken taken_so;
+          read = all_read answer_of after r taken taken_so;
+          fits = subst AreBytes some (AreBytes-drop count bytes fits);
+          whole = ap (λ x. then_hears answer_of after x now h) (sym some) ∙ takes_in_turn answer_of after bytes now r l is all fits;
+        }
+
+    -- none are left
+    pub turned_all : (bytes : List ℕ) (now : ℕ) (r : ReaderState H) (l : Received) → IsReceived l → IsAllRead l → AreBytes bytes
+        → drop (count_taken bytes now l) bytes ≡ [] → reads_all answer_of after r (after_take bytes now l) ≡ hears_bytes answer_of after bytes now r l
+    turned_all bytes now r l is all fits none =
+        let taken = after_take bytes now l in
+        let h = reads_all answer_of after r taken in
+        sym (last_turn answer_of after now h (all_read answer_of after r taken (received_take bytes now l is fits)) (seen_in_turn answer_of after bytes now r l))
+        ∙ ap (λ x. then_hears answer_of after x now h) (sym none) ∙ takes_in_turn answer_of after bytes now r l is all fits
+
     abbrev Handed : ℕ → ℕ → ℕ → Type 0
     Handed turns k now = (bytes : List ℕ) (r : ReaderState H) (l : Received) → turns_left bytes now l < turns
         → IsReceived l → IsAllRead l → AreBytes bytes → Hands turns k bytes now r l
@@ -197,34 +231,20 @@ module _ {H : Type 0} where
         → IsReceived l → IsAllRead l → AreBytes bytes → Handed turns k now → drop (count_taken bytes now l) bytes ≡ left
         → Hands (suc turns) k bytes now r l
     by_rest turns k bytes [] now r l fewer is all fits more none =
-        let taken = after_take bytes now l in
-        let h = reads_all answer_of after r taken in
-        let taken_so = received_take bytes now l is fits in
-        let done : h ≡ heard_of bytes now r l =
-        sym (last_turn answer_of after now h (all_read answer_of after r taken taken_so) (seen_in_turn answer_of after bytes now r l))
-        ∙ ap (λ left. then_hears answer_of after left now h) (sym none) ∙ takes_in_turn answer_of after bytes now r l is all fits in
+        let done = turned_all bytes now r l is all fits none in
         record {
           is = ap (λ left. device_after_each answer_of after (turn_on turns k bytes now r l left) (holding r l)) none
               ∙ first_turn turns k bytes [] now r l ∙ ap (λ (x : Heard H). holding x.reader x.line) done;
-          received = subst (λ (x : Heard H). IsReceived x.line) done (received_read r taken taken_so);
+          received = subst (λ (x : Heard H). IsReceived x.line) done (received_read r (after_take bytes now l) (received_take bytes now l is fits));
         }
     by_rest turns k bytes (b ∷ left) now r l fewer is all fits more some =
-        let taken = after_take bytes now l in
-        let h = reads_all answer_of after r taken in
-        let taken_so = received_take bytes now l is fits in
-        let count = count_taken bytes now l in
-        let length_is : length (drop count bytes) ≡ suc (length left) = ap length some in
-        let any : 0 < length bytes = omega (arith, length-drop count bytes, length_is) in
-        let less : turns_left (b ∷ left) now h.line < turns_left bytes now l =
-        subst (λ x. turns_left x now h.line < turns_left bytes now l) some (fewer_turns answer_of after bytes now r l is all fits any) in
-        let on = more (b ∷ left) h.reader h.line (omega (arith, fewer, less)) (received_read r taken taken_so)
-        (all_read answer_of after r taken taken_so) (subst AreBytes some (AreBytes-drop count bytes fits)) in
-        let all_heard : then_hears answer_of after (b ∷ left) now h ≡ heard_of bytes now r l =
-        ap (λ x. then_hears answer_of after x now h) (sym some) ∙ takes_in_turn answer_of after bytes now r l is all fits in
+        let h = reads_all answer_of after r (after_take bytes now l) in
+        let turned = turned_on bytes b left now r l is all fits some in
+        let on = more (b ∷ left) h.reader h.line (omega (arith, fewer, turned.fewer)) turned.received turned.read turned.fits in
         record {
           is = ap (λ x. device_after_each answer_of after (turn_on turns k bytes now r l x) (holding r l)) some
-              ∙ first_turn turns k bytes (b ∷ left) now r l ∙ on.is ∙ ap (λ (x : Heard H). holding x.reader x.line) all_heard;
-          received = subst (λ (x : Heard H). IsReceived x.line) all_heard on.received;
+              ∙ first_turn turns k bytes (b ∷ left) now r l ∙ on.is ∙ ap (λ (x : Heard H). holding x.reader x.line) turned.whole;
+          received = subst (λ (x : Heard H). IsReceived x.line) turned.whole on.received;
         }
 
     pub hands : (turns k : ℕ) (bytes : List ℕ) (now : ℕ) (r : ReaderState H) (l : Received) → turns_left bytes now l < turns

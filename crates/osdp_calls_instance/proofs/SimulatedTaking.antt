@@ -1,17 +1,15 @@
 -- What the readers of a run take is what the devices take by the calls that the run is.
-use Rattle.std.proofs.Common.{◌≡◌, ℕ, zero, suc, ◌<◌, true, false, List, [], ◌∷◌, ◌++◌, drop, length, length-drop, Option, Some, None, refl, sym, subst, ap, ◌∙◌, arith, append_assoc, append-nil}
+use Rattle.std.proofs.Common.{◌≡◌, ℕ, zero, suc, ◌<◌, true, false, List, [], ◌∷◌, ◌++◌, drop, length, Option, Some, None, refl, sym, ap, ◌∙◌, arith, append_assoc, append-nil}
 use Rattle.std.specs.Prelude.{not, ◌==◌, option_to_list}
 use Rattle.osdp_msg.specs.declared.command.Command.{Command}
 use Rattle.osdp_msg.specs.declared.command.Command.TheVariants.{Poll}
-use Rattle.osdp_frame.proofs.Head.{AreBytes-drop}
 use Rattle.osdp_frame.specs.Bytes.{AreBytes}
 use Rattle.osdp_frame.specs.Held.{new_run}
 use Rattle.osdp_frame.specs.Items.{items, left_over, packets_in, reading, whole_packets}
 use Rattle.osdp_frame.specs.Packet.{Packet}
 use Rattle.osdp_frame.specs.Reading.{RunItem, PacketItem, SkippedItem, RefusedItem}
 use Rattle.osdp_frame_laws.proofs.LeftOver.{gap_items, reading_split}
-use Rattle.osdp_device.proofs.Pieces.{all_read, fewer_turns, last_turn, seen_in_turn, takes_in_turn}
-use Rattle.osdp_device.specs.Hearing.{Heard, hears_bytes, reads_all, then_hears, then_reads, turns_left}
+use Rattle.osdp_device.specs.Hearing.{Heard, hears_bytes, reads_all, then_reads, turns_left}
 use Rattle.osdp_frame.specs.Receiving as device
 use Rattle.osdp_frame.specs.Receiving.{IsAllRead, IsReceived, Received, after_take, count_taken}
 use Rattle.osdp_device.specs.Saying as saying
@@ -26,8 +24,7 @@ use Rattle.osdp_sim.specs.Account as sim
 use Rattle.osdp_calls.specs.Calls.{Silence}
 use Rattle.osdp_calls.specs.Ends.{Held}
 use Rattle.osdp_calls.specs.Sayings.{acted_on}
-use Rattle.osdp_frame.proofs.Receipt.{received_take}
-use Rattle.osdp_calls_instance.proofs.LinePrograms.{by_nexts, first_said, holding, line_told, nothing_said, reading_is, received_read}
+use Rattle.osdp_calls_instance.proofs.LinePrograms.{by_nexts, first_said, holding, line_told, nothing_said, reading_is, turned_all, turned_on}
 use Rattle.osdp_calls_instance.proofs.SimulatedEnds.{all_read_of, first_read, handed_calls, handed_over, quiet_is, read_calls}
 use Rattle.osdp_calls_instance.proofs.SimulatedTakes.{more_takes, takes_each}
 use Rattle.osdp_calls_instance.specs.LinePrograms.{handing, nexts, unless_done}
@@ -115,28 +112,14 @@ module _ {H : Type 0} (answer_of : H → Command → Answer) (after : H → Comm
       acted_on_all h.said ++ takes_each answer_of after (unless_done rest (handing answer_of after turns k rest now h.reader h.line)) (holding h.reader h.line)
       ≡ acted_on_all (hears_bytes answer_of after bytes now r l).said
   rest_acts turns k bytes [] now r l fewer is all fits more none =
-      let taken = after_take bytes now l in
-      let h = reads_all answer_of after r taken in
-      let taken_so = received_take bytes now l is fits in
-      let done : h ≡ hears_bytes answer_of after bytes now r l =
-      sym (last_turn answer_of after now h (all_read answer_of after r taken taken_so) (seen_in_turn answer_of after bytes now r l))
-      ∙ ap (λ x. then_hears answer_of after x now h) (sym none) ∙ takes_in_turn answer_of after bytes now r l is all fits in
-      append-nil (acted_on_all h.said) ∙ ap (λ (x : Heard H). acted_on_all x.said) done
+      append-nil (acted_on_all (reads_all answer_of after r (after_take bytes now l)).said)
+      ∙ ap (λ (x : Heard H). acted_on_all x.said) (turned_all answer_of after bytes now r l is all fits none)
   rest_acts turns k bytes (b ∷ rest) now r l fewer is all fits more some =
-      let taken = after_take bytes now l in
-      let h = reads_all answer_of after r taken in
-      let taken_so = received_take bytes now l is fits in
-      let count = count_taken bytes now l in
-      let length_is : length (drop count bytes) ≡ suc (length rest) = ap length some in
-      let any : 0 < length bytes = omega (arith, length-drop count bytes, length_is) in
-      let less : turns_left (b ∷ rest) now h.line < turns_left bytes now l =
-      subst (λ x. turns_left x now h.line < turns_left bytes now l) some (fewer_turns answer_of after bytes now r l is all fits any) in
-      let on = more (b ∷ rest) h.reader h.line (omega (arith, fewer, less)) (received_read answer_of after r taken taken_so)
-      (all_read answer_of after r taken taken_so) (subst AreBytes some (AreBytes-drop count bytes fits)) in
-      let whole : then_hears answer_of after (b ∷ rest) now h ≡ hears_bytes answer_of after bytes now r l =
-      ap (λ x. then_hears answer_of after x now h) (sym some) ∙ takes_in_turn answer_of after bytes now r l is all fits in
+      let h = reads_all answer_of after r (after_take bytes now l) in
+      let turned = turned_on answer_of after bytes b rest now r l is all fits some in
+      let on = more (b ∷ rest) h.reader h.line (omega (arith, fewer, turned.fewer)) turned.received turned.read turned.fits in
       ap (λ x. acted_on_all h.said ++ x) on ∙ sym (more_acts h.said (hears_bytes answer_of after (b ∷ rest) now h.reader h.line).said)
-      ∙ ap (λ (x : Heard H). acted_on_all x.said) whole
+      ∙ ap (λ (x : Heard H). acted_on_all x.said) turned.whole
 
   handing_acts : (turns k : ℕ) (bytes : List ℕ) (now : ℕ) (r : ReaderState H) (l : Received) → turns_left bytes now l < turns
       → IsReceived l → IsAllRead l → AreBytes bytes
