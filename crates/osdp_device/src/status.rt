@@ -1,7 +1,7 @@
 //! A handler for devices whose program sets beforehand what is to be told.
 
 ghost use Rattle.std.specs.Prelude.{◌≡◌};
-ghost use Rattle.osdp_device.specs.Status.{are_there, new_status};
+ghost use Rattle.osdp_device.specs.Status.{are_there, new_status, status_answer};
 
 use arrayvec::ArrayVec;
 use osdp_msg::{Command, MAX_DATA, NakReason, OutputRecord};
@@ -38,6 +38,27 @@ impl DeviceStatus {
             readers: ArrayVec::new(),
         }
     }
+
+    /// What is told of a command. It changes nothing.
+    fn told(&self, command: &Command) -> Answer
+        ensures { result ≡ status_answer self.now command.now }
+    {
+        match command {
+            Command::LocalStatus => Answer::Local(self.tamper, self.power),
+            Command::InputStatus => Answer::list(self.inputs.as_slice()),
+            Command::OutputStatus => Answer::list(self.outputs.as_slice()),
+            Command::ReaderStatus => Answer::list(self.readers.as_slice()),
+            Command::Output(outputs) => {
+                if are_there(self.outputs.len(), outputs.records()) {
+                    Answer::Done
+                } else {
+                    Answer::Refuse(NakReason::RecordNotProcessed)
+                }
+            }
+            Command::Led(_) | Command::Buzzer(_) | Command::Text(_) => Answer::Done,
+            _ => Answer::Refuse(NakReason::RecordNotProcessed),
+        }
+    }
 }
 
 /// Whether each record is of an output that there is.
@@ -61,30 +82,5 @@ impl Handler for DeviceStatus {
 
     fn answer(&mut self, command: &Command) -> Answer {
         self.told(command)
-    }
-}
-
-impl DeviceStatus {
-    ghost use Rattle.osdp_device.specs.Status.{status_answer};
-
-    /// What is told of a command. It changes nothing.
-    fn told(&self, command: &Command) -> Answer
-        ensures { result ≡ status_answer self.now command.now }
-    {
-        match command {
-            Command::LocalStatus => Answer::Local(self.tamper, self.power),
-            Command::InputStatus => Answer::list(self.inputs.as_slice()),
-            Command::OutputStatus => Answer::list(self.outputs.as_slice()),
-            Command::ReaderStatus => Answer::list(self.readers.as_slice()),
-            Command::Output(outputs) => {
-                if are_there(self.outputs.len(), outputs.records()) {
-                    Answer::Done
-                } else {
-                    Answer::Refuse(NakReason::RecordNotProcessed)
-                }
-            }
-            Command::Led(_) | Command::Buzzer(_) | Command::Text(_) => Answer::Done,
-            _ => Answer::Refuse(NakReason::RecordNotProcessed),
-        }
     }
 }
