@@ -11,7 +11,7 @@ use crate::device_list::{DeviceList, is_taken};
 use crate::fault::BusFault;
 use crate::line::Line;
 use osdp_controller::Report;
-use osdp_frame::{Address, Burst, Framer};
+use osdp_frame::{Address, Burst, Receiver};
 use osdp_msg::Command;
 use std::alloc::Global;
 use std::marker::Model;
@@ -68,9 +68,7 @@ impl Bus {
                 entries,
                 report: None,
             },
-            framer: Framer::new(),
-            last: 0,
-            greatest: 0,
+            receiver: Receiver::new(config.gap),
             first: 0,
         };
         Ok(Bus { alloc, line })

@@ -38,8 +38,8 @@ impl Line {
         if let Some(fault) = self.begin_refusal(entry) {
             return Err(fault);
         }
-        self.greatest = self.greatest.max(now);
-        self.devices.entries[entry].begin(self.greatest);
+        self.receiver.see(now);
+        self.devices.entries[entry].begin(self.receiver.greatest());
         Ok(())
     }
 

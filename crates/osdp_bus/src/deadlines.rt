@@ -14,24 +14,25 @@ use crate::line::Line;
 impl Line {
     /// From when on the line has been silent long enough for a run to be over. None where no moment is that late.
     fn silence(&self) -> Option<u64>
-        requires { self.now.last ≤ self.now.greatest }
-        ensures { IsDueFrom (λ at. is_silent_for self.now.config.gap self.now.last at) self.now.greatest result }
+        ensures { IsDueFrom (λ at. is_silent_for self.now.config.gap self.now.receiver.last at) self.now.receiver.greatest result }
     {
-        let moment = self.last.checked_add(u64::from(self.config.gap))?;
-        Some(moment.max(self.greatest))
+        let moment = self
+            .receiver
+            .last()
+            .checked_add(u64::from(self.config.gap))?;
+        Some(moment.max(self.receiver.greatest()))
     }
 
     /// From when on the device that holds the line is due, or a run of bytes is over.
     fn holder_deadline(&self, entry: Entry) -> Option<u64>
-        requires { self.now.last ≤ self.now.greatest }
         ensures { (d : Device) → slice_get self.now.devices.entries.items entry ≡ Some d
-            → IsHolderDeadline (length self.now.framer.bytes == 0) (state_of self.now) d result }
+            → IsHolderDeadline (length self.now.receiver.held.bytes == 0) (state_of self.now) d result }
     {
         if entry >= self.devices.entries.len() {
             return None;
         }
-        let deadline = self.devices.entries[entry].deadline(self.greatest);
-        if self.framer.is_empty() {
+        let deadline = self.devices.entries[entry].deadline(self.receiver.greatest());
+        if self.receiver.is_empty() {
             deadline
         } else {
             earlier(deadline, self.silence())
@@ -43,16 +44,16 @@ impl Line {
         requires { IsLine self.now }
         ensures { IsDeadline (state_of self.now) result }
     {
-        let greatest = self.greatest;
+        let now = self.receiver.greatest();
         if self.devices.report.is_some() {
             return None;
         }
         match first_holding(self.devices.entries.as_slice()) {
             Some(entry) => self.holder_deadline(entry),
-            None if self.framer.is_empty() => {
-                earliest(self.devices.entries.as_slice(), greatest)
+            None if self.receiver.is_empty() => {
+                earliest(self.devices.entries.as_slice(), now)
             }
-            None => Some(greatest),
+            None => Some(now),
         }
     }
 }

@@ -2,59 +2,58 @@
 
 ghost use Rattle.std.specs.Prelude.{◌≡◌, ◌++◌, None, Some, false, is_some, length, vec_capacity};
 ghost use Rattle.osdp_controller.specs.Lent.{IsWritten};
-ghost use Rattle.osdp_frame.specs.Items.{items, left_over};
+ghost use Rattle.osdp_frame.specs.Items.{items, left_over, rest_of};
+ghost use Rattle.osdp_frame.specs.Receiving.{IsAllRead};
 ghost use Rattle.osdp_bus.specs.Buses.{seen};
 ghost use Rattle.osdp_bus.specs.Hearing.{after_bytes, after_silence, ends_run, ends_silent, hears_bytes, hears_items};
-ghost use Rattle.osdp_bus.specs.Private.{IsHeld, IsLine, IsRead, devices_of, rest_of, state_of};
+ghost use Rattle.osdp_bus.specs.Private.{IsLine, devices_of, state_of};
 ghost use Rattle.osdp_bus.specs.Ticking.{bus_ticks, is_due_at, is_held_and_due, ticks_at, ticks_by};
 
 use crate::Entry;
 use crate::config::BusConfig;
 use crate::device_list::{DeviceList, first_holding, next_due};
-use osdp_frame::{Burst, Framer, is_silent_for};
+use osdp_frame::{Burst, Receiver};
 
 /// The parts of a bus. Moments are in milliseconds.
 #[derive(Debug, Drop)]
 pub struct Line {
     pub config: BusConfig,
     pub devices: DeviceList,
-    pub framer: Framer,
-    /// The moment of the last bytes.
-    pub last: u64,
-    /// The greatest moment seen.
-    pub greatest: u64,
+    /// What has come of the run that goes on, and when.
+    pub receiver: Receiver,
     /// The entry that is asked first once nobody holds the line.
     pub first: Entry,
 }
 
 /// Reads all items that the bytes held decide, and hands their packets to the devices.
-fn read_items(devices: &mut DeviceList, framer: &mut Framer, now: u64)
-    requires { IsHeld framer.old }
-    ensures devices { devices_of devices.new ≡ hears_items now (items framer.old.ended framer.old.bytes) (devices_of devices.old) }
+fn read_items(devices: &mut DeviceList, receiver: &mut Receiver, now: u64)
+    ensures devices { devices_of devices.new ≡ hears_items now (items receiver.old.held.ended receiver.old.held.bytes) (devices_of devices.old) }
     ensures capacity { vec_capacity devices.new.entries ≡ vec_capacity devices.old.entries }
     ensures count { length devices.new.entries.items ≡ length devices.old.entries.items }
-    ensures left { framer.new.bytes ≡ rest_of framer.old.ended framer.old.bytes }
-    ensures read { IsRead framer.new }
+    ensures line { receiver.new ≡ record receiver.old { held = receiver.new.held } }
+    ensures left { receiver.new.held.bytes ≡ rest_of receiver.old.held.ended receiver.old.held.bytes }
+    ensures read { IsAllRead receiver.new }
 {
-    'items: while let Some(item) = framer.next() {
+    'items: while let Some(item) = receiver.next() {
         devices.hear_item(&item, now);
-        framer.advance();
+        receiver.advance();
     }
 }
 
 /// Takes bytes of a run that goes on, and reads the items that they decide.
-fn read_bytes(devices: &mut DeviceList, framer: &mut Framer, bytes: &[u8], now: u64)
-    requires { IsRead framer.old }
-    ensures devices { devices_of devices.new ≡ hears_items now (items false (framer.old.bytes ++ bytes.now)) (devices_of devices.old) }
+fn read_bytes(devices: &mut DeviceList, receiver: &mut Receiver, bytes: &[u8], now: u64)
+    requires { IsAllRead receiver.old }
+    ensures devices { devices_of devices.new ≡ hears_items now (items false (receiver.old.held.bytes ++ bytes.now)) (devices_of devices.old) }
     ensures capacity { vec_capacity devices.new.entries ≡ vec_capacity devices.old.entries }
     ensures count { length devices.new.entries.items ≡ length devices.old.entries.items }
-    ensures left { framer.new.bytes ≡ left_over (framer.old.bytes ++ bytes.now) }
-    ensures read { IsRead framer.new }
+    ensures line { receiver.new ≡ record receiver.old { held = receiver.new.held } }
+    ensures left { receiver.new.held.bytes ≡ left_over (receiver.old.held.bytes ++ bytes.now) }
+    ensures read { IsAllRead receiver.new }
 {
     let mut at = 0;
     'pieces: while at < bytes.len() {
-        at += framer.push(&bytes[at..]);
-        read_items(devices, framer, now);
+        at += receiver.push(&bytes[at..]);
+        read_items(devices, receiver, now);
     }
 }
 
@@ -65,7 +64,7 @@ impl Line {
         ensures line { state_of self.new ≡ seen now (state_of self.old) }
         ensures kept { IsLine self.new }
     {
-        self.greatest = self.greatest.max(now);
+        self.receiver.see(now);
     }
 
     /// The run is over.
@@ -74,8 +73,9 @@ impl Line {
         ensures line { state_of self.new ≡ ends_run (state_of self.old) }
         ensures kept { IsLine self.new }
     {
-        self.framer.gap();
-        read_items(&mut self.devices, &mut self.framer, self.greatest);
+        self.receiver.end_run();
+        let now = self.receiver.greatest();
+        read_items(&mut self.devices, &mut self.receiver, now);
     }
 
     /// The run is over where the line has been silent long enough.
@@ -84,7 +84,7 @@ impl Line {
         ensures line { state_of self.new ≡ ends_silent (state_of self.old) }
         ensures kept { IsLine self.new }
     {
-        if is_silent_for(self.config.gap, self.last, self.greatest) {
+        if self.receiver.is_silent() {
             self.end_run();
         }
     }
@@ -95,8 +95,9 @@ impl Line {
         ensures line { state_of self.new ≡ hears_bytes bytes.now (state_of self.old) }
         ensures kept { IsLine self.new }
     {
-        read_bytes(&mut self.devices, &mut self.framer, bytes, self.greatest);
-        self.last = self.greatest;
+        self.receiver.see_bytes();
+        let now = self.receiver.greatest();
+        read_bytes(&mut self.devices, &mut self.receiver, bytes, now);
     }
 
     /// Bytes come at a moment.
@@ -136,7 +137,8 @@ impl Line {
             return false;
         }
         let mut report = None;
-        let sends = self.devices.entries[entry].tick(self.greatest, out, &mut report);
+        let now = self.receiver.greatest();
+        let sends = self.devices.entries[entry].tick(now, out, &mut report);
         self.devices.tell(entry, report);
         self.first = entry + 1;
         sends
@@ -146,7 +148,8 @@ impl Line {
     fn is_due_at(&self, entry: Entry) -> bool
         ensures { result ≡ is_due_at entry (state_of self.now) }
     {
-        entry < self.devices.entries.len() && self.devices.entries[entry].is_due(self.greatest)
+        let now = self.receiver.greatest();
+        entry < self.devices.entries.len() && self.devices.entries[entry].is_due(now)
     }
 
     /// Whether the exchange of an entry still stands, and its device would send or report.
@@ -170,7 +173,8 @@ impl Line {
         if self.devices.report.is_some() {
             return false;
         }
-        let next = next_due(self.devices.entries.as_slice(), self.first, self.greatest);
+        let now = self.receiver.greatest();
+        let next = next_due(self.devices.entries.as_slice(), self.first, now);
         self.tick_at(next, out)
     }
 

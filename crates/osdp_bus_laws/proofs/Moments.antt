@@ -7,7 +7,7 @@ use Rattle.osdp_bus.specs.Machine.{after_begin_at, begin_refusal_at, changed_unl
 use Rattle.osdp_bus.specs.Ticking.{bus_ticks}
 use Rattle.osdp_bus_laws.specs.Calls.{Call, Add, Begin, Submit, Withdraw, Retarget, OnBytes, OnSilence, Tick, NextReport, after_call}
 use Rattle.osdp_bus_laws.specs.Moments.{Brings, MomentsAreSeen, RunsAreHeardAtTheirEnd}
-use Rattle.osdp_bus_laws.proofs.Silences.{silences_end_runs}
+use Rattle.osdp_bus_laws.proofs.Silences.{bus_ends_its_runs}
 use Rattle.osdp_bus_laws.proofs.Sound.{SoundBus}
 use Rattle.osdp_bus_laws.proofs.Staying.{stays_begin, stays_call, stays_silent, stays_tick}
 
@@ -55,5 +55,5 @@ moments_are_seen b = record { brought = brought b; kept = kept b }
 pub runs_are_heard : (b : BusState) → SoundBus b → RunsAreHeardAtTheirEnd b
 runs_are_heard b is = record {
   silence = λ now. refl;
-  bytes = λ byte now bytes long. ap (λ (c : BusState). c.devices) (((silences_end_runs b is).bytes byte now bytes).past long);
+  bytes = λ byte now bytes long. ap (λ (c : BusState). c.devices) (((bus_ends_its_runs b is).bytes byte now bytes).past long);
 }

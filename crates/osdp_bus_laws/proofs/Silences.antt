@@ -13,7 +13,7 @@ use Rattle.osdp_bus.specs.Ticking.{bus_ticks, stays, ticks_by, ticks_free, ticks
 use Rattle.osdp_bus.proofs.Waiting.{IsFound, found}
 use Rattle.osdp_controller.proofs.Choices.{either_way}
 use Rattle.osdp_bus_laws.specs.Calls.{Call, Begin, OnBytes, OnSilence, Tick, after_call}
-use Rattle.osdp_bus_laws.specs.Silences.{BringsNoByte, Changes, SilencesEndRuns}
+use Rattle.osdp_bus_laws.specs.Silences.{BringsNoByte, Changes, BusEndsItsRuns}
 use Rattle.osdp_bus_laws.proofs.Sound.{IsNobody, SoundBus, nobody, still_nobody}
 use Rattle.osdp_bus_laws.proofs.Staying.{stays_begin, stays_call, stays_silent, stays_tick}
 
@@ -68,8 +68,8 @@ free_either b none = either_way (λ e. ticks_on e ≡ ticks_free (ends_run b)) (
     ∙ ap ticks_free (over_once b))
     (λ h. ap (λ o. ticks_by o b) none)
 
-pub silences_end_runs : (b : BusState) → SoundBus b → SilencesEndRuns b
-silences_end_runs b is = record {
+pub bus_ends_its_runs : (b : BusState) → SoundBus b → BusEndsItsRuns b
+bus_ends_its_runs b is = record {
   came = λ byte now bytes. (stays_silent (seen now b)).greatest;
   kept = λ call none. kept_call call b none;
   bytes = λ byte now bytes. by_gap (hears_bytes (byte ∷ bytes)) now b _ is.config.gap.0 refl;

@@ -15,7 +15,7 @@ Changes now b result before after = ChangesAtGap b.config.gap b.last (max b.grea
 abbrev pub BringsNoByte : Call → Type 0
 BringsNoByte call = (byte now : ℕ) (bytes : List ℕ) → call ≡ OnBytes (byte ∷ bytes) now → ⊥
 
-pub record SilencesEndRuns (b : BusState) : Type 0 where
+pub record BusEndsItsRuns (b : BusState) : Type 0 where
   -- the last bytes came at the moment of their call, and no other call moves that moment
   pub came : (byte now : ℕ) (bytes : List ℕ) → (after_bytes (byte ∷ bytes) now b).last ≡ max b.greatest now
   pub kept : (call : Call) → BringsNoByte call → (after_call call b).last ≡ b.last

@@ -15,7 +15,7 @@ ghost use Rattle.osdp_bus_laws.specs.Resending.{HoldersSendTheSame};
 ghost use Rattle.osdp_bus_laws.specs.Retargeting.{RetargetsSetTheAddress};
 ghost use Rattle.osdp_bus_laws.specs.Sending.{HoldersSendTheirFrame, SessionsBeginAlone};
 ghost use Rattle.osdp_bus_laws.specs.Settings.{DefaultsAreThese, DevicesAreSetAsTheBus};
-ghost use Rattle.osdp_bus_laws.specs.Silences.{SilencesEndRuns};
+ghost use Rattle.osdp_bus_laws.specs.Silences.{BusEndsItsRuns};
 ghost use Rattle.osdp_bus_laws.specs.Turns.{TakesTurns};
 
 /// No address is that of, or reserved for, two entries. A COMSET that waits or is outstanding is the only one of its entry, and its address is
@@ -60,8 +60,8 @@ pub fn cuts_change_nothing()
 /// and bytes that come then or later begin another. So it is where a tick looks who holds the line, which it does while no report waits.
 /// Where nobody holds it, such a tick ends the run at once and waits for no silence. A moment before the greatest one seen counts as that
 /// one.
-pub fn silences_end_runs()
-    ensures { Always SilencesEndRuns }
+pub fn bus_ends_its_runs()
+    ensures { Always BusEndsItsRuns }
 {}
 
 /// Bytes, also none of them, a silence, a tick and a session that begins leave the greater one of their moment and the greatest seen as the

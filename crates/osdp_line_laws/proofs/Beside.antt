@@ -13,7 +13,7 @@ use Rattle.osdp_bus.specs.Ticking.{bus_ticks}
 use Rattle.osdp_bus_laws.specs.Calls.{Call, Add as AddCall, Begin as BeginCall, Submit as SubmitCall, Withdraw as WithdrawCall, Retarget as RetargetCall, OnBytes, Tick as TickCall, NextReport, after_call, after_calls}
 use Rattle.osdp_bus_laws.proofs.Calling.{sound_call, sound_calls, sound_new}
 use Rattle.osdp_bus_laws.proofs.Moments.{moments_are_seen}
-use Rattle.osdp_bus_laws.proofs.Silences.{silences_end_runs}
+use Rattle.osdp_bus_laws.proofs.Silences.{bus_ends_its_runs}
 use Rattle.osdp_bus_laws.proofs.Sound.{SoundBus}
 use Rattle.osdp_bus_laws.proofs.Staying.{BringsNothing, stays_begin, stays_call, stays_silent, stays_tick}
 use Rattle.osdp_line_calls.specs.declared.panel_call.PanelCall.{PanelCall}
@@ -82,7 +82,7 @@ by_begin entry s None ok sound is =
     let c = after_begin_at entry s.now b in
     let after : after_call (BeginCall entry s.now) b ≡ c = ap (λ f. changed_unless f b c) ok in
     hears_moment b c s.listening is (stays_begin entry s.now b).config s.now
-    (sym (ap (λ (x : BusState). x.last) after) ∙ (silences_end_runs b sound).kept (BeginCall entry s.now) (λ byte now bytes. λ h. cc))
+    (sym (ap (λ (x : BusState). x.last) after) ∙ (bus_ends_its_runs b sound).kept (BeginCall entry s.now) (λ byte now bytes. λ h. cc))
     (sym (ap (λ (x : BusState). x.greatest) after) ∙ (moments_are_seen b).brought (BeginCall entry s.now) s.now (ok, refl))
 
 by_bytes : (bytes : List ℕ) (s : Session) → SoundBus s.bus → HearsAs s.listening s.bus
@@ -92,7 +92,7 @@ by_bytes (byte ∷ bytes) s sound is =
     let b = s.bus in
     let l = sees s.now s.listening in
     let like = silence_as b.devices.entries l in
-    let came = (silences_end_runs b sound).came byte s.now bytes in
+    let came = (bus_ends_its_runs b sound).came byte s.now bytes in
     let greatest = (moments_are_seen b).brought (OnBytes (byte ∷ bytes) s.now) s.now refl in
     let now_is : l.greatest ≡ max b.greatest s.now = ap (λ g. max g s.now) is.greatest in record {
       gap = like.gap ∙ is.gap ∙ sym (ap (λ (x : BusConfig). x.gap) (config_bytes (byte ∷ bytes) s.now b));
@@ -108,7 +108,7 @@ by_tick s sound is =
     let c = (bus_ticks s.now b).bus in
     as_heard l (hears_silence b.devices.entries l).after c (silence_as b.devices.entries l)
     (hears_moment b c s.listening is (stays_tick s.now b).config s.now
-    ((silences_end_runs b sound).kept (TickCall s.now) (λ byte now bytes. λ h. cc))
+    ((bus_ends_its_runs b sound).kept (TickCall s.now) (λ byte now bytes. λ h. cc))
     ((moments_are_seen b).brought (TickCall s.now) s.now refl))
 
 heard_as : (call : PanelCall) (s : Session) → SoundBus s.bus → HearsAs s.listening s.bus

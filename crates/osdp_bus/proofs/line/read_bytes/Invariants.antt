@@ -1,17 +1,19 @@
 use Rattle.std.proofs.Common.{◌≡◌, ◌≤◌, ◌-◌, ◌++◌, false, length, drop, vec_capacity}
 use Rattle.osdp_frame.specs.Items.{items, left_over}
+use Rattle.osdp_frame.specs.Receiving.{IsAllRead, Received}
 use Rattle.osdp_bus.specs.Hearing.{hears_items}
-use Rattle.osdp_bus.specs.Private.{IsRead, devices_of}
+use Rattle.osdp_bus.specs.Private.{devices_of}
 use Rattle.osdp_bus.proofs.line.read_bytes.Given as goal
 
 -- the bytes that are left bring the devices to where all of them do
 abbrev pub invariant-pieces : goal.invariant-pieces
 invariant-pieces l = record {
   within : l.at ≤ length l.bytes;
-  read : IsRead l.framer;
-  heard : hears_items l.now (items false (l.framer.bytes ++ drop l.at l.bytes)) (devices_of l.devices)
-      ≡ hears_items l.now (items false (l.initial.framer.bytes ++ l.bytes)) (devices_of l.initial.devices);
-  left : left_over (l.framer.bytes ++ drop l.at l.bytes) ≡ left_over (l.initial.framer.bytes ++ l.bytes);
+  read : IsAllRead l.receiver;
+  heard : hears_items l.now (items false (l.receiver.held.bytes ++ drop l.at l.bytes)) (devices_of l.devices)
+      ≡ hears_items l.now (items false (l.initial.receiver.held.bytes ++ l.bytes)) (devices_of l.initial.devices);
+  line : ◌≡◌ {A = Received} l.receiver (record l.initial.receiver { held = l.receiver.held });
+  left : left_over (l.receiver.held.bytes ++ drop l.at l.bytes) ≡ left_over (l.initial.receiver.held.bytes ++ l.bytes);
   capacity : vec_capacity l.devices.entries ≡ vec_capacity l.initial.devices.entries;
   count : length l.devices.entries.items ≡ length l.initial.devices.entries.items;
 }

@@ -4,5 +4,5 @@ use Rattle.osdp_bus.proofs.line.Line.end_run.Goals as goal
 
 pub returns-clause-line : goal.returns-clause-line
 returns-clause-line c =
-    run_over (state_of c.args.self.now) c.args.self.now.framer c.gap.new.self (devices_of c.read_items.new.devices) c.read_items.new.framer.bytes
-    c.gap.ensures c.read_items.ensures.devices c.read_items.ensures.left
+    run_over (state_of c.args.self.now) c.args.self.now.receiver c.end_run.new.self c.read_items.new.receiver c.greatest-now.result
+    (devices_of c.read_items.new.devices) c.end_run.ensures c.greatest-now.ensures.greatest c.read_items.ensures.devices c.read_items.ensures.line c.read_items.ensures.left
