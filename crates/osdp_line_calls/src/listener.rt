@@ -1,18 +1,18 @@
 //! What is heard of the line beside the bus: the replies that sessions pass over while they aren't open.
 
-ghost use Rattle.std.specs.Prelude.{◌≡◌, ◌++◌, false, true, [], OnOk, slice_get, slice_set, string_bytes};
+ghost use Rattle.std.specs.Prelude.{◌≡◌, ◌≤◌, ◌++◌, false, true, [], OnOk, slice_get, slice_set, string_bytes};
 ghost use Rattle.std.specs.Option.{option_map_or};
 ghost use Rattle.osdp_bus.specs.Devices.{first_from, is_at};
 ghost use Rattle.osdp_bus.specs.Machine.{begin_refusal_at};
-ghost use Rattle.osdp_bus.specs.Private.{IsHeld, IsRead, rest_of};
-ghost use Rattle.osdp_frame.specs.Items.{items, left_over};
+ghost use Rattle.osdp_frame.specs.Items.{items, left_over, rest_of};
+ghost use Rattle.osdp_frame.specs.Receiving.{IsAllRead};
 ghost use Rattle.osdp_frame.specs.Shown.{item_of};
 ghost use Rattle.osdp_line_calls.specs.Passing.{Listening, hears_begin, hears_bytes, hears_end, hears_run, hears_silence, is_open, new_listening, opened_by, opened_told, passed_item, passed_items, sees, then_hears};
 
 use crate::passing::push_passed;
 use osdp_bus::{Bus, Entry};
 use osdp_controller::Report;
-use osdp_frame::{Address, Framer, Item};
+use osdp_frame::{Address, Item, Receiver};
 use std::alloc::AllocError;
 use std::marker::Model;
 
@@ -22,19 +22,16 @@ use std::marker::Model;
 /// whatever pieces it comes.
 #[derive(Drop)]
 pub(crate) struct Listener {
-    framer: Framer,
-    gap: u32,
-    last: u64,
-    greatest: u64,
+    receiver: Receiver,
     opened: [bool; 16],
 }
 
 impl Model for Listener {
     ghost Value = { Listening };
 
-    ghost view = { λ l. record { held = l.framer.bytes; gap = l.gap; last = l.last; greatest = l.greatest; opened = l.opened } };
+    ghost view = { λ l. record { held = l.receiver.held.bytes; gap = l.receiver.gap; last = l.receiver.last; greatest = l.receiver.greatest; opened = l.opened } };
 
-    ghost invariant = { λ l. IsRead l.framer };
+    ghost invariant = { λ l. IsAllRead l.receiver };
 }
 
 /// Whether the device of an entry is at this address.
@@ -117,70 +114,70 @@ fn push_item(
 
 /// Reads all items that the bytes held decide, and writes their lines.
 fn read_items(
-    framer: &mut Framer,
+    receiver: &mut Receiver,
     bus: &Bus,
     opened: &[bool; 16],
     text: &mut String,
 ) -> Result<(), AllocError>
-    requires { IsHeld framer.old }
-    ensures text { OnOk result (string_bytes text.new ≡ string_bytes text.old ++ passed_items bus.now.devices.entries opened.now (items framer.old.ended framer.old.bytes)) }
-    ensures left { OnOk result (framer.new.bytes ≡ rest_of framer.old.ended framer.old.bytes) }
-    ensures read { OnOk result (IsRead framer.new) }
+    ensures text { OnOk result (string_bytes text.new ≡ string_bytes text.old ++ passed_items bus.now.devices.entries opened.now (items receiver.old.held.ended receiver.old.held.bytes)) }
+    ensures line { receiver.new ≡ record receiver.old { held = receiver.new.held } }
+    ensures left { OnOk result (receiver.new.held.bytes ≡ rest_of receiver.old.held.ended receiver.old.held.bytes) }
+    ensures read { OnOk result (IsAllRead receiver.new) }
 {
-    'items: while let Some(item) = framer.next() {
+    'items: while let Some(item) = receiver.next() {
         push_item(text, bus, opened, &item)?;
-        framer.advance();
+        receiver.advance();
     }
     Ok(())
 }
 
 /// Takes bytes of a run that goes on, reads the items that they decide, and writes their lines.
 fn read_bytes(
-    framer: &mut Framer,
+    receiver: &mut Receiver,
     bus: &Bus,
     opened: &[bool; 16],
     bytes: &[u8],
     text: &mut String,
 ) -> Result<(), AllocError>
-    requires { IsRead framer.old }
-    ensures text { OnOk result (string_bytes text.new ≡ string_bytes text.old ++ passed_items bus.now.devices.entries opened.now (items false (framer.old.bytes ++ bytes.now))) }
-    ensures left { OnOk result (framer.new.bytes ≡ left_over (framer.old.bytes ++ bytes.now)) }
-    ensures read { OnOk result (IsRead framer.new) }
+    requires { IsAllRead receiver.old }
+    ensures text { OnOk result (string_bytes text.new ≡ string_bytes text.old ++ passed_items bus.now.devices.entries opened.now (items false (receiver.old.held.bytes ++ bytes.now))) }
+    ensures line { receiver.new ≡ record receiver.old { held = receiver.new.held } }
+    ensures left { OnOk result (receiver.new.held.bytes ≡ left_over (receiver.old.held.bytes ++ bytes.now)) }
+    ensures read { OnOk result (IsAllRead receiver.new) }
 {
     let mut at = 0;
     'pieces: while at < bytes.len() {
-        at += framer.push(&bytes[at..]);
-        read_items(framer, bus, opened, text)?;
+        at += receiver.push(&bytes[at..]);
+        read_items(receiver, bus, opened, text)?;
     }
     Ok(())
 }
 
 /// The run is over: reads what is held of it to its end.
 fn read_end(
-    framer: &mut Framer,
+    receiver: &mut Receiver,
     bus: &Bus,
     opened: &[bool; 16],
     text: &mut String,
 ) -> Result<(), AllocError>
-    requires { IsRead framer.old }
-    ensures text { OnOk result (string_bytes text.new ≡ string_bytes text.old ++ passed_items bus.now.devices.entries opened.now (items true framer.old.bytes)) }
-    ensures left { OnOk result (framer.new.bytes ≡ []) }
-    ensures read { OnOk result (IsRead framer.new) }
+    requires { IsAllRead receiver.old }
+    ensures text { OnOk result (string_bytes text.new ≡ string_bytes text.old ++ passed_items bus.now.devices.entries opened.now (items true receiver.old.held.bytes)) }
+    ensures line { receiver.new ≡ record receiver.old { held = receiver.new.held } }
+    ensures left { OnOk result (receiver.new.held.bytes ≡ []) }
+    ensures read { OnOk result (IsAllRead receiver.new) }
 {
-    framer.gap();
-    read_items(framer, bus, opened, text)
+    receiver.end_run();
+    read_items(receiver, bus, opened, text)
 }
 
 impl Listener {
     /// Nothing has been heard, and no session is open. A run is over after a silence of so many milliseconds.
     pub(crate) fn new(gap: u32) -> Listener
+        requires { 1 ≤ gap }
         ensures { result ≡ new_listening gap }
     {
         Listener {
-            framer: Framer::new(),
-            gap,
-            last: 0,
-            greatest: 0,
+            receiver: Receiver::new(gap),
             opened: [false; 16],
         }
     }
@@ -189,7 +186,7 @@ impl Listener {
     pub(crate) fn see(&mut self, now: u64)
         ensures { self.new ≡ sees now self.old }
     {
-        self.greatest = self.greatest.max(now);
+        self.receiver.see(now);
     }
 
     /// A session of this entry is to begin at a moment. Where it may not, nothing brings the moment.
@@ -206,9 +203,9 @@ impl Listener {
         ensures text { OnOk result (string_bytes text.new ≡ string_bytes text.old ++ (hears_end bus.now.devices.entries self.old).text) }
         ensures after { OnOk result (self.new ≡ (hears_end bus.now.devices.entries self.old).after) }
     {
-        let told = read_end(&mut self.framer, bus, &self.opened, text);
+        let told = read_end(&mut self.receiver, bus, &self.opened, text);
         if told.is_err() {
-            self.framer = Framer::new();
+            self.receiver.clear();
         }
         told
     }
@@ -218,7 +215,7 @@ impl Listener {
         ensures text { OnOk result (string_bytes text.new ≡ string_bytes text.old ++ (hears_silence bus.now.devices.entries self.old).text) }
         ensures after { OnOk result (self.new ≡ (hears_silence bus.now.devices.entries self.old).after) }
     {
-        if u64::from(self.gap) <= self.greatest.saturating_sub(self.last) {
+        if self.receiver.is_silent() {
             return self.hear_end(bus, text);
         }
         Ok(())
@@ -229,11 +226,11 @@ impl Listener {
         ensures text { OnOk result (string_bytes text.new ≡ string_bytes text.old ++ (hears_run bus.now.devices.entries bytes.now self.old).text) }
         ensures after { OnOk result (self.new ≡ (hears_run bus.now.devices.entries bytes.now self.old).after) }
     {
-        let told = read_bytes(&mut self.framer, bus, &self.opened, bytes, text);
+        self.receiver.see_bytes();
+        let told = read_bytes(&mut self.receiver, bus, &self.opened, bytes, text);
         if told.is_err() {
-            self.framer = Framer::new();
+            self.receiver.clear();
         }
-        self.last = self.greatest;
         told
     }
 

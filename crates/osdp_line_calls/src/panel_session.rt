@@ -69,8 +69,8 @@ impl LinePanel {
         ensures range { IfOk result (λ p. IsBusConfig config) }
         ensures refused { IfErr result (λ fault. NewEnds config (Err fault)) }
     {
-        let listener = Listener::new(config.gap);
         let bus = Bus::new(alloc, config)?;
+        let listener = Listener::new(config.gap);
         Ok(LinePanel {
             bus,
             now: 0,

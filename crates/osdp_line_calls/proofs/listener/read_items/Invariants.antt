@@ -1,17 +1,18 @@
-use Rattle.std.proofs.Common.{◌≡◌, ◌++◌, length, string_bytes}
-use Rattle.osdp_frame.specs.Items.{items}
-use Rattle.osdp_bus.specs.Private.{IsHeld, rest_of}
-use Rattle.osdp_line_calls.specs.Passing.{passed_items}
+use Rattle.std.proofs.Common.{◌≡◌, length, string_bytes}
+use Rattle.osdp_frame.specs.Items.{items, rest_of}
+use Rattle.osdp_frame.specs.Receiving.{Received}
+use Rattle.osdp_line_calls.specs.Passing.{passed_item}
+use Rattle.osdp_line_calls.proofs.Listening.{written}
 use Rattle.osdp_line_calls.proofs.listener.read_items.Given as goal
 
 -- what is written and the lines of the items that are left are what is to be written, and they leave the same bytes
 abbrev pub invariant-items : goal.invariant-items
 invariant-items l = record {
-  held : IsHeld l.framer;
-  written : string_bytes l.text ++ passed_items l.bus.devices.entries l.opened (items l.framer.ended l.framer.bytes)
-      ≡ string_bytes l.initial.text ++ passed_items l.bus.devices.entries l.opened (items l.initial.framer.ended l.initial.framer.bytes);
-  left : rest_of l.framer.ended l.framer.bytes ≡ rest_of l.initial.framer.ended l.initial.framer.bytes;
+  written : written (passed_item l.bus.devices.entries l.opened) (items l.receiver.held.ended l.receiver.held.bytes) (string_bytes l.text)
+      ≡ written (passed_item l.bus.devices.entries l.opened) (items l.initial.receiver.held.ended l.initial.receiver.held.bytes) (string_bytes l.initial.text);
+  line : ◌≡◌ {A = Received} l.receiver (record l.initial.receiver { held = l.receiver.held });
+  left : rest_of l.receiver.held.ended l.receiver.held.bytes ≡ rest_of l.initial.receiver.held.ended l.initial.receiver.held.bytes;
 }
 
 abbrev pub decreases-items : goal.decreases-items
-decreases-items l = length l.framer.bytes
+decreases-items l = length l.receiver.held.bytes
