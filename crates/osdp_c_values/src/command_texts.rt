@@ -7,9 +7,10 @@ ghost use Rattle.osdp_msg.specs.CommandTable.{command_of};
 ghost use Rattle.osdp_msg.specs.CommandText.{command_text};
 ghost use Rattle.osdp_c_values.specs.Pieces.{HasTextOf, IsPut};
 
-use crate::pieces::{MAX_TEXT, NoRoom, Room, numbers_of, put, put_list, put_listed, put_plain};
+use crate::pieces::{
+    MAX_TEXT, NoRoom, Room, numbers_of, put, put_list, put_listed, put_plain, read_text,
+};
 use crate::records::put_records;
-use arrayvec::ArrayString;
 use osdp_msg::{Buzzer, Command, Communication, MakerMessage, MsgFault, Text};
 
 /// Puts the text of a BUZ.
@@ -71,17 +72,9 @@ fn put_command(room: &mut Room, command: &Command) -> Result<(), NoRoom>
 }
 
 /// Puts the text of the command that a code and data stand for into a room that is empty, or tells why there is none.
-pub fn read_command_text(
-    code: u8,
-    body: &[u8],
-    room: &mut ArrayString<MAX_TEXT>,
-) -> Result<(), MsgFault>
+pub fn read_command_text(code: u8, body: &[u8], room: &mut Room) -> Result<(), MsgFault>
     requires { room.old.bytes ≡ [] }
     ensures { HasTextOf command_text (command_of code body.now) result room.new }
 {
-    let command = Command::read(code, body)?;
-    match put_command(room, &command) {
-        Ok(()) => Ok(()),
-        Err(NoRoom) => unreachable!(),
-    }
+    read_text!(Command, put_command, code, body, room)
 }

@@ -14,7 +14,7 @@ use itoa::Buffer;
 pub const MAX_TEXT: usize = 5729;
 
 /// The room of a text.
-pub(crate) type Room = ArrayString<MAX_TEXT>;
+pub type Room = ArrayString<MAX_TEXT>;
 
 /// A text has no room.
 pub(crate) struct NoRoom;
@@ -24,7 +24,19 @@ macro_rules! numbers_of {
     ($of:ident: $($field:ident)*) => { [$(u32::from($of.$field)),*] };
 }
 
+/// Puts the text of the message that a code and data stand for into a room that is empty, or tells why there is none.
+macro_rules! read_text {
+    ($kind:ident, $put:ident, $code:ident, $body:ident, $room:ident) => {{
+        let message = $kind::read($code, $body)?;
+        match $put($room, &message) {
+            Ok(()) => Ok(()),
+            Err(NoRoom) => unreachable!(),
+        }
+    }};
+}
+
 pub(crate) use numbers_of;
+pub(crate) use read_text;
 
 const DIGITS: &[u8; 16] = b"0123456789ABCDEF";
 

@@ -10,9 +10,9 @@ ghost use Rattle.osdp_c_values.specs.Pieces.{HasTextOf, IsPut};
 use crate::command_texts::{put_communication, put_maker};
 use crate::pieces::{
     MAX_TEXT, NoRoom, Room, numbers_of, put, put_list, put_listed, put_numbers, put_plain,
+    read_text,
 };
 use crate::records::put_records;
-use arrayvec::ArrayString;
 use osdp_msg::{Formatted, Keypad, LocalState, MsgFault, Nak, PdId, Raw, Reply};
 
 /// Puts the text of a NAK.
@@ -96,17 +96,9 @@ fn put_reply(room: &mut Room, reply: &Reply) -> Result<(), NoRoom>
 }
 
 /// Puts the text of the reply that a code and data stand for into a room that is empty, or tells why there is none.
-pub fn read_reply_text(
-    code: u8,
-    body: &[u8],
-    room: &mut ArrayString<MAX_TEXT>,
-) -> Result<(), MsgFault>
+pub fn read_reply_text(code: u8, body: &[u8], room: &mut Room) -> Result<(), MsgFault>
     requires { room.old.bytes ≡ [] }
     ensures { HasTextOf reply_text (reply_of code body.now) result room.new }
 {
-    let reply = Reply::read(code, body)?;
-    match put_reply(room, &reply) {
-        Ok(()) => Ok(()),
-        Err(NoRoom) => unreachable!(),
-    }
+    read_text!(Reply, put_reply, code, body, room)
 }

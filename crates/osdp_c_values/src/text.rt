@@ -33,24 +33,27 @@ fn tell_text(text: &str, out: &mut [u8], count: &mut usize) -> Status
     Status::Done
 }
 
+/// Writes the text that a function reads of a code and data, and its length.
+macro_rules! told_text {
+    ($read:ident, $code:ident, $body:ident, $out:ident, $count:ident) => {{
+        let mut room = ArrayString::new();
+        match $read($code, $body, &mut room) {
+            Ok(()) => tell_text(room.as_str(), $out, $count),
+            Err(fault) => Status::Message(fault),
+        }
+    }};
+}
+
 /// Writes the text of the command that a code and data stand for, and its length.
 pub fn write_command_text(code: u8, body: &[u8], out: &mut [u8], count: &mut usize) -> Status
     ensures { CommandTextEnds code body.now result out.old out.new count.old count.new }
 {
-    let mut room = ArrayString::new();
-    match read_command_text(code, body, &mut room) {
-        Ok(()) => tell_text(room.as_str(), out, count),
-        Err(fault) => Status::Message(fault),
-    }
+    told_text!(read_command_text, code, body, out, count)
 }
 
 /// Writes the text of the reply that a code and data stand for, and its length.
 pub fn write_reply_text(code: u8, body: &[u8], out: &mut [u8], count: &mut usize) -> Status
     ensures { ReplyTextEnds code body.now result out.old out.new count.old count.new }
 {
-    let mut room = ArrayString::new();
-    match read_reply_text(code, body, &mut room) {
-        Ok(()) => tell_text(room.as_str(), out, count),
-        Err(fault) => Status::Message(fault),
-    }
+    told_text!(read_reply_text, code, body, out, count)
 }

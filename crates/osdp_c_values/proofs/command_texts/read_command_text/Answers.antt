@@ -4,4 +4,4 @@ use Rattle.osdp_c_values.proofs.command_texts.read_command_text.Goals as goal
 
 -- the longest text has room
 pub unreachable-requires : goal.unreachable-requires
-unreachable-requires c = omega (arith, c.in-Err.ensures, ap length c.requires, longest_command.within c.in_ok-command.command c.in_ok-command.ensures.value.fits)
+unreachable-requires c = omega (arith, c.in-Err.ensures, ap length c.requires, longest_command.within c.in_ok-message.message c.in_ok-message.ensures.value.fits)

@@ -4,4 +4,4 @@ use Rattle.osdp_c_values.proofs.reply_texts.read_reply_text.Goals as goal
 
 -- the longest text has room
 pub unreachable-requires : goal.unreachable-requires
-unreachable-requires c = omega (arith, c.in-Err.ensures, ap length c.requires, longest_reply.within c.in_ok-reply.reply c.in_ok-reply.ensures.value.fits)
+unreachable-requires c = omega (arith, c.in-Err.ensures, ap length c.requires, longest_reply.within c.in_ok-message.message c.in_ok-message.ensures.value.fits)
