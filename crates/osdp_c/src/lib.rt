@@ -4,9 +4,7 @@
 //! a call does is the definitions in `specs/`, over those of the machines.
 #![tactic(auto)]
 
-mod answers;
 mod fields;
-mod getters;
 mod held;
 mod panel;
 mod panel_calls;

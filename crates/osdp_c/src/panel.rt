@@ -10,7 +10,7 @@ ghost use Rattle.osdp_c_values.specs.Clocks.{new_clock};
 ghost use Rattle.osdp_c_values.specs.Addresses.{device_address};
 ghost use Rattle.osdp_c_values.specs.Calls.{IsDone, calls, frees, writes};
 ghost use Rattle.osdp_c.specs.CommandTexts.{IsReadCommand};
-ghost use Rattle.osdp_c_values.specs.Panels.{AddsTo, IsBurstIn, IsDueIn, MadeAs, NewPanelEnds, at_moment, begins, does, falls_silent, hears, of_bus, on_bus, reports, retargets, sets_moment, submits_data, submits_text, ticks, withdraws, writes_report, writes_withdrawn};
+ghost use Rattle.osdp_c_values.specs.Panels.{AddsTo, IsBurstIn, IsDueIn, MadeAs, NewPanelEnds, at_moment, begins, does, falls_silent, hears, looks_at, of_bus, on_bus, reports, retargets, sets_moment, submits_data, submits_text, ticks, withdraws, writes_address, writes_closed, writes_entries, writes_report, writes_waiting, writes_withdrawn};
 
 use crate::held::on_held;
 use crate::panel_calls;
@@ -281,4 +281,75 @@ pub extern "C" fn osdp_panel_set_moment(alloc: Global, panel: &mut PanelHandle, 
         panel_calls::set_moment(&mut machine, now);
         Status::Done
     })
+}
+
+/// Writes what the bus of a panel tells of a device, where it has one of that number. Gives the number of the call's status.
+macro_rules! on_entry {
+    ($panel:ident, $alloc:ident, $look:ident($entry:expr) => |$told:ident| $out:ident = $written:expr) => {
+        on_held!($panel, $alloc, |machine| match machine.bus.$look($entry) {
+            Some($told) => {
+                *$out = $written;
+                Status::Done
+            }
+            None => Status::Panel(BusFault::NoEntry),
+        })
+    };
+}
+
+/// Writes how many devices a panel has.
+#[unsafe(no_mangle)]
+pub extern "C" fn osdp_panel_entries(
+    alloc: Global,
+    panel: &mut PanelHandle,
+    count: &mut usize,
+) -> u32
+    ensures panel { IsDone (calls (on_bus does) panel.old.slot.machine) result panel.new.slot.machine }
+    ensures written { count.new ≡ writes (of_bus writes_entries) panel.old.slot.machine count.old }
+{
+    on_held!(panel, alloc, |machine| {
+        *count = machine.bus.entries();
+        Status::Done
+    })
+}
+
+/// Writes the address of a device.
+#[unsafe(no_mangle)]
+pub extern "C" fn osdp_panel_address(
+    alloc: Global,
+    panel: &mut PanelHandle,
+    entry: Entry,
+    address: &mut u32,
+) -> u32
+    ensures panel { IsDone (calls (on_bus (looks_at entry)) panel.old.slot.machine) result panel.new.slot.machine }
+    ensures written { address.new ≡ writes (of_bus (writes_address entry)) panel.old.slot.machine address.old }
+{
+    on_entry!(panel, alloc, address(entry) => |told| address = u32::from(told.get()))
+}
+
+/// Writes how many commands wait for a device.
+#[unsafe(no_mangle)]
+pub extern "C" fn osdp_panel_waiting(
+    alloc: Global,
+    panel: &mut PanelHandle,
+    entry: Entry,
+    count: &mut usize,
+) -> u32
+    ensures panel { IsDone (calls (on_bus (looks_at entry)) panel.old.slot.machine) result panel.new.slot.machine }
+    ensures written { count.new ≡ writes (of_bus (writes_waiting entry)) panel.old.slot.machine count.old }
+{
+    on_entry!(panel, alloc, waiting(entry) => |told| count = told)
+}
+
+/// Writes whether the session of a device is closed.
+#[unsafe(no_mangle)]
+pub extern "C" fn osdp_panel_is_closed(
+    alloc: Global,
+    panel: &mut PanelHandle,
+    entry: Entry,
+    closed: &mut u32,
+) -> u32
+    ensures panel { IsDone (calls (on_bus (looks_at entry)) panel.old.slot.machine) result panel.new.slot.machine }
+    ensures written { closed.new ≡ writes (of_bus (writes_closed entry)) panel.old.slot.machine closed.old }
+{
+    on_entry!(panel, alloc, is_closed(entry) => |told| closed = if told { 1 } else { 0 })
 }
