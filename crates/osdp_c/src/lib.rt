@@ -4,11 +4,10 @@
 //! a call does is the definitions in `specs/`, over those of the machines.
 #![tactic(auto)]
 
-mod fields;
 mod held;
+mod messages;
 mod panel;
 mod panel_calls;
 mod read;
 mod reader;
 mod reader_calls;
-mod texts;

@@ -1,4 +1,4 @@
-//! The fields of replies and commands, for C.
+//! Messages for C: the fields of replies and commands, and texts.
 
 ghost use Rattle.std.specs.Prelude.{◌≡◌, Some};
 ghost use Rattle.osdp_msg.specs.declared.command.Command.TheVariants as command;
@@ -6,10 +6,11 @@ ghost use Rattle.osdp_c_values.specs.Fields.{command_in, inputs_of, keypad_of, n
 ghost use Rattle.osdp_c_values.specs.Making.{buzzer_in, made_led, made_out, text_in};
 ghost use Rattle.osdp_c_values.specs.Structs.{command_struct};
 ghost use Rattle.osdp_c.specs.Reads.{IsRead};
+ghost use Rattle.osdp_c.specs.Texts.{CommandTextAnswered, ReplyTextAnswered};
 
 use osdp_c_values::{
     BuzzerStruct, KeypadStruct, LedStruct, MessageStruct, NakStruct, OutputStruct, PdIdStruct,
-    RawStruct, StatesStruct, Status, TextStruct,
+    RawStruct, StatesStruct, Status, TextStruct, write_command_text, write_reply_text,
 };
 use osdp_msg::Reply;
 
@@ -126,4 +127,30 @@ pub extern "C" fn osdp_comset(address: u8, baud_rate: u32, message: &mut Message
     ensures { message.new ≡ command_struct (Some (command.Comset (record { address = address; baud_rate = baud_rate }))) message.old }
 {
     message.make_comset(address, baud_rate);
+}
+
+/// Writes the text of the command that a code and data stand for, and its length.
+#[unsafe(no_mangle)]
+pub extern "C" fn osdp_command_text_nonnull(
+    code: u8,
+    body: &[u8],
+    text: &mut [u8],
+    count: &mut usize,
+) -> u32
+    ensures { CommandTextAnswered code body.now result text.old text.new count.old count.new }
+{
+    write_command_text(code, body, text, count).number()
+}
+
+/// Writes the text of the reply that a code and data stand for, and its length.
+#[unsafe(no_mangle)]
+pub extern "C" fn osdp_reply_text_nonnull(
+    code: u8,
+    body: &[u8],
+    text: &mut [u8],
+    count: &mut usize,
+) -> u32
+    ensures { ReplyTextAnswered code body.now result text.old text.new count.old count.new }
+{
+    write_reply_text(code, body, text, count).number()
 }
