@@ -145,19 +145,25 @@ fn take_held<W: Write>(
     Ok(count)
 }
 
-/// How many of these bytes the framer is given, where so many before them needed none: none then, since the next may
-/// need none either. A framer that holds nothing is given as many as decide the first item. One that holds some is given
-/// one at a time at first, since where nothing is held after an item the next ones need no framer.
+/// How many of these bytes a framer that holds none is given, where so many before them needed none: as many as decide the
+/// first item. None where one byte alone does after such: it is skipped, and is passed over with those after it.
 #[tactic(auto, using(crate::proofs::Deciding::decides_some))]
+fn first_count(whole: usize, bytes: &[u8]) -> usize
+    ensures within { result ≤ length bytes.now }
+    ensures some { 0 < length bytes.now → 0 < whole + result }
+{
+    let count = deciding_count(bytes);
+    if whole > 0 && count == 1 { 0 } else { count }
+}
+
+/// How many of these bytes the framer is given, where so many before them needed none. Where it holds some: one at a time
+/// at first, since where nothing is held after an item the next ones need no framer.
 fn given_count(is_empty: bool, whole: usize, tries: u8, bytes: &[u8]) -> usize
     ensures within { result ≤ length bytes.now }
     ensures some { 0 < length bytes.now → 0 < whole + result }
 {
-    if whole > 0 {
-        return 0;
-    }
     if is_empty {
-        return deciding_count(bytes);
+        return first_count(whole, bytes);
     }
     if tries < TRIES {
         bytes.len().min(1)
