@@ -50,7 +50,7 @@ pub extern "C" fn osdp_keypad_of(message: &MessageStruct, keys: &mut KeypadStruc
 pub extern "C" fn osdp_inputs_of(message: &MessageStruct, inputs: &mut StatesStruct) -> u32
     ensures { IsRead (inputs_of (reply_in message.now) inputs.old) result inputs.new }
 {
-    written_of!(message, Reply::Inputs(states) => inputs.set(states.as_slice()))
+    written_of!(message, Reply::Inputs(states) => inputs.set(&states))
 }
 
 /// Writes the states of an OSTATR.
@@ -58,7 +58,7 @@ pub extern "C" fn osdp_inputs_of(message: &MessageStruct, inputs: &mut StatesStr
 pub extern "C" fn osdp_outputs_of(message: &MessageStruct, outputs: &mut StatesStruct) -> u32
     ensures { IsRead (outputs_of (reply_in message.now) outputs.old) result outputs.new }
 {
-    written_of!(message, Reply::Outputs(states) => outputs.set(states.as_slice()))
+    written_of!(message, Reply::Outputs(states) => outputs.set(&states))
 }
 
 /// Writes what the device of a PDID is.

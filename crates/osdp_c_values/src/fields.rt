@@ -7,6 +7,7 @@ use crate::arrays::fill;
 use crate::message::MessageStruct;
 use crate::settings::ProductStruct;
 use crate::status::Status;
+use arrayvec::ArrayVec;
 use osdp_msg::{
     Command, Keypad, MAX_CARD_BYTES, MAX_DATA, MAX_DETAIL, MsgFault, Nak, OutputRecord, PdId, Raw,
     Reply,
@@ -134,12 +135,11 @@ impl KeypadStruct {
 
 impl StatesStruct {
     /// Writes states.
-    pub fn set(&mut self, states: &[u8])
-        requires { length states.now ≤ MAX_DATA }
-        ensures { self.new ≡ states_struct states.now self.old }
+    pub fn set(&mut self, states: &ArrayVec<u8, MAX_DATA>)
+        ensures { self.new ≡ states_struct states.now.items self.old }
     {
         self.length = states.len() as u16;
-        fill(&mut self.states, states);
+        fill(&mut self.states, states.as_slice());
     }
 }
 

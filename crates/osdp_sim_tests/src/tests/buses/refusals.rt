@@ -1,7 +1,6 @@
 //! Each request for memory of a run over a bus, refused by itself.
 
 use crate::tests::buses::readers::config;
-use arrayvec::ArrayVec;
 use osdp_frame::Address;
 use osdp_msg::Command;
 use osdp_reader::ReaderConfig;
@@ -26,23 +25,28 @@ fn two_readers(rt: &impl Abort, alloc: Global) -> Option<Vec<(ReaderConfig, usiz
     Some(readers)
 }
 
+/// After so long a packet goes to the readers, and one comes back.
+fn round(wait: u64) -> [SimStep; 3] {
+    [
+        SimStep::Wait(wait),
+        SimStep::ToReader(Move::Deliver),
+        SimStep::ToController(Move::Deliver),
+    ]
+}
+
 /// Two sessions that open, and a command that is settled in each.
-fn opens() -> ArrayVec<SimStep, 14> {
-    let mut steps = ArrayVec::new();
-    let _ = steps.try_push(SimStep::Issue(1, Command::LocalStatus));
-    let _ = steps.try_push(SimStep::Issue(2, Command::InputStatus));
-    for wait in [400, 0, 0, 0] {
-        let _ = steps.try_push(SimStep::Wait(wait));
-        let _ = steps.try_push(SimStep::ToReader(Move::Deliver));
-        let _ = steps.try_push(SimStep::ToController(Move::Deliver));
-    }
-    steps
+fn opens() -> [SimStep; 14] {
+    let one = SimStep::Issue(1, Command::LocalStatus);
+    let two = SimStep::Issue(2, Command::InputStatus);
+    let ([a, b, c], [d, e, f]) = (round(400), round(0));
+    let ([g, h, i], [j, k, l]) = (round(0), round(0));
+    [one, two, a, b, c, d, e, f, g, h, i, j, k, l]
 }
 
 /// The two accounts are those of the first of these steps.
 fn are_of_the_first(rt: &impl Abort, alloc: Global, told: &[Account], steps: usize) {
     let all = opens();
-    assert!(rt; steps <= all.len());
+    assert!(rt; steps <= 14);
     let readers = two_readers(rt, alloc).expect(rt, "memory");
     let accounts = run_bus(alloc, &config(), readers, &all[..steps]);
     let accounts = accounts.ok().expect(rt, "accounts");
@@ -80,7 +84,7 @@ fn out_of_memory_is_told(rt: HostRuntime) {
     let Some(readers) = two_readers(&rt, rt.alloc()) else {
         return;
     };
-    match run_bus(rt.alloc(), &config(), readers, opens().as_slice()) {
+    match run_bus(rt.alloc(), &config(), readers, &opens()) {
         Ok(accounts) => are_settled(&rt, accounts.as_slice()),
         Err(fault) => tells_of_the_steps_before(&rt, rt.alloc(), &fault),
     }
@@ -90,6 +94,6 @@ fn out_of_memory_is_told(rt: HostRuntime) {
 #[test]
 fn memory_is_needed(rt: HostRuntime) {
     let readers = two_readers(&rt, rt.alloc()).expect(&rt, "memory");
-    let ended = run_bus(rt.alloc(), &config(), readers, opens().as_slice());
+    let ended = run_bus(rt.alloc(), &config(), readers, &opens());
     are_settled(&rt, ended.ok().expect(&rt, "accounts").as_slice());
 }
