@@ -59,16 +59,7 @@ vendor_bytes (suc (suc zero)) = omega arith
 vendor_bytes (suc (suc (suc i))) = omega arith
 
 pub id_fits : PdIdFits device.id
-id_fits = record {
-  vendor_length = refl;
-  vendor = vendor_bytes;
-  model = omega arith;
-  version = omega arith;
-  serial = omega arith;
-  firmware_major = omega arith;
-  firmware_minor = omega arith;
-  firmware_build = omega arith;
-}
+id_fits = record { vendor_length = refl; vendor = vendor_bytes; model = omega arith; version = omega arith; serial = omega arith; firmware_major = omega arith; firmware_minor = omega arith; firmware_build = omega arith }
 
 -- the only one of a list
 abbrev only_device : List Device → Device

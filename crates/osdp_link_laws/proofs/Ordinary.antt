@@ -82,14 +82,14 @@ leaves_so t waiting events so leaves =
           ∙ append_assoc (settled_commands t) t.unsettled waiting;
       unsettled = subst (λ cs. length cs ≤ 1) told commands.one;
       taken = subst (λ cs. (t.taken ≡ settled_commands t) ⊎ (t.taken ≡ settled_commands t ++ cs)) told commands.taken;
-      reported = (
-        leaves.left,
-        leaves.of_events.again,
-        leaves.of_events.queued,
-        all_reported t leaves.left events so leaves.of_events,
-        leaves.of_events.front,
-        few_again t leaves.left events leaves.of_events,
-      );
+      events = record {
+        left = leaves.left;
+        again = leaves.of_events.again;
+        queued = leaves.of_events.queued;
+        reported = all_reported t leaves.left events so leaves.of_events;
+        front = leaves.of_events.front;
+        few = few_again t leaves.left events leaves.of_events;
+      };
     }
 
 have_left_so : (all : List Event) (earlier : List Account) (gone : List Event) → AreUndisturbed earlier → HaveLeft all earlier gone

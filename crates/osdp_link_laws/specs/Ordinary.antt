@@ -41,14 +41,22 @@ abbrev pub OrdinaryIsUndisturbed : {H : Type 0} → (H → Command → Answer) �
 OrdinaryIsUndisturbed {H} answer_of after = (l : Link H) (moves : List (Move H)) → Begins l → All IsOrdinary moves
     → let later = run answer_of after moves l in AreUndisturbed (later.account ∷ later.earlier)
 
+-- the events that wait are those of the session that were not reported, with the last that was, or without it
+pub record LeavesUnreported (t : Account) (events : List Event) : Type 0 where
+  pub left : List Event
+  pub again : List Event
+  pub queued : t.queued ≡ left ++ events
+  pub reported : t.reported ≡ left ++ again
+  pub front : IsBeginning again events
+  pub few : length again ≤ 1
+
 -- what such a session leaves: its commands are those settled, one told unsettled at most, and those that wait; the reader has taken those
--- settled, and may have taken that one; the events that wait are those that were not reported, with the last that was, or without it
+-- settled, and may have taken that one; and its events
 pub record LeavesUndisturbed (t : Account) (waiting : List Command) (events : List Event) : Type 0 where
   pub commands : t.issued ≡ settled_commands t ++ (t.unsettled ++ waiting)
   pub unsettled : length t.unsettled ≤ 1
   pub taken : (t.taken ≡ settled_commands t) ⊎ (t.taken ≡ settled_commands t ++ t.unsettled)
-  pub reported : (gone : List Event) × (again : List Event)
-      × (t.queued ≡ gone ++ events) × (t.reported ≡ gone ++ again) × IsBeginning again events × (length again ≤ 1)
+  pub events : LeavesUnreported t events
 
 -- of all events, those that have left the queue: what these sessions reported, of each the last or none left out, session after session
 abbrev pub HaveLeftUndisturbed : List Event → List Account → List Event → Type 0

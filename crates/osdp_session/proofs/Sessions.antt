@@ -193,9 +193,9 @@ module _ {H : Type 0} (answer_of : H → Command → Answer) (after : H → Comm
       ∙ append_assoc (ended_commands (u ∷ earlier)) waiting more
       ∙ ap (λ cs. ended_commands (u ∷ earlier) ++ cs) (sym follow) in
       let events_on : (gone ++ u.queued) ++ is.first.0 ≡ past ++ t.queued =
-      ap (λ es. (gone ++ es) ++ is.first.0) is.queued
-      ∙ ap (λ es. es ++ is.first.0) (sym (append_assoc gone is.left is.waits))
-      ∙ append_assoc (gone ++ is.left) is.waits is.first.0
+      ap (λ es. (gone ++ es) ++ is.first.0) is.leaves.queued
+      ∙ ap (λ es. es ++ is.first.0) (sym (append_assoc gone is.leaves.left is.waits))
+      ∙ append_assoc (gone ++ is.leaves.left) is.waits is.first.0
       ∙ ap (λ es. es ++ (is.waits ++ is.first.0)) (sym is.goes)
       ∙ ap (λ es. past ++ es) (sym is.first.1) in
       let within : IsIn a u earlier gone = record {
@@ -224,10 +224,10 @@ module _ {H : Type 0} (answer_of : H → Command → Answer) (after : H → Comm
           arith,
           cut.queued,
           ap length is.goes,
-          length-append gone is.left,
+          length-append gone is.leaves.left,
           length-append gone u.queued,
-          ap length is.queued,
-          length-append is.left is.waits,
+          ap length is.leaves.queued,
+          length-append is.leaves.left is.waits,
         );
         most_queued = omega (arith, cut.queued, ap length events_on, length-append (gone ++ u.queued) is.first.0);
         counts = counts;
@@ -247,7 +247,7 @@ module _ {H : Type 0} (answer_of : H → Command → Answer) (after : H → Comm
         (
           length past,
           subst (λ n. IsNextEvent from at first n) (sym (ap length is.goes))
-              (next_event from at first u earlier gone is.left is.again is_from is_to is.reported is.few),
+              (next_event from at first u earlier gone is.leaves.left is.leaves.again is_from is_to is.leaves.reported is.leaves.few),
           rest at (length past) next,
         ),
       )) in (

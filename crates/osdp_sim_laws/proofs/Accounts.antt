@@ -111,17 +111,12 @@ over_more cuts next more (t ∷ earlier) gone (before, past, over, is) = (
   over,
   record {
     at = is.at;
-    left = is.left;
     waits = is.waits;
-    again = is.again;
     begins = is.begins;
     cut = is.cut;
-    queued = is.queued;
+    leaves = is.leaves;
     goes = is.goes;
     first = (is.first.0 ++ more, later next is.waits is.first.0 more is.first.1);
-    reported = is.reported;
-    front = is.front;
-    few = is.few;
   },
 )
 
@@ -169,22 +164,20 @@ pub tells_session : (a : Account) (t : link.Account) (waiting : List Command) (e
 tells_session a t waiting events earlier all so ended h =
     let leaves = undisturbed_leaves.one t waiting events so all in
     let gone = h.queued.0 in
-    let left = leaves.reported in
+    let left = leaves.events in
     record {
       issued = h.issued
           ∙ ap (λ cs. ended_commands earlier ++ cs) all.of_commands.commands
           ∙ sym (append_assoc (ended_commands earlier) (ended_in t) waiting);
       queued = (
-        gone ++ left.0,
+        gone ++ left.left,
         (
           a.sessions,
           gone,
           h.queued.1,
           record {
             at = lengths_of a;
-            left = left.0;
             waits = events;
-            again = left.1;
             begins = refl;
             cut = record {
               issued = ap length h.issued;
@@ -195,15 +188,12 @@ tells_session a t waiting events earlier all so ended h =
               reported = ap length h.reported;
               ends = omega (arith, ended, begun a.sessions t.queued earlier gone h.queued.1);
             };
-            queued = left.2;
+            leaves = left;
             goes = refl;
             first = ([], sym (append-nil events));
-            reported = left.3;
-            front = left.4;
-            few = left.5;
           },
         ),
-        h.queued.2 ∙ ap (λ all. gone ++ all) left.2 ∙ sym (append_assoc gone left.0 events),
+        h.queued.2 ∙ ap (λ all. gone ++ all) left.queued ∙ sym (append_assoc gone left.left events),
       );
       taken = h.taken ∙ sym (append-nil (all_in (λ t. t.taken) (t ∷ earlier)));
       settled = h.settled ∙ sym (append-nil (all_in (λ t. t.settled) (t ∷ earlier)));

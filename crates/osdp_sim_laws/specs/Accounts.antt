@@ -8,7 +8,7 @@ use Rattle.osdp_reader.specs.declared.handler.Answer.{Answer}
 use Rattle.osdp_link_laws.specs.Headline.{IsBeginning}
 use Rattle.osdp_link_laws.specs.Link as link
 use Rattle.osdp_link_laws.specs.OneHandler.{AreOnce, with_answers}
-use Rattle.osdp_link_laws.specs.Ordinary.{AreUndisturbed}
+use Rattle.osdp_link_laws.specs.Ordinary.{AreUndisturbed, LeavesUnreported}
 use Rattle.osdp_link_laws.specs.Refusals.{IsOtherCause}
 use Rattle.osdp_link_laws.specs.Sessions.{AreInARow, Leaves, ended_commands}
 use Rattle.osdp_sim.specs.Account.{Account, lists_of}
@@ -48,17 +48,12 @@ pub record IsCut (at : Lengths) (t : link.Account) (earlier : List link.Account)
 -- reported has left too, all of that or all but the last, and what waits still are the first events of the next session.
 pub record IsOver (cuts before : List Lengths) (past gone next : List Event) (t : link.Account) (earlier : List link.Account) : Type 0 where
   pub at : Lengths
-  pub left : List Event
   pub waits : List Event
-  pub again : List Event
   pub begins : cuts ≡ before ++ at ∷ []
   pub cut : IsCut at t earlier past
-  pub queued : t.queued ≡ left ++ waits
-  pub goes : gone ≡ past ++ left
+  pub leaves : LeavesUnreported t waits
+  pub goes : gone ≡ past ++ leaves.left
   pub first : IsBeginning waits next
-  pub reported : t.reported ≡ left ++ again
-  pub front : IsBeginning again waits
-  pub few : length again ≤ 1
 
 -- these sessions are over, the last of them first: a session has begun at each of these lengths, the last of them with the next events,
 -- and the events in `gone` have left the queue
