@@ -25,7 +25,7 @@ use Rattle.osdp_calls.specs.Premises.{NextInOrder, NextInRange}
 use Rattle.osdp_calls.proofs.Losing.{IsStill, changed_twice}
 use Rattle.osdp_calls.proofs.Matching.{FoundAt, Nobody, Somebody, found}
 use Rattle.osdp_calls.proofs.Nexts.{read_to, reads_all, then_rests_to}
-use Rattle.osdp_calls.proofs.Replying.{next_told, reader_with}
+use Rattle.osdp_calls.proofs.Replying.{told_first, reader_with}
 use Rattle.osdp_calls.proofs.Same.{IsNetOf, read_so}
 use Rattle.osdp_calls.proofs.Stations.{RestsTo, Sites, both_change, make_none, station_changes}
 use Rattle.osdp_calls.proofs.Steps.{StepsTo, by_own, one_queue, queue_no_command, site_queues}
@@ -115,7 +115,7 @@ module _ {H : Type 0} (answer_of : H → Command → Answer) (after : H → Comm
           subst (λ (r : _). RestsTo answer_of after n (record l {
             stations = changed k (record (answers answer_of after o t) { reader = r; line = held; place = last_of places t.place }) l.stations;
             said = l.said ++ by_device k (reply_to answer_of after o t.reader);
-          })) (sym (next_told answer_of after parts t.reader t.line.held).1)
+          })) (sym (told_first answer_of after parts t.reader t.line.held).1)
           (subst (λ ts. RestsTo answer_of after n (record l { stations = ts; said = l.said ++ by_device k (reply_to answer_of after o t.reader) }))
           (ap (λ u. changes_at k (λ v. record v { line = held }) u (changed k t1 l.stations)) (at_changed k t1 t l.stations is)
           ∙ changed_twice k (with_line held) t1 l.stations)

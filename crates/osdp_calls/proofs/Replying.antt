@@ -90,12 +90,12 @@ module _ {H : Type 0} where
     abbrev pub IsTold : Told H → Option Packet → ReaderState H → Type 0
     IsTold told first r = (told.said ≡ option_map (said_to answer_of after r) first) × (told.reader ≡ reader_with first r)
 
-    pub next_told : (parts : List RunItem) (r : ReaderState H) (held : Held)
+    pub told_first : (parts : List RunItem) (r : ReaderState H) (held : Held)
         → IsTold (told_by answer_of after parts r held) (first_answered r (read_up_to r parts)) r
-    next_told [] r held = (refl, refl)
-    next_told (SkippedItem byte ∷ parts) r held = next_told parts r (later held (SkippedItem byte))
-    next_told (RefusedItem fault ∷ parts) r held = next_told parts r (later held (RefusedItem fault))
-    next_told (PacketItem p ∷ parts) r held = by_kind (kind_of r p) refl (next_told parts r (later held (PacketItem p)))
+    told_first [] r held = (refl, refl)
+    told_first (SkippedItem byte ∷ parts) r held = told_first parts r (later held (SkippedItem byte))
+    told_first (RefusedItem fault ∷ parts) r held = told_first parts r (later held (RefusedItem fault))
+    told_first (PacketItem p ∷ parts) r held = by_kind (kind_of r p) refl (told_first parts r (later held (PacketItem p)))
       where
         Goal : Kind → Type 0
         Goal k = IsTold

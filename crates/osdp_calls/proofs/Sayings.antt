@@ -29,7 +29,7 @@ use Rattle.osdp_reader.specs.declared.kind.Kind.TheVariants as kind
 use Rattle.osdp_calls.specs.Calls.{after_next, answers, asked_at, asked_by_holder, by_device, first_answered, panel_says, read_up_to, reply_to}
 use Rattle.osdp_calls.specs.Lines.{Burst, InUse, Station, bus_with}
 use Rattle.osdp_calls.specs.Sayings.{AddsMakeTheBus, ByDevice, IsSaid, NoneRefused, ReadsToFirst, SaysWhatGoesOut, acted_on, after_hearing}
-use Rattle.osdp_calls.proofs.Replying.{next_told, reader_with}
+use Rattle.osdp_calls.proofs.Replying.{told_first, reader_with}
 
 -- ---- who is asked says what goes out
 
@@ -199,10 +199,10 @@ module _ {H : Type 0} (answer_of : H → Command → Answer) (after : H → Comm
     device = λ k places t is. record {
       answered = first_answered t.reader (read_up_to t.reader (items_of t.line.held));
       read = reads_to_first (items_of t.line.held) t.reader;
-      reader = (next_told answer_of after (items_of t.line.held) t.reader t.line.held).1 ∙ sym (hears_each (items_of t.line.held) t.reader);
-      response = (next_told answer_of after (items_of t.line.held) t.reader t.line.held).0;
+      reader = (told_first answer_of after (items_of t.line.held) t.reader t.line.held).1 ∙ sym (hears_each (items_of t.line.held) t.reader);
+      response = (told_first answer_of after (items_of t.line.held) t.reader t.line.held).0;
       acts = acts_so (first_answered t.reader (read_up_to t.reader (items_of t.line.held))) t
-          ∙ ap (λ o. t.account.taken ++ acted_on o) (sym ((next_told answer_of after (items_of t.line.held) t.reader t.line.held).0));
+          ∙ ap (λ o. t.account.taken ++ acted_on o) (sym ((told_first answer_of after (items_of t.line.held) t.reader t.line.held).0));
       said = subst (λ o. IsSaid (ByDevice k) (reply_to answer_of after (first_answered t.reader (read_up_to t.reader (items_of t.line.held))) t.reader) l.said
           (after_next answer_of after k places o l).said) (sym is)
           (device_bursts k (reply_to answer_of after (first_answered t.reader (read_up_to t.reader (items_of t.line.held))) t.reader) l.said);
