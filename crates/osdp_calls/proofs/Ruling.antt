@@ -41,6 +41,7 @@ use Rattle.osdp_calls.proofs.Powers.{within}
 use Rattle.osdp_calls.proofs.Same.{IsNetOf}
 use Rattle.osdp_calls.proofs.Setting.{Starts, first_from, first_net, first_site, first_there, starts}
 use Rattle.osdp_calls.proofs.Setting as setting
+use Rattle.osdp_calls.proofs.Stations.{of_site, of_station}
 use Rattle.osdp_calls.proofs.Steps.{StepsTo}
 use Rattle.osdp_shared_line.proofs.Sites.{some_same}
 use Rattle.osdp_link_laws.proofs.Lines.{each_map}
