@@ -26,7 +26,7 @@ use Rattle.osdp_shared_line.specs.Views.{EachMoveIsItsOwn, view}
 use Rattle.osdp_shared_line.proofs.Sites.{at_changed, some_same}
 use Rattle.osdp_calls.specs.Accepted.{all_queued}
 use Rattle.osdp_calls.specs.Calls.{NewDevice, Step, after_call, after_calls, all_forget, changes_at, forgets, made_anew}
-use Rattle.osdp_calls.specs.Lines.{Station}
+use Rattle.osdp_calls.specs.Lines.{InUse, Station}
 use Rattle.osdp_calls.specs.Premises as premises
 use Rattle.osdp_calls.specs.Premises.{AllKeep}
 use Rattle.osdp_calls.specs.Promises.{link_of_entry}
