@@ -9,8 +9,6 @@ use Rattle.osdp_frame.specs.Check.{check_name}
 use Rattle.osdp_words.specs.Word.{plain, number}
 use Rattle.osdp_line_calls.specs.declared.panel_command.PanelSetting.{PanelSetting}
 use Rattle.osdp_line_calls.specs.declared.panel_command.PanelSetting.TheVariants.{Check, ReplyWait, PollInterval, Sends, BusyWait, BusyLimit, QuietWait, Gap, Capacity}
-use Rattle.osdp_line_calls.specs.declared.wrong.WrongSetting.{WrongSetting}
-use Rattle.osdp_line_calls.specs.Wrong.{IsWrong}
 use Rattle.osdp_line_calls.specs.Settings.{Entry, IsSends, Make, SettingFits, setting_words}
 
 -- the name of each, its value as a word, and the range that is asked of it
@@ -46,7 +44,3 @@ defaults = default_config Crc 64
 -- the words are settings of a panel, and they make this bus of the defaults
 abbrev pub AreOfPanel : List (List ℕ) → BusConfig → Type 0
 AreOfPanel = Make (setting_words entry) (SettingFits entry) put defaults
-
--- the words are no settings of a panel, and so is this
-abbrev pub IsWrongOfPanel : List (List ℕ) → WrongSetting → Type 0
-IsWrongOfPanel = IsWrong (setting_words entry) (SettingFits entry) put defaults

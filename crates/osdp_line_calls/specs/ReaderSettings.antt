@@ -9,8 +9,6 @@ use Rattle.osdp_words.specs.Word.{bytes, number, numbers}
 use Rattle.osdp_line_calls.specs.declared.reader_command.ReaderSetting.{ReaderSetting}
 use Rattle.osdp_line_calls.specs.declared.reader_command.ReaderSetting.TheVariants.{At, Vendor, Model, Version, Serial, Firmware, Cap, Room, Gap}
 use Rattle.osdp_line_calls.specs.declared.reader_command.ReaderSettings.{ReaderSettings}
-use Rattle.osdp_line_calls.specs.declared.wrong.WrongSetting.{WrongSetting}
-use Rattle.osdp_line_calls.specs.Wrong.{IsWrong}
 use Rattle.osdp_line_calls.specs.Settings.{Entry, IsTriple, IsVendor, Make, SettingFits, setting_words}
 
 -- the name of each, its value as a word, and the range that is asked of it
@@ -67,10 +65,6 @@ defaults = record {
 -- the words are settings of a reader, and they make this one of the defaults
 abbrev pub AreOfReader : List (List ℕ) → ReaderSettings → Type 0
 AreOfReader = Make (setting_words entry) (SettingFits entry) put defaults
-
--- the words are no settings of a reader, and so is this
-abbrev pub IsWrongOfReader : List (List ℕ) → WrongSetting → Type 0
-IsWrongOfReader = IsWrong (setting_words entry) (SettingFits entry) put defaults
 
 -- what a reader asks for
 pub record AreInRange (r : ReaderSettings) : Type 0 where

@@ -5,9 +5,10 @@ ghost use Rattle.std.specs.Result.{result_ok};
 ghost use Rattle.osdp_bus.specs.Settings.{IsBusConfig};
 ghost use Rattle.osdp_words.specs.Reading.{ReadsWords};
 ghost use Rattle.osdp_words.specs.Word.{texts};
-ghost use Rattle.osdp_line_calls.specs.PanelSettings.{IsWrongOfPanel, defaults, entry, put, with_setting};
+ghost use Rattle.osdp_line_calls.specs.PanelSettings.{defaults, entry, put, with_setting};
 ghost use Rattle.osdp_line_calls.specs.Runs.{IsPanelOf};
 ghost use Rattle.osdp_line_calls.specs.Settings.{ReadsSettings, SettingFits, setting_words};
+ghost use Rattle.osdp_line_calls.specs.Wrong.{IsWrong};
 
 use crate::panel_session::LinePanel;
 use crate::run::LineCommand;
@@ -84,7 +85,7 @@ impl PanelSetting {
 pub fn panel_settings<'a>(words: &'a [&'a str]) -> Result<BusConfig, WrongSetting<'a>>
     ensures reads { ReadsSettings (setting_words entry) (SettingFits entry) put defaults (texts words.now) (result_ok result) }
     ensures range { IfOk result IsBusConfig }
-    ensures wrong { IfErr result (λ wrong. IsWrongOfPanel (texts words.now) wrong) }
+    ensures wrong { IfErr result (λ wrong. IsWrong (setting_words entry) (SettingFits entry) put defaults (texts words.now) wrong) }
 {
     let mut config = BusConfig::new(CheckKind::Crc, 64);
     let mut fields = Fields::new(words);

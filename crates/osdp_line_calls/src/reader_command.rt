@@ -4,9 +4,10 @@ ghost use Rattle.std.specs.Prelude.{◌≡◌, ◌∷◌, [], IfErr, IfOk};
 ghost use Rattle.std.specs.Result.{result_ok};
 ghost use Rattle.osdp_words.specs.Reading.{ReadsWords};
 ghost use Rattle.osdp_words.specs.Word.{texts};
-ghost use Rattle.osdp_line_calls.specs.ReaderSettings.{AreInRange, IsWrongOfReader, defaults, entry, put, put_capability};
+ghost use Rattle.osdp_line_calls.specs.ReaderSettings.{AreInRange, defaults, entry, put, put_capability};
 ghost use Rattle.osdp_line_calls.specs.Runs.{IsDeviceOf};
 ghost use Rattle.osdp_line_calls.specs.Settings.{ReadsSettings, SettingFits, setting_words};
+ghost use Rattle.osdp_line_calls.specs.Wrong.{IsWrong};
 
 use crate::reader_session::LineDevice;
 use crate::run::LineCommand;
@@ -148,7 +149,7 @@ fn default_settings() -> ReaderSettings
 pub fn reader_settings<'a>(words: &'a [&'a str]) -> Result<ReaderSettings, WrongSetting<'a>>
     ensures reads { ReadsSettings (setting_words entry) (SettingFits entry) put defaults (texts words.now) (result_ok result) }
     ensures range { IfOk result AreInRange }
-    ensures wrong { IfErr result (λ wrong. IsWrongOfReader (texts words.now) wrong) }
+    ensures wrong { IfErr result (λ wrong. IsWrong (setting_words entry) (SettingFits entry) put defaults (texts words.now) wrong) }
 {
     let mut settings = default_settings();
     let mut fields = Fields::new(words);
