@@ -96,6 +96,16 @@ module _ (word : List ℕ) (left : Words) (found : Option OptionName) (is : (n :
     word_is : word ≡ name_text n
     word_is = (is n).0 named
 
+    -- words that begin with it, and go on with its number
+    with_number : (m : OptionName) (option : ℕ → MonitorOption) (k : ℕ) (o : MonitorOption) (rest : List MonitorOption) → n ≡ m → o ≡ option k
+        → ((j : ℕ) → option_words (option j) ≡ name_text m ∷ decimal j ∷ []) → ((j : ℕ) → IsTime j → OptionFits (option j))
+        → IsTime k × (left ≡ decimal k ∷ next) → AreOptions next rest → AreOptions (word ∷ left) (o ∷ rest)
+    with_number m option k o rest e is spelled fits value g = record {
+      are = rw is (ap (λ w. w ∷ left) (word_is ∙ ap name_text e) ∙ ap (λ l. name_text m ∷ l) (value.1 ∙ ap (λ l. decimal k ∷ l) g.are)
+          ∙ ap (λ l. l ++ flat_map option_words rest) (sym (spelled k)));
+      fit = rw is (fits k value.0, g.fit);
+    }
+
     -- words that begin with it
     with_it : (m : OptionName) (o : MonitorOption) (rest : List MonitorOption) → n ≡ m → TakesOption m left next (Some o) → AreOptions next rest
         → AreOptions (word ∷ left) (o ∷ rest)
@@ -106,19 +116,9 @@ module _ (word : List ℕ) (left : Words) (found : Option OptionName) (is : (n :
         let o_is : o ≡ Packets = cc in
         record { are = rw o_is (ap (λ w. w ∷ left) (word_is ∙ ap name_text e) ∙ ap (λ l. name_text name.Packets ∷ l) (sym same ∙ g.are)); fit = rw o_is (tt, g.fit) }
     with_it name.Gap o rest e (None, takes, took) g = absurd cc
-    with_it name.Gap o rest e (Some k, takes, took) g =
-        let o_is : o ≡ Gap k = cc in
-        record {
-          are = rw o_is (ap (λ w. w ∷ left) (word_is ∙ ap name_text e) ∙ ap (λ l. name_text name.Gap ∷ l) (takes.value.1 ∙ ap (λ l. decimal k ∷ l) g.are));
-          fit = rw o_is (takes.value.0, g.fit);
-        }
+    with_it name.Gap o rest e (Some k, takes, took) g = with_number name.Gap Gap k o rest e cc (λ j. refl) (λ j fits. fits) takes.value g
     with_it name.Every o rest e (None, takes, took) g = absurd cc
-    with_it name.Every o rest e (Some k, takes, took) g =
-        let o_is : o ≡ Every k = cc in
-        record {
-          are = rw o_is (ap (λ w. w ∷ left) (word_is ∙ ap name_text e) ∙ ap (λ l. name_text name.Every ∷ l) (takes.value.1 ∙ ap (λ l. decimal k ∷ l) g.are));
-          fit = rw o_is (takes.value.0, g.fit);
-        }
+    with_it name.Every o rest e (Some k, takes, took) g = with_number name.Every Every k o rest e cc (λ j. refl) (λ j fits. fits) takes.value g
 
     -- what is left after it
     after_it : (m : OptionName) (o p : MonitorOption) (others : List MonitorOption) → n ≡ m → TakesOption m left next (Some o)
