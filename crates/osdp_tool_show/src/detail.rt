@@ -1,7 +1,6 @@
 //! How much is told of a capture.
 
 ghost use Rattle.std.specs.Prelude.{◌≡◌};
-ghost use Rattle.osdp_tool_show.specs.ItemText.{is_full};
 
 /// How much is told of a capture.
 #[derive(Clone, Copy, Debug, PartialEq, Eq)]
@@ -13,6 +12,8 @@ pub enum Detail {
 }
 
 impl Detail {
+    ghost use Rattle.osdp_tool_show.specs.ItemText.{is_full};
+
     /// Whether each item has a line.
     #[inline(always)]
     pub fn is_full(self) -> bool
