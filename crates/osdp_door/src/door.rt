@@ -3,7 +3,7 @@
 ghost use Rattle.std.specs.Prelude.{◌≡◌, ◌↔◌, ◌<◌, ◌≤◌, IfOk, IsErrOf, length, map};
 ghost use Rattle.osdp_reader.specs.State.{new_reader};
 ghost use Rattle.osdp_reader.specs.declared.fault.ReaderFault.TheVariants.{OutOfRange};
-ghost use Rattle.osdp_door.specs.DoorRules.{after_time, bit, closed_door, color_after, outputs_after, switched, with_input};
+ghost use Rattle.osdp_door.specs.DoorRules.{after_time, bit, closed_door, color_after, door_after, door_answer, outputs_after, switched, with_input};
 ghost use Rattle.osdp_door.specs.Outputs.{is_on};
 
 use crate::output::DoorOutput;
@@ -135,8 +135,6 @@ fn states(outputs: &[DoorOutput]) -> ArrayVec<u8, MAX_DATA>
 }
 
 impl Handler for Door {
-    ghost use Rattle.osdp_door.specs.DoorRules.{door_after, door_answer};
-
     ghost answer_of = { door_answer };
 
     ghost after = { door_after };
