@@ -1,5 +1,8 @@
 use Rattle.std.proofs.Common.{length, arith, ap, sym, ◌∙◌, subst}
 use Rattle.osdp_frame.specs.Bytes.{AreBytes}
+use Rattle.osdp_frame.specs.Packed.{headed}
+use Rattle.osdp_frame.specs.Packet.{IsPacket}
+use Rattle.osdp_frame.specs.declared.view.Header.{Header}
 use Rattle.osdp_tool.proofs.Orders.{some_if, is_packet}
 use Rattle.osdp_tool.proofs.order.PacketOrder.packet.Goals as goal
 
@@ -9,6 +12,7 @@ unwrap-requires c =
     let body = c.body-body.ensures.body in
     let slice = c.as_slice.ensures in
     some_if c.new-made.result _ _ c.new-made.ensures
+    (subst (λ (h : Header). IsPacket (headed h c.with_room-body.result.items)) (sym c.plain-head.ensures)
     (is_packet _ _ _ _ _ _ c.args.self.now.message c.with_room-body.result.items
     c.get.ensures.range c.get-2.ensures.range (omega arith) (bytes.bytes ∙ slice.value ∙ body) (subst (λ l. AreBytes l) (sym bytes.bytes) bytes.are_bytes)
-    (omega (arith, ap length bytes.bytes, slice.fits)))
+    (omega (arith, ap length bytes.bytes, slice.fits))))
