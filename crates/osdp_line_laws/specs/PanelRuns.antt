@@ -47,10 +47,6 @@ Tells (said ∷ more) s text last =
     (due : Option ℕ) × (rest : List ℕ) × IsDue (after_said said s) due × Tells more (after_said said s) rest last
     × (text ≡ (said_text said s ++ due_line due) ++ rest)
 
--- each of these lines says this call, or none
-abbrev pub AreSaid : List (List ℕ) → List (Option PanelCall) → Type 0
-AreSaid = AreCalls call_words CallFits
-
 -- what a panel writes to a run of lines is what is told of the calls that these lines are, and it leaves the panel that these calls leave
 abbrev pub RunsAreCalls : Type 0
 RunsAreCalls = (first : Session) (lines : List (List ℕ)) (text : List ℕ) (last : Session) → Speaks Answers first lines text last

@@ -57,10 +57,6 @@ abbrev pub after_all_said : List (Option ReaderCall) → Session → Session
 after_all_said [] s = s
 after_all_said (said ∷ more) s = after_all_said more (after_said said s)
 
--- each of these lines says this call, or none
-abbrev pub AreSaid : List (List ℕ) → List (Option ReaderCall) → Type 0
-AreSaid = AreCalls call_words CallFits
-
 -- what a device writes to a run of lines is what is told of the calls that these lines are, and it leaves the device that these calls leave
 abbrev pub RunsAreCalls : Type 0
 RunsAreCalls = (first : Session) (lines : List (List ℕ)) (text : List ℕ) (last : Session) → Speaks Answers first lines text last
