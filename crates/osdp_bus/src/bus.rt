@@ -10,6 +10,7 @@ use crate::config::BusConfig;
 use crate::device_list::{DeviceList, is_taken};
 use crate::fault::BusFault;
 use crate::line::Line;
+use crate::told::Told;
 use osdp_controller::Report;
 use osdp_frame::{Address, Burst, Receiver};
 use osdp_msg::Command;
@@ -66,7 +67,7 @@ impl Bus {
             config,
             devices: DeviceList {
                 entries,
-                report: None,
+                report: Told::new(),
             },
             receiver: Receiver::new(config.gap),
             first: 0,
@@ -201,6 +202,20 @@ impl Bus {
         ensures bus { self.new ≡ after_next_report self.old }
     {
         self.line.devices.report.take()
+    }
+
+    /// The report that waits, where it lies, with the entry of the device whose controller told it. It waits until `drop_report` or `next_report`.
+    pub fn report(&self) -> Option<(Entry, &Report)>
+        ensures { option_map (λ told. (told.0, told.1.now)) result ≡ self.now.devices.report }
+    {
+        self.line.devices.report.as_ref()
+    }
+
+    /// Lets the report that waits go, once it was read where it lies. Where none waits nothing changes.
+    pub fn drop_report(&mut self)
+        ensures { self.new ≡ after_next_report self.old }
+    {
+        self.line.devices.report.clear();
     }
 
     /// How many devices there are.

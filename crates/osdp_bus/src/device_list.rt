@@ -1,7 +1,6 @@
 //! The devices of a bus, and the report of one that waits.
 
 ghost use Rattle.std.specs.Prelude.{◌≡◌, ◌+◌, ◌<◌, ◌≤◌, ◌^◌, IfSome, length, vec_capacity};
-ghost use Rattle.osdp_bus.specs.Buses.{waiting_after};
 ghost use Rattle.osdp_bus.specs.Devices.{first_around, first_from, holds, is_at, is_device_due, is_taken, is_taken_beside};
 ghost use Rattle.osdp_bus.specs.Hearing.{hears_item, hears_packet};
 ghost use Rattle.osdp_bus.specs.Private.{devices_of};
@@ -10,14 +9,14 @@ ghost use Rattle.osdp_frame.specs.Shown.{item_of};
 
 use crate::Entry;
 use crate::boxed_device::BoxedDevice;
-use osdp_controller::Report;
+use crate::told::Told;
 use osdp_frame::{FrameView, Item};
 
 /// The devices in the order of adding, and the report that waits to be taken.
 #[derive(Debug, Drop)]
 pub struct DeviceList {
     pub entries: Vec<BoxedDevice>,
-    pub report: Option<(Entry, Report)>,
+    pub report: Told,
 }
 
 /// The first device at this address.
@@ -112,16 +111,6 @@ pub(crate) fn is_taken_beside(devices: &[BoxedDevice], entry: Entry, address: u8
 }
 
 impl DeviceList {
-    /// What the controller of an entry tells waits.
-    pub(crate) fn tell(&mut self, entry: Entry, report: Option<Report>)
-        ensures report { self.new.report ≡ waiting_after entry report self.old.report }
-        ensures entries { self.new.entries ≡ self.old.entries }
-    {
-        if let Some(report) = report {
-            self.report = Some((entry, report));
-        }
-    }
-
     /// A packet comes from the line.
     fn hear(&mut self, frame: &FrameView<'_>, now: u64)
         ensures devices { devices_of self.new ≡ hears_packet frame.now now (devices_of self.old) }
@@ -131,9 +120,8 @@ impl DeviceList {
         let Some(entry) = first_at(self.entries.as_slice(), frame.address().get()) else {
             return
         };
-        let mut report = None;
-        self.entries[entry].hear(frame, now, &mut report);
-        self.tell(entry, report);
+        let device = &mut self.entries[entry];
+        self.report.hear(entry, device, frame, now);
     }
 
     /// An item is read from the line.

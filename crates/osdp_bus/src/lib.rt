@@ -28,6 +28,7 @@ mod device;
 mod device_list;
 mod fault;
 mod line;
+mod told;
 
 pub use bus::Bus;
 pub use config::BusConfig;

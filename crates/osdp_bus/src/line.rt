@@ -124,9 +124,11 @@ impl Line {
         self.end_run();
     }
 
-    /// The device of an entry, if there is one, does what is due. Whether a packet goes out, whose bytes stand in `out` then.
+    /// The device of an entry, if there is one, does what is due. Whether a packet goes out, whose bytes stand in `out` then. No report
+    /// waits before it.
     fn tick_at(&mut self, entry: Option<Entry>, out: &mut Burst) -> bool
-        requires { IsLine self.old }
+        requires line { IsLine self.old }
+        requires none { is_some self.old.devices.report ≡ false }
         ensures sent { result ≡ is_some (ticks_at entry (state_of self.old)).sent }
         ensures bytes { IsWritten (ticks_at entry (state_of self.old)).sent out.old.items out.new.items }
         ensures line { state_of self.new ≡ (ticks_at entry (state_of self.old)).bus }
@@ -136,10 +138,9 @@ impl Line {
         if entry >= self.devices.entries.len() {
             return false;
         }
-        let mut report = None;
         let now = self.receiver.greatest();
-        let sends = self.devices.entries[entry].tick(now, out, &mut report);
-        self.devices.tell(entry, report);
+        let device = &mut self.devices.entries[entry];
+        let sends = self.devices.report.tick(entry, device, now, out);
         self.first = entry + 1;
         sends
     }

@@ -1,0 +1,143 @@
+//! The report that waits to be taken.
+
+ghost use Rattle.std.specs.Prelude.{◌≡◌, false, is_some, option_map, None};
+ghost use Rattle.osdp_controller.specs.Lent.{IsWritten};
+ghost use Rattle.osdp_bus.specs.Buses.{waiting_after};
+ghost use Rattle.osdp_bus.specs.Devices.{device_hears, device_ticks, step_of, told_of};
+
+use crate::Entry;
+use crate::boxed_device::BoxedDevice;
+use osdp_controller::Report;
+use osdp_frame::{Burst, FrameView};
+use std::marker::Model;
+
+/// The report that waits to be taken, where one does, with the entry of the device whose controller told it. The controllers tell into this
+/// place, and it is read where it lies: a report takes 3.1 kB, and none is moved.
+#[derive(Debug, Drop)]
+pub struct Told {
+    entry: Entry,
+    report: Option<Report>,
+}
+
+impl Model for Told {
+    ghost use Rattle.std.specs.Prelude.{ℕ, Option};
+    ghost use Rattle.osdp_controller.specs.declared.report.Report.{Report};
+
+    ghost Value = { Option (ℕ × Report) };
+
+    ghost view = { λ t. option_map (λ r. (t.entry, r)) t.report };
+}
+
+impl Told {
+    /// No report waits.
+    pub(crate) fn new() -> Told
+        ensures { result ≡ None }
+    {
+        Told {
+            entry: 0,
+            report: None,
+        }
+    }
+
+    /// Whether one waits.
+    pub(crate) fn is_some(&self) -> bool
+        ensures { result ≡ is_some self.now }
+    {
+        match &self.report {
+            Some(_) => true,
+            None => false,
+        }
+    }
+
+    /// The report where it lies, with its entry.
+    pub(crate) fn as_ref(&self) -> Option<(Entry, &Report)>
+        ensures { option_map (λ t. (t.0, t.1.now)) result ≡ self.now }
+    {
+        match &self.report {
+            Some(report) => Some((self.entry, report)),
+            None => None,
+        }
+    }
+
+    /// Takes the report, with its entry.
+    pub(crate) fn take(&mut self) -> Option<(Entry, Report)>
+        ensures report { result ≡ self.old }
+        ensures none { self.new ≡ None }
+    {
+        match self.report.take() {
+            Some(taken) => Some((self.entry, taken)),
+            None => None,
+        }
+    }
+
+    /// Lets the report go. Where none waits, nothing is written.
+    pub(crate) fn clear(&mut self)
+        ensures { self.new ≡ None }
+    {
+        if self.report.is_some() {
+            self.report = None;
+        }
+    }
+
+    /// A packet reaches the device of an entry. What its controller tells waits in place of what waited; where it tells nothing, that stays.
+    #[tactic(auto, using(crate::proofs::Telling::telling))]
+    pub(crate) fn hear(
+        &mut self,
+        entry: Entry,
+        device: &mut BoxedDevice,
+        frame: &FrameView<'_>,
+        now: u64,
+    )
+        ensures told { self.new ≡ waiting_after entry (told_of frame.now now device.old) self.old }
+        ensures device { device.new ≡ device_hears frame.now now device.old }
+    {
+        if self.report.is_some() {
+            self.hear_beside(entry, device, frame, now);
+            return;
+        }
+        self.entry = entry;
+        device.hear(frame, now, &mut self.report);
+    }
+
+    /// The same where a report waits already: what is told has a place of its own first.
+    // It stands by itself, since that place is written whole.
+    #[inline(never)]
+    #[tactic(auto, using(crate::proofs::Telling::telling))]
+    fn hear_beside(
+        &mut self,
+        entry: Entry,
+        device: &mut BoxedDevice,
+        frame: &FrameView<'_>,
+        now: u64,
+    )
+        ensures told { self.new ≡ waiting_after entry (told_of frame.now now device.old) self.old }
+        ensures device { device.new ≡ device_hears frame.now now device.old }
+    {
+        let mut report = None;
+        device.hear(frame, now, &mut report);
+        if report.is_some() {
+            self.entry = entry;
+            self.report = report;
+        }
+    }
+
+    /// The device of an entry does what is due, where no report waits. Whether a packet goes out, whose bytes stand in `out` then. What is told
+    /// waits.
+    #[tactic(auto, using(crate::proofs::Telling::telling))]
+    pub(crate) fn tick(
+        &mut self,
+        entry: Entry,
+        device: &mut BoxedDevice,
+        now: u64,
+        out: &mut Burst,
+    ) -> bool
+        requires { is_some self.old ≡ false }
+        ensures sent { result ≡ is_some (step_of now device.old).frame }
+        ensures bytes { IsWritten (step_of now device.old).frame out.old.items out.new.items }
+        ensures told { self.new ≡ waiting_after entry (step_of now device.old).report self.old }
+        ensures device { device.new ≡ device_ticks now device.old }
+    {
+        self.entry = entry;
+        device.tick(now, out, &mut self.report)
+    }
+}
