@@ -349,7 +349,7 @@ fn forget(command: &mut Option<Command>)
 
 /// Puts the command that a packet is in place of what stands in `command`, or tells why it is none. POLL, which comes most often,
 /// is written only where another command stands.
-fn read_command(packet: &FrameView, command: &mut Option<Command>) -> Result<(), MsgFault>
+pub fn read_command(packet: &FrameView, command: &mut Option<Command>) -> Result<(), MsgFault>
     ensures command { IfSome command.new (λ read. command_in packet.now ≡ Ok read) }
     ensures some { IsOk result ↔ IsSome command.new }
     ensures fault { IfErr result (λ fault. command_in packet.now ≡ Err fault) }
