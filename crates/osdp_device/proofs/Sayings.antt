@@ -7,11 +7,13 @@ use Rattle.osdp_msg.specs.declared.command.Command.{Command}
 use Rattle.osdp_reader.specs.declared.handler.Answer.{Answer}
 use Rattle.osdp_reader.specs.declared.kind.Kind.{Kind}
 use Rattle.osdp_reader.specs.declared.kind.Kind.TheVariants.{Silent, Secured, Zero, Repeat, Taken, Busy, Wrong}
+use Rattle.osdp_reader.specs.declared.heard.Heard.{Heard}
 use Rattle.osdp_reader.specs.declared.response.Response.{Response}
 use Rattle.osdp_reader.specs.Responses.{response_bytes, response_command, response_kind}
 use Rattle.osdp_reader.specs.Spelled.{IsSpelled}
 use Rattle.osdp_reader.specs.State.{ReaderState}
 use Rattle.osdp_reader.specs.Table.{hears, kind_of, outcome}
+use Rattle.osdp_device.specs.Lent.{heard_in}
 use Rattle.osdp_device.specs.Saying.{Said, after_item, bytes_of, is_answered, said_in, said_of, said_to, speaks, unless_silent}
 
 bytes_are : (o : Option Packet) (bytes : List ℕ) → IsSpelled o bytes → bytes ≡ bytes_of o
@@ -34,6 +36,16 @@ pub said_here : {H : Type 0} (answer_of : H → Command → Answer) (after : H �
 said_here answer_of after r p response speaks kind command reply =
     let bytes = bytes_are (hears answer_of after r p).reply (response_bytes response) reply in
     let same : said_in response ≡ said_to answer_of after r p = (λ i. record { kind = kind i; command = command i; bytes = bytes i }) in
+    ap (λ s. Some s) same ∙ says (kind_of r p) (said_to answer_of after r p) speaks
+
+-- so it is with what stands in a place of the caller's
+pub heard_here : {H : Type 0} (answer_of : H → Command → Answer) (after : H → Command → H) (r : ReaderState H) (p : Packet) (heard : Heard)
+    → speaks (kind_of r p) ≡ true → heard.kind ≡ kind_of r p → heard.command ≡ (hears answer_of after r p).command
+    → IsSpelled (hears answer_of after r p).reply heard.burst.items
+    → Some (heard_in heard) ≡ unless_silent (kind_of r p) (said_to answer_of after r p)
+heard_here answer_of after r p heard speaks kind command reply =
+    let bytes = bytes_are (hears answer_of after r p).reply heard.burst.items reply in
+    let same : heard_in heard ≡ said_to answer_of after r p = (λ i. record { kind = kind i; command = command i; bytes = bytes i }) in
     ap (λ s. Some s) same ∙ says (kind_of r p) (said_to answer_of after r p) speaks
 
 -- A silent reader says nothing, and stays as it is.

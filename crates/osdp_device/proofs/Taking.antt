@@ -10,7 +10,7 @@ use Rattle.osdp_reader.specs.declared.handler.Answer.{Answer}
 use Rattle.osdp_reader.specs.State.{ReaderState}
 use Rattle.osdp_device.proofs.Sayings.{none_said, stays}
 use Rattle.osdp_device.specs.Deciding.{passed, passed_by, pending_at, pending_in, pending_of}
-use Rattle.osdp_device.specs.Saying.{Said, after_item, is_answered, said_of}
+use Rattle.osdp_device.specs.Saying.{Said, after_item, answers_first, is_answered, said_of}
 use Rattle.osdp_device.specs.Telling.{Told, next_told, told_by, told_or}
 
 module _ {H : Type 0} (answer_of : H → Command → Answer) (after : H → Command → H) where
@@ -114,6 +114,11 @@ module _ {H : Type 0} where
       → is_answered r part ≡ false → pending_of r next ≡ pending_of r held
   pending_on r held next part is advanced silent =
       sym (pending_first r held next part is advanced ∙ ap (λ (b : Bool). if b then pending_at r part else pending_of r next) silent)
+
+  -- so it is of an item that is shown as the first, where that is answered
+  pub pending_shown : (r : ReaderState H) (held : Held) (part : RunItem) → Some part ≡ decided held.ended held.bytes
+      → answers_first r (decided held.ended held.bytes) ≡ true → pending_at r part ≡ pending_of r held
+  pending_shown r held part is answered = sym (pending_here r held part (sym is) (ap (answers_first r) is ∙ answered))
 
 -- what a call tells, whether its first item tells something, tells nothing or is not there
 pub ruleset taking = (told_here, told_passed, told_nothing, passed_nothing, passed_here, passed_on, pending_nothing, pending_here, pending_on)

@@ -1,10 +1,10 @@
-pub mod Silences
 pub mod Saying
 pub mod Telling
 pub mod Hearing
 pub mod Status
 pub mod Program
 pub mod Moments
+pub mod Lent
 pub mod Deciding
 pub mod Sending
 pub mod Orders

@@ -2,9 +2,7 @@
 
 ghost use Rattle.std.specs.Prelude.{◌≡◌, ◌↔◌, IfErr, IsOk, IsSome, None, OnOk, true};
 ghost use Rattle.std.specs.Option.{option_map};
-ghost use Rattle.osdp_frame.specs.Reading.{PacketItem};
-ghost use Rattle.osdp_reader.specs.declared.config.ReaderConfig.{ReaderConfig as Configured};
-ghost use Rattle.osdp_device.specs.Deciding.{handled, is_asked, passed, pending_at, pending_of, settles, turned, with_question};
+ghost use Rattle.osdp_device.specs.Deciding.{is_asked, passed, pending_of, settles, turned, with_question};
 ghost use Rattle.osdp_device.specs.Program.{program_after, program_answer};
 ghost use Rattle.osdp_frame.specs.Receiving.{after_take, count_taken};
 ghost use Rattle.osdp_device.specs.Saying.{said_in};
@@ -14,9 +12,8 @@ ghost use Rattle.osdp_device.specs.declared.program.Question.TheVariants.{Answer
 use crate::device::Device;
 use crate::program::{ProgramAnswers, Question};
 use crate::unsent::Unsent;
-use osdp_frame::{FrameView, Item};
-use osdp_msg::{Command, MsgFault};
-use osdp_reader::{Answer, Handler, Kind, Reader, Response};
+use osdp_msg::Command;
+use osdp_reader::{Answer, Handler, Response};
 
 /// What a turn of a device comes to. Where both are None, no packet that is answered is held any more.
 #[derive(Debug, Drop)]
@@ -42,26 +39,6 @@ impl Turn {
     }
 }
 
-/// The command that was read, where the reader doesn't answer it by itself.
-fn handled(read: Result<Command, MsgFault>) -> Option<Command>
-    ensures { (config : Configured) → result ≡ handled config read }
-{
-    match read {
-        Ok(Command::Poll | Command::Id(_) | Command::Cap(_) | Command::Comset(_)) | Err(_) => None,
-        Ok(command) => Some(command),
-    }
-}
-
-/// The command of an item that the reader's handler is to answer.
-fn pending_at<H: Handler>(reader: &Reader<H>, packet: &FrameView) -> Option<Command>
-    ensures { result ≡ pending_at reader.now (PacketItem packet.now) }
-{
-    match reader.kind(packet) {
-        Kind::Zero | Kind::Taken => handled(Command::read(packet.code(), packet.payload())),
-        Kind::Silent | Kind::Secured | Kind::Repeat | Kind::Busy | Kind::Wrong => None,
-    }
-}
-
 impl<H: Handler> Device<H> {
     /// The command that the next packet will have acted on, where the reader doesn't answer it by itself (POLL, ID, CAP and COMSET). None
     /// while the reader is busy. What the reader doesn't answer is taken off before it.
@@ -71,13 +48,12 @@ impl<H: Handler> Device<H> {
         ensures line { self.new.line ≡ record self.old.line { held = passed self.old.reader self.old.line.held } }
         ensures told { next_told H.answer_of H.after self.old.reader (passed self.old.reader self.old.line.held) ≡ next_told H.answer_of H.after self.old.reader self.old.line.held }
     {
-        if !self.pass_over() {
-            return None;
+        let mut command = None;
+        if self.pending_into(&mut command) {
+            command
+        } else {
+            None
         }
-        let Some(Item::Packet(packet)) = self.line.next() else {
-            unreachable!();
-        };
-        pending_at(&self.reader, &packet)
     }
 }
 

@@ -133,7 +133,7 @@ fn answer<H: Handler>(reader: &mut Reader<H>, packet: &FrameView) -> Response
 }
 
 /// A command that is read, but POLL.
-fn but_poll(command: &Option<Command>) -> Option<&Command>
+pub(crate) fn but_poll(command: &Option<Command>) -> Option<&Command>
     ensures { option_copied result ≡ but_poll command.now }
 {
     match command {

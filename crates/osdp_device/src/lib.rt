@@ -33,6 +33,7 @@
 mod deciding;
 mod device;
 pub mod laws;
+mod lent;
 mod order;
 mod program;
 mod status;
@@ -40,13 +41,14 @@ mod unsent;
 
 pub use deciding::Turn;
 pub use device::{Device, again, taken};
-pub use order::{Order, order_of, ordered};
+pub use lent::Settled;
+pub use order::{Order, order_of, order_of_heard, ordered, ordered_heard};
 pub use osdp_frame::{Address, Burst, Receiver};
 pub use osdp_msg::{
     Buzzer, Capability, Command, Communication, Event, Keypad, LedRecord, Leds, LocalState,
     MAX_DATA, MakerMessage, NakReason, OutputRecord, Outputs, PdCap, PdId, Raw, Text,
 };
-pub use osdp_reader::{Answer, Handler, Kind, Reader, ReaderConfig, ReaderFault, Response};
+pub use osdp_reader::{Answer, Handler, Heard, Kind, Reader, ReaderConfig, ReaderFault, Response};
 pub use program::{ProgramAnswers, Question};
 pub use status::DeviceStatus;
 pub use unsent::Unsent;
