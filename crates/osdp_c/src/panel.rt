@@ -18,8 +18,9 @@ use crate::read::read_command;
 use osdp_bus::{Bus, BusFault, Entry};
 use osdp_c_values::{
     BurstStruct, Clock, MessageStruct, MomentStruct, PanelHandle, PanelMachine, PanelSettings,
-    ReportStruct, Status,
+    Place, ReportStruct, Status,
 };
+use osdp_frame::Burst;
 use std::alloc::Global;
 
 /// Writes the default settings: those of a bus with a CRC, and room for 64 commands.
@@ -40,8 +41,9 @@ fn new_machine(alloc: Global, settings: &PanelSettings) -> Result<Box<PanelMachi
         return Err(BusFault::OutOfRange);
     };
     let clock = Clock::new(settings.clock_limit());
+    let sent = Place::new(Burst::new());
     match Bus::new(alloc, config) {
-        Ok(bus) => match Box::new(alloc, PanelMachine { bus, clock }) {
+        Ok(bus) => match Box::new(alloc, PanelMachine { bus, clock, sent }) {
             Ok(machine) => Ok(machine),
             Err(_) => Err(BusFault::NoMemory),
         },
@@ -267,7 +269,8 @@ pub extern "C" fn osdp_panel_next_report(
     ensures written { report.new ≡ writes (of_bus writes_report) panel.old.slot.machine report.old }
 {
     on_held!(panel, alloc, |machine| {
-        report.set(&machine.bus.next_report());
+        report.set(machine.bus.report());
+        machine.bus.drop_report();
         Status::Done
     })
 }

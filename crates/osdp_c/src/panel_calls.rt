@@ -10,7 +10,7 @@ ghost use Rattle.osdp_c_values.specs.Panels.{IsSentIf, at_moment, begins, done_s
 use crate::held::at_moment;
 use osdp_bus::{Bus, BusFault, Entry};
 use osdp_c_values::{BurstStruct, MessageStruct, PanelMachine, Status};
-use osdp_frame::{Address, Burst};
+use osdp_frame::Address;
 use osdp_msg::Command;
 
 /// What became of a call that has nothing to give.
@@ -86,9 +86,7 @@ pub(crate) fn tick(machine: &mut PanelMachine, now: u64, burst: &mut BurstStruct
         machine,
         now,
         {
-            let mut sent = Burst::new();
-            machine.bus.tick_into(now, &mut sent);
-            burst.set(sent.as_slice());
+            machine.tick(now, burst);
             Status::Done
         }
     )

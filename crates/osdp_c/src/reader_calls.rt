@@ -3,17 +3,17 @@
 ghost use Rattle.std.specs.Prelude.{◌≡◌, ◌↔◌, IsTrue};
 ghost use Rattle.std.specs.Result.{result_map_both};
 ghost use Rattle.osdp_msg.specs.ReplyTable.{reply_of};
-ghost use Rattle.osdp_c_values.specs.Readers.{AreSettings, IsEventRead, MadeAs, MadeWith, answers, answers_if, at_moment, caps_of, falls_silent, is_closed, list_answer, looks, maker_answer, reads_next, refuses, sets_local, sets_moment, sets_states, states_of, steps, submits, submits_read, submits_text, ticks, writes_at, writes_next, writes_pending, writes_silence, writes_step, writes_taken, writes_tick};
+ghost use Rattle.osdp_c_values.specs.Readers.{AreSettings, IsEventRead, MadeAs, MadeWith, answers, answers_if, at_moment, caps_of, falls_silent, is_closed, list_answer, looks, maker_answer, refuses, sets_local, sets_moment, sets_states, states_of, steps, submits, submits_read, submits_text, ticks, writes_at, writes_pending, writes_silence, writes_step, writes_taken, writes_tick};
 
 use crate::held::at_moment;
 use arrayvec::ArrayVec;
 use osdp_c_values::{
-    AnswerStruct, Clock, MessageStruct, ReaderMachine, ReaderSettings, StateList, Status,
+    AnswerStruct, Clock, MessageStruct, Place, ReaderMachine, ReaderSettings, StateList, Status,
 };
-use osdp_device::{Device, ProgramAnswers, Turn};
+use osdp_device::{Device, ProgramAnswers};
 use osdp_frame::{Address, CheckKind, FrameView, Header, Seq, is_time};
 use osdp_msg::{Event, MAX_DATA, MsgFault, PdCap, Reply, is_room};
-use osdp_reader::{Answer, Kind, Reader, ReaderConfig, ReaderFault};
+use osdp_reader::{Answer, Heard, Kind, Reader, ReaderConfig, ReaderFault};
 use std::alloc::Global;
 
 /// What a reader answers to CAP, by the data of that reply.
@@ -59,7 +59,15 @@ fn new_machine(
         return Err(ReaderFault::OutOfRange);
     };
     let clock = Clock::new(settings.clock_limit());
-    match Box::new(alloc, ReaderMachine { device, clock }) {
+    let heard = Place::new(Heard::new());
+    match Box::new(
+        alloc,
+        ReaderMachine {
+            device,
+            clock,
+            heard,
+        },
+    ) {
         Ok(machine) => Ok(machine),
         Err(_) => Err(ReaderFault::NoMemory),
     }
@@ -167,17 +175,6 @@ pub(crate) fn submit_read(machine: &mut ReaderMachine, read: Option<Event>) -> S
     }
 }
 
-/// Hands the packets that are held to the reader, up to and including the first that it answers, and writes what it says; or stops before that, and
-/// writes the command.
-fn answer_next(machine: &mut ReaderMachine, answer: &mut AnswerStruct)
-    ensures machine { machine.new ≡ (reads_next machine.old machine.old.device.line).machine }
-    ensures written { answer.new ≡ writes_next machine.old machine.old.device.line answer.old }
-{
-    let mut turn = Turn::new();
-    machine.device.settle(&mut turn);
-    answer.set_turn(&turn);
-}
-
 /// Bytes have come up to a moment: writes how many were taken, and what is said.
 pub(crate) fn step(
     machine: &mut ReaderMachine,
@@ -196,7 +193,7 @@ pub(crate) fn step(
         now,
         {
             *taken = machine.device.take(bytes, now);
-            answer_next(machine, answer);
+            machine.settle(answer);
             Status::Done
         }
     )
@@ -213,7 +210,7 @@ pub(crate) fn tick(machine: &mut ReaderMachine, now: u64, answer: &mut AnswerStr
         now,
         {
             machine.device.tick(now);
-            answer_next(machine, answer);
+            machine.settle(answer);
             Status::Done
         }
     )
@@ -230,7 +227,7 @@ pub(crate) fn silence(machine: &mut ReaderMachine, now: u64, answer: &mut Answer
         now,
         {
             machine.device.silence(now);
-            answer_next(machine, answer);
+            machine.settle(answer);
             Status::Done
         }
     )

@@ -68,12 +68,12 @@ abbrev pub at_moment : ℕ → (BusState → Done BusState) → PanelMachine →
 at_moment now call m =
     if accepts now m.clock then record {
       status = (call m.bus).status;
-      machine = record { bus = (call m.bus).machine; clock = sees_if_done now (call m.bus).status m.clock };
+      machine = record m { bus = (call m.bus).machine; clock = sees_if_done now (call m.bus).status m.clock };
     } else record { status = status.MomentTooFar; machine = m }
 
 -- a moment is seen, however far it lies after the greatest one
 abbrev pub sets_moment : ℕ → PanelMachine → Done PanelMachine
-sets_moment now m = record { status = status.Done; machine = record { bus = seen now m.bus; clock = sees now m.clock } }
+sets_moment now m = record { status = status.Done; machine = record m { bus = seen now m.bus; clock = sees now m.clock } }
 
 -- how a new bus ends, and what the handle holds then
 abbrev pub made_status : Result BusState BusFault → Status
@@ -81,7 +81,7 @@ made_status (Ok b) = status.Done
 made_status (Err fault) = status.Panel fault
 
 abbrev pub made_in : ℕ → Result BusState BusFault → Option PanelMachine
-made_in limit (Ok b) = Some (record { bus = b; clock = new_clock limit })
+made_in limit (Ok b) = Some (record { bus = b; clock = new_clock limit; sent = tt })
 made_in limit (Err fault) = None
 
 -- a new bus, by settings that may be none
@@ -159,6 +159,10 @@ falls_silent now b = does (after_silence now b)
 
 abbrev pub ticks : ℕ → BusState → Done BusState
 ticks now b = does (bus_ticks now b).bus
+
+-- the bus has ticked
+abbrev pub ticked : ℕ → PanelMachine → PanelMachine
+ticked now m = record m { bus = (bus_ticks now m.bus).bus }
 
 abbrev pub reports : BusState → Done BusState
 reports b = does (after_next_report b)

@@ -68,6 +68,7 @@ new_machine s caps = record {
     line = new_line s.gap;
   };
   clock = new_clock (limit_of s.clock_limit);
+  heard = tt;
 }
 
 -- how a new reader comes about: what it can do is read, then the settings are judged, before memory is asked for

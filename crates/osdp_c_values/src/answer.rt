@@ -1,16 +1,14 @@
 //! What a reader says.
 
 ghost use Rattle.std.specs.Prelude.{◌≡◌};
-ghost use Rattle.std.specs.Option.{option_copied, option_map};
-ghost use Rattle.osdp_device.specs.Saying.{said_in};
-ghost use Rattle.osdp_reader.specs.Responses.{response_bytes};
-ghost use Rattle.osdp_c_values.specs.Answers.{answer_struct, kind_number, moves, order_number, orders, pends, says, says_nothing, sends, turn_struct};
+ghost use Rattle.osdp_device.specs.Lent.{heard_in, settled_pending, settled_said};
+ghost use Rattle.osdp_c_values.specs.Answers.{kind_number, moves, order_number, orders, pends, says, says_nothing, turn_struct};
 
 use crate::arrays::BurstStruct;
 use crate::message::MessageStruct;
-use osdp_device::{Order, Turn, order_of, ordered};
+use osdp_device::{Order, Settled, order_of_heard, ordered_heard};
 use osdp_msg::{Command, Communication};
-use osdp_reader::{Kind, Response};
+use osdp_reader::{Heard, Kind};
 
 /// What a reader says to a packet, where it says anything.
 #[repr(C)]
@@ -81,26 +79,11 @@ impl AnswerStruct {
     }
 
     /// Writes a command, and what the device is to do with it.
-    fn set_order(&mut self, response: &Response)
-        ensures { self.new ≡ orders (said_in response.now) self.old }
+    fn set_order(&mut self, heard: &Heard)
+        ensures { self.new ≡ orders (heard_in heard.now) self.old }
     {
-        self.order = order_number(order_of(response));
-        self.command.set_command(ordered(response));
-    }
-
-    /// Writes what is sent.
-    fn set_sent(&mut self, response: &Response)
-        ensures { self.new ≡ sends (response_bytes response.now) self.old }
-    {
-        match response {
-            Response::Silent => self.burst.set(&[]),
-            Response::Secured(burst)
-            | Response::Zero(_, burst)
-            | Response::Repeat(burst)
-            | Response::Taken(_, burst)
-            | Response::Busy(burst)
-            | Response::Wrong(burst) => self.burst.set(burst.as_slice()),
-        }
+        self.order = order_number(order_of_heard(heard));
+        self.command.set_command(ordered_heard(heard));
     }
 
     /// Writes that nothing is said.
@@ -114,24 +97,14 @@ impl AnswerStruct {
         self.burst.set(&[]);
     }
 
-    /// Writes what a response says.
-    fn set_response(&mut self, response: &Response)
-        ensures { self.new ≡ says (said_in response.now) self.old }
+    /// Writes what is said.
+    fn set_heard(&mut self, heard: &Heard)
+        ensures { self.new ≡ says (heard_in heard.now) self.old }
     {
-        self.kind = kind_number(response.kind());
-        self.set_order(response);
-        self.set_moved(response.comset());
-        self.set_sent(response);
-    }
-
-    /// Writes what is said, or that nothing is.
-    pub fn set(&mut self, response: Option<&Response>)
-        ensures { self.new ≡ answer_struct (option_map said_in (option_copied response.entry)) self.old }
-    {
-        match response {
-            Some(response) => self.set_response(response),
-            None => self.set_nothing(),
-        }
+        self.kind = kind_number(heard.kind);
+        self.set_order(heard);
+        self.set_moved(heard.comset());
+        self.burst.set(heard.burst.as_slice());
     }
 
     /// Writes that the device stops before a command.
@@ -145,13 +118,14 @@ impl AnswerStruct {
         self.burst.set(&[]);
     }
 
-    /// Writes what a turn comes to.
-    pub fn set_turn(&mut self, turn: &Turn)
-        ensures { self.new ≡ turn_struct turn.now.pending (option_map said_in turn.now.response) self.old }
+    /// Writes what a turn comes to, which stands in a place.
+    pub fn set_settled(&mut self, settled: Settled, heard: &Heard)
+        ensures { self.new ≡ turn_struct (settled_pending settled heard.now) (settled_said settled heard.now) self.old }
     {
-        match &turn.pending {
-            Some(command) => self.set_pending(command),
-            None => self.set(turn.response.as_ref()),
+        match (settled, &heard.command) {
+            (Settled::Pending, Some(command)) => self.set_pending(command),
+            (Settled::Said, _) => self.set_heard(heard),
+            (Settled::Pending, None) | (Settled::Nothing, _) => self.set_nothing(),
         }
     }
 }

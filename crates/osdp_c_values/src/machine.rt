@@ -1,8 +1,18 @@
 //! The machines that handles hold.
 
+ghost use Rattle.std.specs.Prelude.{◌≡◌};
+ghost use Rattle.osdp_bus.specs.Ticking.{bus_ticks};
+ghost use Rattle.osdp_c_values.specs.Panels.{IsSentIn, ticked};
+ghost use Rattle.osdp_c_values.specs.Readers.{reads_next, writes_next};
+
+use crate::answer::AnswerStruct;
+use crate::arrays::BurstStruct;
 use crate::clock::Clock;
+use crate::place::Place;
 use osdp_bus::Bus;
 use osdp_device::{Device, ProgramAnswers};
+use osdp_frame::Burst;
+use osdp_reader::Heard;
 
 /// A bus, and the moments that it has seen.
 #[derive(Drop)]
@@ -11,6 +21,22 @@ pub struct PanelMachine {
     pub bus: Bus,
     /// The moments that it has seen.
     pub clock: Clock,
+    /// Where the burst that goes out is put together.
+    pub sent: Place<Burst>,
+}
+
+impl PanelMachine {
+    /// What is due at a moment: writes the burst to send.
+    pub fn tick(&mut self, now: u64, burst: &mut BurstStruct)
+        ensures bus { self.new ≡ ticked now self.old }
+        ensures written { IsSentIn (bus_ticks now self.old.bus).sent burst.old burst.new }
+    {
+        if self.bus.tick_into(now, &mut self.sent.value) {
+            burst.set(self.sent.value.as_slice());
+        } else {
+            burst.set(&[]);
+        }
+    }
 }
 
 /// A reader on a line, whose program decides what is said to a command, or sets beforehand what is told; and the moments that it has seen.
@@ -20,4 +46,18 @@ pub struct ReaderMachine {
     pub device: Device<ProgramAnswers>,
     /// The moments that it has seen.
     pub clock: Clock,
+    /// Where it is put what a packet comes to.
+    pub heard: Place<Heard>,
+}
+
+impl ReaderMachine {
+    /// Hands the packets that are held to the reader, up to and including the first that it answers, and writes what it says; or stops before
+    /// that, and writes the command.
+    pub fn settle(&mut self, answer: &mut AnswerStruct)
+        ensures machine { self.new ≡ (reads_next self.old self.old.device.line).machine }
+        ensures written { answer.new ≡ writes_next self.old self.old.device.line answer.old }
+    {
+        let settled = self.device.settle_into(&mut self.heard.value);
+        answer.set_settled(settled, &self.heard.value);
+    }
 }

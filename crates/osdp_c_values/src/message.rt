@@ -1,10 +1,11 @@
 //! A command or a reply, as its code and data.
 
-ghost use Rattle.std.specs.Prelude.{◌≡◌, ◌≤◌, ◌<◌, length};
+ghost use Rattle.std.specs.Prelude.{◌≡◌, ◌≤◌, ◌<◌, length, Some};
 ghost use Rattle.std.specs.Option.{option_copied};
 ghost use Rattle.osdp_c_values.specs.Structs.{command_struct, message_of, no_message, reply_struct, spelled_message};
 
 use crate::arrays::fill;
+use arrayvec::ArrayVec;
 use osdp_msg::{Command, MAX_DATA, MAX_MESSAGE, Reply};
 
 /// A command or a reply, where there is one.
@@ -51,12 +52,32 @@ impl MessageStruct {
         self.set(spelled[0], &spelled[1..]);
     }
 
+    /// This command, put together in a place that stands in a frame of its own.
+    #[inline(never)]
+    fn write_command(&mut self, command: &Command)
+        ensures { self.new ≡ command_struct (Some command.now) self.old }
+    {
+        let mut spelled = ArrayVec::new();
+        command.write_into(&mut spelled);
+        self.set_spelled(spelled.as_slice());
+    }
+
+    /// So it is with a reply.
+    #[inline(never)]
+    fn write_reply(&mut self, reply: &Reply)
+        ensures { self.new ≡ reply_struct (Some reply.now) self.old }
+    {
+        let mut spelled = ArrayVec::new();
+        reply.write_into(&mut spelled);
+        self.set_spelled(spelled.as_slice());
+    }
+
     /// This command, where there is one.
     pub fn set_command(&mut self, command: Option<&Command>)
         ensures { self.new ≡ command_struct (option_copied command.entry) self.old }
     {
         match command {
-            Some(command) => self.set_spelled(command.write().as_slice()),
+            Some(command) => self.write_command(command),
             None => self.clear(),
         }
     }
@@ -66,7 +87,7 @@ impl MessageStruct {
         ensures { self.new ≡ reply_struct (option_copied reply.entry) self.old }
     {
         match reply {
-            Some(reply) => self.set_spelled(reply.write().as_slice()),
+            Some(reply) => self.write_reply(reply),
             None => self.clear(),
         }
     }

@@ -81,7 +81,7 @@ abbrev if_moment : Bool → ℕ → (BusState → Done BusState) → PanelMachin
 if_moment ok now call m =
     cond ok (record {
       status = (call m.bus).status;
-      machine = record { bus = (call m.bus).machine; clock = panel.sees_if_done now (call m.bus).status m.clock };
+      machine = record m { bus = (call m.bus).machine; clock = panel.sees_if_done now (call m.bus).status m.clock };
     }) (record { status = status.MomentTooFar; machine = m })
 
 moment_bus : (ok : Bool) (now : ℕ) (call : BusState → Done BusState) (m : PanelMachine)
@@ -170,7 +170,7 @@ all_added (address ∷ addresses) m last (next, out, out', (r, b', ends, done, i
 record NewMade (settings : PanelSettings) (made : Option PanelMachine) : Type 0 where
   config : BusConfig
   settings_are : bus_config_of settings ≡ Some config
-  is : made ≡ Some (record { bus = new_bus config; clock = new_clock (limit_of settings.clock_limit) })
+  is : made ≡ Some (record { bus = new_bus config; clock = new_clock (limit_of settings.clock_limit); sent = tt })
 
 new_made : (settings : PanelSettings) (made : Option PanelMachine) (config : Option BusConfig) (r : Result BusState BusFault)
     → bus_config_of settings ≡ config → panel.MadeAs config r → number status.Done ≡ number (panel.made_status r)
@@ -180,7 +180,7 @@ new_made settings made None r are makes done is =
 new_made settings made (Some config) (Ok b) are makes done is = record {
   config = config;
   settings_are = are;
-  is = is ∙ ap (λ x. Some (record { bus = x; clock = new_clock (limit_of settings.clock_limit) })) makes.1;
+  is = is ∙ ap (λ x. Some (record { bus = x; clock = new_clock (limit_of settings.clock_limit); sent = tt })) makes.1;
 }
 new_made settings made (Some config) (Err fault.NoMemory) are makes done is = absurd (let e : 0 ≡ 21 = done in omega (arith, e))
 new_made settings made (Some config) (Err fault.TooMany) are makes done is = absurd (let e : 0 ≡ 22 = done in omega (arith, e))
@@ -195,7 +195,7 @@ pub makes_anew : AddsMakeTheBus → MakesAnew
 makes_anew adds settings m freed made last addresses frees news each =
     let new = subst (λ o. panel.NewPanelEnds settings o (number status.Done) made) frees.machine news in
     let n = new_made settings made (bus_config_of settings) new.0 refl new.1 new.2 new.3 in
-    let first : PanelMachine = record { bus = new_bus n.config; clock = new_clock (limit_of settings.clock_limit) } in
+    let first : PanelMachine = record { bus = new_bus n.config; clock = new_clock (limit_of settings.clock_limit); sent = tt } in
     let all = all_added addresses first last (subst (λ o. AddsEach addresses o last) n.is each) in (
       n.config,
       n.settings_are,

@@ -58,7 +58,7 @@ pub data PanelCall : Type 0 where
   PanelAnew : BusConfig → ℕ → List ℕ → PanelCall
 
 abbrev pub panel_made : BusConfig → ℕ → List ℕ → PanelMachine
-panel_made config limit addresses = record { bus = bus_with config addresses; clock = new_clock limit }
+panel_made config limit addresses = record { bus = bus_with config addresses; clock = new_clock limit; sent = tt }
 
 -- each by its definition
 abbrev pub panel_call : PanelCall → PanelMachine → Done PanelMachine
