@@ -1,4 +1,5 @@
-/* Through C: POLL exchanges for a second of processor time, and the stack that each call takes, beside what is wanted. `exchange COUNT ROUNDS`
+/* Through C: the stack that each call takes, beside what is wanted (`exchange`), or how many POLL exchanges are done for a second of processor
+ * time (`exchange COUNT`).
  *
  * An exchange is the panel's tick with its burst, the reader's step over it with its answer, and that answer's bytes to the panel: the calls that a
  * program makes. The stack is measured as what a call changes of a stack that was filled with a pattern, less what is changed where
@@ -123,9 +124,14 @@ static size_t changed(void (*call)(void))
     return sizeof stack - untouched;
 }
 
+static void print_line(const char *name, size_t depth, unsigned wanted)
+{
+    printf("stack of %-24s %6zu bytes, wanted %6u\n", name, depth, wanted);
+}
+
 static void print_depth(const char *name, void (*call)(void), unsigned wanted)
 {
-    printf("stack of %-24s %6zu bytes, wanted %6u\n", name, changed(call) - changed(nothing), wanted);
+    print_line(name, changed(call) - changed(nothing), wanted);
 }
 
 /* One exchange, whose moments go on by the poll interval. */
@@ -144,36 +150,19 @@ static double seconds(void)
     return (double)spent.tv_sec + (double)spent.tv_nsec / 1e9;
 }
 
-static double best(long count, long rounds)
+/* How many exchanges are done for a second. */
+static double rate(long count)
 {
-    double least = 1e9;
-    for (long round = 0; round < rounds; round++) {
-        double begun = seconds();
-        for (long i = 0; i < count; i++) {
-            exchange();
-            demand(burst.length == 8 && answer.burst.length == 8, "no POLL, or no ACK");
-        }
-        double spent = seconds() - begun;
-        least = spent < least ? spent : least;
+    double begun = seconds();
+    for (long i = 0; i < count; i++) {
+        exchange();
+        demand(burst.length == 8 && answer.burst.length == 8, "no POLL, or no ACK");
     }
-    return least / (double)count;
+    return (double)count / (seconds() - begun);
 }
 
-int main(int count, char **words)
+static void print_depths(void)
 {
-    long exchanges = count > 1 ? atol(words[1]) : 200000, rounds = count > 2 ? atol(words[2]) : 5;
-    print_depth("osdp_panel_new and add", new_panel, 24000);
-    print_depth("osdp_device_new", new_reader, 24000);
-    demand(osdp_panel_begin(&panel, 0, now) == OSDP_OK, "no session");
-    now = 400;
-    tick();
-    step();
-    bytes();
-    next_report();
-    demand(report.kind == OSDP_REPORT_OPENED, "no session");
-    double spent = best(exchanges, rounds);
-    printf("POLL exchanges %10.0f for a second, %.2f microseconds each\n", 1 / spent, spent * 1e6);
-
     print_depth("osdp_panel_submit_text", submit, 16000);
     print_depth("osdp_device_event_text", event, 16000);
     now += 50;
@@ -185,5 +174,25 @@ int main(int count, char **words)
     message = answer.command;
     demand(report.kind == OSDP_REPORT_SETTLED && message.code == 0x68, "the order was not settled");
     print_depth("osdp_command_text", text, 16000);
+}
+
+int main(int count, char **words)
+{
+    size_t panel_depth = changed(new_panel) - changed(nothing), reader_depth = changed(new_reader) - changed(nothing);
+    demand(osdp_panel_begin(&panel, 0, now) == OSDP_OK, "no session");
+    now = 400;
+    tick();
+    step();
+    bytes();
+    next_report();
+    demand(report.kind == OSDP_REPORT_OPENED, "no session");
+    if (count > 1) {
+        printf("%.0f\n", rate(atol(words[1])));
+        return 0;
+    }
+    print_line("osdp_panel_new and add", panel_depth, 24000);
+    print_line("osdp_device_new", reader_depth, 24000);
+    exchange();
+    print_depths();
     return 0;
 }
