@@ -19,8 +19,8 @@
  *             nothing that it would have written, except where it says so.
  * Writing.    A struct is written whole but for its arrays: of an array as many bytes as its length says are written, and the
  *             others stay as they were. Nothing beyond a struct is written. No struct that a call reads or writes has padding.
- * Heap.       `osdp_panel_new` takes 6,920 bytes in two blocks, and `osdp_panel_add` 1,768, and 1,648 for each command that may
- *             wait, in two. `osdp_device_new` takes 14,008 bytes, and 1,456 for each event that may wait, in two blocks. `free`
+ * Heap.       `osdp_panel_new` takes 6,912 bytes in two blocks, and `osdp_panel_add` 1,768, and 1,648 for each command that may
+ *             wait, in two. `osdp_device_new` takes 14,000 bytes, and 1,456 for each event that may wait, in two blocks. `free`
  *             gives all back. No other call takes memory. Where there is none, a call says so, and nothing has changed.
  * Stack.      `osdp_device_step`, `osdp_device_tick` and `osdp_device_silence` take at most 35 KiB of stack, each other call at most 26,
  *             as measured and counted on 64-bit x86.

@@ -51,7 +51,7 @@ static void new_panel(void)
         before = bytes_given;
         status = osdp_panel_new(&panel, &config);
     }
-    demand(status == OSDP_OK && bytes_given - before == counted(6920));
+    demand(status == OSDP_OK && bytes_given - before == counted(6912));
     demand(osdp_panel_new(&panel, &config) == OSDP_IN_USE);
     demand(osdp_panel_add(&panel, 127, &entry) == OSDP_PANEL_OUT_OF_RANGE);
 }
@@ -88,7 +88,7 @@ static void new_reader(int i, uint32_t address)
         before = bytes_given;
         status = osdp_device_new(&readers[i], &config, capabilities, 6);
     }
-    demand(status == OSDP_OK && bytes_given - before == counted(14008 + 2 * 1456));
+    demand(status == OSDP_OK && bytes_given - before == counted(14000 + 2 * 1456));
     demand(osdp_device_new(&readers[i], &config, capabilities, 6) == OSDP_IN_USE);
     demand(osdp_device_set_outputs(&readers[i], states, 2) == OSDP_OK);
     demand(osdp_device_set_inputs(&readers[i], states, 2) == OSDP_OK);

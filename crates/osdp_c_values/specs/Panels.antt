@@ -16,8 +16,7 @@ use Rattle.osdp_bus.specs.Hearing.{after_bytes, after_silence}
 use Rattle.osdp_bus.specs.Machine.{AddEnds, NewEnds, after_begin_at, after_next_report, after_retarget_at, after_submit_at, after_withdraw_at, begin_refusal_at, changed_unless, retarget_refusal_at, submit_refusal_at, withdrawal_at}
 use Rattle.osdp_bus.specs.Ticking.{bus_ticks}
 use Rattle.osdp_controller.specs.States.{is_closed}
-use Rattle.osdp_c_values.specs.Clocks.{accepts, new_clock, sees}
-use Rattle.osdp_c_values.specs.declared.clock.Clock.{Clock}
+use Rattle.osdp_c_values.specs.Clocks.{ClockState, accepts, new_clock, sees}
 use Rattle.osdp_c_values.specs.declared.machine.PanelMachine.{PanelMachine}
 use Rattle.osdp_c_values.specs.declared.arrays.BurstStruct.{BurstStruct}
 use Rattle.osdp_c_values.specs.declared.message.MessageStruct.{MessageStruct}
@@ -59,7 +58,7 @@ abbrev pub of_bus : {O : Type 0} → (BusState → O → O) → PanelMachine →
 of_bus write m out = write m.bus out
 
 -- the moment of a call is seen where it is done
-abbrev pub sees_if_done : ℕ → Status → Clock → Clock
+abbrev pub sees_if_done : ℕ → Status → ClockState → ClockState
 sees_if_done now status.Done c = sees now c
 sees_if_done now refused c = c
 

@@ -3,13 +3,26 @@
 ghost use Rattle.std.specs.Prelude.{◌≡◌};
 ghost use Rattle.osdp_c_values.specs.Clocks.{accepts, new_clock, sees};
 
-/// The greatest moment that was seen, where one was, and how far another may lie after it.
+use std::marker::Model;
+
+/// The greatest moment that was seen, where one was, and how far another may lie after it. It takes 16 bytes; with an option they were 24.
 #[derive(Clone, Copy, Debug, PartialEq, Eq)]
 pub struct Clock {
-    /// The greatest moment seen.
-    pub greatest: Option<u64>,
+    /// The greatest moment seen, where one was.
+    greatest: u64,
     /// How far another may lie after it, in milliseconds.
-    pub limit: u32,
+    limit: u32,
+    /// Whether one was.
+    has_seen: bool,
+}
+
+impl Model for Clock {
+    ghost use Rattle.std.specs.Bool.{then_some};
+    ghost use Rattle.osdp_c_values.specs.Clocks.{ClockState};
+
+    ghost Value = { ClockState };
+
+    ghost view = { λ c. record { greatest = then_some c.has_seen c.greatest; limit = c.limit } };
 }
 
 impl Clock {
@@ -18,8 +31,9 @@ impl Clock {
         ensures { result ≡ new_clock limit }
     {
         Clock {
-            greatest: None,
+            greatest: 0,
             limit,
+            has_seen: false,
         }
     }
 
@@ -27,19 +41,19 @@ impl Clock {
     pub fn accepts(&self, now: u64) -> bool
         ensures { result ≡ accepts now self.now }
     {
-        match self.greatest {
-            Some(greatest) => now <= greatest || now - greatest <= u64::from(self.limit),
-            None => true,
+        if !self.has_seen {
+            return true;
         }
+        now <= self.greatest || now - self.greatest <= u64::from(self.limit)
     }
 
     /// A moment is seen.
     pub fn see(&mut self, now: u64)
         ensures { self.new ≡ sees now self.old }
     {
-        self.greatest = match self.greatest {
-            Some(greatest) => Some(greatest.max(now)),
-            None => Some(now),
-        };
+        if !self.has_seen || self.greatest < now {
+            self.greatest = now;
+        }
+        self.has_seen = true;
     }
 }
