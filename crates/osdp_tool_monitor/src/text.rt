@@ -145,7 +145,15 @@ pub(crate) fn push_found(
 {
     match (found.notice, found.accusation, expected) {
         (None, None, []) => Ok(()),
-        _ => push_lines(text, run, place, packet, found, expected),
+        _ => push_lines(
+            text,
+            run,
+            place,
+            packet,
+            found.notice,
+            found.accusation,
+            expected,
+        ),
     }
 }
 
@@ -156,12 +164,14 @@ fn push_lines(
     run: u64,
     place: u64,
     packet: &FrameView<'_>,
-    found: &Found,
+    notice: Option<Notice>,
+    accusation: Option<Accusation>,
     expected: &[u8],
 ) -> Result<(), AllocError>
-    ensures { OnOk result (string_bytes text.new ≡ string_bytes text.old ++ found_text run place packet.now found.now expected.now) }
+    ensures { OnOk result (string_bytes text.new ≡ string_bytes text.old
+        ++ (notice_line run place packet.now.address notice ++ (accusation_line run place packet.now accusation ++ expected_lines expected.now packet.now))) }
 {
-    push_notice(text, run, place, packet.address().get(), found.notice)?;
-    push_accusation(text, run, place, packet, found.accusation)?;
+    push_notice(text, run, place, packet.address().get(), notice)?;
+    push_accusation(text, run, place, packet, accusation)?;
     push_expected(text, packet, expected)
 }
