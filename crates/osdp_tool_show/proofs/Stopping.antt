@@ -126,7 +126,7 @@ stops_line_end bytes old held mid before middle now apart says t h = λ detail f
 
 -- ---- at the end
 
-abbrev closed_text : Bool → List (List ℕ) → List ℕ
+abbrev closed_text : Detail → List (List ℕ) → List ℕ
 closed_text detail runs = runs_lines detail no_tally runs ++ end_line detail (after_runs no_tally runs)
 
 -- an input whose last line was told is within the text of the input as one that has ended
