@@ -20,7 +20,7 @@ pub struct Told {
 }
 
 impl Model for Told {
-    ghost use Rattle.std.specs.Prelude.{ℕ, Option};
+    ghost use Rattle.std.specs.Prelude.{ℕ, Option, option_map};
     ghost use Rattle.osdp_controller.specs.declared.report.Report.{Report};
 
     ghost Value = { Option (ℕ × Report) };

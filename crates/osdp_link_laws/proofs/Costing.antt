@@ -87,7 +87,7 @@ module _ (fixed : ControllerConfig) {H : Type 0} (answer_of : H → Command → 
       let held = h.holds.2 in
       let p = parts h.holds.0 at l.reader (as_waiting l).account held.reader held.account.offered held.account.told in
       record {
-        events = p;
+        events = record { front = p.front; gone = p.gone; queue = p.queue; one = p.one; before = p.before; offered = p.offered; kept = p.kept };
         thrown_away = ap (λ es. l.account.thrown_away ++ es) (ap (drop (length l.account.offered)) p.kept ∙ drop_front l.account.offered p.gone);
         commands = refl;
         controller = refl;

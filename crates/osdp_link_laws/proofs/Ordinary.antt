@@ -82,7 +82,7 @@ leaves_so t waiting events so leaves =
           ∙ append_assoc (settled_commands t) t.unsettled waiting;
       unsettled = subst (λ cs. length cs ≤ 1) told commands.one;
       taken = subst (λ cs. (t.taken ≡ settled_commands t) ⊎ (t.taken ≡ settled_commands t ++ cs)) told commands.taken;
-      events = record {
+      unreported = record {
         left = leaves.left;
         again = leaves.of_events.again;
         queued = leaves.of_events.queued;

@@ -56,7 +56,7 @@ pub record LeavesUndisturbed (t : Account) (waiting : List Command) (events : Li
   pub commands : t.issued ≡ settled_commands t ++ (t.unsettled ++ waiting)
   pub unsettled : length t.unsettled ≤ 1
   pub taken : (t.taken ≡ settled_commands t) ⊎ (t.taken ≡ settled_commands t ++ t.unsettled)
-  pub events : LeavesUnreported t events
+  pub unreported : LeavesUnreported t events
 
 -- of all events, those that have left the queue: what these sessions reported, of each the last or none left out, session after session
 abbrev pub HaveLeftUndisturbed : List Event → List Account → List Event → Type 0
