@@ -25,7 +25,7 @@ use Rattle.osdp_tool_show.specs.Machine.{IsSettled, IsStep, EndedRun, Stands}
 use Rattle.osdp_tool_show.specs.Written.{IsBeginning, StopsWithin}
 use Rattle.osdp_tool_show.proofs.Beginnings.{begun_all, stops_by}
 use Rattle.osdp_tool_show.specs.Shown.{shown, shown_so_far}
-use Rattle.osdp_tool_show.specs.Ending.{streamed, EndsAtBadLine, EndsAtFailedRead, EndsPartWay}
+use Rattle.osdp_tool_show.specs.Ending.{streamed, EndsAtBadLine, EndsAtFailedRead, EndsPartWay, EndsPastLimit}
 use Rattle.osdp_tool_show.specs.Capture.{HasShown, HasShownIf, TookPiece, TookPart, StopsInPiece}
 use Rattle.osdp_tool_show.specs.Works.{Works, Answered, Closed, EndedInput, EndsLine, ReadToEnd, ReadToBadLine, ReadToLimit, ReadToFailure, ReadPart, StopsAtEnd, StopsClosing}
 use Rattle.osdp_tool_show.proofs.Pieces.{took_both, nothing_bad, told_nothing}
@@ -394,6 +394,20 @@ written_or_part : (r : Result (Unit {0}) ToolFault) (middle written : Option (Li
     → IsBeginning written middle
 written_or_part (Ok x) middle written kept stops = begun_kept middle written kept
 written_or_part (Err e) middle written kept stops = stops
+
+pub works_past_limit : (detail : Detail) (form : Form) (limit : ℕ) (start before middle written input_before input_after : Option (List ℕ)) (input_failed output_failed : Bool)
+    (old mid : Capture) → ReadToLimit limit old mid input_before input_after before middle → input_failed ≡ false → output_failed ≡ false
+    → Keeps middle written → HasShown detail form start [] old before
+    → EndsPastLimit detail form limit (streamed input_before input_after input_failed) (streamed start written output_failed)
+works_past_limit detail form limit start before middle written ib ia input_failed output_failed old mid r well well_too kept f =
+    let here = r.took.follows detail form start [] f in
+    record {
+      read = r.read;
+      good = here.good;
+      text = Appends-kept start middle written (lines_so_far detail (ended_runs form r.read.within) (open_run form r.read.within)) here.stands.lines kept;
+      input_well = well;
+      output_well = well_too;
+    }
 
 pub works_at_failed_read : (detail : Detail) (form : Form) (limit : ℕ) (start before middle written input_before input_after : Option (List ℕ)) (input_failed was output_failed : Bool)
     (old mid : Capture) (r : Result (Unit {0}) ToolFault) → ReadToFailure limit old mid input_before input_after before middle → input_failed ≡ true

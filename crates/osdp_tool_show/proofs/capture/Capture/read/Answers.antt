@@ -1,6 +1,6 @@
 use Rattle.std.proofs.Common.{◌∙◌}
 use Rattle.osdp_tool_streams.specs.Watched.{has_failed}
-use Rattle.osdp_tool_show.proofs.Works.{works_at_end, works_at_bad_line, works_at_failed_read, part_in_piece, part_at_bad_line, part_past_limit, stopped}
+use Rattle.osdp_tool_show.proofs.Works.{works_at_end, works_at_bad_line, works_at_failed_read, works_past_limit, part_in_piece, part_at_bad_line, part_past_limit, stopped}
 use Rattle.osdp_tool_show.proofs.capture.Capture.read.Goals as goal
 
 pub returns-in-AtEnd : goal.returns-in-AtEnd
@@ -22,6 +22,13 @@ returns-in-AtFailedRead g c = λ detail form start f.
     let write = c.write_out-in-AtFailedRead.ensures in
     works_at_failed_read detail form c.args.limit start _ _ _ _ _ _ (has_failed c.read_all.new.output) _ c.args.self.now c.read_all.new.self
     c.write_out-in-AtFailedRead.result read.0 read.1 write.step write.fault write.written write.stops f
+
+pub returns-in_ok-write_out-in-PastLimit : goal.returns-in_ok-write_out-in-PastLimit
+returns-in_ok-write_out-in-PastLimit g c = λ detail form start f.
+    let read = rw c.in-PastLimit.is at c.in_ok-read_all.ensures.read in
+    works_past_limit detail form c.args.limit start _ _ _ _ _ _ _ c.args.self.now c.read_all.new.self
+    read.0 (read.1 ∙ c.requires.input) (c.in_ok-write_out-in-PastLimit.ensures.step ∙ c.in_ok-read_all.ensures.step ∙ c.requires.output)
+    c.in_ok-write_out-in-PastLimit.ensures.written f
 
 pub returns-in_err-read_all : goal.returns-in_err-read_all
 returns-in_err-read_all g c = λ detail form start f.
