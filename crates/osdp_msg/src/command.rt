@@ -12,7 +12,7 @@ use crate::command_fields::{Buzzer, Communication, MakerMessage, Text};
 use crate::fault::{BadWords, MsgFault};
 use crate::leds::Leds;
 use crate::limits::MAX_MESSAGE;
-use crate::making::row;
+use crate::making::put_row;
 use crate::outputs::Outputs;
 use crate::parsing::parse_byte;
 use crate::placing::{copy_list, place_list};
@@ -127,34 +127,36 @@ fn decode(code: u8, bytes: &[u8]) -> Result<Command, MsgFault>
     Ok(command.unwrap())
 }
 
-/// The command whose text begins with a name and goes on with these fields.
-fn parse_row(name: &str, fields: Fields<'_>) -> Option<Command>
-    ensures { ReadsWords command_words CommandFits (name.now ∷ fields.entry) result }
+/// Puts the command there whose text begins with a name and goes on with these fields, or none.
+fn parse_row(name: &str, fields: Fields<'_>, command: &mut Option<Command>)
+    ensures { ReadsWords command_words CommandFits (name.now ∷ fields.entry) command.new }
 {
     match name {
-        "POLL" => fields.is_empty().then_some(Command::Poll),
-        "ID" => parse_byte(fields).map(Command::Id),
-        "CAP" => parse_byte(fields).map(Command::Cap),
-        "LSTAT" => fields.is_empty().then_some(Command::LocalStatus),
-        "ISTAT" => fields.is_empty().then_some(Command::InputStatus),
-        "OSTAT" => fields.is_empty().then_some(Command::OutputStatus),
-        "RSTAT" => fields.is_empty().then_some(Command::ReaderStatus),
-        "OUT" => row(Outputs::parse, fields, Command::Output),
-        "LED" => row(Leds::parse, fields, Command::Led),
-        "BUZ" => Buzzer::parse(fields).map(Command::Buzzer),
-        "TEXT" => row(Text::parse, fields, Command::Text),
-        "COMSET" => Communication::parse(fields).map(Command::Comset),
-        "MFG" => row(MakerMessage::parse, fields, Command::Maker),
-        _ => None,
+        "POLL" => *command = fields.is_empty().then_some(Command::Poll),
+        "ID" => put_row(parse_byte, fields, Command::Id, command),
+        "CAP" => put_row(parse_byte, fields, Command::Cap, command),
+        "LSTAT" => *command = fields.is_empty().then_some(Command::LocalStatus),
+        "ISTAT" => *command = fields.is_empty().then_some(Command::InputStatus),
+        "OSTAT" => *command = fields.is_empty().then_some(Command::OutputStatus),
+        "RSTAT" => *command = fields.is_empty().then_some(Command::ReaderStatus),
+        "OUT" => put_row(Outputs::parse, fields, Command::Output, command),
+        "LED" => put_row(Leds::parse, fields, Command::Led, command),
+        "BUZ" => put_row(Buzzer::parse, fields, Command::Buzzer, command),
+        "TEXT" => put_row(Text::parse, fields, Command::Text, command),
+        "COMSET" => put_row(Communication::parse, fields, Command::Comset, command),
+        "MFG" => put_row(MakerMessage::parse, fields, Command::Maker, command),
+        _ => *command = None,
     }
 }
 
-/// The command whose text has these words.
-fn parse_fields(mut fields: Fields<'_>) -> Option<Command>
-    ensures { ReadsWords command_words CommandFits fields.entry result }
+/// Puts the command there whose text has these words, or none.
+fn parse_fields(mut fields: Fields<'_>, command: &mut Option<Command>)
+    ensures { ReadsWords command_words CommandFits fields.entry command.new }
 {
-    let name = fields.word()?;
-    parse_row(name, fields)
+    match fields.word() {
+        Some(name) => parse_row(name, fields, command),
+        None => *command = None,
+    }
 }
 
 impl Command {
@@ -224,7 +226,9 @@ impl Command {
         ensures value { IfOk result (λ m. AllStandFor (command_words m) (texts words.now) × CommandFits m) }
         ensures only { (m : Command) → CommandFits m → AllStandFor (command_words m) (texts words.now) → result ≡ Ok m }
     {
-        parse_fields(Fields::new(words)).ok_or(BadWords)
+        let mut command = None;
+        parse_fields(Fields::new(words), &mut command);
+        command.ok_or(BadWords)
     }
 
     /// The command whose text a line is. Its words have one or more spaces between each two.
@@ -232,7 +236,17 @@ impl Command {
         ensures value { IfOk result (λ m. AllStandFor (command_words m) (words_in line.now) × CommandFits m) }
         ensures only { (m : Command) → CommandFits m → AllStandFor (command_words m) (words_in line.now) → result ≡ Ok m }
     {
-        parse_fields(Fields::of_line(line)).ok_or(BadWords)
+        let mut command = None;
+        Command::parse_line_into(line, &mut command);
+        command.ok_or(BadWords)
+    }
+
+    /// Puts the command whose text a line is in place of what stands in `command`, or none.
+    pub fn parse_line_into(line: &str, command: &mut Option<Command>)
+        ensures value { IfSome command.new (λ m. AllStandFor (command_words m) (words_in line.now) × CommandFits m) }
+        ensures only { (m : Command) → CommandFits m → AllStandFor (command_words m) (words_in line.now) → command.new ≡ Some m }
+    {
+        parse_fields(Fields::of_line(line), command);
     }
 
     /// An equal command.

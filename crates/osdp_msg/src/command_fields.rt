@@ -317,6 +317,9 @@ impl MakerMessage {
         if !fields.read_byte_list(&mut bytes) {
             return None;
         }
-        fields.is_empty().then_some(MakerMessage { vendor, bytes })
+        if !fields.is_empty() {
+            return None;
+        }
+        Some(MakerMessage { vendor, bytes })
     }
 }

@@ -1,6 +1,6 @@
 //! Events: what a reader tells when it is polled.
 
-ghost use Rattle.std.specs.Prelude.{◌≡◌, ◌∷◌, Some, None, Ok, IfOk, MatchResult, false};
+ghost use Rattle.std.specs.Prelude.{◌≡◌, ◌∷◌, Some, None, Ok, IfOk, IfSome, MatchResult, false};
 ghost use Rattle.std.specs.Bool.{then_some};
 ghost use Rattle.osdp_words.specs.Reading.{ReadsWords};
 ghost use Rattle.osdp_words.specs.Word.{AllStandFor, texts, words_in};
@@ -43,11 +43,29 @@ const UNTOLD: LocalState = LocalState {
     power: 0,
 };
 
-/// The event whose text has these words.
-fn parse_fields(fields: Fields<'_>) -> Option<Event>
-    ensures { ReadsWords event_words EventFits fields.entry result }
+/// Puts the event there that the reply tells, or none.
+fn put_told(reply: &Reply, event: &mut Option<Event>)
+    ensures { event.new ≡ event_in reply.now }
 {
-    reply::parse_fields(fields)?.to_event().ok()
+    put(|| Some(Event::LocalState(UNTOLD)), event);
+    if let Some(place) = event {
+        if reply.event_into(place) {
+            return;
+        }
+    }
+    *event = None;
+}
+
+/// Puts the event there whose text has these words, or none.
+fn parse_fields(fields: Fields<'_>, event: &mut Option<Event>)
+    ensures { ReadsWords event_words EventFits fields.entry event.new }
+{
+    let mut reply = None;
+    reply::parse_fields(fields, &mut reply);
+    match &reply {
+        Some(reply) => put_told(reply, event),
+        None => *event = None,
+    }
 }
 
 impl Event {
@@ -96,7 +114,9 @@ impl Event {
         ensures value { IfOk result (λ e. AllStandFor (event_words e) (texts words.now) × EventFits e) }
         ensures only { (e : Event) → EventFits e → AllStandFor (event_words e) (texts words.now) → result ≡ Ok e }
     {
-        parse_fields(Fields::new(words)).ok_or(BadWords)
+        let mut event = None;
+        parse_fields(Fields::new(words), &mut event);
+        event.ok_or(BadWords)
     }
 
     /// The event whose text a line is. Its words have one or more spaces between each two.
@@ -104,7 +124,17 @@ impl Event {
         ensures value { IfOk result (λ e. AllStandFor (event_words e) (words_in line.now) × EventFits e) }
         ensures only { (e : Event) → EventFits e → AllStandFor (event_words e) (words_in line.now) → result ≡ Ok e }
     {
-        parse_fields(Fields::of_line(line)).ok_or(BadWords)
+        let mut event = None;
+        Event::parse_line_into(line, &mut event);
+        event.ok_or(BadWords)
+    }
+
+    /// Puts the event whose text a line is in place of what stands in `event`, or none.
+    pub fn parse_line_into(line: &str, event: &mut Option<Event>)
+        ensures value { IfSome event.new (λ e. AllStandFor (event_words e) (words_in line.now) × EventFits e) }
+        ensures only { (e : Event) → EventFits e → AllStandFor (event_words e) (words_in line.now) → event.new ≡ Some e }
+    {
+        parse_fields(Fields::of_line(line), event);
     }
 
     /// An equal event.

@@ -14,17 +14,18 @@ pub(crate) fn put<M: Drop, F: FnOnce() -> M>(make: F, place: &mut M)
     *place = make();
 }
 
-/// What is made of the value that the fields of a text are read as, or none.
+/// Puts what is made of the value that the fields of a text are read as there, or none.
 // It is not inlined, for the same.
 #[inline(never)]
-pub(crate) fn row<'a, X, M, P: FnOnce(Fields<'a>) -> Option<X>, F: FnOnce(X) -> M>(
+pub(crate) fn put_row<'a, X, M: Drop, P: FnOnce(Fields<'a>) -> Option<X>, F: FnOnce(X) -> M>(
     parse: P,
     fields: Fields<'a>,
     make: F,
-) -> Option<M>
+    place: &mut Option<M>,
+)
     requires parse { P.IsAlwaysCallable parse }
     requires make { F.IsAlwaysCallable make }
-    ensures { (read : Option X) × P.post parse fields.entry read × MatchOption read (result ≡ None) (λ x. IsSomeAnd result (F.post make x)) }
+    ensures { (read : Option X) × P.post parse fields.entry read × MatchOption read (place.new ≡ None) (λ x. IsSomeAnd place.new (F.post make x)) }
 {
-    parse(fields).map(make)
+    *place = parse(fields).map(make);
 }

@@ -9,7 +9,7 @@ ghost use Rattle.osdp_msg.specs.ReplyText.{reply_words, reply_text};
 use crate::command_fields::{Communication, MakerMessage};
 use crate::fault::{BadWords, MsgFault};
 use crate::limits::{MAX_DATA, MAX_MESSAGE};
-use crate::making::row;
+use crate::making::put_row;
 use crate::parsing::{parse_records, parse_states};
 use crate::printing::{print_bytes, print_records};
 use crate::raw::Raw;
@@ -136,39 +136,42 @@ fn decode(code: u8, bytes: &[u8]) -> Result<Reply, MsgFault>
     }
 }
 
-/// The reply whose text begins with a name and goes on with these fields.
-fn parse_row(name: &str, fields: Fields<'_>) -> Option<Reply>
-    ensures { ReadsWords reply_words ReplyFits (name.now ∷ fields.entry) result }
+/// Puts the reply there whose text begins with a name and goes on with these fields, or none.
+fn parse_row(name: &str, fields: Fields<'_>, reply: &mut Option<Reply>)
+    ensures { ReadsWords reply_words ReplyFits (name.now ∷ fields.entry) reply.new }
 {
     match name {
-        "ACK" => fields.is_empty().then_some(Reply::Ack),
-        "NAK" => row(Nak::parse, fields, Reply::Nak),
-        "PDID" => PdId::parse(fields).map(Reply::PdId),
-        "PDCAP" => row(
+        "ACK" => *reply = fields.is_empty().then_some(Reply::Ack),
+        "NAK" => put_row(Nak::parse, fields, Reply::Nak, reply),
+        "PDID" => put_row(PdId::parse, fields, Reply::PdId, reply),
+        "PDCAP" => put_row(
             parse_records,
             fields,
             |capabilities| Reply::PdCap(PdCap { capabilities }),
+            reply,
         ),
-        "LSTATR" => LocalState::parse(fields).map(Reply::LocalState),
-        "ISTATR" => row(parse_states, fields, Reply::Inputs),
-        "OSTATR" => row(parse_states, fields, Reply::Outputs),
-        "RSTATR" => row(parse_states, fields, Reply::Readers),
-        "RAW" => row(Raw::parse, fields, Reply::Raw),
-        "FMT" => row(Formatted::parse, fields, Reply::Formatted),
-        "KEYPAD" => row(Keypad::parse, fields, Reply::Keypad),
-        "COM" => Communication::parse(fields).map(Reply::Com),
-        "BUSY" => fields.is_empty().then_some(Reply::Busy),
-        "MFGREP" => row(MakerMessage::parse, fields, Reply::MakerReply),
-        _ => None,
+        "LSTATR" => put_row(LocalState::parse, fields, Reply::LocalState, reply),
+        "ISTATR" => put_row(parse_states, fields, Reply::Inputs, reply),
+        "OSTATR" => put_row(parse_states, fields, Reply::Outputs, reply),
+        "RSTATR" => put_row(parse_states, fields, Reply::Readers, reply),
+        "RAW" => put_row(Raw::parse, fields, Reply::Raw, reply),
+        "FMT" => put_row(Formatted::parse, fields, Reply::Formatted, reply),
+        "KEYPAD" => put_row(Keypad::parse, fields, Reply::Keypad, reply),
+        "COM" => put_row(Communication::parse, fields, Reply::Com, reply),
+        "BUSY" => *reply = fields.is_empty().then_some(Reply::Busy),
+        "MFGREP" => put_row(MakerMessage::parse, fields, Reply::MakerReply, reply),
+        _ => *reply = None,
     }
 }
 
-/// The reply whose text has these words.
-pub(crate) fn parse_fields(mut fields: Fields<'_>) -> Option<Reply>
-    ensures { ReadsWords reply_words ReplyFits fields.entry result }
+/// Puts the reply there whose text has these words, or none.
+pub(crate) fn parse_fields(mut fields: Fields<'_>, reply: &mut Option<Reply>)
+    ensures { ReadsWords reply_words ReplyFits fields.entry reply.new }
 {
-    let name = fields.word()?;
-    parse_row(name, fields)
+    match fields.word() {
+        Some(name) => parse_row(name, fields, reply),
+        None => *reply = None,
+    }
 }
 
 impl Reply {
@@ -220,7 +223,9 @@ impl Reply {
         ensures value { IfOk result (λ m. AllStandFor (reply_words m) (texts words.now) × ReplyFits m) }
         ensures only { (m : Reply) → ReplyFits m → AllStandFor (reply_words m) (texts words.now) → result ≡ Ok m }
     {
-        parse_fields(Fields::new(words)).ok_or(BadWords)
+        let mut reply = None;
+        parse_fields(Fields::new(words), &mut reply);
+        reply.ok_or(BadWords)
     }
 
     /// The reply whose text a line is. Its words have one or more spaces between each two.
@@ -228,7 +233,9 @@ impl Reply {
         ensures value { IfOk result (λ m. AllStandFor (reply_words m) (words_in line.now) × ReplyFits m) }
         ensures only { (m : Reply) → ReplyFits m → AllStandFor (reply_words m) (words_in line.now) → result ≡ Ok m }
     {
-        parse_fields(Fields::of_line(line)).ok_or(BadWords)
+        let mut reply = None;
+        parse_fields(Fields::of_line(line), &mut reply);
+        reply.ok_or(BadWords)
     }
 
     /// An equal reply.

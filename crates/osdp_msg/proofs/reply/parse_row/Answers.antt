@@ -6,7 +6,7 @@ use Rattle.osdp_msg.proofs.RowTexts.{made_row_read, mapped}
 use Rattle.osdp_msg.proofs.reply.parse_row.Goals as goal
 
 pub returns-in-LSTATR : goal.returns-in-LSTATR
-returns-in-LSTATR c = rw c.in-LSTATR.is (made_row_read reply_name reply_fields ReplyFits (codes "LSTATR") LocalState (λ x. refl) (λ m. (made_by_names m).0) c.args.fields c.parse-in-LSTATR.result _ c.parse-in-LSTATR.ensures (mapped LocalState _ _ c.map-in-LSTATR.ensures.cases))
+returns-in-LSTATR c = rw c.in-LSTATR.is (made_row_read reply_name reply_fields ReplyFits (codes "LSTATR") LocalState (λ x. refl) (λ m. (made_by_names m).0) c.args.fields c.put_row-in-LSTATR.ensures.0 _ c.put_row-in-LSTATR.ensures.1.1 (mapped LocalState _ _ c.put_row-in-LSTATR.ensures.2))
 
 pub returns-in-COM : goal.returns-in-COM
-returns-in-COM c = rw c.in-COM.is (made_row_read reply_name reply_fields ReplyFits (codes "COM") Com (λ x. refl) (λ m. (made_by_names m).1) c.args.fields c.parse-in-COM.result _ c.parse-in-COM.ensures (mapped Com _ _ c.map-in-COM.ensures.cases))
+returns-in-COM c = rw c.in-COM.is (made_row_read reply_name reply_fields ReplyFits (codes "COM") Com (λ x. refl) (λ m. (made_by_names m).1) c.args.fields c.put_row-in-COM.ensures.0 _ c.put_row-in-COM.ensures.1.1 (mapped Com _ _ c.put_row-in-COM.ensures.2))

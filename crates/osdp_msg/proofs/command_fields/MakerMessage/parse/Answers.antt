@@ -12,6 +12,10 @@ pub returns-then-not-read_byte_list : goal.returns-then-not-read_byte_list
 returns-then-not-read_byte_list c =
     two_no_back vendor_words IsVendor list_words (IsList 1429) maker_words MakerFits maker_from maker_parts maker_made _ _ _ _ _ c.in_ok-vendor.ensures c.if-not-read_byte_list.ensures refl
 
+pub returns-then-not-is_empty : goal.returns-then-not-is_empty
+returns-then-not-is_empty c =
+    two_whole vendor_words IsVendor list_words (IsList 1429) maker_words MakerFits maker_from maker_parts maker_made _ _ _ _ _ _ _ c.in_ok-vendor.ensures c.if-not-read_byte_list.ensures c.if-not-is_empty.ensures refl
+
 pub returns : goal.returns
 returns c =
-    two_whole vendor_words IsVendor list_words (IsList 1429) maker_words MakerFits maker_from maker_parts maker_made _ _ _ _ _ _ _ c.in_ok-vendor.ensures c.if-not-read_byte_list.ensures c.is_empty.ensures c.then_some.ensures
+    two_whole vendor_words IsVendor list_words (IsList 1429) maker_words MakerFits maker_from maker_parts maker_made _ _ _ _ _ _ _ c.in_ok-vendor.ensures c.if-not-read_byte_list.ensures c.if-not-is_empty.ensures refl
