@@ -50,9 +50,7 @@ impl Line {
         }
         match first_holding(self.devices.entries.as_slice()) {
             Some(entry) => self.holder_deadline(entry),
-            None if self.receiver.is_empty() => {
-                earliest(self.devices.entries.as_slice(), now)
-            }
+            None if self.receiver.is_empty() => { earliest(self.devices.entries.as_slice(), now) }
             None => Some(now),
         }
     }
