@@ -1,12 +1,9 @@
 -- How the code keeps the lines below those of the readers: a small step a line, and the bytes of all messages and damage in one row.
-use Rattle.std.specs.Prelude.{ℕ, ◌+◌, nat_le, List, [], ◌∷◌, length, take, drop, Option, Some, None, option_and_then, if◌then◌else◌}
-use Rattle.std.specs.Result.{result_ok}
+use Rattle.std.specs.Prelude.{ℕ, nat_le, List, [], ◌∷◌, length, Option, Some, None, if◌then◌else◌}
 use Rattle.osdp_frame.specs.Packet.{largest}
 use Rattle.osdp_msg.specs.declared.command.Command.{Command}
 use Rattle.osdp_msg.specs.declared.event.Event.{Event}
-use Rattle.osdp_msg.specs.CommandTable.{command_of}
-use Rattle.osdp_msg.specs.Events.{event_in}
-use Rattle.osdp_msg.specs.ReplyTable.{reply_of}
+use Rattle.osdp_sim.specs.Kept.{command_from, event_from, parts, total}
 use Rattle.osdp_sim.specs.declared.step.Move.{Move}
 use Rattle.osdp_sim.specs.declared.step.Move.TheVariants as moves
 use Rattle.osdp_sim.specs.declared.step.SimStep.{SimStep}
@@ -19,16 +16,6 @@ use Rattle.osdp_script.specs.declared.step.Way.{Way}
 use Rattle.osdp_script.specs.declared.step.Way.TheVariants as ways
 
 -- ---- messages and damage
-
--- the command that bytes are, its code first
-abbrev pub command_from : List ℕ → Option Command
-command_from [] = None
-command_from (code ∷ bytes) = result_ok (command_of code bytes)
-
--- the event whose reply they are
-abbrev pub event_from : List ℕ → Option Event
-event_from [] = None
-event_from (code ∷ bytes) = option_and_then event_in (result_ok (reply_of code bytes))
 
 -- Bytes that are none would be a wait that takes no time. What is kept was written, so none such is kept.
 abbrev pub order : ℕ → Option Command → SimStep
@@ -83,12 +70,10 @@ line_of (kept.ToController way) own = Step (steps.ToController (move_of way own)
 line_of (kept.Reopen reader) own = Step (steps.Reopen reader)
 line_of (kept.Clean n) own = Clean n
 
--- the lines that are kept as these steps and this row of bytes: each step's own are the first that are left
+-- the lines that are kept as these steps and this row of bytes
 abbrev pub lines_kept : List ScriptStep → List ℕ → List ScriptLine
-lines_kept [] row = []
-lines_kept (step ∷ steps) row = line_of step (take (own_size step) row) ∷ lines_kept steps (drop (own_size step) row)
+lines_kept steps row = parts own_size line_of steps row
 
 -- how many bytes they have together
 abbrev pub sizes : List ScriptStep → ℕ
-sizes [] = 0
-sizes (step ∷ steps) = own_size step + sizes steps
+sizes steps = total own_size steps

@@ -1,10 +1,11 @@
 //! A line below those of the readers, in little memory.
 
 ghost use Rattle.std.specs.Prelude.{◌≡◌, length};
-ghost use Rattle.osdp_script.specs.Kept.{command_from, event_from, happening, move_bytes, move_of, move_size, order, own_size};
+ghost use Rattle.osdp_sim.specs.Kept.{command_from, event_from};
+ghost use Rattle.osdp_script.specs.Kept.{happening, move_bytes, move_of, move_size, order, own_size};
 
 use osdp_frame::Burst;
-use osdp_msg::{Command, Event, Reply};
+use osdp_sim::message::{command_from, event_from};
 use osdp_sim::{Move, SimStep};
 
 /// What the line does with the burst in front.
@@ -106,24 +107,6 @@ impl ScriptStep {
             | ScriptStep::Clean(_) => 0,
         }
     }
-}
-
-/// The command that these bytes are: its code, and its data.
-fn command_from(bytes: &[u8]) -> Option<Command>
-    ensures { result ≡ command_from bytes.now }
-{
-    let (code, data) = bytes.split_first()?;
-    let mut command = None;
-    let _ = Command::read_into(*code, data, &mut command);
-    command
-}
-
-/// The event that these bytes are: the code of its reply, and the data.
-fn event_from(bytes: &[u8]) -> Option<Event>
-    ensures { result ≡ event_from bytes.now }
-{
-    let (code, data) = bytes.split_first()?;
-    Reply::read(*code, data).ok()?.to_event().ok()
 }
 
 /// A reader's user submits the command that these bytes are.

@@ -1,3 +1,4 @@
 pub mod Bursts
+pub mod Keeping
 pub mod Schedules
 pub mod Sent

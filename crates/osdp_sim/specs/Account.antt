@@ -79,12 +79,6 @@ abbrev pub taken_by : Kind → Option Command → List Command
 taken_by kind.Taken command = taken_command command
 taken_by _ command = []
 
--- what stands in the command's place once the account has moved a taken one out of it: a POLL stays, since no account counts it
-abbrev pub left_by : Kind → Option Command → Option Command
-left_by kind.Taken (Some Poll) = Some Poll
-left_by kind.Taken _ = None
-left_by _ command = command
-
 abbrev pub with_taken : List Command → Account → Account
 with_taken commands a = record a { taken = a.taken ++ commands }
 

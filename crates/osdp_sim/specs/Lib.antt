@@ -1,3 +1,4 @@
+pub mod Kept
 pub mod Account
 pub mod Line
 pub mod State

@@ -1,5 +1,5 @@
 -- What a simulation is, and the room that one step needs.
-use Rattle.std.specs.Prelude.{◌<◌, vec_len, vec_capacity}
+use Rattle.std.specs.Prelude.{◌≡◌, ◌<◌, true, vec_len, vec_capacity}
 use Rattle.std.specs.VecDeque.{deque_len, deque_capacity}
 use Rattle.osdp_sim.specs.declared.account.Account as declared
 use Rattle.osdp_sim.specs.declared.simulation.Simulation.{Simulation}
@@ -9,12 +9,12 @@ use Rattle.osdp_sim.specs.State.{SimState}
 
 -- a place in each list of an account
 pub record HasPlaces (a : declared.Account) : Type 0 where
-  pub issued : vec_len a.issued < vec_capacity a.issued
-  pub taken : vec_len a.taken < vec_capacity a.taken
-  pub settled : vec_len a.settled < vec_capacity a.settled
-  pub unsettled : vec_len a.unsettled < vec_capacity a.unsettled
-  pub queued : vec_len a.queued < vec_capacity a.queued
-  pub reported : vec_len a.reported < vec_capacity a.reported
+  pub issued : a.issued.has_place ≡ true
+  pub taken : a.taken.has_place ≡ true
+  pub settled : a.settled.has_place ≡ true
+  pub unsettled : a.unsettled.has_place ≡ true
+  pub queued : a.queued.has_place ≡ true
+  pub reported : a.reported.has_place ≡ true
   pub ends : vec_len a.ends < vec_capacity a.ends
   pub sessions : vec_len a.sessions < vec_capacity a.sessions
 

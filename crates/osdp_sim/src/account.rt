@@ -1,9 +1,12 @@
 //! What a schedule comes to.
 
-ghost use Rattle.std.specs.Prelude.{◌≡◌, None, OnOk};
-ghost use Rattle.osdp_sim.specs.Account.{empty_account, left_by, lists_of, taken_by, taken_command, with_issued, with_queued, with_report, with_session, with_taken};
+ghost use Rattle.std.specs.Prelude.{◌≡◌, OnOk, Some};
+ghost use Rattle.osdp_sim.specs.Account.{empty_account, lists_of, taken_by, taken_command, with_issued, with_queued, with_report, with_session, with_taken};
 ghost use Rattle.osdp_sim.specs.Room.{HasPlaces};
 
+use crate::kept::Kept;
+use crate::message::Spelling;
+use crate::settled::Settled;
 use osdp_controller::{LostCause, Report};
 use osdp_msg::{Command, Event, Reply};
 use osdp_reader::{Heard, Kind};
@@ -37,25 +40,27 @@ pub struct Lengths {
     pub ends: usize,
 }
 
-/// What a schedule came to, for one reader.
+/// What a schedule came to, for one reader. Messages are kept by their bytes.
 #[derive(Debug, Drop)]
 pub struct Account {
     /// The commands that the controller accepted.
-    pub issued: Vec<Command>,
+    pub issued: Kept<Command>,
     /// The commands, other than POLL, that the reader has taken with the number that it expected.
-    pub taken: Vec<Command>,
+    pub taken: Kept<Command>,
     /// The commands that were settled, each with its answer. A COMSET that moved the reader stands with its COM.
-    pub settled: Vec<(Command, Reply)>,
+    pub settled: Settled,
     /// The commands that were outstanding where a session was lost.
-    pub unsettled: Vec<Command>,
+    pub unsettled: Kept<Command>,
     /// The events that the reader accepted.
-    pub queued: Vec<Event>,
+    pub queued: Kept<Event>,
     /// The events that the controller reported.
-    pub reported: Vec<Event>,
+    pub reported: Kept<Event>,
     /// How the sessions ended.
     pub ends: Vec<End>,
     /// How long the other lists were when each session began.
     pub sessions: Vec<Lengths>,
+    /// A place for the bytes of a message on its way into a list.
+    spelling: Spelling,
 }
 
 impl Account {
@@ -64,14 +69,15 @@ impl Account {
         ensures { lists_of result ≡ empty_account }
     {
         Account {
-            issued: Vec::new(alloc),
-            taken: Vec::new(alloc),
-            settled: Vec::new(alloc),
-            unsettled: Vec::new(alloc),
-            queued: Vec::new(alloc),
-            reported: Vec::new(alloc),
+            issued: Kept::new(alloc),
+            taken: Kept::new(alloc),
+            settled: Settled::new(alloc),
+            unsettled: Kept::new(alloc),
+            queued: Kept::new(alloc),
+            reported: Kept::new(alloc),
             ends: Vec::new(alloc),
             sessions: Vec::new(alloc),
+            spelling: Spelling::new(),
         }
     }
 
@@ -80,32 +86,14 @@ impl Account {
         ensures same { lists_of self.new ≡ lists_of self.old }
         ensures places { OnOk result (HasPlaces self.new) }
     {
-        self.issued.try_reserve(1)?;
-        self.taken.try_reserve(1)?;
-        self.settled.try_reserve(1)?;
-        self.unsettled.try_reserve(1)?;
-        self.queued.try_reserve(1)?;
-        self.reported.try_reserve(1)?;
+        self.issued.grow()?;
+        self.taken.grow()?;
+        self.settled.grow()?;
+        self.unsettled.grow()?;
+        self.queued.grow()?;
+        self.reported.grow()?;
         self.ends.try_reserve(1)?;
         self.sessions.try_reserve(1)
-    }
-
-    /// Makes room for so many commands that are issued, and for one more, which every step has a place for, if there is memory for them
-    /// all at once.
-    pub fn expect(&mut self, commands: usize)
-        ensures { lists_of self.new ≡ lists_of self.old }
-    {
-        if commands == 0 {
-            return;
-        }
-        let places = commands.saturating_add(1);
-        let _ = self.issued.try_reserve_exact(places);
-        let _ = self.taken.try_reserve_exact(places);
-        // The largest list gets places to spare, for which no page of memory is taken. The C library gives free memory back to the system
-        // where more than twice its largest block is free; with this one it keeps the memory for the next run.
-        let _ = self
-            .settled
-            .try_reserve_exact(places.saturating_add(places / 8 + 64));
     }
 
     /// A session begins.
@@ -129,7 +117,7 @@ impl Account {
         requires { HasPlaces self.old }
         ensures { lists_of self.new ≡ with_issued command.now (lists_of self.old) }
     {
-        self.issued.push_reserved(command.copy());
+        self.issued.push(command, &mut self.spelling);
     }
 
     /// An event was accepted.
@@ -137,66 +125,66 @@ impl Account {
         requires { HasPlaces self.old }
         ensures { lists_of self.new ≡ with_queued event.now (lists_of self.old) }
     {
-        self.queued.push_reserved(event.copy());
+        self.queued.push(event, &mut self.spelling);
     }
 
     /// The reader has taken a command: a POLL isn't counted.
-    pub fn take(&mut self, command: Option<Command>)
+    fn take(&mut self, command: &Command)
         requires { HasPlaces self.old }
-        ensures { lists_of self.new ≡ with_taken (taken_command command) (lists_of self.old) }
+        ensures { lists_of self.new ≡ with_taken (taken_command (Some command.now)) (lists_of self.old) }
     {
-        let Some(command) = command else { return };
         if !matches!(command, Command::Poll) {
-            self.taken.push_reserved(command);
+            self.taken.push(command, &mut self.spelling);
         }
     }
 
-    /// The reader has heard a packet, and made this of it. A command that it has taken leaves its place there, but for a POLL, which isn't
-    /// counted.
+    /// The reader has heard a packet, and made this of it.
     #[inline(always)]
-    pub fn take_heard(&mut self, heard: &mut Heard)
+    pub fn take_heard(&mut self, heard: &Heard)
         requires { HasPlaces self.old }
-        ensures account { lists_of self.new ≡ with_taken (taken_by heard.old.kind heard.old.command) (lists_of self.old) }
-        ensures command { heard.new.command ≡ left_by heard.old.kind heard.old.command }
-        ensures kind { heard.new.kind ≡ heard.old.kind }
-        ensures burst { heard.new.burst ≡ heard.old.burst }
+        ensures { lists_of self.new ≡ with_taken (taken_by heard.now.kind heard.now.command) (lists_of self.old) }
     {
-        if heard.kind == Kind::Taken && !matches!(heard.command, Some(Command::Poll)) {
-            self.take(heard.command.take());
+        if heard.kind != Kind::Taken {
+            return;
+        }
+        if let Some(command) = &heard.command {
+            self.take(command);
         }
     }
 
-    /// The controller has reported.
-    pub fn tell(&mut self, report: Option<Report>)
+    /// The controller has reported what stands there, if anything does.
+    #[inline(always)]
+    pub fn tell_any(&mut self, report: &Option<Report>)
         requires { HasPlaces self.old }
-        ensures { lists_of self.new ≡ with_report report (lists_of self.old) }
+        ensures { lists_of self.new ≡ with_report report.now (lists_of self.old) }
+    {
+        if let Some(report) = report {
+            self.tell(report);
+        }
+    }
+
+    /// The controller has reported this.
+    pub fn tell(&mut self, report: &Report)
+        requires { HasPlaces self.old }
+        ensures { lists_of self.new ≡ with_report (Some report.now) (lists_of self.old) }
     {
         match report {
-            None | Some(Report::Opened(_) | Report::PollAnswered(_) | Report::Unread(..)) => {}
-            Some(Report::Settled(command, answer)) => self.settled.push_reserved((command, answer)),
-            Some(Report::Moved(command, answered)) => {
-                self.settled.push_reserved((command, Reply::Com(answered)));
+            Report::Opened(_) | Report::PollAnswered(_) | Report::Unread(..) => {}
+            Report::Settled(command, answer) => {
+                self.settled.push(command, answer, &mut self.spelling);
+            }
+            Report::Moved(command, answered) => {
+                let answer = Reply::Com(*answered);
+                self.settled.push(command, &answer, &mut self.spelling);
                 self.ends.push_reserved(End::Moved);
             }
-            Some(Report::Event(event)) => self.reported.push_reserved(event),
-            Some(Report::Lost(cause, command)) => {
+            Report::Event(event) => self.reported.push(event, &mut self.spelling),
+            Report::Lost(cause, command) => {
                 if let Some(command) = command {
-                    self.unsettled.push_reserved(command);
+                    self.unsettled.push(command, &mut self.spelling);
                 }
-                self.ends.push_reserved(End::Lost(cause));
+                self.ends.push_reserved(End::Lost(*cause));
             }
-        }
-    }
-
-    /// The controller has reported what stands there, if anything does. It leaves its place.
-    #[inline(always)]
-    pub fn tell_any(&mut self, report: &mut Option<Report>)
-        requires { HasPlaces self.old }
-        ensures account { lists_of self.new ≡ with_report report.old (lists_of self.old) }
-        ensures none { report.new ≡ None }
-    {
-        if report.is_some() {
-            self.tell(report.take());
         }
     }
 }

@@ -4,7 +4,7 @@ ghost use Rattle.std.specs.Prelude.{◌≡◌, ◌+◌, ◌<◌, ◌≤◌, ◌+
 ghost use Rattle.std.specs.VecDeque.{deque_capacity, deque_len};
 ghost use Rattle.osdp_reader.specs.Spelled.{IsSpelled};
 ghost use Rattle.osdp_reader.specs.Table.{hears, kind_of};
-ghost use Rattle.osdp_sim.specs.Account.{left_by, lists_of, taken_by, with_taken};
+ghost use Rattle.osdp_sim.specs.Account.{lists_of, taken_by, with_taken};
 ghost use Rattle.osdp_sim.specs.Line.{bytes_of, sent};
 ghost use Rattle.osdp_sim.specs.Room.{HasPlaces};
 ghost use Rattle.osdp_sim.specs.Steps.{SaysFit};
@@ -16,8 +16,7 @@ use osdp_reader::{Handler, Heard, Reader};
 use std::collections::VecDeque;
 
 /// A reader hears a packet: what it has taken goes to its account, and what it answers out on the line. What it made of the packet stands
-/// in `heard`, in place of what stood there. A command that it has taken has gone from there to the account, unless it is a POLL, which no
-/// account counts.
+/// in `heard`, in place of what stood there.
 pub fn hear<H: Handler>(
     reader: &mut Reader<H>,
     packet: &FrameView<'_>,
@@ -29,7 +28,7 @@ pub fn hear<H: Handler>(
     requires places { HasPlaces account.old }
     ensures reader { reader.new ≡ (hears H.answer_of H.after reader.old packet.now).reader }
     ensures kind { heard.new.kind ≡ kind_of reader.old packet.now }
-    ensures command { heard.new.command ≡ left_by (kind_of reader.old packet.now) (hears H.answer_of H.after reader.old packet.now).command }
+    ensures command { heard.new.command ≡ (hears H.answer_of H.after reader.old packet.now).command }
     ensures reply { IsSpelled (hears H.answer_of H.after reader.old packet.now).reply heard.new.burst.items }
     ensures account { lists_of account.new ≡ with_taken (taken_by (kind_of reader.old packet.now) (hears H.answer_of H.after reader.old packet.now).command) (lists_of account.old) }
     ensures line { bytes_of line.new.items ≡ bytes_of line.old.items ++ sent (hears H.answer_of H.after reader.old packet.now).reply }

@@ -31,17 +31,8 @@ pub fn run_session<H: Handler>(
     ensures ends { RunEnds H.answer_of H.after config.now handler steps.now result }
     ensures fits { FitAlong H.answer_of H.after (steps_done steps.now result) (set_up config.now handler) }
 {
-    let mut simulation = begin(alloc, config, handler)?;
-    simulation.account.expect(issues(steps));
+    let simulation = begin(alloc, config, handler)?;
     run_listed(simulation, steps)
-}
-
-/// How many commands a list of steps issues to the first reader.
-fn issues(steps: &[SimStep]) -> usize {
-    steps
-        .iter()
-        .filter(|step| matches!(step, SimStep::Issue(1, _)))
-        .count()
 }
 
 /// The same of steps that are handed out one at a time.

@@ -167,7 +167,7 @@ impl<H: Handler> StepTaker for Simulation<H> {
         {
             send(&mut self.to_reader, &self.out);
         }
-        self.account.tell_any(&mut self.report);
+        self.account.tell_any(&self.report);
     }
 
     fn to_reader(&mut self, way: &Move) {
@@ -186,7 +186,7 @@ impl<H: Handler> StepTaker for Simulation<H> {
     fn to_controller(&mut self, way: &Move) {
         if let Some(packet) = handed_packet(&self.to_controller, way) {
             self.controller.hear(&packet, self.clock, &mut self.report);
-            self.account.tell_any(&mut self.report);
+            self.account.tell_any(&self.report);
         }
         move_on(&mut self.to_controller, way);
     }

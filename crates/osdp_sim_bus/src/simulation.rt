@@ -73,7 +73,7 @@ impl<H: Handler> Simulation<H> {
             return
         };
         if entry < self.sites.len() {
-            self.sites[entry].account.tell(Some(report));
+            self.sites[entry].account.tell(&report);
         }
     }
 }

@@ -2,7 +2,6 @@
 use Rattle.std.proofs.Common.{◌≡◌, ℕ, suc, ◌+◌, ◌<◌, ◌≤◌, List, [], ◌∷◌, ◌++◌, codes, drop, length, map, get_or, refl, sym, ap, ◌∙◌, append_assoc, append-nil, add-one, drop-cons, Result, Ok, Err, OnOk}
 use Rattle.std.specs.Fmt.{decimal}
 use Rattle.std.specs.List.{flat_map}
-use Rattle.std.proofs.Math.ListN.{drop_of_length-le}
 use Rattle.osdp_msg.specs.declared.command.Command.{Command}
 use Rattle.osdp_msg.specs.declared.event.Event.{Event}
 use Rattle.osdp_msg.specs.declared.reply.Reply.{Reply}
@@ -39,23 +38,18 @@ settled_is name c r =
 pub end_is : (name word : List ℕ) → line_text (plain name ∷ plain word ∷ []) ≡ name ++ (codes " " ++ (word ++ codes "\n"))
 end_is name word = append_assoc name (codes " " ++ (word ++ [])) (codes "\n") ∙ ap (λ l. name ++ (codes " " ++ (l ++ codes "\n"))) (append-nil word)
 
-pub lines_more : {X : Type 0} (line : X → List Word) (xs : List X) (i : ℕ) (x : X) (text next whole : List ℕ) → i < length xs → x ≡ get_or xs i x
-    → next ≡ text ++ line_text (line x) → text ++ lines_text (map line (drop i xs)) ≡ whole
-    → next ++ lines_text (map line (drop (i + 1) xs)) ≡ whole
-lines_more line xs i x text next whole within is written all =
-    let cut : drop i xs ≡ x ∷ drop (i + 1) xs = split in
-    ap (λ l. l ++ lines_text (map line (drop (i + 1) xs))) written
-    ∙ append_assoc text (line_text (line x)) (lines_text (map line (drop (i + 1) xs)))
+pub lines_more : {X : Type 0} (line : X → List Word) (left rest : List X) (x : X) (text next whole : List ℕ) → left ≡ x ∷ rest
+    → next ≡ text ++ line_text (line x) → text ++ lines_text (map line left) ≡ whole → next ++ lines_text (map line rest) ≡ whole
+lines_more line left rest x text next whole cut written all =
+    ap (λ l. l ++ lines_text (map line rest)) written
+    ∙ append_assoc text (line_text (line x)) (lines_text (map line rest))
     ∙ ap (λ l. text ++ lines_text (map line l)) (sym cut)
     ∙ all
-  where
-    split : drop i xs ≡ x ∷ drop (i + 1) xs
-    split = rw add-one (drop-cons xs i x within ∙ ap (λ y. y ∷ drop (suc i) xs) (sym is))
 
-pub lines_done : {X : Type 0} (line : X → List Word) (xs : List X) (i : ℕ) (text whole : List ℕ) → length xs ≤ i
-    → text ++ lines_text (map line (drop i xs)) ≡ whole → text ≡ whole
-lines_done line xs i text whole past all =
-    sym (append-nil text) ∙ ap (λ l. text ++ lines_text (map line l)) (sym (drop_of_length-le xs past)) ∙ all
+pub lines_done : {X : Type 0} (line : X → List Word) (left : List X) (text whole : List ℕ) → left ≡ []
+    → text ++ lines_text (map line left) ≡ whole → text ≡ whole
+lines_done line left text whole none all =
+    sym (append-nil text) ∙ ap (λ l. text ++ lines_text (map line l)) (sym none) ∙ all
 
 -- the two halves of the line of counts, which are written one after the other
 halves : (old mid new n i t s u q r : List ℕ)

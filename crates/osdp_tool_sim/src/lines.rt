@@ -1,6 +1,6 @@
 //! Lines of an account.
 
-ghost use Rattle.std.specs.Prelude.{◌≡◌, ◌∷◌, ◌++◌, [], List, OnOk, codes, map, string_bytes};
+ghost use Rattle.std.specs.Prelude.{◌≡◌, ◌∷◌, ◌++◌, [], List, MatchOption, OnOk, codes, map, string_bytes};
 ghost use Rattle.osdp_msg.specs.CommandText.{command_words};
 ghost use Rattle.osdp_msg.specs.Events.{event_words};
 ghost use Rattle.osdp_msg.specs.ReplyText.{reply_words};
@@ -8,11 +8,12 @@ ghost use Rattle.osdp_words.specs.Word.{Word, plain};
 ghost use Rattle.osdp_tool_sim.specs.AccountText.{end_name, lines_text, line_text};
 
 use osdp_msg::{Command, Event, Reply};
-use osdp_sim::End;
+use osdp_sim::message::Message;
+use osdp_sim::{End, KeptLeft, SettledLeft};
 use std::alloc::AllocError;
 
 /// An item of a list of an account.
-pub(crate) trait Listed {
+pub(crate) trait Listed: Drop {
     /// What stands in its line after the name of the list.
     ghost words: { Self → List Word };
 
@@ -67,15 +68,64 @@ impl Listed for End {
     }
 }
 
+/// The items of a list of an account that are still to come.
+pub(crate) trait ItemsLeft: Drop {
+    /// An item.
+    type Item: Listed;
+
+    ghost left: { Self → List Self.Item };
+
+    /// Takes the first of them.
+    fn take_first(&mut self) -> Option<Self::Item>
+        ensures { MatchOption result ((left self.old ≡ []) × (left self.new ≡ [])) (λ first. left self.old ≡ first ∷ left self.new) };
+}
+
+impl<'a, M: Message + Listed> ItemsLeft for KeptLeft<'a, M> {
+    type Item = M;
+
+    ghost left = { λ items. items };
+
+    fn take_first(&mut self) -> Option<M> {
+        self.next()
+    }
+}
+
+impl<'a> ItemsLeft for SettledLeft<'a> {
+    type Item = (Command, Reply);
+
+    ghost left = { λ items. items };
+
+    fn take_first(&mut self) -> Option<(Command, Reply)> {
+        self.next()
+    }
+}
+
+/// How sessions ended, those still to come.
+#[derive(Drop)]
+pub(crate) struct EndsLeft<'a>(pub(crate) &'a [End]);
+
+impl<'a> ItemsLeft for EndsLeft<'a> {
+    type Item = End;
+
+    ghost left = { λ ends. ends.0.now };
+
+    fn take_first(&mut self) -> Option<End> {
+        let (first, rest) = self.0.split_first()?;
+        self.0 = rest;
+        Some(*first)
+    }
+}
+
 /// The lines of a list of an account, each of which begins by its name.
-pub(crate) fn push_list<T: Listed>(
+pub(crate) fn push_list<L: ItemsLeft>(
     text: &mut String,
     name: &str,
-    items: &[T],
+    items: L,
 ) -> Result<(), AllocError>
-    ensures { OnOk result (string_bytes text.new ≡ string_bytes text.old ++ lines_text (map (λ item. plain name.now ∷ T.words item) items.now)) }
+    ensures { OnOk result (string_bytes text.new ≡ string_bytes text.old ++ lines_text (map (λ item. plain name.now ∷ L.Item.words item) (L.left items))) }
 {
-    for item in items {
+    let mut items = items;
+    'lines: while let Some(item) = items.take_first() {
         item.push_line(text, name)?;
     }
     Ok(())

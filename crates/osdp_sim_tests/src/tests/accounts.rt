@@ -27,25 +27,25 @@ fn tell_counts(rt: &impl Abort, text: &mut String, account: &Account) {
 }
 
 fn tell_taken(rt: &impl Abort, text: &mut String, account: &Account) {
-    for command in &account.taken {
+    for command in account.taken.left() {
         write!(text, "taken {command}\n").expect(rt, "memory");
     }
 }
 
 fn tell_settled(rt: &impl Abort, text: &mut String, account: &Account) {
-    for (command, reply) in &account.settled {
+    for (command, reply) in account.settled.left() {
         write!(text, "settled {command} = {reply}\n").expect(rt, "memory");
     }
 }
 
 fn tell_unsettled(rt: &impl Abort, text: &mut String, account: &Account) {
-    for command in &account.unsettled {
+    for command in account.unsettled.left() {
         write!(text, "unsettled {command}\n").expect(rt, "memory");
     }
 }
 
 fn tell_reported(rt: &impl Abort, text: &mut String, account: &Account) {
-    for event in &account.reported {
+    for event in account.reported.left() {
         write!(text, "reported {event}\n").expect(rt, "memory");
     }
 }

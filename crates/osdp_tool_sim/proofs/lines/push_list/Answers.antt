@@ -4,14 +4,16 @@ use Rattle.osdp_tool_sim.specs.AccountText.{lines_text}
 use Rattle.osdp_tool_sim.proofs.Written.{lines_done, lines_more}
 use Rattle.osdp_tool_sim.proofs.lines.push_list.Goals as goal
 
-pub loop-item-preserved : goal.loop-item-preserved
-loop-item-preserved g c =
-    lines_more (λ item. plain c.args.name.now ∷ g.T.Listed.words item) c.args.items.now c.loop-item.item-index c.item-item.result
-    (string_bytes c.loop-item.text) (string_bytes c.push_line.new.text)
-    (string_bytes c.args.text.now ++ lines_text (map (λ item. plain c.args.name.now ∷ g.T.Listed.words item) c.args.items.now)) c.loop-item-test.true c.item-item.is
-    c.in_ok-push_line.ensures c.loop-item.invariant
+pub lines-preserved : goal.lines-preserved
+lines-preserved g c =
+    let line = λ item. plain c.args.name.now ∷ g.L.Item.Listed.words item in
+    lines_more line (g.L.ItemsLeft.left c.lines.items) (g.L.ItemsLeft.left c.take_first.new.self) c.in-Some.item
+    (string_bytes c.lines.text) (string_bytes c.push_line.new.text)
+    (string_bytes c.args.text.now ++ lines_text (map line (g.L.ItemsLeft.left c.args.items))) c.in-Some.ensures
+    c.in_ok-push_line.ensures c.lines.invariant
 
 pub returns : goal.returns
 returns g c =
-    lines_done (λ item. plain c.args.name.now ∷ g.T.Listed.words item) c.args.items.now c.loop-item.item-index (string_bytes c.loop-item.text)
-    (string_bytes c.args.text.now ++ lines_text (map (λ item. plain c.args.name.now ∷ g.T.Listed.words item) c.args.items.now)) c.loop-item-test.false c.loop-item.invariant
+    let line = λ item. plain c.args.name.now ∷ g.L.Item.Listed.words item in
+    lines_done line (g.L.ItemsLeft.left c.lines.items) (string_bytes c.lines.text)
+    (string_bytes c.args.text.now ++ lines_text (map line (g.L.ItemsLeft.left c.args.items))) c.in-None.ensures.0 c.lines.invariant

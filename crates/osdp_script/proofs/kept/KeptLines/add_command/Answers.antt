@@ -1,7 +1,8 @@
 use Rattle.std.proofs.Common.{◌≡◌, ◌++◌, ◌∷◌, [], OnOk, ap, subst, ◌∙◌}
 use Rattle.osdp_script.specs.declared.script.ScriptLine.TheVariants.{Step}
-use Rattle.osdp_script.specs.Kept.{command_from, order}
-use Rattle.osdp_script.proofs.Keeping.{command_back}
+use Rattle.osdp_script.specs.Kept.{order}
+use Rattle.osdp_sim.proofs.Keeping.{command_back}
+use Rattle.osdp_sim.specs.Kept.{command_from}
 use Rattle.osdp_script.proofs.kept.KeptLines.add_command.Goals as goal
 
 pub returns : goal.returns

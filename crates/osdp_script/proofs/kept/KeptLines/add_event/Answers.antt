@@ -1,8 +1,9 @@
 use Rattle.std.proofs.Common.{◌≡◌, ◌++◌, ◌∷◌, [], OnOk, ap, subst, ◌∙◌}
 use Rattle.osdp_msg.specs.ReplyTable.{ReplyFits, reply_code, reply_data}
 use Rattle.osdp_script.specs.declared.script.ScriptLine.TheVariants.{Step}
-use Rattle.osdp_script.specs.Kept.{event_from, happening}
-use Rattle.osdp_script.proofs.Keeping.{event_back}
+use Rattle.osdp_script.specs.Kept.{happening}
+use Rattle.osdp_sim.proofs.Keeping.{event_back}
+use Rattle.osdp_sim.specs.Kept.{event_from}
 use Rattle.osdp_script.proofs.kept.KeptLines.add_event.Goals as goal
 
 pub returns : goal.returns
