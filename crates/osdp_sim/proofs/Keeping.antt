@@ -1,8 +1,9 @@
 -- Messages that are kept as a row of bytes.
-use Rattle.std.proofs.Common.{◌≡◌, ◌+◌, ◌≤◌, ℕ, suc, List, [], ◌∷◌, ◌++◌, length, take, drop, Some, refl, sym, ap, ◌∙◌, arith}
+use Rattle.std.proofs.Common.{◌≡◌, ◌+◌, ◌≤◌, ◌&&◌, ℕ, suc, Bool, true, false, leb, List, [], ◌∷◌, ◌++◌, length, take, drop, Some, refl, sym, ap, ◌∙◌, arith}
 use Rattle.std.specs.Prelude.{zip}
 use Rattle.std.specs.Result.{result_ok}
 use Rattle.std.proofs.Math.Seq.{take-length}
+use Rattle.std.proofs.lemmas.Bool.{le-leb, leb-true}
 use Rattle.std.proofs.lemmas.List.{drop-append-le, length-drop, take-append-le}
 use Rattle.osdp_msg.specs.declared.command.Command.{Command}
 use Rattle.osdp_msg.specs.declared.event.Event.{Event}
@@ -66,15 +67,30 @@ pub parts_length : {S T : Type 0} (size_of : S → ℕ) (part_of : S → List �
 parts_length size_of part_of [] row = refl
 parts_length size_of part_of (place ∷ places) row = ap (λ n. suc n) (parts_length size_of part_of places (drop (size_of place) row))
 
+-- ---- places
+
+pub each_placed : (a b : Bool) → (a && b) ≡ true → (a ≡ true) × (b ≡ true)
+each_placed true b e = (refl, e)
+each_placed false b e = absurd cc
+
+pub placed : (a b c d : ℕ) → (leb a b && leb c d) ≡ true → (a ≤ b) × (c ≤ d)
+placed a b c d e = let p = each_placed (leb a b) (leb c d) e in (leb-true a b p.0, leb-true c d p.1)
+
+pub has_places : (a b c d : ℕ) → a ≤ b → c ≤ d → (leb a b && leb c d) ≡ true
+has_places a b c d first second = rw (le-leb a b first, le-leb c d second) refl
+
+pub both_placed : (a b : Bool) → a ≡ true → b ≡ true → (a && b) ≡ true
+both_placed a b first second = rw (first, second) refl
+
 -- ---- two lists side by side
 
-pub zip_more : {A B : Type 0} (as : List A) (bs : List B) (a : A) (b : B) → length as ≡ length bs → zip (as ++ a ∷ []) (bs ++ b ∷ []) ≡ zip as bs ++ (a, b) ∷ []
-zip_more [] [] a b same = refl
-zip_more [] (y ∷ bs) a b same = absurd cc
-zip_more (x ∷ as) [] a b same = absurd cc
-zip_more (x ∷ as) (y ∷ bs) a b same = ap (λ rest. (x, y) ∷ rest) (zip_more as bs a b (omega (arith, same)))
+pub zip_more : {A B : Type 0} (xs : List A) (ys : List B) (x : A) (y : B) → length xs ≡ length ys → zip (xs ++ x ∷ []) (ys ++ y ∷ []) ≡ zip xs ys ++ (x, y) ∷ []
+zip_more [] [] x y same = refl
+zip_more [] (b ∷ ys) x y same = absurd (omega (arith, same))
+zip_more (a ∷ xs) [] x y same = absurd (omega (arith, same))
+zip_more (a ∷ xs) (b ∷ ys) x y same = ap (λ rest. (a, b) ∷ rest) (zip_more xs ys x y (omega (arith, same)))
 
-pub zip_length : {A B : Type 0} (as : List A) (bs : List B) → length as ≡ length bs → length (zip as bs) ≡ length as
-zip_length [] bs same = refl
-zip_length (x ∷ as) [] same = absurd cc
-zip_length (x ∷ as) (y ∷ bs) same = ap (λ n. suc n) (zip_length as bs (omega (arith, same)))
+pub zip_length : {A B : Type 0} (xs : List A) (ys : List B) → length xs ≡ length ys → length (zip xs ys) ≡ length xs
+zip_length [] ys same = refl
+zip_length (a ∷ xs) [] same = absurd (omega (arith, same))
+zip_length (a ∷ xs) (b ∷ ys) same = ap (λ n. suc n) (zip_length xs ys (omega (arith, same)))

@@ -21,7 +21,7 @@ pub struct Kept<M: Message> {
 }
 
 impl<M: Message> Model for Kept<M> {
-    ghost use Rattle.std.specs.Prelude.{◌≡◌, ◌+◌, ◌&&◌, length, nat_le, nat_lt, vec_capacity, vec_len};
+    ghost use Rattle.std.specs.Prelude.{◌≡◌, ◌+◌, ◌&&◌, leb, length, vec_capacity, vec_len};
     ghost use Rattle.osdp_msg.specs.Limits.{most_data};
     ghost use Rattle.osdp_sim.specs.Kept.{Keeping, all_sizes, messages};
 
@@ -29,7 +29,7 @@ impl<M: Message> Model for Kept<M> {
 
     ghost view = { λ k. record {
       items = messages M.kept k.sizes.items k.row.items;
-      has_place = nat_lt (vec_len k.sizes) (vec_capacity k.sizes) && nat_le (vec_len k.row + (1 + most_data)) (vec_capacity k.row);
+      has_place = leb (vec_len k.sizes + 1) (vec_capacity k.sizes) && leb (vec_len k.row + (1 + most_data)) (vec_capacity k.row);
     } };
 
     ghost invariant = { λ k. all_sizes k.sizes.items ≡ length k.row.items };
@@ -61,7 +61,8 @@ impl<M: Message> Kept<M> {
         ensures place { OnOk result (self.new.has_place ≡ true) }
     {
         self.sizes.try_reserve(1)?;
-        self.row.try_reserve(MAX_MESSAGE)
+        self.row.try_reserve(MAX_MESSAGE)?;
+        Ok(())
     }
 
     /// Adds a message, by way of a place for its bytes.

@@ -60,7 +60,8 @@ impl Settled {
         ensures place { OnOk result (self.new.has_place ≡ true) }
     {
         self.commands.grow()?;
-        self.answers.grow()
+        self.answers.grow()?;
+        Ok(())
     }
 
     /// Adds a command and its answer, by way of a place for their bytes.

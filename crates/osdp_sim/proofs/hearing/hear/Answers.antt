@@ -1,7 +1,6 @@
-use Rattle.std.proofs.Common.{◌≡◌, ℕ, [], ◌∷◌, ◌++◌, ap, rules, subst, sym, ◌∙◌}
+use Rattle.std.proofs.Common.{◌≡◌, ℕ, [], ◌∷◌, ◌++◌, ap, rules, ◌∙◌}
 use Rattle.std.proofs.lemmas.List.{map-append}
 use Rattle.arrayvec.specs.ArrayVec.{ArrayVec}
-use Rattle.osdp_reader.specs.Spelled.{IsSpelled}
 use Rattle.osdp_reader.specs.Table.{hears}
 use Rattle.osdp_sim.specs.Line.{bytes_of, sent}
 use Rattle.osdp_sim.proofs.Bursts.{sent_burst}
@@ -11,10 +10,10 @@ pub returns-then-not-is_empty-clause-line : goal.returns-then-not-is_empty-claus
 returns-then-not-is_empty-clause-line g c =
     let line = c.args.line.now in
     let o = hears g.H.Handler.answer_of g.H.Handler.after c.args.reader.now c.args.packet.now in
-    let burst = c.take_heard.new.heard.burst in
+    let burst = c.hear.new.heard.burst in
     let bursts : bytes_of c.send.new.line.items ≡ bytes_of line.items ++ burst.items ∷ [] =
     ap bytes_of c.send.ensures.items ∙ map-append (λ (b : ArrayVec ℕ). b.items) line.items (burst ∷ []) in
-    let spelled = subst (λ (b : ArrayVec ℕ). IsSpelled o.reply b.items) (sym c.take_heard.ensures.burst) c.hear.ensures.reply in
+    let spelled = c.hear.ensures.reply in
     let goes : burst.items ∷ [] ≡ sent o.reply =
     sent_burst o.reply burst.items spelled (search rules) (λ p spells. ((c.one_spelling.ensures p burst.items).0 spells).1) in
     bursts ∙ ap (λ l. bytes_of line.items ++ l) goes
