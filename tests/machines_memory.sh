@@ -57,9 +57,9 @@ refuse_each osdp_port_tests bus::reservations::out_of_memory_is_told 5 bus::turn
 for test in two_devices_take_turns a_pause_holds_the_line; do
   refuse_each osdp_port_tests bus::reservations::out_of_memory_is_told 5 bus::turns::$test '[1-5]'
 done
-# Ten requests to set up; three that ask beforehand for the room that the commands may take, without which it goes on; four by the steps.
-refuse_each osdp_sim_tests tests::refusals::out_of_memory_is_told 17 tests::refusals::memory_is_needed '[1-9]|10|14|15|16|17'
+# Eighteen requests to set up: two for each list of messages, and settled commands are two such lists. Six by the steps.
+refuse_each osdp_sim_tests tests::refusals::out_of_memory_is_told 24 tests::refusals::memory_is_needed '.*'
 refuse_each osdp_sim_tests tests::scripts::out_of_memory_is_told 26 tests::scripts::memory_is_needed '.*'
 # The first request is the test's own, for the list of readers.
-refuse_each osdp_sim_tests tests::buses::refusals::out_of_memory_is_told 36 tests::buses::refusals::memory_is_needed '.*'
+refuse_each osdp_sim_tests tests::buses::refusals::out_of_memory_is_told 53 tests::buses::refusals::memory_is_needed '.*'
 exit "$failed"

@@ -31,12 +31,7 @@ reply_back m fits =
 
 event_back_in : (e : Event) → event_in (event_reply e) ≡ Some e
 event_back_in (events.LocalState x) = refl
-event_back_in (events.Inputs x) = refl
-event_back_in (events.Outputs x) = refl
-event_back_in (events.Readers x) = refl
-event_back_in (events.Raw x) = refl
-event_back_in (events.Formatted x) = refl
-event_back_in (events.Keypad x) = refl
+event_back_in e = refl
 
 pub event_back : (e : Event) → ReplyFits (event_reply e) → event_from (reply_code (event_reply e) ∷ reply_data (event_reply e)) ≡ Some e
 event_back e fits = rw (reply_back (event_reply e) fits) (event_back_in e)

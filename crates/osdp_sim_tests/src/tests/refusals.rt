@@ -123,7 +123,7 @@ fn out_of_memory_is_told(rt: HostRuntime) {
     }
 }
 
-/// It needs its memory, but for the room that is asked for beforehand.
+/// It needs its memory.
 #[test]
 fn memory_is_needed(rt: HostRuntime) {
     let ended = run_session(rt.alloc(), &config(&rt), Door::new(), &opens());
