@@ -31,11 +31,9 @@ impl PanelMachine {
         ensures bus { self.new ≡ ticked now self.old }
         ensures written { IsSentIn (bus_ticks now self.old.bus).sent burst.old burst.new }
     {
-        if self.bus.tick_into(now, &mut self.sent.value) {
-            burst.set(self.sent.value.as_slice());
-        } else {
-            burst.set(&[]);
-        }
+        self.sent.value.clear();
+        self.bus.tick_into(now, &mut self.sent.value);
+        burst.set(self.sent.value.as_slice());
     }
 }
 
