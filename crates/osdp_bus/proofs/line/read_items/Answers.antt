@@ -1,5 +1,5 @@
 use Rattle.std.proofs.Common.{sym, ap, ◌∙◌}
-use Rattle.osdp_frame.specs.Held.{Held}
+use Rattle.osdp_frame.specs.Held.{Held, after_advance}
 use Rattle.osdp_frame.specs.Receiving.{Received}
 use Rattle.osdp_frame.specs.Shown.{item_of}
 use Rattle.osdp_frame_laws.proofs.InTurn.{item_leaves, item_read, none_left}
@@ -17,13 +17,14 @@ items-preserved c =
     let l = c.items.receiver in
     let m = c.advance.new.self in
     let part = item_of c.in-Some.item in
-    let held : Held = m.held in
     record {
       heard =
           item_read (hears_items c.args.now) (hears_items-append c.args.now) l m part (devices_of c.items.devices) (devices_of c.hear_item.new.self)
           (sym c.in-Some.ensures.shown) c.advance.ensures c.hear_item.ensures.devices
           ∙ c.items.invariant.heard;
-      line = c.advance.ensures ∙ ap (λ (x : Received). record x { held = held }) c.items.invariant.line;
+      line =
+          c.advance.ensures ∙ ap (λ (x : Received). record x { held = after_advance l.held }) c.items.invariant.line
+          ∙ ap (λ (h : Held). record c.args.receiver.now { held = h }) (sym (ap (λ (x : Received). x.held) c.advance.ensures));
       left = item_leaves l m part (sym c.in-Some.ensures.shown) c.advance.ensures ∙ c.items.invariant.left;
       capacity = c.hear_item.ensures.capacity ∙ c.items.invariant.capacity;
       count = c.hear_item.ensures.count ∙ c.items.invariant.count;
