@@ -8,7 +8,7 @@ use Rattle.osdp_sim.proofs.kept.Kept.add.Goals as goal
 pub push_reserved-requires : goal.push_reserved-requires
 push_reserved-requires g c =
     let room = placed (vec_len c.self.inside.sizes + 1) (vec_capacity c.self.inside.sizes) (vec_len c.self.inside.row + (1 + most_data)) (vec_capacity c.self.inside.row)
-        (ap (λ (k : Keeping _). k.has_place) c.self.view_is ∙ c.requires.place) in
+    (ap (λ (k : Keeping _). k.has_place) c.self.view_is ∙ c.requires.place) in
     omega (arith, room.0)
 
 pub invariant_of-self : goal.invariant_of-self
@@ -17,7 +17,7 @@ invariant_of-self g c =
     let row = c.self.inside.row.items in
     let own = c.args.own.now in
     let room = placed (vec_len c.self.inside.sizes + 1) (vec_capacity c.self.inside.sizes) (vec_len c.self.inside.row + (1 + most_data)) (vec_capacity c.self.inside.row)
-        (ap (λ (k : Keeping _). k.has_place) c.self.view_is ∙ c.requires.place) in
+    (ap (λ (k : Keeping _). k.has_place) c.self.view_is ∙ c.requires.place) in
     let ok = c.extend_from_slice.ensures.succeeds (omega (arith, room.1, c.requires.size)) in
     let bytes : c.extend_from_slice.new.self.items ≡ row ++ own = c.extend_from_slice.ensures.items ∙ ap (λ b. if b then row ++ own else row) ok in
     let kept : c.push_reserved.new.self.items ≡ sizes ++ length own ∷ [] = search (rules, c.push_reserved.ensures.items) in
@@ -31,7 +31,7 @@ returns g c =
     let row = c.self.inside.row.items in
     let own = c.args.own.now in
     let room = placed (vec_len c.self.inside.sizes + 1) (vec_capacity c.self.inside.sizes) (vec_len c.self.inside.row + (1 + most_data)) (vec_capacity c.self.inside.row)
-        (ap (λ (k : Keeping _). k.has_place) c.self.view_is ∙ c.requires.place) in
+    (ap (λ (k : Keeping _). k.has_place) c.self.view_is ∙ c.requires.place) in
     let ok = c.extend_from_slice.ensures.succeeds (omega (arith, room.1, c.requires.size)) in
     let bytes : c.extend_from_slice.new.self.items ≡ row ++ own = c.extend_from_slice.ensures.items ∙ ap (λ b. if b then row ++ own else row) ok in
     let kept : c.push_reserved.new.self.items ≡ sizes ++ length own ∷ [] = search (rules, c.push_reserved.ensures.items) in
