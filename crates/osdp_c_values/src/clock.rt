@@ -6,7 +6,7 @@ ghost use Rattle.osdp_c_values.specs.Clocks.{accepts, new_clock, sees};
 use std::marker::Model;
 
 /// The greatest moment that was seen, where one was, and how far another may lie after it. It takes 16 bytes; with an option they were 24.
-#[derive(Clone, Copy, Debug, PartialEq, Eq)]
+#[derive(Debug, Drop)]
 pub struct Clock {
     /// The greatest moment seen, where one was.
     greatest: u64,
