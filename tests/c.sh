@@ -61,8 +61,13 @@ for heap in malloc pool; do
   grep -q "^session: $wanted, each refused once$" "$work/said" || fail "session_$heap: not $wanted"
 done
 build session_checked "${session[@]}" c/heap_malloc.c "${counted[@]}" "$archive" "${checked[@]}" && passes "$work/session_checked"
-# `osdp_device_step` takes 28 KiB of stack, and no other call as much: the session needs no more than 64 for the whole program
+# the calls that read a text take most stack: the session needs no more than 64 KiB for the whole program
 (ulimit -s 64 && passes "$work/session_malloc") || fail "the session needs more stack"
+
+# what a line's calls take of the stack, as `bench/exchange` measures it
+build exchange bench/exchange.c c/heap_malloc.c "$archive" && passes "$work/exchange" &&
+  { awk '/^stack of osdp_(panel_tick|panel_bytes|panel_next_report|device_step) / && $4 > 12000 { print; more = 1 } END { exit more }' "$work/said" ||
+    fail "a call takes more stack than 12,000 bytes"; }
 
 build leak tests/c/leak.c c/heap_malloc.c "$archive" "${checked[@]}" &&
   if "$work/leak" >"$work/said" 2>&1 || ! grep -q LeakSanitizer "$work/said"; then
