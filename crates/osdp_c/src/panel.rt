@@ -152,7 +152,8 @@ pub extern "C" fn osdp_panel_submit_text_nonnull(
     ensures { (read : Option Ordered) × IsReadCommand text.now read
         × IsDone (calls (on_bus (submits_text entry read)) panel.old.slot.machine) result panel.new.slot.machine }
 {
-    let read = read_command(text);
+    let mut read = None;
+    read_command(text, &mut read);
     on_held!(
         panel,
         alloc,

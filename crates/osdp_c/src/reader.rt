@@ -153,7 +153,8 @@ pub extern "C" fn osdp_device_event_text_nonnull(
     ensures { (read : Option Happened) × IsReadEvent text.now read
         × IsDone (calls (submits_text read) reader.old.slot.machine) result reader.new.slot.machine }
 {
-    let read = read_event(text);
+    let mut read = None;
+    read_event(text, &mut read);
     on_held!(
         reader,
         alloc,
