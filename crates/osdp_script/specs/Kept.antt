@@ -1,5 +1,5 @@
 -- How the code keeps the lines below those of the readers: a small step a line, and the bytes of all messages and damage in one row.
-use Rattle.std.specs.Prelude.{ℕ, nat_le, List, [], ◌∷◌, length, Option, Some, None, if◌then◌else◌}
+use Rattle.std.specs.Prelude.{ℕ, nat_le, List, [], length, Option, Some, None, if◌then◌else◌}
 use Rattle.osdp_frame.specs.Packet.{largest}
 use Rattle.osdp_msg.specs.declared.command.Command.{Command}
 use Rattle.osdp_msg.specs.declared.event.Event.{Event}

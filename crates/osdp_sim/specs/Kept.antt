@@ -1,5 +1,5 @@
 -- How messages are kept in little memory: the bytes of each, one after the other in a row, and how many are its own.
-use Rattle.std.specs.Prelude.{ℕ, ◌+◌, Bool, List, [], ◌∷◌, take, drop, Option, Some, None, option_and_then, unwrap_or}
+use Rattle.std.specs.Prelude.{ℕ, ◌+◌, Bool, List, [], ◌∷◌, take, drop, Option, None, option_and_then, unwrap_or}
 use Rattle.std.specs.Result.{result_ok}
 use Rattle.osdp_msg.specs.declared.command.Command.{Command}
 use Rattle.osdp_msg.specs.declared.command.Command.TheVariants as commands

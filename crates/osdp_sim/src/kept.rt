@@ -2,7 +2,6 @@
 
 ghost use Rattle.std.specs.Prelude.{◌≡◌, ◌≤◌, ◌∷◌, ◌++◌, [], true, length, OnOk};
 ghost use Rattle.std.specs.Iterator.{YieldsFirst, item_count};
-ghost use Rattle.osdp_sim.specs.Kept.{Keeping};
 
 use crate::message::{Message, Spelling};
 use osdp_msg::MAX_MESSAGE;
