@@ -1,4 +1,4 @@
-use Rattle.std.proofs.Common.{ap, subst, ◌∷◌, ◌∙◌}
+use Rattle.std.proofs.Common.{ap, subst, [], ◌∷◌, ◌∙◌}
 use Rattle.std.specs.Prelude.{unwrap_or}
 use Rattle.osdp_msg.specs.ReplyTable.{ReplyFits, reply_code, reply_data}
 use Rattle.osdp_msg.specs.declared.event.Event.TheVariants.{Inputs}
