@@ -1,8 +1,8 @@
 -- Bursts on the line: each is the packet that it spells.
-use Rattle.std.proofs.Common.{◌≡◌, ◌↔◌, ◌⊎◌, ◌<◌, ◌≤◌, ◌-◌, ℕ, true, false, not, ◌==◌, min, if◌then◌else◌, arith, List, [], ◌∷◌, ◌++◌, length, take, Option, Some, None, inl, inr, refl, sym, ap, ◌∙◌}
+use Rattle.std.proofs.Common.{◌≡◌, ◌↔◌, ◌⊎◌, ◌≤◌, ◌-◌, ℕ, true, false, not, ◌==◌, min, if◌then◌else◌, arith, List, [], ◌∷◌, length, take, Option, Some, None, inl, inr, refl, sym, ap, ◌∙◌}
 use Rattle.std.proofs.lemmas.Bool.{ne_eqb}
 use Rattle.std.proofs.lemmas.List.{take_all}
-use Rattle.std.specs.Prelude.{option_map}
+use Rattle.std.specs.Prelude.{is_some, option_map}
 use Rattle.arrayvec.specs.ArrayVec.{ArrayVec}
 use Rattle.osdp_frame.specs.Held.{after_gap, after_push, by_itself, decided, new_run}
 use Rattle.osdp_frame.specs.Items.{items, packets_in, reading, whole_packets}
@@ -13,6 +13,7 @@ use Rattle.osdp_frame.specs.Spelling.{Spells, spelling}
 use Rattle.osdp_frame.specs.declared.fault.FrameFault.{FrameFault}
 use Rattle.osdp_frame.specs.declared.item.Item.{Item}
 use Rattle.osdp_frame.specs.declared.item.Item.TheVariants as shown
+use Rattle.osdp_controller.specs.Lent.{IsWritten}
 use Rattle.osdp_reader.specs.Spelled.{IsSpelled}
 use Rattle.osdp_sim.specs.Line.{bytes_of, handed, has_packet, sent}
 use Rattle.osdp_sim.specs.Steps.{damage_fault}
@@ -77,6 +78,16 @@ pub sent_nothing : (o : Option Packet) (bytes : List ℕ) → IsSpelled o bytes 
 sent_nothing None bytes spelled none one = refl
 sent_nothing (Some p) bytes spelled none one =
     absurd (let some = ap (λ (b : List ℕ). length b == 0) (one p spelled) ∙ ne_eqb (length (spelling p)) 0 (λ h. omega (arith, h)) in cc)
+
+-- .. and so where they were written into a place
+pub written_sent : (o : Option Packet) (old bytes : List ℕ) → is_some o ≡ true → IsWritten o old bytes
+    → ((p : Packet) → Spells p bytes → bytes ≡ spelling p) → bytes ∷ [] ≡ sent o
+written_sent None old bytes some written one = cc
+written_sent (Some p) old bytes some written one = ap (λ b. b ∷ []) (one p written)
+
+pub none_sent : (o : Option Packet) → is_some o ≡ false → sent o ≡ []
+none_sent None none = refl
+none_sent (Some p) none = cc
 
 dropped : (line : List (ArrayVec ℕ)) → packets_in (handed Drop (bytes_of line)) ≡ []
 dropped [] = no_bytes
