@@ -175,6 +175,21 @@ pub(crate) fn submit_read(machine: &mut ReaderMachine, read: Option<Event>) -> S
     }
 }
 
+/// Does a call of the device at a moment, and writes what is said.
+macro_rules! settled_at {
+    ($machine:ident, $now:ident, $answer:ident, $call:expr) => {
+        at_moment!(
+            $machine,
+            $now,
+            {
+                $call;
+                $machine.settle($answer);
+                Status::Done
+            }
+        )
+    };
+}
+
 /// Bytes have come up to a moment: writes how many were taken, and what is said.
 pub(crate) fn step(
     machine: &mut ReaderMachine,
@@ -188,14 +203,11 @@ pub(crate) fn step(
     ensures taken { taken.new ≡ writes_at now (writes_taken bytes.now now) machine.old taken.old }
     ensures written { answer.new ≡ writes_at now (writes_step bytes.now now) machine.old answer.old }
 {
-    at_moment!(
+    settled_at!(
         machine,
         now,
-        {
-            *taken = machine.device.take(bytes, now);
-            machine.settle(answer);
-            Status::Done
-        }
+        answer,
+        *taken = machine.device.take(bytes, now)
     )
 }
 
@@ -205,15 +217,7 @@ pub(crate) fn tick(machine: &mut ReaderMachine, now: u64, answer: &mut AnswerStr
     ensures machine { machine.new ≡ (at_moment now (ticks now) machine.old).machine }
     ensures written { answer.new ≡ writes_at now (writes_tick now) machine.old answer.old }
 {
-    at_moment!(
-        machine,
-        now,
-        {
-            machine.device.tick(now);
-            machine.settle(answer);
-            Status::Done
-        }
-    )
+    settled_at!(machine, now, answer, machine.device.tick(now))
 }
 
 /// The line was seen silent: writes what is said.
@@ -222,15 +226,7 @@ pub(crate) fn silence(machine: &mut ReaderMachine, now: u64, answer: &mut Answer
     ensures machine { machine.new ≡ (at_moment now (falls_silent now) machine.old).machine }
     ensures written { answer.new ≡ writes_at now (writes_silence now) machine.old answer.old }
 {
-    at_moment!(
-        machine,
-        now,
-        {
-            machine.device.silence(now);
-            machine.settle(answer);
-            Status::Done
-        }
-    )
+    settled_at!(machine, now, answer, machine.device.silence(now))
 }
 
 /// A moment is seen, however far it lies after the greatest one.
