@@ -1,6 +1,6 @@
 //! A command or a reply, as its code and data.
 
-ghost use Rattle.std.specs.Prelude.{◌≡◌, ◌≤◌, ◌<◌, length, Some};
+ghost use Rattle.std.specs.Prelude.{◌≡◌, ◌≤◌, ◌<◌, length};
 ghost use Rattle.std.specs.Option.{option_copied};
 ghost use Rattle.osdp_c_values.specs.Structs.{command_struct, message_of, no_message, reply_struct, spelled_message};
 
@@ -20,6 +20,20 @@ pub struct MessageStruct {
     pub code: u8,
     /// Its data.
     pub body: [u8; MAX_DATA],
+}
+
+/// Writes a message, where there is one. It is spelled in a place that stands in a frame of its own, so the function isn't inlined.
+macro_rules! set_message {
+    ($out:ident, $message:ident) => {
+        match $message {
+            Some(message) => {
+                let mut spelled = ArrayVec::new();
+                message.write_into(&mut spelled);
+                $out.set_spelled(spelled.as_slice());
+            }
+            None => $out.clear(),
+        }
+    };
 }
 
 impl MessageStruct {
@@ -52,43 +66,19 @@ impl MessageStruct {
         self.set(spelled[0], &spelled[1..]);
     }
 
-    /// This command, put together in a place that stands in a frame of its own.
-    #[inline(never)]
-    fn write_command(&mut self, command: &Command)
-        ensures { self.new ≡ command_struct (Some command.now) self.old }
-    {
-        let mut spelled = ArrayVec::new();
-        command.write_into(&mut spelled);
-        self.set_spelled(spelled.as_slice());
-    }
-
-    /// So it is with a reply.
-    #[inline(never)]
-    fn write_reply(&mut self, reply: &Reply)
-        ensures { self.new ≡ reply_struct (Some reply.now) self.old }
-    {
-        let mut spelled = ArrayVec::new();
-        reply.write_into(&mut spelled);
-        self.set_spelled(spelled.as_slice());
-    }
-
     /// This command, where there is one.
+    #[inline(never)]
     pub fn set_command(&mut self, command: Option<&Command>)
         ensures { self.new ≡ command_struct (option_copied command.entry) self.old }
     {
-        match command {
-            Some(command) => self.write_command(command),
-            None => self.clear(),
-        }
+        set_message!(self, command)
     }
 
     /// This reply, where there is one.
+    #[inline(never)]
     pub fn set_reply(&mut self, reply: Option<&Reply>)
         ensures { self.new ≡ reply_struct (option_copied reply.entry) self.old }
     {
-        match reply {
-            Some(reply) => self.write_reply(reply),
-            None => self.clear(),
-        }
+        set_message!(self, reply)
     }
 }
