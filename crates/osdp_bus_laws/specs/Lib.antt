@@ -13,3 +13,4 @@ pub mod Reports
 pub mod Moments
 pub mod Retargeting
 pub mod Settings
+pub mod Laws

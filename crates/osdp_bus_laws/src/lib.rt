@@ -2,21 +2,7 @@
 #![tactic(auto)]
 
 ghost use Rattle.osdp_bus.specs.Buses.{BusState};
-ghost use Rattle.osdp_bus_laws.specs.Addresses.{NoAddressOfTwo, ReservationsLast, ReserveTheirComsets};
-ghost use Rattle.osdp_bus_laws.specs.Calls.{Always};
-ghost use Rattle.osdp_bus_laws.specs.Exchanges.{HasOneExchange, KeepsReports};
-ghost use Rattle.osdp_bus_laws.specs.Fairness.{TurnsAreFair};
-ghost use Rattle.osdp_bus_laws.specs.Holding.{HoldersTick};
-ghost use Rattle.osdp_bus_laws.specs.Moments.{MomentsAreSeen, RunsAreHeardAtTheirEnd};
-ghost use Rattle.osdp_bus_laws.specs.Packets.{CutsChangeNothing, PacketsGoToTheirAddress};
-ghost use Rattle.osdp_bus_laws.specs.Refusals.{RefusesInOrder};
-ghost use Rattle.osdp_bus_laws.specs.Reports.{TellsEachOnce};
-ghost use Rattle.osdp_bus_laws.specs.Resending.{HoldersSendTheSame};
-ghost use Rattle.osdp_bus_laws.specs.Retargeting.{RetargetsSetTheAddress};
-ghost use Rattle.osdp_bus_laws.specs.Sending.{HoldersSendTheirFrame, SessionsBeginAlone};
-ghost use Rattle.osdp_bus_laws.specs.Settings.{DefaultsAreThese, DevicesAreSetAsTheBus};
-ghost use Rattle.osdp_bus_laws.specs.Silences.{BusEndsItsRuns};
-ghost use Rattle.osdp_bus_laws.specs.Turns.{TakesTurns};
+ghost use Rattle.osdp_bus_laws.specs.Laws.{Always, BusEndsItsRuns, CutsChangeNothing, DefaultsAreThese, DevicesAreSetAsTheBus, HasOneExchange, HoldersSendTheSame, HoldersSendTheirFrame, HoldersTick, KeepsReports, MomentsAreSeen, NoAddressOfTwo, PacketsGoToTheirAddress, RefusesInOrder, ReservationsLast, ReserveTheirComsets, RetargetsSetTheAddress, RunsAreHeardAtTheirEnd, SessionsBeginAlone, TakesTurns, TellsEachOnce, TurnsAreFair};
 
 /// No address is that of, or reserved for, two entries. A COMSET that waits or is outstanding is the only one of its entry, and its address is
 /// reserved for it.
