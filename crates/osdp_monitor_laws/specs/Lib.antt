@@ -1,3 +1,4 @@
 pub mod ReaderLine
 pub mod PanelLine
 pub mod Misses
+pub mod Laws

@@ -2,9 +2,7 @@
 //! their contracts are laws.
 #![tactic(auto)]
 
-ghost use Rattle.osdp_monitor_laws.specs.Misses.{MissesNoOtherPacket, MissesNoOtherReply, MissesNoUnanswered};
-ghost use Rattle.osdp_monitor_laws.specs.PanelLine.{AccusesNoPanel};
-ghost use Rattle.osdp_monitor_laws.specs.ReaderLine.{AccusesNoReader};
+ghost use Rattle.osdp_monitor_laws.specs.Laws.{AccusesNoPanel, AccusesNoReader, MissesNoOtherPacket, MissesNoOtherReply, MissesNoUnanswered};
 
 use osdp_reader::Handler;
 
