@@ -5,3 +5,4 @@ pub mod RowsOfRounds
 pub mod RowsAfterLosses
 pub mod RowsOfTaken
 pub mod RowsOfTurns
+pub mod Laws

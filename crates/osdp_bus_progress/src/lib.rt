@@ -4,13 +4,7 @@
 //! weakened no longer gives these numbers. The program prints them, in rows of `tests/rows/scripts.txt` and `tests/rows/buses.txt` that name the law.
 #![tactic(auto)]
 
-ghost use Rattle.osdp_bus_progress.specs.Progress.{EachAnswerRecovers, EachComesThrough, EachRecovers};
-ghost use Rattle.osdp_bus_progress.specs.Resting.{ClearsTheLine, EachHasItsRound, EachIsIdle, EachRoundBringsOneMore, EachRoundRests};
-ghost use Rattle.osdp_bus_progress.specs.RowsAfterLosses.{FourRoundsBringThree, SixRoundsBringThreeOfTwo};
-ghost use Rattle.osdp_bus_progress.specs.RowsOfRounds.{ThreeRoundsSettleTwoAndReportOne};
-ghost use Rattle.osdp_bus_progress.specs.RowsOfTaken.{OfTwoTakenOneIsSettled};
-ghost use Rattle.osdp_bus_progress.specs.RowsOfTurns.{ItsSecondRoundSettles, OneOfTwoIsItsRound};
-ghost use Rattle.osdp_bus_progress.specs.SeveralLinks.{SeveralLinks};
+ghost use Rattle.osdp_bus_progress.specs.Laws.{ClearsTheLine, EachAnswerRecovers, EachComesThrough, EachHasItsRound, EachIsIdle, EachRecovers, EachRoundBringsOneMore, EachRoundRests, FourRoundsBringThree, ItsSecondRoundSettles, OfTwoTakenOneIsSettled, OneOfTwoIsItsRound, SeveralLinks, SixRoundsBringThreeOfTwo, ThreeRoundsSettleTwoAndReportOne};
 
 use osdp_reader::Handler;
 use osdp_script::ScriptReader;
