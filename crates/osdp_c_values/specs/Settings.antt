@@ -28,15 +28,7 @@ bus_config_of s =
 
 -- what a device is, by its serial number and what it is otherwise
 abbrev pub pd_id : ℕ → ProductStruct → PdId
-pd_id serial p = record {
-  vendor = p.vendor;
-  model = p.model;
-  version = p.version;
-  serial = serial;
-  firmware_major = p.firmware_major;
-  firmware_minor = p.firmware_minor;
-  firmware_build = p.firmware_build;
-}
+pd_id serial p = record { vendor = p.vendor; model = p.model; version = p.version; serial = serial; firmware_major = p.firmware_major; firmware_minor = p.firmware_minor; firmware_build = p.firmware_build }
 
 -- what a reader answers to ID
 abbrev pub id_of : ReaderSettings → PdId
