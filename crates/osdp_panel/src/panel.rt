@@ -56,6 +56,14 @@ impl Panel {
         self.bus.add(address)
     }
 
+    /// Sets the address of a device, and frees the one that is reserved for it. The faults are those of `Bus::retarget`.
+    pub fn retarget(&mut self, entry: Entry, address: Address) -> Result<(), BusFault>
+        ensures result { result ≡ unless_refused (retarget_refusal_at entry address self.old) }
+        ensures panel { self.new ≡ changed_unless (retarget_refusal_at entry address self.old) self.old (after_retarget_at entry address self.old) }
+    {
+        self.bus.retarget(entry, address)
+    }
+
     /// Begins a session of a device. The faults are those of `Bus::begin`.
     pub fn begin(&mut self, entry: Entry, now: u64) -> Result<(), BusFault>
         ensures result { result ≡ unless_refused (begin_refusal_at entry self.old) }
@@ -66,10 +74,8 @@ impl Panel {
 
     /// Puts a command after those that wait for a device; a refused one comes back. The faults are those of `Bus::submit`.
     pub fn submit(&mut self, entry: Entry, command: Command) -> Result<(), (BusFault, Command)>
-        ensures ok { OnOk result (submit_refusal_at entry command self.old ≡ None) }
-        ensures accepted { OnOk result (self.new ≡ after_submit_at entry command self.old) }
-        ensures err { IfErr result (λ e. submit_refusal_at entry command self.old ≡ Some e.0) }
-        ensures back { IfErr result (λ e. (e.1 ≡ command) × (self.new ≡ self.old)) }
+        ensures accepted { OnOk result ((submit_refusal_at entry command self.old ≡ None) × (self.new ≡ after_submit_at entry command self.old)) }
+        ensures refused { IfErr result (λ e. (submit_refusal_at entry command self.old ≡ Some e.0) × (e.1 ≡ command) × (self.new ≡ self.old)) }
     {
         self.bus.submit(entry, command)
     }
@@ -80,14 +86,6 @@ impl Panel {
         ensures panel { self.new ≡ after_withdraw_at entry self.old }
     {
         self.bus.withdraw(entry)
-    }
-
-    /// Sets the address of a device, and frees the one that is reserved for it. The faults are those of `Bus::retarget`.
-    pub fn retarget(&mut self, entry: Entry, address: Address) -> Result<(), BusFault>
-        ensures result { result ≡ unless_refused (retarget_refusal_at entry address self.old) }
-        ensures panel { self.new ≡ changed_unless (retarget_refusal_at entry address self.old) self.old (after_retarget_at entry address self.old) }
-    {
-        self.bus.retarget(entry, address)
     }
 
     /// One turn of the loop: hears what a read of the port gave, ticks at the moment after the read, and puts what is to be done into `turn`, in
