@@ -15,6 +15,32 @@ macro_rules! on_held {
     };
 }
 
+/// Puts a new machine into a handle that holds none. Gives the number of the call's status.
+macro_rules! put_new {
+    ($handle:ident, $made:expr, |$refused:ident| $status:expr) => {{
+        if $handle.is_live() {
+            return Status::InUse.number();
+        }
+        match $made {
+            Ok(machine) => {
+                $handle.put(machine);
+                Status::Done.number()
+            }
+            Err($refused) => $status.number(),
+        }
+    }};
+}
+
+/// Frees the machine that a handle holds. Gives the number of the call's status.
+macro_rules! freed {
+    ($handle:ident, $alloc:ident) => {
+        match $handle.take($alloc) {
+            Some(_) => Status::Done.number(),
+            None => Status::NoMachine.number(),
+        }
+    };
+}
+
 /// Does a call on a machine at a moment, which is seen where the call is done. One that lies too far after the greatest one seen is
 /// refused.
 macro_rules! at_moment {
@@ -31,4 +57,6 @@ macro_rules! at_moment {
 }
 
 pub(crate) use at_moment;
+pub(crate) use freed;
 pub(crate) use on_held;
+pub(crate) use put_new;

@@ -12,7 +12,7 @@ ghost use Rattle.osdp_c_values.specs.Calls.{IsDone, calls, frees, writes};
 ghost use Rattle.osdp_c.specs.CommandTexts.{IsReadCommand};
 ghost use Rattle.osdp_c_values.specs.Panels.{AddsTo, IsBurstIn, IsDueIn, MadeAs, NewPanelEnds, at_moment, begins, does, falls_silent, hears, looks_at, of_bus, on_bus, reports, retargets, sets_moment, submits_data, submits_text, ticks, withdraws, writes_address, writes_closed, writes_entries, writes_report, writes_waiting, writes_withdrawn};
 
-use crate::held::on_held;
+use crate::held::{freed, on_held, put_new};
 use crate::panel_calls;
 use crate::read::read_command;
 use osdp_bus::{Bus, BusFault, Entry};
@@ -60,16 +60,11 @@ pub extern "C" fn osdp_panel_new(
 ) -> u32
     ensures { NewPanelEnds settings.now panel.old.slot.machine result panel.new.slot.machine }
 {
-    if panel.is_live() {
-        return Status::InUse.number();
-    }
-    match new_machine(alloc, settings) {
-        Ok(machine) => {
-            panel.put(machine);
-            Status::Done.number()
-        }
-        Err(fault) => Status::Panel(fault).number(),
-    }
+    put_new!(
+        panel,
+        new_machine(alloc, settings),
+        |fault| Status::Panel(fault)
+    )
 }
 
 /// Frees a panel and all that belongs to it.
@@ -77,10 +72,7 @@ pub extern "C" fn osdp_panel_new(
 pub extern "C" fn osdp_panel_free(alloc: Global, panel: &mut PanelHandle) -> u32
     ensures { IsDone (frees panel.old.slot.machine) result panel.new.slot.machine }
 {
-    match panel.take(alloc) {
-        Some(_) => Status::Done.number(),
-        None => Status::NoMachine.number(),
-    }
+    freed!(panel, alloc)
 }
 
 /// Adds a device at an address, and writes its number.

@@ -8,7 +8,7 @@ ghost use Rattle.osdp_c_values.specs.Calls.{IsDone, calls, frees, writes};
 ghost use Rattle.osdp_c.specs.CommandTexts.{IsReadEvent};
 ghost use Rattle.osdp_c_values.specs.Readers.{IsEventRead, NewReaderEnds, answers_done, answers_list, answers_local, answers_maker, answers_refused, at_moment, does, falls_silent, looks, sets_busy, sets_inputs, sets_local, sets_moment, sets_outputs, sets_readers, steps, submits_read, submits_text, ticks, writes_address, writes_at, writes_closed, writes_pending, writes_silence, writes_step, writes_taken, writes_tick, writes_waiting};
 
-use crate::held::on_held;
+use crate::held::{freed, on_held, put_new};
 use crate::read::read_event;
 use crate::reader_calls;
 use osdp_c_values::{AnswerStruct, MessageStruct, ReaderHandle, ReaderSettings, StateList, Status};
@@ -26,16 +26,11 @@ pub extern "C" fn osdp_device_new_nonnull(
 ) -> u32
     ensures { NewReaderEnds settings.now capabilities.now reader.old.slot.machine result reader.new.slot.machine }
 {
-    if reader.is_live() {
-        return Status::InUse.number();
-    }
-    match reader_calls::new_box(alloc, settings, capabilities) {
-        Ok(machine) => {
-            reader.put(machine);
-            Status::Done.number()
-        }
-        Err(refused) => refused.number(),
-    }
+    put_new!(
+        reader,
+        reader_calls::new_box(alloc, settings, capabilities),
+        |refused| refused
+    )
 }
 
 /// Frees a reader and all that belongs to it.
@@ -43,10 +38,7 @@ pub extern "C" fn osdp_device_new_nonnull(
 pub extern "C" fn osdp_device_free(alloc: Global, reader: &mut ReaderHandle) -> u32
     ensures { IsDone (frees reader.old.slot.machine) result reader.new.slot.machine }
 {
-    match reader.take(alloc) {
-        Some(_) => Status::Done.number(),
-        None => Status::NoMachine.number(),
-    }
+    freed!(reader, alloc)
 }
 
 /// Sets the state of each input.
