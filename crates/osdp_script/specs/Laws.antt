@@ -1,7 +1,9 @@
--- What holds of the reading of lines, whatever they are.
+-- What holds of the reading of lines, whatever they are, and the other statements of the laws, passed on from here.
 use Rattle.std.specs.Prelude.{◌↔◌, ℕ, List, ◌++◌}
 use Rattle.osdp_script.specs.Reading.{AreRead, IsFirstBad}
 use Rattle.osdp_script.specs.Script.{Plan}
+pub use Rattle.osdp_script.specs.OutputLaws.{LastRecordCounts}
+pub use Rattle.osdp_script.specs.Settings.{HasReaders}
 
 -- lines are judged by those above them alone: what some lines say, and then what more of them say, is what all of them say ..
 abbrev pub ReadInTurn : Type 0

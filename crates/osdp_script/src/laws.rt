@@ -1,8 +1,6 @@
 //! What holds of the lines of a script, whatever they are, and of a reader's outputs. The functions do nothing: their contracts are laws.
 
-ghost use Rattle.osdp_script.specs.Laws.{ReadInTurn, StaysBad};
-ghost use Rattle.osdp_script.specs.Settings.{HasReaders};
-ghost use Rattle.osdp_script.specs.OutputLaws.{LastRecordCounts};
+ghost use Rattle.osdp_script.specs.Laws.{HasReaders, LastRecordCounts, ReadInTurn, StaysBad};
 
 /// A line is judged by those above it and itself alone: what some lines say, and then what more of them say, is what all of them say.
 pub fn reads_in_turn()
