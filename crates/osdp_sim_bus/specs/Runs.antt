@@ -54,19 +54,19 @@ module _ {H : Type 0} where
   module _ (answer_of : H → Command → Answer) (after : H → Command → H) where
     -- the state after these steps
     abbrev pub run : List SimStep → LineState H → LineState H
-    run steps s = schedules.run (after_step answer_of after) steps s
+    run = schedules.run (after_step answer_of after)
 
     -- none of them is refused
     abbrev pub is_well : List SimStep → LineState H → Bool
-    is_well steps s = schedules.is_well (after_step answer_of after) fault_of steps s
+    is_well = schedules.is_well (after_step answer_of after) fault_of
 
     -- what went over the line in these steps had its fields in their ranges
     abbrev pub FitAlong : List SimStep → LineState H → Type 0
-    FitAlong steps s = schedules.HoldsAlong (after_step answer_of after) (StepFits answer_of after) steps s
+    FitAlong = schedules.HoldsAlong (after_step answer_of after) (StepFits answer_of after)
 
     -- the run stops at a step, counted from 1; the accounts are those of the steps before it
     abbrev pub StopsAt : ℕ → Cause → List Account → List SimStep → LineState H → Type 0
-    StopsAt at why told steps s = schedules.StopsAt (after_step answer_of after) fault_of accounts at why told steps s
+    StopsAt = schedules.StopsAt (after_step answer_of after) fault_of accounts
 
     -- .. or nothing was set up, and there are no accounts
     abbrev pub Stops : ℕ → Cause → List Account → BusConfig → List (Given H) → List SimStep → Type 0
