@@ -44,14 +44,14 @@ pub data NetMove (H : Type 0) : Type 0 where
   SetBusy : ℕ → Bool → NetMove H
   SetHandler : ℕ → H → NetMove H
   Withdraw : ℕ → NetMove H
-  Retarget : ℕ → ℕ → NetMove H
-  Tick : ℕ → ℕ → NetMove H
+  Retarget : (site address : ℕ) → NetMove H
+  Tick : (site now : ℕ) → NetMove H
   ToReader : ℕ → Delivery → NetMove H
   ToPanel : Delivery → ℕ → NetMove H
-  LoseToReader : ℕ → ℕ → NetMove H
+  LoseToReader : (site place : ℕ) → NetMove H
   LoseToPanel : ℕ → NetMove H
-  Reopen : ℕ → ℕ → NetMove H
-  RestartReader : ℕ → ℕ → H → ℕ → NetMove H
+  Reopen : (site now : ℕ) → NetMove H
+  RestartReader : (site address : ℕ) → H → (capacity : ℕ) → NetMove H
   RestartPanel : (ℕ → ControllerConfig × ℕ) → NetMove H
 
 abbrev pub site_at : {A : Type 0} → ℕ → List A → Option A
