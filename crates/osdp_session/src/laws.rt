@@ -28,9 +28,9 @@ pub(crate) fn holds_of_each_run<H: Handler>()
     osdp_sim_laws::accepts_by_room::<H>();
     osdp_sim_laws::schedule_holds_once::<H>();
     osdp_sim_laws::sessions_begin_by_reopens::<H>();
+    holds_in_sessions::<H>();
     osdp_sim_bus_laws::each_accepts_by_room::<H>();
     osdp_sim_bus_laws::each_account_holds_once::<H>();
     osdp_sim_bus_laws::each_sessions_begin_by_reopens::<H>();
-    holds_in_sessions::<H>();
     each_holds_in_sessions::<H>();
 }
