@@ -66,7 +66,7 @@ module _ {H : Type 0} where
 
     -- the run stops at a step, counted from 1; the accounts are those of the steps before it
     abbrev pub StopsAt : ℕ → Cause → List Account → List SimStep → LineState H → Type 0
-    StopsAt = schedules.StopsAt (after_step answer_of after) fault_of accounts
+    StopsAt at why told steps s = schedules.StopsAt (after_step answer_of after) fault_of accounts at why told steps s
 
     -- .. or nothing was set up, and there are no accounts
     abbrev pub Stops : ℕ → Cause → List Account → BusConfig → List (Given H) → List SimStep → Type 0
