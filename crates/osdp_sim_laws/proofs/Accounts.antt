@@ -164,7 +164,7 @@ pub tells_session : (a : Account) (t : link.Account) (waiting : List Command) (e
 tells_session a t waiting events earlier all so ended h =
     let leaves = undisturbed_leaves.one t waiting events so all in
     let gone = h.queued.0 in
-    let left = leaves.events in
+    let left = leaves.unreported in
     record {
       issued = h.issued
           ∙ ap (λ cs. ended_commands earlier ++ cs) all.of_commands.commands
