@@ -1,6 +1,6 @@
 //! A command or a reply, as its code and data.
 
-ghost use Rattle.std.specs.Prelude.{◌≡◌, ◌≤◌, ◌<◌, length};
+ghost use Rattle.std.specs.Prelude.{◌≡◌, ◌≤◌, ◌<◌, length, Some};
 ghost use Rattle.std.specs.Option.{option_copied};
 ghost use Rattle.osdp_c_values.specs.Structs.{command_struct, message_of, no_message, reply_struct, spelled_message};
 
@@ -22,15 +22,20 @@ pub struct MessageStruct {
     pub body: [u8; MAX_DATA],
 }
 
-/// Writes a message, where there is one. It is spelled in a place that stands in a frame of its own, so the function isn't inlined.
+/// Writes a message that is there.
+macro_rules! write_message {
+    ($out:ident, $message:ident) => {{
+        let mut spelled = ArrayVec::new();
+        $message.write_into(&mut spelled);
+        $out.set_spelled(spelled.as_slice());
+    }};
+}
+
+/// Writes a message, where there is one.
 macro_rules! set_message {
-    ($out:ident, $message:ident) => {
+    ($out:ident, $message:ident, $write:ident) => {
         match $message {
-            Some(message) => {
-                let mut spelled = ArrayVec::new();
-                message.write_into(&mut spelled);
-                $out.set_spelled(spelled.as_slice());
-            }
+            Some(message) => $out.$write(message),
             None => $out.clear(),
         }
     };
@@ -66,19 +71,34 @@ impl MessageStruct {
         self.set(spelled[0], &spelled[1..]);
     }
 
-    /// This command, where there is one.
+    /// This command. The place that it is spelled in is cleared where a function begins, so the function that has it stands by itself: where
+    /// there is no message, nothing is cleared.
     #[inline(never)]
+    fn write_command(&mut self, command: &Command)
+        ensures { self.new ≡ command_struct (Some command.now) self.old }
+    {
+        write_message!(self, command);
+    }
+
+    /// So it is with a reply.
+    #[inline(never)]
+    fn write_reply(&mut self, reply: &Reply)
+        ensures { self.new ≡ reply_struct (Some reply.now) self.old }
+    {
+        write_message!(self, reply);
+    }
+
+    /// This command, where there is one.
     pub fn set_command(&mut self, command: Option<&Command>)
         ensures { self.new ≡ command_struct (option_copied command.entry) self.old }
     {
-        set_message!(self, command)
+        set_message!(self, command, write_command)
     }
 
     /// This reply, where there is one.
-    #[inline(never)]
     pub fn set_reply(&mut self, reply: Option<&Reply>)
         ensures { self.new ≡ reply_struct (option_copied reply.entry) self.old }
     {
-        set_message!(self, reply)
+        set_message!(self, reply, write_reply)
     }
 }
