@@ -126,7 +126,7 @@ static size_t changed(void (*call)(void))
 
 static void print_line(const char *name, size_t depth, unsigned wanted)
 {
-    printf("stack of %-24s %6zu bytes, wanted %6u\n", name, depth, wanted);
+    printf("stack of %-30s %6zu bytes, wanted %6u\n", name, depth, wanted);
 }
 
 static void print_depth(const char *name, void (*call)(void), unsigned wanted)
@@ -174,6 +174,12 @@ static void print_depths(void)
     message = answer.command;
     demand(report.kind == OSDP_REPORT_SETTLED && message.code == 0x68, "the order was not settled");
     print_depth("osdp_command_text", text, 16000);
+    now += 50; /* the next POLL is answered by the event */
+    tick();
+    step();
+    print_depth("osdp_panel_bytes, event", bytes, 12000);
+    print_depth("osdp_panel_next_report, event", next_report, 12000);
+    demand(report.kind == OSDP_REPORT_EVENT, "no event was told");
 }
 
 int main(int count, char **words)

@@ -64,10 +64,16 @@ build session_checked "${session[@]}" c/heap_malloc.c "${counted[@]}" "$archive"
 # the calls that read a text take most stack: the session needs no more than 64 KiB for the whole program
 (ulimit -s 64 && passes "$work/session_malloc") || fail "the session needs more stack"
 
-# what a line's calls take of the stack, as `bench/exchange` measures it
+# what the calls take of the stack, as `bench/exchange` measures it: a line's calls keep to 12,000 bytes, and those that go beyond what is wanted
+# (docs/SIZES.md) take no more than they did
 build exchange bench/exchange.c c/heap_malloc.c "$archive" && passes "$work/exchange" &&
-  { awk '/^stack of osdp_(panel_tick|panel_bytes|panel_next_report|device_step) / && $4 > 12000 { print; more = 1 } END { exit more }' "$work/said" ||
-    fail "a call takes more stack than 12,000 bytes"; }
+  { sed 's/^stack of //; s/ bytes, wanted.*//' "$work/said" | awk '
+      BEGIN {
+        most["osdp_panel_new and add"] = 6000; most["osdp_device_new"] = 17000; most["osdp_command_text"] = 16000
+        most["osdp_panel_submit_text"] = 22000; most["osdp_device_event_text"] = 18000; most["osdp_panel_bytes, event"] = 18000
+      }
+      { taken = $NF; sub(/ +[0-9]+$/, ""); if (taken > ($0 in most ? most[$0] : 12000)) { print; more = 1 } }
+      END { exit more }' || fail "a call takes more stack than it may"; }
 
 build leak tests/c/leak.c c/heap_malloc.c "$archive" "${checked[@]}" &&
   if "$work/leak" >"$work/said" 2>&1 || ! grep -q LeakSanitizer "$work/said"; then
