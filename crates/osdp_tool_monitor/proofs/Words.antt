@@ -2,24 +2,12 @@
 use Rattle.std.proofs.Common.{◌≡◌, ◌↔◌, ℕ, List, [], ◌∷◌, ◌++◌, Option, Some, None, refl, sym, ap, ◌∙◌}
 use Rattle.std.specs.Prelude.{flat_map}
 use Rattle.std.specs.Fmt.{decimal}
-use Rattle.osdp_frame.specs.Times.{IsTime}
 use Rattle.osdp_tool_monitor.specs.declared.mode.MonitorMode.{MonitorMode}
 use Rattle.osdp_tool_monitor.specs.declared.mode.MonitorOption.{MonitorOption}
 use Rattle.osdp_tool_monitor.specs.declared.mode.MonitorOption.TheVariants.{Hex, Packets, Gap, Every}
 use Rattle.osdp_tool_monitor.specs.declared.mode.OptionName.{OptionName}
 use Rattle.osdp_tool_monitor.specs.declared.mode.OptionName.TheVariants as name
-use Rattle.osdp_tool_monitor.specs.Options.{AreOptions, OptionFits, ReadsMode, TakesNumber, TakesOption, Words, default_mode, name_text, numbered, option_words, with_option, with_options}
-
--- the number of an option is the one that stands there
-number_taken : (option : ℕ → MonitorOption) (o : MonitorOption) (n : Option ℕ) (k : ℕ) (left next rest : Words) → TakesNumber left next n
-    → Some o ≡ numbered option n → IsTime k → left ≡ decimal k ∷ rest → (o ≡ option k) × (next ≡ rest)
-number_taken option o None k left next rest takes took fit is = let none = takes.only k rest fit is in absurd cc
-number_taken option o (Some j) k left next rest takes took fit is =
-    let same = takes.only k rest fit is in
-    let front = takes.value.1 in
-    let one : o ≡ option k = cc in
-    let two : next ≡ rest = cc in
-    (one, two)
+use Rattle.osdp_tool_monitor.specs.Options.{AreOptions, OptionFits, ReadsMode, TakesOption, Words, default_mode, name_text, option_words, with_option, with_options}
 
 -- what was read of the words, and what is left of them: options of what is left are the last of all
 pub record Left (given left : Words) (mode : MonitorMode) : Type 0 where
@@ -96,16 +84,6 @@ module _ (word : List ℕ) (left : Words) (found : Option OptionName) (is : (n :
     word_is : word ≡ name_text n
     word_is = (is n).0 named
 
-    -- words that begin with it, and go on with its number
-    with_number : (m : OptionName) (option : ℕ → MonitorOption) (k : ℕ) (o : MonitorOption) (rest : List MonitorOption) → n ≡ m → o ≡ option k
-        → ((j : ℕ) → option_words (option j) ≡ name_text m ∷ decimal j ∷ []) → ((j : ℕ) → IsTime j → OptionFits (option j))
-        → IsTime k × (left ≡ decimal k ∷ next) → AreOptions next rest → AreOptions (word ∷ left) (o ∷ rest)
-    with_number m option k o rest e is spelled fits value g = record {
-      are = rw is (ap (λ w. w ∷ left) (word_is ∙ ap name_text e) ∙ ap (λ l. name_text m ∷ l) (value.1 ∙ ap (λ l. decimal k ∷ l) g.are)
-          ∙ ap (λ l. l ++ flat_map option_words rest) (sym (spelled k)));
-      fit = rw is (fits k value.0, g.fit);
-    }
-
     -- words that begin with it
     with_it : (m : OptionName) (o : MonitorOption) (rest : List MonitorOption) → n ≡ m → TakesOption m left next (Some o) → AreOptions next rest
         → AreOptions (word ∷ left) (o ∷ rest)
@@ -116,9 +94,19 @@ module _ (word : List ℕ) (left : Words) (found : Option OptionName) (is : (n :
         let o_is : o ≡ Packets = cc in
         record { are = rw o_is (ap (λ w. w ∷ left) (word_is ∙ ap name_text e) ∙ ap (λ l. name_text name.Packets ∷ l) (sym same ∙ g.are)); fit = rw o_is (tt, g.fit) }
     with_it name.Gap o rest e (None, takes, took) g = absurd cc
-    with_it name.Gap o rest e (Some k, takes, took) g = with_number name.Gap Gap k o rest e cc (λ j. refl) (λ j fits. fits) takes.value g
+    with_it name.Gap o rest e (Some k, takes, took) g =
+        let o_is : o ≡ Gap k = cc in
+        record {
+          are = rw o_is (ap (λ w. w ∷ left) (word_is ∙ ap name_text e) ∙ ap (λ l. name_text name.Gap ∷ l) (takes.value.1 ∙ ap (λ l. decimal k ∷ l) g.are));
+          fit = rw o_is (takes.value.0, g.fit);
+        }
     with_it name.Every o rest e (None, takes, took) g = absurd cc
-    with_it name.Every o rest e (Some k, takes, took) g = with_number name.Every Every k o rest e cc (λ j. refl) (λ j fits. fits) takes.value g
+    with_it name.Every o rest e (Some k, takes, took) g =
+        let o_is : o ≡ Every k = cc in
+        record {
+          are = rw o_is (ap (λ w. w ∷ left) (word_is ∙ ap name_text e) ∙ ap (λ l. name_text name.Every ∷ l) (takes.value.1 ∙ ap (λ l. decimal k ∷ l) g.are));
+          fit = rw o_is (takes.value.0, g.fit);
+        }
 
     -- what is left after it
     after_it : (m : OptionName) (o p : MonitorOption) (others : List MonitorOption) → n ≡ m → TakesOption m left next (Some o)
@@ -138,12 +126,32 @@ module _ (word : List ℕ) (left : Words) (found : Option OptionName) (is : (n :
     after_it name.Packets o (Every k) others e took h fit clash = absurd cc
     after_it name.Gap o Hex others e took h fit clash = absurd cc
     after_it name.Gap o Packets others e took h fit clash = absurd cc
-    after_it name.Gap o (Gap k) others e (n, takes, took) h fit clash = number_taken Gap o n k left next (flat_map option_words others) takes took fit cc
+    after_it name.Gap o (Gap k) others e (None, takes, took) h fit clash =
+        let rest : left ≡ decimal k ∷ flat_map option_words others = cc in
+        let none = takes.only k (flat_map option_words others) fit rest in
+        absurd cc
+    after_it name.Gap o (Gap k) others e (Some j, takes, took) h fit clash =
+        let rest : left ≡ decimal k ∷ flat_map option_words others = cc in
+        let some = takes.only k (flat_map option_words others) fit rest in
+        let front = takes.value.1 in
+        let one : o ≡ Gap k = cc in
+        let two : next ≡ flat_map option_words others = cc in
+        (one, two)
     after_it name.Gap o (Every k) others e took h fit clash = absurd cc
     after_it name.Every o Hex others e took h fit clash = absurd cc
     after_it name.Every o Packets others e took h fit clash = absurd cc
     after_it name.Every o (Gap k) others e took h fit clash = absurd cc
-    after_it name.Every o (Every k) others e (n, takes, took) h fit clash = number_taken Every o n k left next (flat_map option_words others) takes took fit cc
+    after_it name.Every o (Every k) others e (None, takes, took) h fit clash =
+        let rest : left ≡ decimal k ∷ flat_map option_words others = cc in
+        let none = takes.only k (flat_map option_words others) fit rest in
+        absurd cc
+    after_it name.Every o (Every k) others e (Some j, takes, took) h fit clash =
+        let rest : left ≡ decimal k ∷ flat_map option_words others = cc in
+        let some = takes.only k (flat_map option_words others) fit rest in
+        let front = takes.value.1 in
+        let one : o ≡ Every k = cc in
+        let two : next ≡ flat_map option_words others = cc in
+        (one, two)
 
     none_after : (m : OptionName) (p : MonitorOption) (others : List MonitorOption) → TakesOption m left next None → word ∷ left ≡ option_words p ++ flat_map option_words others
         → OptionFits p → m ≡ name_of p → ⊥

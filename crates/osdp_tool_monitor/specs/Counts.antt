@@ -102,10 +102,17 @@ unfoldable pub heading : List ℕ
 heading = codes "device  asked  polls repeats  answered  busy  nak  events  opened  moved  accused\n"
 
 -- a line for each address to which or from which something came: what was asked, what was answered, and the rest
+abbrev pub asked_columns : ℕ → Counts → List ℕ
+asked_columns address c = address_column address ++ (column 6 c.asked ++ (column 6 c.polls ++ column 7 c.repeats))
+
+abbrev pub answered_columns : Counts → List ℕ
+answered_columns c = column 9 c.answered ++ (column 5 c.busy ++ (column 4 c.nak ++ column 7 c.events))
+
+abbrev pub other_columns : Counts → List ℕ
+other_columns c = column 7 c.opened ++ (column 6 c.moved ++ (column 8 c.accused ++ codes "\n"))
+
 abbrev pub row : ℕ → Counts → List ℕ
-row address c =
-    address_column address ++ (column 6 c.asked ++ (column 6 c.polls ++ (column 7 c.repeats ++ (column 9 c.answered ++ (column 5 c.busy
-    ++ (column 4 c.nak ++ (column 7 c.events ++ (column 7 c.opened ++ (column 6 c.moved ++ (column 8 c.accused ++ codes "\n"))))))))))
+row address c = asked_columns address c ++ (answered_columns c ++ other_columns c)
 
 abbrev pub is_silent : Counts → Bool
 is_silent c = c.asked == 0 && c.answered == 0 && c.busy == 0 && c.nak == 0
