@@ -55,35 +55,26 @@ fn body_of(rt: &impl Abort, bytes: &[u8]) -> ArrayVec<u8, 1434> {
     body
 }
 
-/// What a call that takes these fields one by one, and a body, makes of them.
-fn built<B, P, New: Fn(bool, Address, Seq, CheckKind, bool, u8, B) -> Option<P>>(
-    rt: &impl Abort,
-    fields: &Fields<'_>,
-    body: B,
-    new: New,
-) -> Option<P>
-    requires { New.IsAlwaysCallable new }
-{
-    let address = Address::new(fields.address).expect(rt, "an address");
-    let seq = Seq::new(fields.seq).expect(rt, "a sequence number");
-    new(
-        fields.reply,
-        address,
-        seq,
-        fields.check,
-        fields.block,
-        fields.reserved,
-        body,
-    )
+/// The header of these fields.
+fn header_of(rt: &impl Abort, fields: &Fields<'_>) -> Header {
+    Header {
+        reply: fields.reply,
+        address: Address::new(fields.address).expect(rt, "an address"),
+        seq: Seq::new(fields.seq).expect(rt, "a sequence number"),
+        check: fields.check,
+        block: fields.block,
+        reserved: fields.reserved,
+    }
 }
 
+/// The packet of these fields, with a body of its own.
 fn made(rt: &impl Abort, fields: &Fields<'_>) -> Option<Frame> {
-    built(rt, fields, body_of(rt, fields.body), Frame::new)
+    Frame::new(header_of(rt, fields), body_of(rt, fields.body))
 }
 
 /// The packet of these fields, with the body lent.
 fn lent<'a>(rt: &impl Abort, fields: &Fields<'a>) -> Option<FrameView<'a>> {
-    built(rt, fields, fields.body, FrameView::new)
+    FrameView::new(header_of(rt, fields), fields.body)
 }
 
 /// The packet's parts are these fields.
