@@ -12,7 +12,7 @@ use Rattle.osdp_link_laws.specs.Headline.{IsBeginning}
 use Rattle.osdp_link_laws.specs.Link as link
 use Rattle.osdp_link_laws.specs.OneHandler.{AreOnce, Once, handler_after, with_answers}
 use Rattle.osdp_link_laws.specs.Ordinary.{AreUndisturbed, IsUndisturbed, LeavesUndisturbed}
-use Rattle.osdp_link_laws.specs.Sessions.{AreInARow, ended_commands, ended_in, settled_commands}
+use Rattle.osdp_link_laws.specs.Sessions.{AreInARow, Leaves, ended_commands, ended_in, settled_commands}
 use Rattle.osdp_link_laws.proofs.Lines.{each_of}
 use Rattle.osdp_link_laws.proofs.Ordinary.{undisturbed_leaves}
 use Rattle.osdp_link_laws.proofs.OrdinaryRuns.{ended_so}
