@@ -25,6 +25,6 @@ module _ {H : Type 0} (answer_of : H → Command → Answer) (after : H → Comm
     pub counts : HasAnAccountEach answer_of after
     pub links : EachIsALink answer_of after
     pub rows : EachHasSessionsInARow answer_of after
-    pub laws : LinkLaws answer_of after
+    pub laws : LinkLaws
     pub ranges : StaysInRange
     pub comes : ComesDue

@@ -10,7 +10,7 @@ use Rattle.osdp_frame.specs.Items.{items, left_over, packets_in, reading, whole_
 use Rattle.osdp_frame.specs.Reading.{RunItem, PacketItem, SkippedItem, RefusedItem}
 use Rattle.osdp_frame_laws.proofs.LeftOver.{gap_items, items_nothing, left_bytes, reading_split}
 use Rattle.osdp_frame_laws.proofs.Readings.{decided_nothing}
-use Rattle.osdp_frame.proofs.Receipt.{no_bytes}
+use Rattle.osdp_frame.proofs.Head.{AreBytes-nil}
 use Rattle.osdp_device.specs.Hearing.{Heard, hears_bytes, reads_all, then_reads, turns_left}
 use Rattle.osdp_frame.specs.Receiving as device
 use Rattle.osdp_frame.specs.Receiving.{IsAllRead, IsReceived, Received, ends_run, ends_silent, is_silent, seen}
@@ -163,7 +163,7 @@ module _ {H : Type 0} (answer_of : H → Command → Answer) (after : H → Comm
   stays_sound (IsBusy busy) d fits is = is
   stays_sound (HearsBurst [] now) d fits is = is
   stays_sound (HearsBurst (b ∷ bytes) now) d fits is =
-      (refl, record { gap = is.1.gap; bytes = no_bytes; some = λ e. absurd (let f : false ≡ true = e in cc); last = omega arith })
+      (refl, record { gap = is.1.gap; bytes = AreBytes-nil; some = λ e. absurd (let f : false ≡ true = e in cc); last = omega arith })
 
   pub sim_devices_are : AreDeviceCalls answer_of after (sim_device answer_of after)
   sim_devices_are = record {
