@@ -137,16 +137,17 @@ hold_few 'issue 1 TEXT 0 1 0 1 1 48454C4C4F'
 hold_few 'queue 1 KEYPAD 0 31'
 hold_few 'to-reader damage 0001020304050607'
 
-# $1: the number of a reader. Tells how many bytes the program holds at most where an OUT for it, and a round without losses, come 5,000 times.
+# $1: what becomes of packets. Tells how many bytes the program holds at most where an OUT, and a round, come 5,000 times.
 held_by_account() {
-  held 20000 "$(printf 'issue %s OUT 0:2:0\nwait 50\nto-reader deliver\nto-controller deliver' "$1")"
+  held 20000 "$(printf 'issue 1 OUT 0:2:0\nwait 50\nto-reader %s\nto-controller %s' "$1" "$1")"
 }
 
-# A command is issued, taken and settled: it stands in three lists. What it takes there is what a script takes more than one for a reader that isn't there.
-# Wanted are at most 40 bytes for each of the three beside the 16 bytes of the messages, and the text that is printed of them, which grows by doubling.
+# A command is issued, taken and settled: it stands in three lists. What it takes there is what a script takes more than one in which all is lost, so that
+# no session opens. Wanted are at most 40 bytes for each of the three beside the 16 bytes of the messages, and the text that is printed of them, which
+# grows by doubling.
 hold_small_entries() {
   local entries most=$((3 * 40 + 16 + 2 * 40))
-  entries=$((($(held_by_account 1) - $(held_by_account 2)) / 5000))
+  entries=$((($(held_by_account deliver) - $(held_by_account drop)) / 5000))
   if [ "$entries" -le 0 ] || [ "$entries" -gt "$most" ]; then
     fault "sim: the entries of a command take $entries bytes, and at most $most are wanted"
   fi
