@@ -1,4 +1,4 @@
--- What is told of a list one by one: of two lists that stand one behind the other.
+-- What is told of a list one by one: of two lists, one after the other.
 use Rattle.std.proofs.Common.{◌≡◌, ℕ, List, [], ◌∷◌, ◌++◌, append_assoc, ap, sym, ◌∙◌}
 
 -- `after` goes on by each of a list in turn
