@@ -1,7 +1,7 @@
 //! Calls of a device that put what comes of them into what the caller lends. A caller that uses one place for packet after packet moves
 //! only the bytes that are sent, and takes no stack for a response.
 
-ghost use Rattle.std.specs.Prelude.{◌≡◌, true, None, Some, is_some};
+ghost use Rattle.std.specs.Prelude.{◌≡◌, true, false, None, Some, is_some};
 ghost use Rattle.osdp_frame.specs.Held.{decided};
 ghost use Rattle.osdp_frame.specs.Reading.{PacketItem};
 ghost use Rattle.osdp_reader.specs.Table.{command_in};
@@ -108,6 +108,7 @@ impl<H: Handler> Device<H> {
         ensures said { heard_if result heard.new ≡ (next_told H.answer_of H.after self.old.reader self.old.line.held).said }
         ensures reader { self.new.reader ≡ (next_told H.answer_of H.after self.old.reader self.old.line.held).reader }
         ensures line { self.new.line ≡ record self.old.line { held = (next_told H.answer_of H.after self.old.reader self.old.line.held).held } }
+        ensures stays { result ≡ false → heard.new ≡ heard.old }
     {
         if !self.pass_over() {
             return false;
@@ -163,7 +164,8 @@ impl Device<ProgramAnswers> {
         self.answer_packet_into(heard)
     }
 
-    /// As `settle`, but the command before which it stops, or what is said, is put in place of what stands in `heard`.
+    /// As `settle`, but the command before which it stops, or what is said, is put in place of what stands in `heard`. Where it stops, the
+    /// command alone counts there; where nothing comes of the turn, anything may stand there.
     pub fn settle_into(&mut self, heard: &mut Heard) -> Settled
         ensures pending { settled_pending result heard.new ≡ (turned self.old.reader self.old.line.held).pending }
         ensures said { settled_said result heard.new ≡ (turned self.old.reader self.old.line.held).said }
