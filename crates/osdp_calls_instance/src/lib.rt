@@ -112,10 +112,10 @@ pub fn run_keeps_ranges_and_addresses<H: Handler>()
     osdp_calls::ends_go_by_their_own_calls::<H>();
 }
 
-/// This is said of each run whose settings are in their ranges, where no step is refused. What goes over the line has its fields in their ranges, and
-/// no burst that comes to the readers is longer than a packet. Then each packet that the run reads is a copy of a burst that was said, and each burst
-/// has its place in what was said. With these places the calls that the run is keep order and quiet openings: a simulated line hands bursts over in order, damage spells no packet,
-/// and a session begins again on a quiet line alone. So they keep all premises where no step orders a COMSET, and where the programs keep to the rule that
+/// This asks four things of a run: its settings are in their ranges, no step is refused, what goes over the line has its fields in their ranges, and no
+/// burst that comes to the readers is longer than a packet. Then each packet that the run reads is a copy of a burst that was said, and each burst has
+/// its place in what was said. With these places the calls that the run is keep order and quiet openings: a simulated line hands bursts over in order,
+/// damage spells no packet, and a session begins again on a quiet line alone. So they keep all premises where no step orders a COMSET, and where the programs keep to the rule that
 /// stands for the premise on addresses.
 pub fn run_keeps_order<H: Handler>()
     ensures { RunKeepsOrder H.answer_of H.after }
@@ -127,10 +127,10 @@ pub fn run_keeps_order<H: Handler>()
     osdp_sim_bus_laws::schedules_are_moves::<H>();
 }
 
-/// So the simulated line is an instance of any calls. This is said of each run whose settings are in their ranges, where no step is refused. What goes over
+/// So the simulated line is an instance of any calls. This asks five things of a run: its settings are in their ranges, no step is refused, what goes over
 /// the line has its fields in their ranges, no burst that comes to the readers is longer than a packet, and the calls that the run is keep the premises.
-/// Then the promises hold of each reader. They speak of its reader and its entry as the run leaves them, and of the commands with their answers, the unsettled commands, the reported
-/// events and the taken commands of its account.
+/// Then the promises hold of each reader. They speak of its reader and its entry as the run leaves them, and of the commands with their answers, the
+/// unsettled commands, the reported events and the taken commands of its account.
 pub fn runs_hold_once<H: Handler>()
     ensures { RunsHoldOnce H.answer_of H.after }
 {

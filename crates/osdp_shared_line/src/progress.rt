@@ -13,8 +13,8 @@ pub fn rounds_are_its_own<H: Handler>()
 }
 
 /// So after m rounds of its own, each with a tick that is due, m - 1 more commands and events of its session, or all of them, are settled and
-/// reported. Its reader isn't busy, and no COMSET to a device's address was issued. With rounds that come as much later than the greatest
-/// moment seen as the longest of the controller's waits, that is so or its session has ended.
+/// reported. This asks that its reader isn't busy, and that no COMSET to a device's address was issued. With rounds that come as much later than
+/// the greatest moment seen as the longest of the controller's waits, that is so or its session has ended.
 pub fn each_comes_through<H: Handler>()
     ensures due { EachComesThrough H.answer_of H.after }
     ensures in_time { EachComesThroughInTime H.answer_of H.after }

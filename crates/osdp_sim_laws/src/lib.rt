@@ -55,8 +55,8 @@ pub fn sessions_begin_by_reopens<H: Handler>()
 /// and events, or all of them, are settled and reported, where the session hasn't ended.
 ///
 /// After any steps of one session it is so once the reader is ready and what is on the line is lost: over m such rounds m - 1 commands and events,
-/// or all of them, are settled and reported. Both ends were at one address, no COMSET to a device's address was issued, and the session hasn't
-/// ended.
+/// or all of them, are settled and reported. This asks that both ends were at one address, that no COMSET to a device's address was issued, and that
+/// the session hasn't ended.
 ///
 /// So it is of the account that is answered where no step is refused and memory suffices. Where the rounds are more than its commands and
 /// events, each command issued is settled with the reader's own answer, and each event queued is reported.
