@@ -34,7 +34,7 @@ impl Model for Receiver {
 }
 
 impl Receiver {
-    /// Nothing has come yet. A run is over after a silence of `gap` milliseconds.
+    /// Nothing has come yet. A run is over after a silence of `gap` milliseconds, 1 or more.
     #[tactic(auto, using(crate::proofs::Receipt::received_new))]
     pub fn new(gap: u32) -> Receiver
         requires { 1 ≤ gap }
@@ -48,7 +48,7 @@ impl Receiver {
         }
     }
 
-    /// The moment of the last bytes. The clause `received` hands the receiver's invariant to the caller.
+    /// The moment of the last bytes, 0 where none have come. The clause `received` hands the receiver's invariant to the caller.
     pub fn last(&self) -> u64
         ensures last { result ≡ self.now.last }
         ensures received { IsReceived self.now }
@@ -57,7 +57,7 @@ impl Receiver {
         self.last
     }
 
-    /// The greatest moment seen.
+    /// The greatest moment seen, 0 at first.
     pub fn greatest(&self) -> u64
         ensures greatest { result ≡ self.now.greatest }
         ensures received { IsReceived self.now }
@@ -81,7 +81,7 @@ impl Receiver {
         self.framer.next()
     }
 
-    /// Takes the next item off.
+    /// Takes the next item off. Without one nothing changes. After the last byte of a run that is over a new run begins.
     #[tactic(auto, using(crate::proofs::Receipt::received_advanced))]
     pub fn advance(&mut self)
         ensures { self.new ≡ record self.old { held = after_advance self.old.held } }
@@ -107,7 +107,7 @@ impl Receiver {
         self.greatest = self.greatest.max(now);
     }
 
-    /// The run is over.
+    /// The run is over: what is held is read to its end. Where nothing is held, a new run begins at once.
     #[tactic(auto, using(crate::proofs::Receipt::received_gapped))]
     pub fn end_run(&mut self)
         ensures { self.new ≡ ends_run self.old }
@@ -140,7 +140,7 @@ impl Receiver {
     }
 
     /// Takes bytes of the line, and tells how many: as many as there is room for, and none before a run that is over has been
-    /// read.
+    /// read. No moment changes: `see` and `see_bytes` tell when the bytes came.
     #[tactic(auto, using(crate::proofs::Receipt::received_pushed))]
     pub fn push(&mut self, bytes: &[u8]) -> usize
         ensures count { result ≡ taken_count self.old.held bytes.now }
