@@ -2,7 +2,7 @@
 use Rattle.std.proofs.Common.{ℕ, List, codes, refl}
 use Rattle.osdp_words.specs.Word.{Word}
 use Rattle.osdp_msg.specs.declared.command.Command.{Command}
-use Rattle.osdp_msg.specs.declared.command.Command.TheVariants.{Id, Cap, Buzzer, Comset}
+use Rattle.osdp_msg.specs.declared.command.Command.TheVariants.{Poll, Id, Cap, LocalStatus, InputStatus, OutputStatus, ReaderStatus, Buzzer, Comset}
 use Rattle.osdp_msg.specs.CommandText.{command_row}
 use Rattle.osdp_msg.proofs.RowTexts.{IsMadeBy, apart}
 
@@ -20,3 +20,16 @@ made_by_names (Cap x) = (apart _ _ refl, λ e. (x, refl), apart _ _ refl, apart 
 made_by_names (Buzzer x) = (apart _ _ refl, apart _ _ refl, λ e. (x, refl), apart _ _ refl)
 made_by_names (Comset x) = (apart _ _ refl, apart _ _ refl, apart _ _ refl, λ e. (x, refl))
 made_by_names m = (apart _ _ refl, apart _ _ refl, apart _ _ refl, apart _ _ refl)
+
+-- a command without data is made of nothing
+abbrev IsBare : List ℕ → Command → Command → Type 0
+IsBare name bare m = IsMadeBy command_name name (λ (nothing : Unit {0}). bare) m
+
+pub bare_by_names : (m : Command)
+    → IsBare (codes "POLL") Poll m × IsBare (codes "LSTAT") LocalStatus m × IsBare (codes "ISTAT") InputStatus m × IsBare (codes "OSTAT") OutputStatus m × IsBare (codes "RSTAT") ReaderStatus m
+bare_by_names Poll = (λ e. (tt, refl), apart _ _ refl, apart _ _ refl, apart _ _ refl, apart _ _ refl)
+bare_by_names LocalStatus = (apart _ _ refl, λ e. (tt, refl), apart _ _ refl, apart _ _ refl, apart _ _ refl)
+bare_by_names InputStatus = (apart _ _ refl, apart _ _ refl, λ e. (tt, refl), apart _ _ refl, apart _ _ refl)
+bare_by_names OutputStatus = (apart _ _ refl, apart _ _ refl, apart _ _ refl, λ e. (tt, refl), apart _ _ refl)
+bare_by_names ReaderStatus = (apart _ _ refl, apart _ _ refl, apart _ _ refl, apart _ _ refl, λ e. (tt, refl))
+bare_by_names m = (apart _ _ refl, apart _ _ refl, apart _ _ refl, apart _ _ refl, apart _ _ refl)

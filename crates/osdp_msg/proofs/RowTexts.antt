@@ -1,8 +1,7 @@
 -- A row of texts: a name, and the words of the fields after it.
-use Rattle.std.proofs.Common.{◌≡◌, ℕ, Bool, true, false, ◌&&◌, eqb, List, [], ◌∷◌, length, Option, Some, None, refl, sym, ap, subst, ◌∙◌, arith}
-use Rattle.std.specs.Bool.{then_some}
+use Rattle.std.proofs.Common.{◌≡◌, ℕ, Bool, true, false, ◌&&◌, eqb, List, [], ◌∷◌, Option, Some, None, refl, sym, ap, subst, ◌∙◌}
 use Rattle.std.specs.Prelude.{IfSome, IsSomeAnd, MatchOption, option_map}
-use Rattle.std.proofs.lemmas.Bool.{eq-eqb, eqb-true, true≢false}
+use Rattle.std.proofs.lemmas.Bool.{eq-eqb, true≢false}
 use Rattle.osdp_words.specs.Reading.{ReadsWords}
 use Rattle.osdp_words.specs.Word.{AllStandFor, Word, plain}
 
@@ -69,26 +68,13 @@ made_row_read name_of fields_of Fits name make named only =
     row_read name_of fields_of Fits (λ x. fields_of (make x)) (λ x. Fits (make x)) name make
     (record { named = named; fields = λ x. refl; fits = λ x h. h; allowed = λ x h. h; only = only })
 
--- what maps a value that was read makes the row's value of it
+-- what maps a value that was read, by a call that gives the row's value of it, makes that value
+pub mapped_by : {X M : Type 0} (make : X → M) (made : X → M → Type 0) → ((x : X) (m : M) → made x m → m ≡ make x)
+    → (o : Option X) (r : Option M) → MatchOption o (r ≡ None) (λ x. IsSomeAnd r (made x)) → r ≡ option_map make o
+mapped_by make made same None r h = h
+mapped_by make made same (Some x) (Some m) h = ap Some (same x m h)
+mapped_by make made same (Some x) None h = absurd h
+
+-- the same where the call is the variant itself
 pub mapped : {X M : Type 0} (make : X → M) (o : Option X) (r : Option M) → MatchOption o (r ≡ None) (λ x. IsSomeAnd r (λ m. m ≡ make x)) → r ≡ option_map make o
-mapped make None r h = h
-mapped make (Some x) (Some m) h = ap Some h
-mapped make (Some x) None h = absurd h
-
--- ---- a row with no fields
-
-module _ {M : Type 0} (name_of : M → List ℕ) (fields_of : M → List Word) (Fits : M → Type 0) (name : List ℕ) (m : M) (row : IsRow name_of fields_of Fits (λ (x : Unit {0}). []) (λ x. Unit {0}) name (λ x. m)) where
-  nothing_read : (given : List (List ℕ)) (empty : Bool) → empty ≡ eqb (length given) 0 → ReadsWords (λ (x : Unit {0}). []) (λ x. Unit {0}) given (then_some empty tt)
-  nothing_read [] true e = record { value = (tt, tt); only = λ x fits stands. refl }
-  nothing_read [] false e = absurd cc
-  nothing_read (g ∷ given) true e = absurd (omega (arith, eqb-true (length (g ∷ given)) 0 (sym e)))
-  nothing_read (g ∷ given) false e = record { value = tt; only = λ x fits stands. absurd stands }
-
-  made_by : (empty : Bool) → then_some empty m ≡ option_map (λ (x : Unit {0}). m) (then_some empty tt)
-  made_by true = refl
-  made_by false = refl
-
-  pub empty_row_read : (given : List (List ℕ)) (empty : Bool) (result : Option M) → empty ≡ eqb (length given) 0 → result ≡ then_some empty m
-      → ReadsWords (named_words name_of fields_of Fits (λ (x : Unit {0}). []) (λ x. Unit {0}) name (λ x. m) row) Fits (name ∷ given) result
-  empty_row_read given empty result is e =
-      row_read name_of fields_of Fits (λ (x : Unit {0}). []) (λ x. Unit {0}) name (λ x. m) row given (then_some empty tt) result (nothing_read given empty is) (e ∙ made_by empty)
+mapped make = mapped_by make (λ x m. m ≡ make x) (λ x m e. e)

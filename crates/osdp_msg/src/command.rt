@@ -14,7 +14,7 @@ use crate::leds::Leds;
 use crate::limits::MAX_MESSAGE;
 use crate::making::put_row;
 use crate::outputs::Outputs;
-use crate::parsing::parse_byte;
+use crate::parsing::{parse_byte, parse_nothing};
 use crate::placing::{copy_list, place_list};
 use crate::printing::{print_byte, print_records};
 use crate::records::put_records;
@@ -132,13 +132,13 @@ fn parse_row(name: &str, fields: Fields<'_>, command: &mut Option<Command>)
     ensures { ReadsWords command_words CommandFits (name.now ∷ fields.entry) command.new }
 {
     match name {
-        "POLL" => *command = fields.is_empty().then_some(Command::Poll),
+        "POLL" => put_row(parse_nothing, fields, |_| Command::Poll, command),
         "ID" => put_row(parse_byte, fields, Command::Id, command),
         "CAP" => put_row(parse_byte, fields, Command::Cap, command),
-        "LSTAT" => *command = fields.is_empty().then_some(Command::LocalStatus),
-        "ISTAT" => *command = fields.is_empty().then_some(Command::InputStatus),
-        "OSTAT" => *command = fields.is_empty().then_some(Command::OutputStatus),
-        "RSTAT" => *command = fields.is_empty().then_some(Command::ReaderStatus),
+        "LSTAT" => put_row(parse_nothing, fields, |_| Command::LocalStatus, command),
+        "ISTAT" => put_row(parse_nothing, fields, |_| Command::InputStatus, command),
+        "OSTAT" => put_row(parse_nothing, fields, |_| Command::OutputStatus, command),
+        "RSTAT" => put_row(parse_nothing, fields, |_| Command::ReaderStatus, command),
         "OUT" => put_row(Outputs::parse, fields, Command::Output, command),
         "LED" => put_row(Leds::parse, fields, Command::Led, command),
         "BUZ" => put_row(Buzzer::parse, fields, Command::Buzzer, command),

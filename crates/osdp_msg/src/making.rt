@@ -14,10 +14,20 @@ pub(crate) fn put<M: Drop, F: FnOnce() -> M>(make: F, place: &mut M)
     *place = make();
 }
 
-/// Puts what is made of the value that the fields of a text are read as there, or none.
-// It is not inlined, for the same.
+/// What the fields of a text are read as.
+// It is not inlined: so the places of reading and those of making take turns on the stack.
 #[inline(never)]
-pub(crate) fn put_row<'a, X, M: Drop, P: FnOnce(Fields<'a>) -> Option<X>, F: FnOnce(X) -> M>(
+fn read<'a, X, P: FnOnce(Fields<'a>) -> Option<X>>(parse: P, fields: Fields<'a>) -> Option<X>
+    requires { P.IsAlwaysCallable parse }
+    ensures { P.post parse fields.entry result }
+{
+    parse(fields)
+}
+
+/// Puts what is made of the value that the fields of a text are read as there, or none.
+// It is not inlined, as `put` is not.
+#[inline(never)]
+pub(crate) fn put_row<'a, X: Drop, M: Drop, P: FnOnce(Fields<'a>) -> Option<X>, F: FnOnce(X) -> M>(
     parse: P,
     fields: Fields<'a>,
     make: F,
@@ -27,5 +37,8 @@ pub(crate) fn put_row<'a, X, M: Drop, P: FnOnce(Fields<'a>) -> Option<X>, F: FnO
     requires make { F.IsAlwaysCallable make }
     ensures { (read : Option X) × P.post parse fields.entry read × MatchOption read (place.new ≡ None) (λ x. IsSomeAnd place.new (F.post make x)) }
 {
-    *place = parse(fields).map(make);
+    match read(parse, fields) {
+        Some(value) => put(|| Some(make(value)), place),
+        None => *place = None,
+    }
 }

@@ -12,6 +12,13 @@ use crate::records::Record;
 use arrayvec::ArrayVec;
 use osdp_words::Fields;
 
+/// No words.
+pub(crate) fn parse_nothing(fields: Fields<'_>) -> Option<()>
+    ensures { ReadsWords (λ nothing. []) (λ nothing. Unit) fields.entry result }
+{
+    fields.is_empty().then_some(())
+}
+
 /// One number.
 pub(crate) fn parse_byte(mut fields: Fields<'_>) -> Option<u8>
     ensures { ReadsWords (λ n. number n ∷ []) (λ n. n < 2 ^ 8) fields.entry result }

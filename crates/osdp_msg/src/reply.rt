@@ -10,7 +10,7 @@ use crate::command_fields::{Communication, MakerMessage};
 use crate::fault::{BadWords, MsgFault};
 use crate::limits::{MAX_DATA, MAX_MESSAGE};
 use crate::making::put_row;
-use crate::parsing::{parse_records, parse_states};
+use crate::parsing::{parse_nothing, parse_records, parse_states};
 use crate::printing::{print_bytes, print_records};
 use crate::raw::Raw;
 use crate::records::{put_records, read_records};
@@ -141,7 +141,7 @@ fn parse_row(name: &str, fields: Fields<'_>, reply: &mut Option<Reply>)
     ensures { ReadsWords reply_words ReplyFits (name.now ∷ fields.entry) reply.new }
 {
     match name {
-        "ACK" => *reply = fields.is_empty().then_some(Reply::Ack),
+        "ACK" => put_row(parse_nothing, fields, |_| Reply::Ack, reply),
         "NAK" => put_row(Nak::parse, fields, Reply::Nak, reply),
         "PDID" => put_row(PdId::parse, fields, Reply::PdId, reply),
         "PDCAP" => put_row(
@@ -158,7 +158,7 @@ fn parse_row(name: &str, fields: Fields<'_>, reply: &mut Option<Reply>)
         "FMT" => put_row(Formatted::parse, fields, Reply::Formatted, reply),
         "KEYPAD" => put_row(Keypad::parse, fields, Reply::Keypad, reply),
         "COM" => put_row(Communication::parse, fields, Reply::Com, reply),
-        "BUSY" => *reply = fields.is_empty().then_some(Reply::Busy),
+        "BUSY" => put_row(parse_nothing, fields, |_| Reply::Busy, reply),
         "MFGREP" => put_row(MakerMessage::parse, fields, Reply::MakerReply, reply),
         _ => *reply = None,
     }
