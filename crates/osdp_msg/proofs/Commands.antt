@@ -121,5 +121,4 @@ command_takes code =
     absurd (unknown_faults (command_length_allowed code (length bytes)) (length bytes) (command_counts_agree code bytes) unknown well)
 
 pub commands : IsTable IsCommand command_fault command_at
-commands =
-    table_of IsCommand command_fault command_at command_code command_data CommandFits (λ code bytes m is. (is.code_is, is.data_is, is.fits)) command_takes command_well command_again
+commands = table_of command_fault command_at command_code command_data CommandFits command_takes command_well command_again

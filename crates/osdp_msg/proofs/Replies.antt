@@ -142,5 +142,4 @@ reply_takes code =
     absurd (unknown_faults (reply_length_allowed code (length bytes)) (length bytes) (reply_counts_agree code bytes) unknown well)
 
 pub replies : IsTable IsReply reply_fault reply_at
-replies =
-    table_of IsReply reply_fault reply_at reply_code reply_data ReplyFits (λ code bytes m is. (is.code_is, is.data_is, is.fits)) reply_takes reply_well reply_again
+replies = table_of reply_fault reply_at reply_code reply_data ReplyFits reply_takes reply_well reply_again

@@ -8,6 +8,7 @@ use Rattle.std.proofs.Math.Nat.{mul-le-mul_left, mul-mod_right}
 use Rattle.osdp_msg.specs.declared.fault.MsgFault.{MsgFault}
 use Rattle.osdp_msg.specs.declared.fault.MsgFault.TheVariants.{Length, Count}
 use Rattle.osdp_msg.specs.ListedCommands.{AreRecords, HasLength}
+use Rattle.osdp_msg.specs.Messages.{IsMessage}
 use Rattle.osdp_msg.specs.Refusal.{refusal, unless_fault}
 use Rattle.std.specs.Prelude.{IfOk, IfErr, IfSome}
 use Rattle.hex.specs.Hex.{IsBytes}
@@ -24,14 +25,13 @@ pub record IsTable {M : Type 0} (Is : ℕ → List ℕ → M → Type 0) (fault 
   pub again : (code : ℕ) (bytes : List ℕ) (m : M) → Is code bytes m → value_at code bytes ≡ m
 
 -- a table from facts on the values alone
-pub table_of : {M : Type 0} (Is : ℕ → List ℕ → M → Type 0) (fault : ℕ → List ℕ → Option MsgFault) (value_at : ℕ → List ℕ → M) (code_of : M → ℕ) (data_of : M → List ℕ) (Fits : M → Type 0)
-    → ((code : ℕ) (bytes : List ℕ) (m : M) → Is code bytes m → (code ≡ code_of m) × (bytes ≡ data_of m) × Fits m)
-    → ((code : ℕ) → Takes Is fault value_at code) → ((m : M) → Fits m → fault (code_of m) (data_of m) ≡ None) → ((m : M) → Fits m → value_at (code_of m) (data_of m) ≡ m)
-    → IsTable Is fault value_at
-table_of Is fault value_at code_of data_of Fits parts takes well again = record {
+pub table_of : {M : Type 0} (fault : ℕ → List ℕ → Option MsgFault) (value_at : ℕ → List ℕ → M) (code_of : M → ℕ) (data_of : M → List ℕ) (Fits : M → Type 0)
+    → ((code : ℕ) → Takes (IsMessage code_of data_of Fits) fault value_at code) → ((m : M) → Fits m → fault (code_of m) (data_of m) ≡ None)
+    → ((m : M) → Fits m → value_at (code_of m) (data_of m) ≡ m) → IsTable (IsMessage code_of data_of Fits) fault value_at
+table_of fault value_at code_of data_of Fits takes well again = record {
   takes = takes;
-  well = λ code bytes m is. let p = parts code bytes m is in rw (p.0, p.1) (well m p.2);
-  again = λ code bytes m is. let p = parts code bytes m is in rw (p.0, p.1) (again m p.2);
+  well = λ code bytes m is. rw (is.code_is, is.data_is) (well m is.fits);
+  again = λ code bytes m is. rw (is.code_is, is.data_is) (again m is.fits);
 }
 
 -- one row of a chain of tests on the code

@@ -1,42 +1,35 @@
 -- The table of commands, by rows: code, data, ranges, lengths, counts inside.
-use Rattle.std.specs.Prelude.{◌≡◌, ◌<◌, ◌≤◌, ℕ, ◌-◌, ◌%◌, Bool, true, ◌==◌, ◌&&◌, nat_le, List, [], ◌∷◌, length, slice_index, Option, Some, None, Result, if◌then◌else◌}
+use Rattle.std.specs.Prelude.{◌<◌, ◌≤◌, ℕ, ◌-◌, ◌%◌, Bool, true, ◌==◌, ◌&&◌, nat_le, List, [], ◌∷◌, length, slice_index, Option, Some, None, Result, if◌then◌else◌}
 use Rattle.std.specs.List.{All, flat_map}
 use Rattle.osdp_msg.specs.declared.command.Command.{Command}
 use Rattle.osdp_msg.specs.declared.command.Command.TheVariants.{Poll, Id, Cap, LocalStatus, InputStatus, OutputStatus, ReaderStatus, Output, Led, Buzzer, Text, Comset, Maker}
 use Rattle.osdp_msg.specs.declared.fault.MsgFault.{MsgFault}
 use Rattle.osdp_msg.specs.CommandFields.{OutputFits, output_data, output_at, LedFits, led_data, led_at, BuzzerFits, buzzer_data, buzzer_at, TextFits, text_data, text_at, CommunicationFits, communication_data, communication_at, MakerFits, maker_data, maker_at}
+use Rattle.osdp_msg.specs.Messages.{IsMessage}
 use Rattle.osdp_msg.specs.Records.{records_at}
-use Rattle.osdp_msg.specs.Refusal.{refusal, unless_fault}
+use Rattle.osdp_msg.specs.Refusal.{table_fault, unless_fault}
+
+-- the row of a command: its code, and its data
+abbrev pub command_spelled : Command → ℕ × List ℕ
+command_spelled Poll = (0x60, [])
+command_spelled (Id kept) = (0x61, kept ∷ [])
+command_spelled (Cap kept) = (0x62, kept ∷ [])
+command_spelled LocalStatus = (0x64, [])
+command_spelled InputStatus = (0x65, [])
+command_spelled OutputStatus = (0x66, [])
+command_spelled ReaderStatus = (0x67, [])
+command_spelled (Output records) = (0x68, flat_map output_data records)
+command_spelled (Led records) = (0x69, flat_map led_data records)
+command_spelled (Buzzer b) = (0x6A, buzzer_data b)
+command_spelled (Text t) = (0x6B, text_data t)
+command_spelled (Comset c) = (0x6E, communication_data c)
+command_spelled (Maker m) = (0x80, maker_data m)
 
 abbrev pub command_code : Command → ℕ
-command_code Poll = 0x60
-command_code (Id kept) = 0x61
-command_code (Cap kept) = 0x62
-command_code LocalStatus = 0x64
-command_code InputStatus = 0x65
-command_code OutputStatus = 0x66
-command_code ReaderStatus = 0x67
-command_code (Output records) = 0x68
-command_code (Led records) = 0x69
-command_code (Buzzer b) = 0x6A
-command_code (Text t) = 0x6B
-command_code (Comset c) = 0x6E
-command_code (Maker m) = 0x80
+command_code m = (command_spelled m).0
 
 abbrev pub command_data : Command → List ℕ
-command_data Poll = []
-command_data (Id kept) = kept ∷ []
-command_data (Cap kept) = kept ∷ []
-command_data LocalStatus = []
-command_data InputStatus = []
-command_data OutputStatus = []
-command_data ReaderStatus = []
-command_data (Output records) = flat_map output_data records
-command_data (Led records) = flat_map led_data records
-command_data (Buzzer b) = buzzer_data b
-command_data (Text t) = text_data t
-command_data (Comset c) = communication_data c
-command_data (Maker m) = maker_data m
+command_data m = (command_spelled m).1
 
 -- the numbers of a command are in the ranges of their fields, and its lists have room
 abbrev pub CommandFits : Command → Type 0
@@ -55,10 +48,8 @@ CommandFits (Comset c) = CommunicationFits c
 CommandFits (Maker m) = MakerFits m
 
 -- a code and data stand for a command
-pub record IsCommand (code : ℕ) (bytes : List ℕ) (m : Command) : Type 0 where
-  pub code_is : code ≡ command_code m
-  pub data_is : bytes ≡ command_data m
-  pub fits : CommandFits m
+abbrev pub IsCommand : ℕ → List ℕ → Command → Type 0
+IsCommand = IsMessage command_code command_data CommandFits
 
 -- whether the table allows so many data bytes; None where it hasn't the code
 abbrev pub command_length_allowed : ℕ → ℕ → Option Bool
@@ -86,8 +77,7 @@ command_counts_agree code bytes =
 
 -- why a code and data stand for no command
 unfoldable pub command_fault : ℕ → List ℕ → Option MsgFault
-command_fault code bytes =
-    refusal (command_length_allowed code (length bytes)) (length bytes) (command_counts_agree code bytes)
+command_fault = table_fault command_length_allowed command_counts_agree
 
 -- the command that a code and data without a fault stand for
 unfoldable pub command_at : ℕ → List ℕ → Command

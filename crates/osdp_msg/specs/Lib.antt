@@ -6,6 +6,7 @@ pub mod Records
 pub mod CommandFields
 pub mod ReplyFields
 pub mod Refusal
+pub mod Messages
 pub mod CommandTable
 pub mod ListedCommands
 pub mod CommandText

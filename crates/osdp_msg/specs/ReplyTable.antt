@@ -1,5 +1,5 @@
 -- The table of replies, by rows: code, data, ranges, lengths, counts inside.
-use Rattle.std.specs.Prelude.{◌≡◌, ◌≤◌, ℕ, ◌+◌, ◌-◌, ◌/◌, ◌%◌, Bool, true, ◌==◌, nat_le, List, [], length, slice_index, drop, Option, Some, None, Result, if◌then◌else◌}
+use Rattle.std.specs.Prelude.{◌≤◌, ℕ, ◌+◌, ◌-◌, ◌/◌, ◌%◌, Bool, true, ◌==◌, nat_le, List, [], length, slice_index, drop, Option, Some, None, Result, if◌then◌else◌}
 use Rattle.std.specs.List.{All, flat_map}
 use Rattle.byteorder.specs.Endian.{little_number}
 use Rattle.hex.specs.Hex.{IsBytes}
@@ -9,40 +9,32 @@ use Rattle.osdp_msg.specs.declared.reply.Reply.TheVariants.{Ack, Nak, PdId, PdCa
 use Rattle.osdp_msg.specs.declared.fault.MsgFault.{MsgFault}
 use Rattle.osdp_msg.specs.CommandFields.{CommunicationFits, communication_data, communication_at, MakerFits, maker_data, maker_at}
 use Rattle.osdp_msg.specs.ReplyFields.{NakFits, nak_data, nak_at, PdIdFits, pd_id_data, pd_id_at, CapabilityFits, capability_data, capability_at, LocalStateFits, local_state_data, local_state_at, RawFits, raw_data, raw_at, FormattedFits, formatted_data, formatted_at, KeypadFits, keypad_data, keypad_at}
+use Rattle.osdp_msg.specs.Messages.{IsMessage}
 use Rattle.osdp_msg.specs.Records.{records_at}
-use Rattle.osdp_msg.specs.Refusal.{refusal, unless_fault}
+use Rattle.osdp_msg.specs.Refusal.{table_fault, unless_fault}
+
+-- the row of a reply: its code, and its data
+abbrev pub reply_spelled : Reply → ℕ × List ℕ
+reply_spelled Ack = (0x40, [])
+reply_spelled (Nak n) = (0x41, nak_data n)
+reply_spelled (PdId p) = (0x45, pd_id_data p)
+reply_spelled (PdCap p) = (0x46, flat_map capability_data p.capabilities.items)
+reply_spelled (LocalState s) = (0x48, local_state_data s)
+reply_spelled (Inputs states) = (0x49, states.items)
+reply_spelled (Outputs states) = (0x4A, states.items)
+reply_spelled (Readers states) = (0x4B, states.items)
+reply_spelled (Raw r) = (0x50, raw_data r)
+reply_spelled (Formatted f) = (0x51, formatted_data f)
+reply_spelled (Keypad k) = (0x53, keypad_data k)
+reply_spelled (Com c) = (0x54, communication_data c)
+reply_spelled Busy = (0x79, [])
+reply_spelled (MakerReply m) = (0x90, maker_data m)
 
 abbrev pub reply_code : Reply → ℕ
-reply_code Ack = 0x40
-reply_code (Nak n) = 0x41
-reply_code (PdId p) = 0x45
-reply_code (PdCap p) = 0x46
-reply_code (LocalState s) = 0x48
-reply_code (Inputs states) = 0x49
-reply_code (Outputs states) = 0x4A
-reply_code (Readers states) = 0x4B
-reply_code (Raw r) = 0x50
-reply_code (Formatted f) = 0x51
-reply_code (Keypad k) = 0x53
-reply_code (Com c) = 0x54
-reply_code Busy = 0x79
-reply_code (MakerReply m) = 0x90
+reply_code m = (reply_spelled m).0
 
 abbrev pub reply_data : Reply → List ℕ
-reply_data Ack = []
-reply_data (Nak n) = nak_data n
-reply_data (PdId p) = pd_id_data p
-reply_data (PdCap p) = flat_map capability_data p.capabilities.items
-reply_data (LocalState s) = local_state_data s
-reply_data (Inputs states) = states.items
-reply_data (Outputs states) = states.items
-reply_data (Readers states) = states.items
-reply_data (Raw r) = raw_data r
-reply_data (Formatted f) = formatted_data f
-reply_data (Keypad k) = keypad_data k
-reply_data (Com c) = communication_data c
-reply_data Busy = []
-reply_data (MakerReply m) = maker_data m
+reply_data m = (reply_spelled m).1
 
 -- one byte for each input, output or reader
 pub record StatesFit (states : List ℕ) : Type 0 where
@@ -67,10 +59,8 @@ ReplyFits Busy = Unit {0}
 ReplyFits (MakerReply m) = MakerFits m
 
 -- a code and data stand for a reply
-pub record IsReply (code : ℕ) (bytes : List ℕ) (m : Reply) : Type 0 where
-  pub code_is : code ≡ reply_code m
-  pub data_is : bytes ≡ reply_data m
-  pub fits : ReplyFits m
+abbrev pub IsReply : ℕ → List ℕ → Reply → Type 0
+IsReply = IsMessage reply_code reply_data ReplyFits
 
 -- whether the table allows so many data bytes; None where it hasn't the code
 abbrev pub reply_length_allowed : ℕ → ℕ → Option Bool
@@ -101,8 +91,7 @@ reply_counts_agree code bytes =
 
 -- why a code and data stand for no reply
 unfoldable pub reply_fault : ℕ → List ℕ → Option MsgFault
-reply_fault code bytes =
-    refusal (reply_length_allowed code (length bytes)) (length bytes) (reply_counts_agree code bytes)
+reply_fault = table_fault reply_length_allowed reply_counts_agree
 
 -- the reply that a code and data without a fault stand for
 unfoldable pub reply_at : ℕ → List ℕ → Reply

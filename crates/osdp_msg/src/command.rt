@@ -83,14 +83,6 @@ impl Tabled for Command {
     }
 }
 
-/// The first fault of a code and data.
-#[tactic(auto, unfolding(crate::specs::CommandTable::command_fault))]
-fn fault(code: u8, bytes: &[u8]) -> Option<MsgFault>
-    ensures { result ≡ command_fault code bytes.now }
-{
-    first_fault::<Command>(code, bytes)
-}
-
 /// Puts the command that a code and data without a fault stand for in place of what stands in `command`.
 #[tactic(auto, unfolding(crate::specs::CommandTable::command_at))]
 fn place(code: u8, bytes: &[u8], command: &mut Option<Command>)
@@ -115,11 +107,11 @@ fn place(code: u8, bytes: &[u8], command: &mut Option<Command>)
 }
 
 /// The first fault of a code and data, or the command that they stand for.
-#[tactic(auto, unfolding(crate::specs::CommandTable::command_of))]
+#[tactic(auto, unfolding(crate::specs::CommandTable::command_of, crate::specs::CommandTable::command_fault))]
 fn decode(code: u8, bytes: &[u8]) -> Result<Command, MsgFault>
     ensures { result ≡ command_of code bytes.now }
 {
-    if let Some(fault) = fault(code, bytes) {
+    if let Some(fault) = first_fault::<Command>(code, bytes) {
         return Err(fault);
     }
     let mut command = None;
@@ -173,7 +165,7 @@ impl Command {
     /// Puts the command that a code and data stand for in place of what stands in `command`, or none, and tells the first fault
     /// that holds. Outputs, LEDs, a text and a maker's message are written over those that stand there, so that a caller with one
     /// place for command after command moves their bytes alone.
-    #[tactic(auto, unfolding(crate::specs::CommandTable::command_of))]
+    #[tactic(auto, unfolding(crate::specs::CommandTable::command_of, crate::specs::CommandTable::command_fault))]
     pub fn read_into(code: u8, bytes: &[u8], command: &mut Option<Command>) -> Result<(), MsgFault>
         ensures value { IfSome command.new (IsCommand code bytes.now) }
         ensures some { IsOk result ↔ IsSome command.new }
@@ -181,7 +173,7 @@ impl Command {
         ensures only { (m : Command) → IsCommand code bytes.now m → command.new ≡ Some m }
         ensures function { command.new ≡ result_ok (command_of code bytes.now) }
     {
-        if let Some(fault) = fault(code, bytes) {
+        if let Some(fault) = first_fault::<Command>(code, bytes) {
             *command = None;
             return Err(fault);
         }

@@ -91,14 +91,6 @@ impl Tabled for Reply {
     }
 }
 
-/// The first fault of a code and data.
-#[tactic(auto, unfolding(crate::specs::ReplyTable::reply_fault))]
-fn fault(code: u8, bytes: &[u8]) -> Option<MsgFault>
-    ensures { result ≡ reply_fault code bytes.now }
-{
-    first_fault::<Reply>(code, bytes)
-}
-
 /// The reply that a code and data without a fault stand for.
 #[tactic(auto, unfolding(crate::specs::ReplyTable::reply_at))]
 fn value_at(code: u8, bytes: &[u8]) -> Reply
@@ -126,11 +118,11 @@ fn value_at(code: u8, bytes: &[u8]) -> Reply
 }
 
 /// The first fault of a code and data, or the reply that they stand for.
-#[tactic(auto, unfolding(crate::specs::ReplyTable::reply_of))]
+#[tactic(auto, unfolding(crate::specs::ReplyTable::reply_of, crate::specs::ReplyTable::reply_fault))]
 fn decode(code: u8, bytes: &[u8]) -> Result<Reply, MsgFault>
     ensures { result ≡ reply_of code bytes.now }
 {
-    match fault(code, bytes) {
+    match first_fault::<Reply>(code, bytes) {
         Some(fault) => Err(fault),
         None => Ok(value_at(code, bytes)),
     }

@@ -1,7 +1,7 @@
 //! What the tables of commands and of replies share: when a code and data are refused.
 
 ghost use Rattle.std.specs.Prelude.{◌≡◌, ℕ, Bool, List, Option, Some, length, true};
-ghost use Rattle.osdp_msg.specs.Refusal.{refusal};
+ghost use Rattle.osdp_msg.specs.Refusal.{table_fault};
 
 use crate::fault::{MsgFault, length_fault};
 
@@ -23,7 +23,7 @@ pub(crate) trait Tabled {
 
 /// The first fault of a code and data.
 pub(crate) fn first_fault<T: Tabled>(code: u8, bytes: &[u8]) -> Option<MsgFault>
-    ensures { result ≡ refusal (T.length_allowed code (length bytes.now)) (length bytes.now) (T.counts_agree code bytes.now) }
+    ensures { result ≡ table_fault T.length_allowed T.counts_agree code bytes.now }
 {
     let len = bytes.len();
     if let Some(fault) = length_fault(T::length_allowed(code, len), len) {
