@@ -11,7 +11,7 @@ use crate::fault::BadWords;
 use crate::limits::{MAX_DATA, MAX_MESSAGE};
 use crate::making::put;
 use crate::raw::Raw;
-use crate::reply::{self, Reply};
+use crate::reply::{self, Reply, write_told};
 use crate::reply_fields::{Formatted, Keypad, LocalState};
 use crate::spelling::{list_of, put_bytes};
 use arrayvec::ArrayVec;
@@ -42,6 +42,23 @@ const UNTOLD: LocalState = LocalState {
     tamper: 0,
     power: 0,
 };
+
+/// Puts the message of one enum that tells the same as one of the other in place of what stands at `$place`: an event and the reply
+/// that tells it have the same names and fields. Rows for what has no such message follow.
+macro_rules! put_same {
+    ($message:expr, $from:ident, $to:ident, $place:expr $(, $others:pat => $answer:expr)?) => {
+        match $message {
+            $from::LocalState(state) => put(|| $to::LocalState(*state), $place),
+            $from::Inputs(states) => put(|| $to::Inputs(list_of(states.as_slice())), $place),
+            $from::Outputs(states) => put(|| $to::Outputs(list_of(states.as_slice())), $place),
+            $from::Readers(states) => put(|| $to::Readers(list_of(states.as_slice())), $place),
+            $from::Raw(raw) => put(|| $to::Raw(raw.copy()), $place),
+            $from::Formatted(formatted) => put(|| $to::Formatted(formatted.copy()), $place),
+            $from::Keypad(keypad) => put(|| $to::Keypad(keypad.copy()), $place),
+            $($others => $answer,)?
+        }
+    };
+}
 
 /// Puts the event there that the reply tells, or none.
 fn put_told(reply: &Reply, event: &mut Option<Event>)
@@ -82,15 +99,7 @@ impl Event {
     pub fn reply_into(&self, reply: &mut Reply)
         ensures { reply.new ≡ event_reply self.now }
     {
-        match self {
-            Event::LocalState(state) => put(|| Reply::LocalState(*state), reply),
-            Event::Inputs(states) => put(|| Reply::Inputs(list_of(states.as_slice())), reply),
-            Event::Outputs(states) => put(|| Reply::Outputs(list_of(states.as_slice())), reply),
-            Event::Readers(states) => put(|| Reply::Readers(list_of(states.as_slice())), reply),
-            Event::Raw(raw) => put(|| Reply::Raw(raw.copy()), reply),
-            Event::Formatted(formatted) => put(|| Reply::Formatted(formatted.copy()), reply),
-            Event::Keypad(keypad) => put(|| Reply::Keypad(keypad.copy()), reply),
-        }
+        put_same!(self, Event, Reply, reply)
     }
 
     /// Puts the code and the data of the reply that tells the event in place of what stands in `spelling`.
@@ -98,15 +107,7 @@ impl Event {
         ensures spelled { spelling.new.items ≡ reply_code (event_reply self.now) ∷ reply_data (event_reply self.now) }
         ensures fits { EventFits self.now }
     {
-        match self {
-            Event::LocalState(state) => state.write_into(spelling),
-            Event::Inputs(states) => put_bytes(spelling, 0x49, states.as_slice()),
-            Event::Outputs(states) => put_bytes(spelling, 0x4A, states.as_slice()),
-            Event::Readers(states) => put_bytes(spelling, 0x4B, states.as_slice()),
-            Event::Raw(raw) => raw.write_into(spelling),
-            Event::Formatted(formatted) => formatted.write_into(spelling),
-            Event::Keypad(keypad) => keypad.write_into(spelling),
-        }
+        write_told!(Event, self, spelling)
     }
 
     /// The event whose text has these words. The digits of byte lists may have either case.
@@ -164,22 +165,19 @@ impl Reply {
         ensures told { event_in self.now ≡ then_some result event.new }
         ensures stays { result ≡ false → event.new ≡ event.old }
     {
-        match self {
-            Reply::LocalState(state) => put(|| Event::LocalState(*state), event),
-            Reply::Inputs(states) => put(|| Event::Inputs(list_of(states.as_slice())), event),
-            Reply::Outputs(states) => put(|| Event::Outputs(list_of(states.as_slice())), event),
-            Reply::Readers(states) => put(|| Event::Readers(list_of(states.as_slice())), event),
-            Reply::Raw(raw) => put(|| Event::Raw(raw.copy()), event),
-            Reply::Formatted(formatted) => put(|| Event::Formatted(formatted.copy()), event),
-            Reply::Keypad(keypad) => put(|| Event::Keypad(keypad.copy()), event),
+        put_same!(
+            self,
+            Reply,
+            Event,
+            event,
             Reply::Ack
-            | Reply::Nak(_)
-            | Reply::PdId(_)
-            | Reply::PdCap(_)
-            | Reply::Com(_)
-            | Reply::Busy
-            | Reply::MakerReply(_) => return false,
-        }
+                | Reply::Nak(_)
+                | Reply::PdId(_)
+                | Reply::PdCap(_)
+                | Reply::Com(_)
+                | Reply::Busy
+                | Reply::MakerReply(_) => return false
+        );
         true
     }
 }

@@ -166,6 +166,25 @@ pub(crate) fn parse_fields(mut fields: Fields<'_>, reply: &mut Option<Reply>)
     }
 }
 
+/// Puts the code and the data of an event, or of the reply that tells it, in place of what stands in `$spelling`: both have the same
+/// names and fields. Rows for the other replies follow.
+macro_rules! write_told {
+    ($kind:ident, $message:expr, $spelling:expr $(, $others:pat => $write:expr)*) => {
+        match $message {
+            $kind::LocalState(state) => state.write_into($spelling),
+            $kind::Inputs(states) => put_bytes($spelling, 0x49, states.as_slice()),
+            $kind::Outputs(states) => put_bytes($spelling, 0x4A, states.as_slice()),
+            $kind::Readers(states) => put_bytes($spelling, 0x4B, states.as_slice()),
+            $kind::Raw(raw) => raw.write_into($spelling),
+            $kind::Formatted(formatted) => formatted.write_into($spelling),
+            $kind::Keypad(keypad) => keypad.write_into($spelling),
+            $($others => $write,)*
+        }
+    };
+}
+
+pub(crate) use write_told;
+
 impl Reply {
     /// The reply that a code and data stand for, or the first fault that holds.
     pub fn read(code: u8, bytes: &[u8]) -> Result<Reply, MsgFault>
@@ -192,22 +211,18 @@ impl Reply {
         ensures spelled { spelling.new.items ≡ reply_code self.now ∷ reply_data self.now }
         ensures fits { ReplyFits self.now }
     {
-        match self {
+        write_told!(
+            Reply,
+            self,
+            spelling,
             Reply::Ack => put_code(spelling, 0x40),
             Reply::Nak(nak) => nak.write_into(spelling),
             Reply::PdId(pd_id) => pd_id.write_into(spelling),
             Reply::PdCap(pd_cap) => put_records(spelling, 0x46, pd_cap.capabilities.as_slice()),
-            Reply::LocalState(state) => state.write_into(spelling),
-            Reply::Inputs(states) => put_bytes(spelling, 0x49, states.as_slice()),
-            Reply::Outputs(states) => put_bytes(spelling, 0x4A, states.as_slice()),
-            Reply::Readers(states) => put_bytes(spelling, 0x4B, states.as_slice()),
-            Reply::Raw(raw) => raw.write_into(spelling),
-            Reply::Formatted(formatted) => formatted.write_into(spelling),
-            Reply::Keypad(keypad) => keypad.write_into(spelling),
             Reply::Com(communication) => communication.write_into(spelling, 0x54),
             Reply::Busy => put_code(spelling, 0x79),
-            Reply::MakerReply(message) => message.write_into(spelling, 0x90),
-        }
+            Reply::MakerReply(message) => message.write_into(spelling, 0x90)
+        )
     }
 
     /// The reply whose text has these words. The digits of byte lists may have either case.
