@@ -8,7 +8,7 @@ ghost use Rattle.osdp_msg.specs.CommandFields.{BuzzerFits, buzzer_at, buzzer_dat
 ghost use Rattle.osdp_msg.specs.ListedCommands.{HasLength};
 
 use crate::limits::{MAX_DATA, MAX_MAKER_BYTES};
-use crate::parsing::{parse_numbers, parse_numbers_and_list};
+use crate::parsing::{parse_numbers, parse_numbers_and_list, read_last_list};
 use crate::spelling::{
     Spelling, append, append_u32, copy_over, list_of, put_byte, put_bytes, rest,
 };
@@ -314,12 +314,7 @@ impl MakerMessage {
     {
         let vendor = fields.vendor()?;
         let mut bytes = ArrayVec::new();
-        if !fields.read_byte_list(&mut bytes) {
-            return None;
-        }
-        if !fields.is_empty() {
-            return None;
-        }
+        read_last_list!(fields, bytes);
         Some(MakerMessage { vendor, bytes })
     }
 }

@@ -12,6 +12,20 @@ use crate::records::Record;
 use arrayvec::ArrayVec;
 use osdp_words::Fields;
 
+/// Puts the byte list with which the fields end in place of `$list`; where they don't end with one, the function around it answers none.
+macro_rules! read_last_list {
+    ($fields:ident, $list:ident) => {
+        if !$fields.read_byte_list(&mut $list) {
+            return None;
+        }
+        if !$fields.is_empty() {
+            return None;
+        }
+    };
+}
+
+pub(crate) use read_last_list;
+
 /// No words.
 pub(crate) fn parse_nothing(fields: Fields<'_>) -> Option<()>
     ensures { ReadsWords (λ nothing. []) (λ nothing. Unit) fields.entry result }
@@ -51,10 +65,8 @@ pub(crate) fn parse_states(mut fields: Fields<'_>) -> Option<ArrayVec<u8, MAX_DA
     ensures { ReadsWords (λ states. bytes states.items ∷ []) (λ states. StatesFit states.items) fields.entry result }
 {
     let mut states = ArrayVec::new();
-    if !fields.read_byte_list(&mut states) {
-        return None;
-    }
-    fields.is_empty().then_some(states)
+    read_last_list!(fields, states);
+    Some(states)
 }
 
 /// Records, each a word of its own.

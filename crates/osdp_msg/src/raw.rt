@@ -9,6 +9,7 @@ ghost use Rattle.osdp_msg.specs.Raw.{raw_card};
 ghost use Rattle.osdp_msg.specs.ReplyFields.{RawFits, raw_at, raw_data, raw_words};
 
 use crate::limits::{MAX_CARD_BYTES, MAX_DATA};
+use crate::parsing::read_last_list;
 use crate::spelling::{Spelling, append, append_u16, list_of, put_bytes, rest};
 use arrayvec::ArrayVec;
 use byteorder::{ByteOrder, LittleEndian};
@@ -134,12 +135,7 @@ impl Raw {
         let [reader, format] = fields.numbers_u8::<2>()?;
         let bits = fields.number_u16()?;
         let mut bytes = ArrayVec::new();
-        if !fields.read_byte_list(&mut bytes) {
-            return None;
-        }
-        if !fields.is_empty() {
-            return None;
-        }
+        read_last_list!(fields, bytes);
         if bytes.len() != (usize::from(bits) + 7) / 8 {
             return None;
         }

@@ -10,7 +10,7 @@ ghost use Rattle.osdp_msg.specs.ReplyFields.{NakFits, nak_at, nak_data, nak_word
 use crate::capability::Capability;
 use crate::limits::{MAX_DATA, MAX_DETAIL};
 use crate::nak::NakReason;
-use crate::parsing::{parse_numbers, parse_numbers_and_list};
+use crate::parsing::{parse_numbers, parse_numbers_and_list, read_last_list};
 use crate::spelling::{Spelling, append, append_u32, list_of, put_byte, put_bytes, rest};
 use arrayvec::ArrayVec;
 use byteorder::{ByteOrder, LittleEndian};
@@ -79,12 +79,7 @@ impl Nak {
             });
         }
         let mut detail = ArrayVec::new();
-        if !fields.read_byte_list(&mut detail) {
-            return None;
-        }
-        if !fields.is_empty() {
-            return None;
-        }
+        read_last_list!(fields, detail);
         if detail.is_empty() {
             return None;
         }
