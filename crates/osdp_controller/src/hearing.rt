@@ -2,7 +2,9 @@
 
 ghost use Rattle.std.specs.Prelude.{◌≡◌, ◌<◌, [], ◌∷◌, true, false, Option, None, Some, is_none, is_some, IfSome};
 ghost use Rattle.osdp_controller.specs.declared.meaning.ReplyMeaning.TheVariants.{Plain, Unreadable};
-ghost use Rattle.osdp_controller.specs.declared.report.Report.TheVariants.{Moved, Settled};
+ghost use Rattle.osdp_controller.specs.declared.report.Report.TheVariants.{Moved, PollAnswered, Settled};
+ghost use Rattle.osdp_controller.specs.declared.report.Report.TheVariants as reports;
+ghost use Rattle.osdp_msg.specs.declared.event.Event.TheVariants as events;
 ghost use Rattle.osdp_msg.specs.declared.reply.Reply.TheVariants.{Ack};
 ghost use Rattle.osdp_msg.specs.declared.command.Command.{Command};
 ghost use Rattle.osdp_controller.specs.declared.state.Stage.TheVariants as stages;
@@ -21,7 +23,7 @@ use crate::report::{LostCause, Report};
 use crate::session::Session;
 use crate::state::Stage;
 use osdp_frame::{Address, FrameView, Seq};
-use osdp_msg::{Command, Communication, PdId, Reply};
+use osdp_msg::{Command, Communication, Event, LocalState, PdId, Reply};
 use std::mem;
 
 impl Session {
@@ -158,7 +160,7 @@ impl Session {
         ensures session { self.new ≡ at_rest self.old }
     {
         self.rest();
-        tell_poll(mem::replace(reply, Reply::Ack), report);
+        tell_poll(reply, report);
     }
 
     /// The opening ID is answered by a PDID.
@@ -373,14 +375,50 @@ fn is_ack(reply: &Reply) -> bool
     matches!(reply, Reply::Ack)
 }
 
-/// Tells what the answer to a POLL tells.
-fn tell_poll(reply: Reply, report: &mut Option<Report>)
+/// Tells what the answer to a POLL tells. An event is read into its place in the report, and another reply is taken out of its own.
+// Each function that writes a report stands by itself. So the stack has no more than one of them at a time.
+fn tell_poll(reply: &mut Reply, report: &mut Option<Report>)
     requires { report.old ≡ None }
-    ensures { report.new ≡ poll_told reply (event_in reply) }
+    ensures { report.new ≡ poll_told reply.old (event_in reply.old) }
 {
-    match reply.to_event() {
-        Ok(event) => *report = Some(Report::Event(event)),
-        Err(reply) if is_ack(&reply) => {}
-        Err(reply) => *report = Some(Report::PollAnswered(reply)),
+    if is_ack(reply) {
+        return;
+    }
+    if !tell_event(reply, report) {
+        tell_poll_answered(reply, report);
+    }
+}
+
+/// Tells the event that a reply tells. Whether it tells one.
+fn tell_event(reply: &Reply, report: &mut Option<Report>) -> bool
+    ensures told { result ≡ is_some (event_in reply.now) }
+    ensures report { IfSome (event_in reply.now) (λ event. report.new ≡ Some (reports.Event event)) }
+{
+    begin_event(report);
+    match report {
+        Some(Report::Event(place)) => reply.event_into(place),
+        _ => false,
+    }
+}
+
+/// Puts a report there that has a place for an event.
+#[inline(never)]
+fn begin_event(report: &mut Option<Report>)
+    ensures { report.new ≡ Some (reports.Event (events.LocalState (record { tamper = 0; power = 0 }))) }
+{
+    *report = Some(Report::Event(Event::LocalState(LocalState {
+        tamper: 0,
+        power: 0,
+    })));
+}
+
+/// Tells that a POLL is answered by this reply, which is taken out of its place.
+#[inline(never)]
+fn tell_poll_answered(reply: &mut Reply, report: &mut Option<Report>)
+    ensures { report.new ≡ Some (PollAnswered reply.old) }
+{
+    *report = Some(Report::PollAnswered(Reply::Ack));
+    if let Some(Report::PollAnswered(answered)) = report {
+        mem::swap(answered, reply);
     }
 }
