@@ -1,2 +1,4 @@
 pub mod Putting
+mod SlotForms
+mod Slots
 pub mod Words

@@ -1,5 +1,5 @@
 -- The machine words of a loose box: the pointer, and the allocator's handle after it.
-use Rattle.std.proofs.Common.{◌≡◌, ℕ, List, [], ◌∷◌, ◌++◌, refl, sym, subst, true≢false}
+use Rattle.std.proofs.Common.{◌≡◌, ℕ, List, [], ◌∷◌, ◌++◌, refl, subst}
 use mathlib.Core.Bool.{true, ◌&&◌}
 use lib.Dec.{T}
 use seplogic.Ra.Ura.{Ura}
@@ -24,12 +24,6 @@ use Rattle.core.proofs.cell.Inside.{Good}
 use Rattle.std_alloc.specs.Box.Ownership.{box_owns}
 use Rattle.std_alloc.proofs.BoxSteps.Form.{Bx}
 use Rattle.std_alloc.proofs.ResultValues.{and_tt}
-use Rattle.std.specs.Option.{IsSome}
-use Rattle.std.specs.declared.alloc.Global.{Global}
-use Rattle.std.specs.declared.option.Option.{Option}
-use Rattle.std.specs.declared.option.Option.TheVariants.{None, Some}
-use Rattle.std.specs.contracts.impls.GlobalAllocator.TheImpl.{ghosts}
-use Rattle.osdp_c_values.specs.Owning.{slot_owns}
 use Rattle.osdp_c_values.specs.contracts.loose.Loose as loose
 
 -- a pointer's word and a handle's, as those of a struct of two fields
@@ -77,15 +71,3 @@ module _ (R Z : RattleType) (L : Laws Z) (g : Ghosts Z.Denot) where
         feq_i t (List Val) (v ∷ []) (v ∷ []) refl $ fjoin t $
         fpack t (Valss (RawPtr ∷ Z ∷ [])) (within (shape (loose.the_type R Z g)) (block_ptr b o, (a, tt)) (v ∷ [])) (vptr b o ∷ [], (h ∷ [], tt)) $
         fjoin t $ next)
-
--- the machine that a slot has, where it has one
-module _ {M : Type 1} {𝓤 : Ura M} {𝓛 : Logic 𝓤} {K : Type 0} {Γ : List (Item 𝓤)} {G : Goal 𝓤 𝓛.H} where
-  pub slot_opens : K → (R : RattleType) (p : Ptr) (m : Option R.Denot) → IsSome m
-      → ((b o : ℕ) (a : Global) (x : R.Denot) → p ≡ block_ptr b o → m ≡ Some x
-      → Seq K 𝓛 (‵ (box_owns (ghosts.dealloc_token a) R (block_ptr b o) x) ∷ Γ) G)
-      → Seq K 𝓛 (‵ (slot_owns R p m) ∷ Γ) G
-  slot_opens t R p None wrong next = absurd (true≢false (sym wrong))
-  slot_opens t R p (Some x) some next =
-      fpick t (λ a. in_a_block t p (λ q. box_owns (ghosts.dealloc_token a) R q x)
-      (fst∗ 𝓤 (never 𝓤) (sem 𝓛 (ghosts.dealloc_token a (bare (lone R.mir)) null_ptr)))
-      (λ b o at_is. next b o a x at_is refl))
