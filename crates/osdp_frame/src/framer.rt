@@ -94,13 +94,12 @@ impl Framer {
     pub fn gap(&mut self)
         ensures { self.new ≡ after_gap self.old }
     {
-        if self.ended {
+        let count = self.held.len();
+        if self.ended || count == 0 {
             return;
         }
-        let count = self.held.len();
-        let ended = count > 0;
-        self.first = decided_again(self.first, count, &mut self.held, ended);
-        self.ended = ended;
+        self.first = decided_again(self.first, count, &mut self.held, true);
+        self.ended = true;
     }
 
     /// Takes bytes of the line, and tells how many: all of them, or fewer where 1440 are held then.
@@ -128,9 +127,24 @@ impl Default for Framer {
     }
 }
 
-/// The first item of what is held. Where no running check has gone over it yet, the check of a packet is computed by itself; once it
-/// is a wrong one, the running checks go over these bytes too, since packets may begin within them.
+/// The first item of what is held. Mostly nothing is, which is seen without a call.
+#[inline(always)]
+#[tactic(auto, unfolding(crate::specs::Held::decided))]
 fn first_held(held: &mut Buffer, ended: bool) -> Option<First>
+    ensures same { held.new.bytes ≡ held.old.bytes }
+    ensures part { item_if result held.new.bytes ≡ decided ended held.new.bytes }
+    ensures fits { FirstFits held.new.bytes result }
+{
+    if held.len() == 0 {
+        return None;
+    }
+    first_of_some(held, ended)
+}
+
+/// The same where bytes are held. Where no running check has gone over them yet, the check of a packet is computed by itself; once it
+/// is a wrong one, the running checks go over these bytes too, since packets may begin within them.
+#[inline(never)]
+fn first_of_some(held: &mut Buffer, ended: bool) -> Option<First>
     ensures same { held.new.bytes ≡ held.old.bytes }
     ensures part { item_if result held.new.bytes ≡ decided ended held.new.bytes }
     ensures fits { FirstFits held.new.bytes result }
