@@ -1,5 +1,5 @@
 -- Messages that are kept as a row of bytes.
-use Rattle.std.proofs.Common.{◌≡◌, ◌+◌, ◌≤◌, ◌&&◌, ℕ, suc, Bool, true, false, leb, List, [], ◌∷◌, ◌++◌, length, take, drop, Some, refl, ap, ◌∙◌, arith}
+use Rattle.std.proofs.Common.{◌≡◌, ◌+◌, ◌≤◌, ◌&&◌, ℕ, suc, Bool, true, false, leb, List, [], ◌∷◌, ◌++◌, length, take, drop, Some, refl, ap, ◌∙◌, arith, length-append}
 use Rattle.std.specs.Prelude.{zip}
 use Rattle.std.specs.Result.{result_ok}
 use Rattle.std.proofs.Math.Seq.{take-length}
@@ -55,6 +55,13 @@ parts_more size_of part_of (first ∷ places) row place own whole is =
     ap (λ (bytes : List ℕ). part_of first bytes ∷ parts size_of part_of (places ++ place ∷ []) (drop n (row ++ own))) (take-append-le n row own room)
     ∙ ap (λ (bytes : List ℕ). part_of first (take n row) ∷ parts size_of part_of (places ++ place ∷ []) bytes) (drop-append-le n row own room)
     ∙ ap (λ others. part_of first (take n row) ∷ others) rest
+
+-- so a place and its own bytes that are added, each after the others of its list, are one part more, and the bytes still as many as all have
+pub one_more : {S T : Type 0} (size_of : S → ℕ) (part_of : S → List ℕ → T) (places : List S) (row : List ℕ) (place : S) (own : List ℕ) (more : List S) (bytes : List ℕ)
+    → total size_of places ≡ length row → size_of place ≡ length own → more ≡ places ++ place ∷ [] → bytes ≡ row ++ own
+    → (total size_of more ≡ length bytes) × (parts size_of part_of more bytes ≡ parts size_of part_of places row ++ part_of place own ∷ [])
+one_more size_of part_of places row place own more bytes whole is added told =
+    rw (added, told) (omega (arith, total_more size_of places place, length-append row own, whole, is), parts_more size_of part_of places row place own whole is)
 
 -- .. and as many as there are places
 pub parts_length : {S T : Type 0} (size_of : S → ℕ) (part_of : S → List ℕ → T) (places : List S) (row : List ℕ)

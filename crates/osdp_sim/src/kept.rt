@@ -1,6 +1,6 @@
 //! Lists of messages in little memory.
 
-ghost use Rattle.std.specs.Prelude.{◌≡◌, ◌≤◌, ◌∷◌, ◌++◌, [], true, length, OnOk};
+ghost use Rattle.std.specs.Prelude.{◌≡◌, ◌+◌, ◌≤◌, ◌∷◌, ◌++◌, [], true, length, vec_capacity, vec_len, OnOk};
 ghost use Rattle.std.specs.Iterator.{YieldsFirst, item_count};
 
 use crate::message::{Message, Spelling};
@@ -79,7 +79,7 @@ impl<M: Message> Kept<M> {
         requires size { length own.now ≤ MAX_MESSAGE }
         ensures { self.new.items ≡ self.old.items ++ M.kept own.now ∷ [] }
     {
-        let _ = self.row.extend_from_slice(own);
+        put(&mut self.row, own);
         self.sizes.push_reserved(own.len() as u16);
     }
 
@@ -93,6 +93,14 @@ impl<M: Message> Kept<M> {
             kind: PhantomData,
         }
     }
+}
+
+/// Adds bytes to a row that has room for them.
+fn put(row: &mut Vec<u8>, own: &[u8])
+    requires { vec_len row.old + length own.now ≤ vec_capacity row.old }
+    ensures { row.new.items ≡ row.old.items ++ own.now }
+{
+    let _ = row.extend_from_slice(own);
 }
 
 /// The messages that are still to come.
