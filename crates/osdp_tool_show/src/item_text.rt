@@ -8,7 +8,7 @@ ghost use Rattle.osdp_tool_show.specs.ToldItems.{shown_line, end_line};
 
 use crate::Detail;
 use crate::hex_text::push_bytes;
-use crate::message_text::{Told, is_refused, push_message};
+use crate::message_text::{Told, bare_command, bare_reply, is_refused, push_message};
 use crate::number::push_number;
 use crate::packet_text::push_head;
 use crate::tally::Tally;
@@ -93,10 +93,13 @@ fn bare_name(view: &FrameView<'_>) -> Option<&'static str>
     requires { view.now.block ≡ false }
     ensures { IfSome result (λ name. (body_text view.now ≡ name.now) × (is_refusal (PacketItem view.now) ≡ false)) }
 {
-    if view.is_reply() {
-        return Reply::bare(view.code(), view.payload());
+    if !view.payload().is_empty() {
+        return None;
     }
-    Command::bare(view.code(), view.payload())
+    if view.is_reply() {
+        return bare_reply(view.code());
+    }
+    bare_command(view.code())
 }
 
 /// Writes the line of a packet whose message is read to be told, and says whether it is refused.

@@ -1,6 +1,7 @@
 //! What is told of a packet's code and data.
 
-ghost use Rattle.std.specs.Prelude.{◌≡◌, ◌++◌, ℕ, Bool, List, false, true, IfSome, OnOk, string_bytes};
+ghost use Rattle.std.specs.Prelude.{◌≡◌, ◌++◌, ℕ, Bool, List, [], false, true, IfSome, OnOk, Some, string_bytes};
+ghost use Rattle.std.proofs.Common.{refl};
 ghost use Rattle.osdp_tool_show.specs.ItemText.{data_text, unread_text, told_text, is_refused, is_refused_message, message_text};
 ghost use Rattle.osdp_msg.specs.CommandText.{command_text};
 ghost use Rattle.osdp_msg.specs.ReplyText.{reply_text};
@@ -8,28 +9,22 @@ ghost use Rattle.osdp_msg.specs.ReplyText.{reply_text};
 use crate::hex_text::push_bytes;
 use osdp_msg::{Command, MsgFault, Reply};
 use std::alloc::AllocError;
+use std::fmt;
 
 /// The messages of one direction, as they are told.
-pub(crate) trait Told: Drop {
+pub(crate) trait Told: Drop + fmt::Display {
     /// They are replies.
     ghost reply: { Bool };
 
     /// What is told of a message.
     ghost told: { Self → List ℕ };
 
-    /// What is told of a message without data, where that is its name alone: most packets of a line are such, and
-    /// are told without a value of the message.
-    fn bare(code: u8, bytes: &[u8]) -> Option<&'static str>
-        ensures { IfSome result (λ name. (message_text reply code bytes.now ≡ name.now) × (is_refused_message reply code bytes.now ≡ false)) };
-
     /// The message of a code and data.
     fn read_message(code: u8, bytes: &[u8]) -> Result<Self, MsgFault>
         ensures told { told_text told result code bytes.now ≡ message_text reply code bytes.now }
         ensures refused { is_refused result ≡ is_refused_message reply code bytes.now };
 
-    /// Writes what is told of the message.
-    fn push_text(&self, text: &mut String) -> Result<(), AllocError>
-        ensures { OnOk result (string_bytes text.new ≡ string_bytes text.old ++ told self.now) };
+    ghost prints: { (message : Self) → Self.output message ≡ Some (told message) };
 }
 
 impl Told for Command {
@@ -37,29 +32,11 @@ impl Told for Command {
 
     ghost told = { command_text };
 
-    #[inline(always)]
-    fn bare(code: u8, bytes: &[u8]) -> Option<&'static str> {
-        if !bytes.is_empty() {
-            return None;
-        }
-        match code {
-            0x60 => Some("POLL"),
-            0x64 => Some("LSTAT"),
-            0x65 => Some("ISTAT"),
-            0x66 => Some("OSTAT"),
-            0x67 => Some("RSTAT"),
-            _ => None,
-        }
-    }
+    ghost prints = { λ message. refl };
 
     #[inline(always)]
     fn read_message(code: u8, bytes: &[u8]) -> Result<Command, MsgFault> {
         Command::read(code, bytes)
-    }
-
-    #[inline(always)]
-    fn push_text(&self, text: &mut String) -> Result<(), AllocError> {
-        write!(text, "{self}")
     }
 }
 
@@ -68,26 +45,39 @@ impl Told for Reply {
 
     ghost told = { reply_text };
 
-    #[inline(always)]
-    fn bare(code: u8, bytes: &[u8]) -> Option<&'static str> {
-        if !bytes.is_empty() {
-            return None;
-        }
-        match code {
-            0x40 => Some("ACK"),
-            0x79 => Some("BUSY"),
-            _ => None,
-        }
-    }
+    ghost prints = { λ message. refl };
 
     #[inline(always)]
     fn read_message(code: u8, bytes: &[u8]) -> Result<Reply, MsgFault> {
         Reply::read(code, bytes)
     }
+}
 
-    #[inline(always)]
-    fn push_text(&self, text: &mut String) -> Result<(), AllocError> {
-        write!(text, "{self}")
+/// What is told of a command without data, where that is its name alone: most packets of a line are such, and
+/// are told without a value of the message.
+#[inline(always)]
+pub(crate) fn bare_command(code: u8) -> Option<&'static str>
+    ensures { IfSome result (λ name. (message_text false code [] ≡ name.now) × (is_refused_message false code [] ≡ false)) }
+{
+    match code {
+        0x60 => Some("POLL"),
+        0x64 => Some("LSTAT"),
+        0x65 => Some("ISTAT"),
+        0x66 => Some("OSTAT"),
+        0x67 => Some("RSTAT"),
+        _ => None,
+    }
+}
+
+/// The same of a reply.
+#[inline(always)]
+pub(crate) fn bare_reply(code: u8) -> Option<&'static str>
+    ensures { IfSome result (λ name. (message_text true code [] ≡ name.now) × (is_refused_message true code [] ≡ false)) }
+{
+    match code {
+        0x40 => Some("ACK"),
+        0x79 => Some("BUSY"),
+        _ => None,
     }
 }
 
@@ -137,7 +127,7 @@ pub(crate) fn push_message<M: Told>(
     ensures { OnOk result (string_bytes text.new ≡ string_bytes text.old ++ told_text M.told read.now code bytes.now) }
 {
     match read {
-        Ok(message) => message.push_text(text),
+        Ok(message) => write!(text, "{message}"),
         Err(fault) => push_unread(text, *fault, code, bytes),
     }
 }
