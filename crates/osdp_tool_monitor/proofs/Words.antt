@@ -2,12 +2,13 @@
 use Rattle.std.proofs.Common.{◌≡◌, ◌↔◌, ℕ, List, [], ◌∷◌, ◌++◌, Option, Some, None, refl, sym, ap, ◌∙◌}
 use Rattle.std.specs.Prelude.{flat_map}
 use Rattle.std.specs.Fmt.{decimal}
+use Rattle.osdp_frame.specs.Times.{IsTime}
 use Rattle.osdp_tool_monitor.specs.declared.mode.MonitorMode.{MonitorMode}
 use Rattle.osdp_tool_monitor.specs.declared.mode.MonitorOption.{MonitorOption}
 use Rattle.osdp_tool_monitor.specs.declared.mode.MonitorOption.TheVariants.{Hex, Packets, Gap, Every}
 use Rattle.osdp_tool_monitor.specs.declared.mode.OptionName.{OptionName}
 use Rattle.osdp_tool_monitor.specs.declared.mode.OptionName.TheVariants as name
-use Rattle.osdp_tool_monitor.specs.Options.{AreOptions, OptionFits, ReadsMode, TakesOption, Words, default_mode, name_text, option_words, with_option, with_options}
+use Rattle.osdp_tool_monitor.specs.Options.{AreOptions, OptionFits, ReadsMode, TakesNumber, TakesOption, Words, default_mode, name_text, numbered, option_words, with_option, with_options}
 
 -- what was read of the words, and what is left of them: options of what is left are the last of all
 pub record Left (given left : Words) (mode : MonitorMode) : Type 0 where
@@ -84,6 +85,38 @@ module _ (word : List ℕ) (left : Words) (found : Option OptionName) (is : (n :
     word_is : word ≡ name_text n
     word_is = (is n).0 named
 
+    -- an option with a number: the words that begin with it, and what is left after it
+    with_number : (option : ℕ → MonitorOption) (m : OptionName) → ((k : ℕ) → option_words (option k) ≡ name_text m ∷ decimal k ∷ [])
+        → ((k : ℕ) → IsTime k → OptionFits (option k)) → (o : MonitorOption) (rest : List MonitorOption) → n ≡ m
+        → (t : Option ℕ) → TakesNumber left next t → Some o ≡ numbered option t → AreOptions next rest → AreOptions (word ∷ left) (o ∷ rest)
+    with_number option m are fits o rest e None takes took g = absurd cc
+    with_number option m are fits o rest e (Some k) takes took g =
+        let o_is : o ≡ option k = cc in
+        record {
+          are = rw (o_is, are k) (ap (λ w. w ∷ left) (word_is ∙ ap name_text e) ∙ ap (λ l. name_text m ∷ l) (takes.value.1 ∙ ap (λ l. decimal k ∷ l) g.are));
+          fit = rw o_is (fits k takes.value.0, g.fit);
+        }
+
+    after_number : (option : ℕ → MonitorOption) (o : MonitorOption) (k : ℕ) (rest : Words) (t : Option ℕ) → TakesNumber left next t
+        → Some o ≡ numbered option t → IsTime k → left ≡ decimal k ∷ rest → (o ≡ option k) × (next ≡ rest)
+    after_number option o k rest None takes took fit given = absurd cc
+    after_number option o k rest (Some j) takes took fit given =
+        let some = takes.only k rest fit given in
+        let front = takes.value.1 in
+        let one : o ≡ option k = cc in
+        let two : next ≡ rest = cc in
+        (one, two)
+
+    without_number : (option : ℕ → MonitorOption) (k : ℕ) (rest : Words) (t : Option ℕ) → TakesNumber left next t → None ≡ numbered option t
+        → IsTime k → left ≡ decimal k ∷ rest → ⊥
+    without_number option k rest None takes took fit given =
+        let some = takes.only k rest fit given in
+        cc
+    without_number option k rest (Some j) takes took fit given = cc
+
+    number_stands : (k : ℕ) (name : List ℕ) (rest : Words) → word ∷ left ≡ name ∷ decimal k ∷ rest → left ≡ decimal k ∷ rest
+    number_stands k name rest h = cc
+
     -- words that begin with it
     with_it : (m : OptionName) (o : MonitorOption) (rest : List MonitorOption) → n ≡ m → TakesOption m left next (Some o) → AreOptions next rest
         → AreOptions (word ∷ left) (o ∷ rest)
@@ -93,20 +126,8 @@ module _ (word : List ℕ) (left : Words) (found : Option OptionName) (is : (n :
     with_it name.Packets o rest e (took, same) g =
         let o_is : o ≡ Packets = cc in
         record { are = rw o_is (ap (λ w. w ∷ left) (word_is ∙ ap name_text e) ∙ ap (λ l. name_text name.Packets ∷ l) (sym same ∙ g.are)); fit = rw o_is (tt, g.fit) }
-    with_it name.Gap o rest e (None, takes, took) g = absurd cc
-    with_it name.Gap o rest e (Some k, takes, took) g =
-        let o_is : o ≡ Gap k = cc in
-        record {
-          are = rw o_is (ap (λ w. w ∷ left) (word_is ∙ ap name_text e) ∙ ap (λ l. name_text name.Gap ∷ l) (takes.value.1 ∙ ap (λ l. decimal k ∷ l) g.are));
-          fit = rw o_is (takes.value.0, g.fit);
-        }
-    with_it name.Every o rest e (None, takes, took) g = absurd cc
-    with_it name.Every o rest e (Some k, takes, took) g =
-        let o_is : o ≡ Every k = cc in
-        record {
-          are = rw o_is (ap (λ w. w ∷ left) (word_is ∙ ap name_text e) ∙ ap (λ l. name_text name.Every ∷ l) (takes.value.1 ∙ ap (λ l. decimal k ∷ l) g.are));
-          fit = rw o_is (takes.value.0, g.fit);
-        }
+    with_it name.Gap o rest e (t, takes, took) g = with_number Gap name.Gap (λ k. refl) (λ k fits. fits) o rest e t takes took g
+    with_it name.Every o rest e (t, takes, took) g = with_number Every name.Every (λ k. refl) (λ k fits. fits) o rest e t takes took g
 
     -- what is left after it
     after_it : (m : OptionName) (o p : MonitorOption) (others : List MonitorOption) → n ≡ m → TakesOption m left next (Some o)
@@ -126,32 +147,12 @@ module _ (word : List ℕ) (left : Words) (found : Option OptionName) (is : (n :
     after_it name.Packets o (Every k) others e took h fit clash = absurd cc
     after_it name.Gap o Hex others e took h fit clash = absurd cc
     after_it name.Gap o Packets others e took h fit clash = absurd cc
-    after_it name.Gap o (Gap k) others e (None, takes, took) h fit clash =
-        let rest : left ≡ decimal k ∷ flat_map option_words others = cc in
-        let none = takes.only k (flat_map option_words others) fit rest in
-        absurd cc
-    after_it name.Gap o (Gap k) others e (Some j, takes, took) h fit clash =
-        let rest : left ≡ decimal k ∷ flat_map option_words others = cc in
-        let some = takes.only k (flat_map option_words others) fit rest in
-        let front = takes.value.1 in
-        let one : o ≡ Gap k = cc in
-        let two : next ≡ flat_map option_words others = cc in
-        (one, two)
+    after_it name.Gap o (Gap k) others e (t, takes, took) h fit clash = after_number Gap o k _ t takes took fit (number_stands k _ _ h)
     after_it name.Gap o (Every k) others e took h fit clash = absurd cc
     after_it name.Every o Hex others e took h fit clash = absurd cc
     after_it name.Every o Packets others e took h fit clash = absurd cc
     after_it name.Every o (Gap k) others e took h fit clash = absurd cc
-    after_it name.Every o (Every k) others e (None, takes, took) h fit clash =
-        let rest : left ≡ decimal k ∷ flat_map option_words others = cc in
-        let none = takes.only k (flat_map option_words others) fit rest in
-        absurd cc
-    after_it name.Every o (Every k) others e (Some j, takes, took) h fit clash =
-        let rest : left ≡ decimal k ∷ flat_map option_words others = cc in
-        let some = takes.only k (flat_map option_words others) fit rest in
-        let front = takes.value.1 in
-        let one : o ≡ Every k = cc in
-        let two : next ≡ flat_map option_words others = cc in
-        (one, two)
+    after_it name.Every o (Every k) others e (t, takes, took) h fit clash = after_number Every o k _ t takes took fit (number_stands k _ _ h)
 
     none_after : (m : OptionName) (p : MonitorOption) (others : List MonitorOption) → TakesOption m left next None → word ∷ left ≡ option_words p ++ flat_map option_words others
         → OptionFits p → m ≡ name_of p → ⊥
@@ -166,20 +167,12 @@ module _ (word : List ℕ) (left : Words) (found : Option OptionName) (is : (n :
     none_after name.Packets (Every k) others (took, same) h fit clash = cc
     none_after name.Gap Hex others took h fit clash = cc
     none_after name.Gap Packets others took h fit clash = cc
-    none_after name.Gap (Gap k) others (None, takes, took) h fit clash =
-        let rest : left ≡ decimal k ∷ flat_map option_words others = cc in
-        let some = takes.only k (flat_map option_words others) fit rest in
-        cc
-    none_after name.Gap (Gap k) others (Some j, takes, took) h fit clash = cc
+    none_after name.Gap (Gap k) others (t, takes, took) h fit clash = without_number Gap k _ t takes took fit (number_stands k _ _ h)
     none_after name.Gap (Every k) others took h fit clash = cc
     none_after name.Every Hex others took h fit clash = cc
     none_after name.Every Packets others took h fit clash = cc
     none_after name.Every (Gap k) others took h fit clash = cc
-    none_after name.Every (Every k) others (None, takes, took) h fit clash =
-        let rest : left ≡ decimal k ∷ flat_map option_words others = cc in
-        let some = takes.only k (flat_map option_words others) fit rest in
-        cc
-    none_after name.Every (Every k) others (Some j, takes, took) h fit clash = cc
+    none_after name.Every (Every k) others (t, takes, took) h fit clash = without_number Every k _ t takes took fit (number_stands k _ _ h)
 
     pub left_more : (given : Words) (mode : MonitorMode) (o : MonitorOption) → Left given (word ∷ left) mode → TakesOption n left next (Some o)
         → Left given next (with_option o mode)
