@@ -1,8 +1,8 @@
 -- The rows of the table, one after the other.
 use Rattle.std.proofs.Common.{◌≡◌, ℕ, ◌+◌, ◌<◌, ◌≤◌, List, [], ◌∷◌, ◌++◌, length, get_or, drop, refl, sym, ◌∙◌, ap, append_assoc, append-nil}
-use Rattle.std.proofs.lemmas.List.{drop_all, drop_more}
+use Rattle.std.proofs.lemmas.List.{drop_all, drop_more, flat_map_more}
 use Rattle.osdp_tool_monitor.specs.declared.counts.Counts.{Counts}
-use Rattle.osdp_tool_monitor.specs.Counts.{row_if, rows_from}
+use Rattle.osdp_tool_monitor.specs.Counts.{column, columns, row_if, rows_from}
 
 rows_cons : (k : ℕ) (c : Counts) (counts : List Counts) → rows_from k (c ∷ counts) ≡ row_if k c ++ rows_from (k + 1) counts
 unfolding rows_from
@@ -23,3 +23,7 @@ rows_step before after all counts k c within is wrote so_far =
 pub rows_end : (before all : List ℕ) (counts : List Counts) (k : ℕ) → length counts ≤ k → before ++ rows_from k (drop k counts) ≡ all → before ≡ all
 rows_end before all counts k past so_far =
     sym (append-nil before) ∙ ap (λ x. before ++ x) (sym (ap (rows_from k) (drop_all k counts past) ∙ rows_nil k)) ∙ so_far
+
+pub columns_more : (before : List ℕ) (numbers : List (ℕ × ℕ)) (x : ℕ × ℕ) → (before ++ columns numbers) ++ column x.0 x.1 ≡ before ++ columns (numbers ++ x ∷ [])
+unfolding columns
+columns_more before numbers x = flat_map_more (λ (y : ℕ × ℕ). column y.0 y.1) before numbers x

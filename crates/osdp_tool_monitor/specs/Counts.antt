@@ -1,5 +1,5 @@
 -- What is counted of each address, and the table of it.
-use Rattle.std.specs.Prelude.{ℕ, ◌+◌, ◌-◌, ◌^◌, ◌==◌, ◌&&◌, not, nat_lt, Bool, true, false, if◌then◌else◌, List, [], ◌∷◌, ◌++◌, codes, length, replicate, slice_index_or, slice_set, is_some, Option, Some, Result, Ok}
+use Rattle.std.specs.Prelude.{ℕ, ◌+◌, ◌-◌, ◌^◌, ◌==◌, ◌&&◌, not, nat_lt, Bool, true, false, if◌then◌else◌, List, [], ◌∷◌, ◌++◌, codes, flat_map, length, replicate, slice_index_or, slice_set, is_some, Option, Some, Result, Ok}
 use Rattle.std.specs.Fmt.{decimal}
 use Rattle.osdp_frame.specs.Packet.{Packet}
 use Rattle.osdp_monitor.specs.declared.found.Found.{Found}
@@ -101,18 +101,19 @@ address_column address = decimal address ++ replicate (6 - length (decimal addre
 unfoldable pub heading : List ℕ
 heading = codes "device  asked  polls repeats  answered  busy  nak  events  opened  moved  accused\n"
 
--- a line for each address to which or from which something came: what was asked, what was answered, and the rest
-abbrev pub asked_columns : ℕ → Counts → List ℕ
-asked_columns address c = address_column address ++ (column 6 c.asked ++ (column 6 c.polls ++ column 7 c.repeats))
+-- numbers, each after the room of its column
+unfoldable pub columns : List (ℕ × ℕ) → List ℕ
+columns numbers = flat_map (λ (x : ℕ × ℕ). column x.0 x.1) numbers
 
-abbrev pub answered_columns : Counts → List ℕ
-answered_columns c = column 9 c.answered ++ (column 5 c.busy ++ (column 4 c.nak ++ column 7 c.events))
+-- what was asked, what was answered, and the rest
+abbrev pub counted_columns : Counts → List (ℕ × ℕ)
+counted_columns c =
+    (6, c.asked) ∷ (6, c.polls) ∷ (7, c.repeats) ∷ (9, c.answered) ∷ (5, c.busy) ∷ (4, c.nak) ∷ (7, c.events) ∷ (7, c.opened) ∷ (6, c.moved)
+    ∷ (8, c.accused) ∷ []
 
-abbrev pub other_columns : Counts → List ℕ
-other_columns c = column 7 c.opened ++ (column 6 c.moved ++ (column 8 c.accused ++ codes "\n"))
-
+-- a line for each address to which or from which something came
 abbrev pub row : ℕ → Counts → List ℕ
-row address c = asked_columns address c ++ (answered_columns c ++ other_columns c)
+row address c = address_column address ++ (columns (counted_columns c) ++ codes "\n")
 
 abbrev pub is_silent : Counts → Bool
 is_silent c = c.asked == 0 && c.answered == 0 && c.busy == 0 && c.nak == 0

@@ -1,7 +1,7 @@
 //! The table of what was counted.
 
 ghost use Rattle.std.specs.Prelude.{◌≡◌, ◌++◌, ◌-◌, ◌<◌, ◌≤◌, OnOk, Some, slice_get, length, replicate, string_bytes};
-ghost use Rattle.osdp_tool_monitor.specs.Counts.{address_column, answered_columns, asked_columns, column, counts_line, heading, other_columns, row, row_if, rows_from, table_of};
+ghost use Rattle.osdp_tool_monitor.specs.Counts.{address_column, column, columns, counted_columns, counts_line, heading, row, row_if, rows_from, table_of};
 
 use crate::counts::Counts;
 use itoa::Buffer;
@@ -39,43 +39,43 @@ fn push_address(text: &mut String, address: u64) -> Result<(), AllocError>
     push_spaces(text, 6_usize.saturating_sub(digits.len()))
 }
 
-/// Writes what was asked of an address.
-fn push_asked(text: &mut String, address: u64, counts: &Counts) -> Result<(), AllocError>
-    ensures { OnOk result (string_bytes text.new ≡ string_bytes text.old ++ asked_columns address counts.now) }
+/// Writes numbers, each to the right of its column, whose room stands before it.
+#[tactic(auto, unfolding(crate::specs::Counts::columns))]
+fn push_columns(text: &mut String, numbers: &[(usize, u64)]) -> Result<(), AllocError>
+    ensures { OnOk result (string_bytes text.new ≡ string_bytes text.old ++ columns numbers.now) }
 {
-    push_address(text, address)?;
-    push_column(text, 6, counts.asked)?;
-    push_column(text, 6, counts.polls)?;
-    push_column(text, 7, counts.repeats)
+    for number in numbers {
+        push_column(text, number.0, number.1)?;
+    }
+    Ok(())
 }
 
-/// Writes what it answered.
-fn push_answered(text: &mut String, counts: &Counts) -> Result<(), AllocError>
-    ensures { OnOk result (string_bytes text.new ≡ string_bytes text.old ++ answered_columns counts.now) }
+/// Writes what was counted of an address: what was asked of it, what it answered, and what was found of it.
+fn push_counted(text: &mut String, counts: &Counts) -> Result<(), AllocError>
+    ensures { OnOk result (string_bytes text.new ≡ string_bytes text.old ++ columns (counted_columns counts.now)) }
 {
-    push_column(text, 9, counts.answered)?;
-    push_column(text, 5, counts.busy)?;
-    push_column(text, 4, counts.nak)?;
-    push_column(text, 7, counts.events)
-}
-
-/// Writes what was found of it, and the end of the line.
-fn push_others(text: &mut String, counts: &Counts) -> Result<(), AllocError>
-    ensures { OnOk result (string_bytes text.new ≡ string_bytes text.old ++ other_columns counts.now) }
-{
-    push_column(text, 7, counts.opened)?;
-    push_column(text, 6, counts.moved)?;
-    push_column(text, 8, counts.accused)?;
-    text.push_str("\n")
+    let counted = [
+        (6, counts.asked),
+        (6, counts.polls),
+        (7, counts.repeats),
+        (9, counts.answered),
+        (5, counts.busy),
+        (4, counts.nak),
+        (7, counts.events),
+        (7, counts.opened),
+        (6, counts.moved),
+        (8, counts.accused),
+    ];
+    push_columns(text, &counted)
 }
 
 /// Writes the line of an address.
 fn push_row(text: &mut String, address: u64, counts: &Counts) -> Result<(), AllocError>
     ensures { OnOk result (string_bytes text.new ≡ string_bytes text.old ++ row address counts.now) }
 {
-    push_asked(text, address, counts)?;
-    push_answered(text, counts)?;
-    push_others(text, counts)
+    push_address(text, address)?;
+    push_counted(text, counts)?;
+    text.push_str("\n")
 }
 
 /// Writes the line of an address, where something came to it or from it.

@@ -1,0 +1,6 @@
+use Rattle.std.proofs.Common.{◌≡◌, ◌++◌, string_bytes, take}
+use Rattle.osdp_tool_monitor.specs.Counts.{columns}
+use Rattle.osdp_tool_monitor.proofs.table.push_columns.Given as goal
+
+abbrev pub invariant-loop-number : goal.invariant-loop-number
+invariant-loop-number l = string_bytes l.text ≡ string_bytes l.initial.text ++ columns (take l.number-index l.numbers)
