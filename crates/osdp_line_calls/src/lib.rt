@@ -48,6 +48,7 @@ mod reader_machine;
 mod reader_say;
 mod reader_session;
 mod run;
+mod settings;
 mod values;
 mod words;
 mod wrong;

@@ -12,12 +12,13 @@ ghost use Rattle.osdp_line_calls.specs.Wrong.{IsWrong};
 
 use crate::panel_session::LinePanel;
 use crate::run::LineCommand;
+use crate::settings::{Configured, read_settings};
 use crate::values::{room, sends, time};
 use crate::wrong::WrongSetting;
 use osdp_bus::BusConfig;
 use osdp_frame::CheckKind;
 use osdp_tool_streams::ToolFault;
-use osdp_words::{Fields, number_u8};
+use osdp_words::number_u8;
 use std::alloc::Global;
 
 /// What one setting of a panel sets. Times are in milliseconds, 1 to 3,600,000.
@@ -80,6 +81,32 @@ impl PanelSetting {
     }
 }
 
+impl Configured for BusConfig {
+    type Setting = PanelSetting;
+
+    ghost entry = { entry };
+
+    ghost put = { put };
+
+    ghost defaults = { defaults };
+
+    ghost is_in_range = { IsBusConfig };
+
+    fn default_settings() -> BusConfig {
+        BusConfig::new(CheckKind::Crc, 64)
+    }
+
+    fn parse(name: &str, value: &str) -> Option<PanelSetting> {
+        PanelSetting::parse(name, value)
+    }
+
+    fn set(self, setting: PanelSetting) -> Option<BusConfig> {
+        let mut config = self;
+        setting.set(&mut config);
+        Some(config)
+    }
+}
+
 /// The bus that the words set: each name, in any order, with its value after it. What no word sets has its default, and where
 /// a name stands twice, its later value holds. Where the words are no settings, the first that are none.
 pub fn panel_settings<'a>(words: &'a [&'a str]) -> Result<BusConfig, WrongSetting<'a>>
@@ -87,18 +114,7 @@ pub fn panel_settings<'a>(words: &'a [&'a str]) -> Result<BusConfig, WrongSettin
     ensures range { IfOk result IsBusConfig }
     ensures wrong { IfErr result (λ wrong. IsWrong (setting_words entry) (SettingFits entry) put defaults (texts words.now) wrong) }
 {
-    let mut config = BusConfig::new(CheckKind::Crc, 64);
-    let mut fields = Fields::new(words);
-    'settings: while let Some(name) = fields.word() {
-        let Some(value) = fields.word() else {
-            return Err(WrongSetting::NoValue(name));
-        };
-        let Some(setting) = PanelSetting::parse(name, value) else {
-            return Err(WrongSetting::NoSetting(name, value));
-        };
-        setting.set(&mut config);
-    }
-    Ok(config)
+    read_settings(words)
 }
 
 impl LineCommand for LinePanel {

@@ -11,6 +11,7 @@ ghost use Rattle.osdp_line_calls.specs.Wrong.{IsWrong};
 
 use crate::reader_session::LineDevice;
 use crate::run::LineCommand;
+use crate::settings::{Configured, read_settings};
 use crate::values::{device_address, room, time, triple};
 use crate::wrong::WrongSetting;
 use arrayvec::ArrayVec;
@@ -18,7 +19,7 @@ use osdp_frame::Address;
 use osdp_msg::{Capability, PdCap, PdId};
 use osdp_reader::ReaderConfig;
 use osdp_tool_streams::ToolFault;
-use osdp_words::{Fields, number_u8, number_u32, vendor};
+use osdp_words::{number_u8, number_u32, vendor};
 use std::alloc::Global;
 
 /// What one setting of a reader sets.
@@ -143,6 +144,30 @@ fn default_settings() -> ReaderSettings
     }
 }
 
+impl Configured for ReaderSettings {
+    type Setting = ReaderSetting;
+
+    ghost entry = { entry };
+
+    ghost put = { put };
+
+    ghost defaults = { defaults };
+
+    ghost is_in_range = { AreInRange };
+
+    fn default_settings() -> ReaderSettings {
+        default_settings()
+    }
+
+    fn parse(name: &str, value: &str) -> Option<ReaderSetting> {
+        ReaderSetting::parse(name, value)
+    }
+
+    fn set(self, setting: ReaderSetting) -> Option<ReaderSettings> {
+        setting.set(self)
+    }
+}
+
 /// The reader that the words set: each name, in any order, with its value after it. What no word sets has its default; where a
 /// name stands twice, its later value holds, but each `cap` adds a capability, 477 at most. Where the words are no settings, the
 /// first that are none.
@@ -151,21 +176,7 @@ pub fn reader_settings<'a>(words: &'a [&'a str]) -> Result<ReaderSettings, Wrong
     ensures range { IfOk result AreInRange }
     ensures wrong { IfErr result (λ wrong. IsWrong (setting_words entry) (SettingFits entry) put defaults (texts words.now) wrong) }
 {
-    let mut settings = default_settings();
-    let mut fields = Fields::new(words);
-    'settings: while let Some(name) = fields.word() {
-        let Some(value) = fields.word() else {
-            return Err(WrongSetting::NoValue(name));
-        };
-        let Some(setting) = ReaderSetting::parse(name, value) else {
-            return Err(WrongSetting::NoSetting(name, value));
-        };
-        let Some(set) = setting.set(settings) else {
-            return Err(WrongSetting::OneTooMany(name, value));
-        };
-        settings = set;
-    }
-    Ok(settings)
+    read_settings(words)
 }
 
 impl LineCommand for LineDevice {

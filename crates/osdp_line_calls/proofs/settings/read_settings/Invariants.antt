@@ -1,13 +1,14 @@
 use Rattle.std.proofs.Common.{length}
 use Rattle.osdp_words.specs.Word.{texts}
 use Rattle.osdp_line_calls.specs.Settings.{SettingFits, setting_words}
-use Rattle.osdp_line_calls.specs.ReaderSettings.{AreInRange, defaults, entry, put}
 use Rattle.osdp_line_calls.proofs.FirstWrong.{Known}
-use Rattle.osdp_line_calls.proofs.reader_command.reader_settings.Given as goal
+use Rattle.osdp_line_calls.proofs.settings.read_settings.Given as goal
 
 -- what is set so far, and the words that are left
 abbrev pub invariant-settings : goal.invariant-settings
-invariant-settings l = AreInRange l.settings × Known (setting_words entry) (SettingFits entry) put defaults (texts l.fn.words) l.fields l.settings
+invariant-settings g l =
+    g.C.Configured.is_in_range l.settings
+    × Known (setting_words g.C.Configured.entry) (SettingFits g.C.Configured.entry) g.C.Configured.put g.C.Configured.defaults (texts l.fn.words) l.fields l.settings
 
 abbrev pub decreases-settings : goal.decreases-settings
-decreases-settings l = length l.fields
+decreases-settings g l = length l.fields

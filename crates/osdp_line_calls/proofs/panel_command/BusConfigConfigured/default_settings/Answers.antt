@@ -1,0 +1,7 @@
+use Rattle.std.proofs.Common.{subst, sym}
+use Rattle.osdp_bus.specs.Settings.{IsBusConfig}
+use Rattle.osdp_line_calls.proofs.Ranges.{bus_in_range}
+use Rattle.osdp_line_calls.proofs.panel_command.BusConfigConfigured.default_settings.Goals as goal
+
+pub returns-clause-range : goal.returns-clause-range
+returns-clause-range c = subst IsBusConfig (sym c.new.ensures) bus_in_range
