@@ -31,9 +31,11 @@ impl PanelMachine {
         ensures bus { self.new ≡ ticked now self.old }
         ensures written { IsSentIn (bus_ticks now self.old.bus).sent burst.old burst.new }
     {
-        self.sent.value.clear();
-        self.bus.tick_into(now, &mut self.sent.value);
-        burst.set(self.sent.value.as_slice());
+        if self.bus.tick_into(now, &mut self.sent.value) {
+            burst.set(self.sent.value.as_slice());
+        } else {
+            burst.set(&[]);
+        }
     }
 }
 
