@@ -4,7 +4,9 @@ ghost use Rattle.circular_buffer.specs.Buffer.{buffer};
 ghost use Rattle.osdp_controller.specs.Comsets.{is_comset};
 ghost use Rattle.osdp_controller.specs.Private.{after_act, frame_if, is_over, next_in};
 ghost use Rattle.osdp_controller.specs.Ticking.{stays, ticks_in};
-ghost use Rattle.std.specs.Prelude.{◌≡◌, ◌↔◌, ◌*◌, ◌+◌, ◌≤◌, IfErr, None, Some, OnOk, drop, is_some, length, option_copied, true, false};
+ghost use Rattle.osdp_controller.specs.declared.report.Report.TheVariants.{Settled};
+ghost use Rattle.osdp_msg.specs.declared.reply.Reply.TheVariants.{Ack};
+ghost use Rattle.std.specs.Prelude.{◌≡◌, ◌↔◌, ◌*◌, ◌+◌, ◌≤◌, ℕ, IfErr, IfSome, None, Some, OnOk, drop, is_some, length, option_copied, true, false};
 
 use crate::config::ControllerConfig;
 use crate::fault::ControllerFault;
@@ -123,6 +125,23 @@ impl Controller {
             Ok(()) => Ok(()),
             Err(command) => Err((ControllerFault::Full, command)),
         }
+    }
+
+    /// Puts a copy of a command after those that wait, and refuses it as `submit` does. Nothing of it is handed back.
+    pub fn submit_copy(&mut self, command: &Command) -> Result<(), ControllerFault>
+        ensures ok { OnOk result (submit_refusal command.now self.old ≡ None) }
+        ensures accepted { OnOk result (self.new ≡ after_submit command.now self.old) }
+        ensures err { IfErr result (λ fault. submit_refusal command.now self.old ≡ Some fault) }
+        ensures same { IfErr result (λ fault. self.new ≡ self.old) }
+    {
+        if matches!(command, Command::Poll) {
+            return Err(ControllerFault::PollSubmitted);
+        }
+        if self.waiting.is_full() {
+            return Err(ControllerFault::Full);
+        }
+        let _ = self.waiting.try_push_back(command.copy());
+        Ok(())
     }
 
     /// How many commands wait. The outstanding one isn't counted.
@@ -301,6 +320,22 @@ impl Controller {
         self.session.hear(frame, now, report);
     }
 
+    /// The command that a frame settles by an ACK, where it stands. None where the frame says anything else: what it says, `hear` tells.
+    pub fn acknowledged(&self, frame: &FrameView<'_>) -> Option<&Command>
+        ensures { IfSome (option_copied result) (λ command. (now : ℕ) → (hears frame.now now self.now.session).report ≡ Some (Settled command Ack)) }
+    {
+        self.session.acknowledged(frame)
+    }
+
+    /// Takes a frame that came from the line, as `hear` does, and tells nothing of it: for a caller that has learned from `acknowledged` what
+    /// it says.
+    #[inline(always)]
+    pub fn pass(&mut self, frame: &FrameView<'_>, now: u64)
+        ensures { self.new ≡ after_frame frame.now now self.old }
+    {
+        self.session.pass(frame, now);
+    }
+
     /// Whether a tick at this moment would send or report.
     pub fn due(&self, now: u64) -> bool
         ensures { result ≡ is_due now self.now }
@@ -354,5 +389,6 @@ fn next_command<'a>(state: &Held, waiting: &'a HeapCircularBuffer<Command>) -> O
 fn drop_front(waiting: &mut HeapCircularBuffer<Command>)
     ensures { waiting.new ≡ buffer (drop 1 waiting.old.items) waiting.old.capacity }
 {
-    let _front = waiting.pop_front();
+    // By a length, since a command that is taken off moves whole.
+    waiting.truncate_front(waiting.len().saturating_sub(1));
 }

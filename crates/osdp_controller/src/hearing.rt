@@ -1,6 +1,6 @@
 //! The table of frames.
 
-ghost use Rattle.std.specs.Prelude.{◌≡◌, ◌<◌, [], ◌∷◌, true, false, Option, None, Some, is_none, is_some, IfSome};
+ghost use Rattle.std.specs.Prelude.{◌≡◌, ◌<◌, ℕ, [], ◌∷◌, true, false, Option, None, Some, is_none, is_some, option_copied, IfSome};
 ghost use Rattle.osdp_controller.specs.declared.meaning.ReplyMeaning.TheVariants.{Plain, Unreadable};
 ghost use Rattle.osdp_controller.specs.declared.report.Report.TheVariants.{Moved, PollAnswered, Settled};
 ghost use Rattle.osdp_controller.specs.declared.report.Report.TheVariants as reports;
@@ -272,6 +272,56 @@ impl Session {
         } else {
             self.settle_acknowledged(report);
         }
+    }
+
+    /// The command that was submitted, where a packet settles it by an ACK.
+    pub(crate) fn acknowledged(&self, frame: &FrameView<'_>) -> Option<&Command>
+        ensures { IfSome (option_copied result) (λ command. (now : ℕ) → (hears frame.now now self.now).report ≡ Some (Settled command Ack)) }
+    {
+        if !self.is_from_reader(frame) || !self.is_acknowledged_by(frame) {
+            return None;
+        }
+        match self.state.asked {
+            Asked::Opening | Asked::Polling => None,
+            Asked::Submitted => self.state.command.as_ref(),
+        }
+    }
+
+    /// A frame comes from the line, of which nothing is to be told.
+    #[inline(always)]
+    pub(crate) fn pass(&mut self, frame: &FrameView<'_>, now: u64)
+        requires session { IsSession self.old }
+        ensures session { self.new ≡ (hears frame.now now self.old).session }
+        ensures kept { IsSession self.new }
+    {
+        self.see(now);
+        if self.is_from_reader(frame) {
+            self.pass_reader(frame);
+        }
+    }
+
+    /// A reply comes from the own address, at the greatest moment seen, of which nothing is to be told.
+    fn pass_reader(&mut self, frame: &FrameView<'_>)
+        requires { IsSession self.old }
+        ensures session { self.new ≡ (hears_in self.old.state frame.now.sequence (meaning_of frame.now) self.old).session }
+        ensures kept { IsSession self.new }
+    {
+        if self.is_acknowledged_by(frame) {
+            self.rest();
+        } else {
+            self.pass_reply(frame);
+        }
+    }
+
+    /// The same of one that is read. It stands by itself, since a report has the size of the largest one.
+    #[inline(never)]
+    fn pass_reply(&mut self, frame: &FrameView<'_>)
+        requires { IsSession self.old }
+        ensures session { self.new ≡ (hears_in self.old.state frame.now.sequence (meaning_of frame.now) self.old).session }
+        ensures kept { IsSession self.new }
+    {
+        let mut report = None;
+        self.hear_reply(frame, &mut report);
     }
 
     /// Whether a packet is the ACK that a POLL or a command that was submitted waits for.
