@@ -9,13 +9,14 @@ use Rattle.osdp_msg.specs.declared.command.Command.{Command}
 use Rattle.osdp_msg.specs.declared.event.Event.{Event}
 use Rattle.osdp_msg.specs.declared.event.Event.TheVariants as events
 use Rattle.osdp_msg.specs.declared.reply.Reply.{Reply}
+use Rattle.osdp_msg.specs.declared.reply.Reply.TheVariants as answer
 use Rattle.osdp_msg.specs.CommandTable.{CommandFits, command_code, command_data, command_of}
 use Rattle.osdp_msg.specs.Events.{event_in, event_reply}
-use Rattle.osdp_msg.specs.ReplyTable.{ReplyFits, reply_code, reply_data, reply_of}
+use Rattle.osdp_msg.specs.ReplyTable.{ReplyFits, reply_at, reply_code, reply_data, reply_fault, reply_of}
 use Rattle.osdp_msg.proofs.Commands.{commands}
 use Rattle.osdp_msg.proofs.Replies.{replies}
 use Rattle.osdp_msg.proofs.Table.{found}
-use Rattle.osdp_sim.specs.Kept.{command_from, event_from, parts, reply_from, total}
+use Rattle.osdp_sim.specs.Kept.{command_from, event_from, parts, reply_from, reply_kept, total}
 
 -- ---- messages are read back
 
@@ -35,6 +36,11 @@ event_back_in e = refl
 
 pub event_back : (e : Event) → ReplyFits (event_reply e) → event_from (reply_code (event_reply e) ∷ reply_data (event_reply e)) ≡ Some e
 event_back e fits = rw (reply_back (event_reply e) fits) (event_back_in e)
+
+-- an ACK is its code alone
+pub ack_kept : reply_kept (0x40 ∷ []) ≡ answer.Ack
+unfolding reply_of reply_fault reply_at
+ack_kept = refl
 
 -- ---- one more
 
@@ -91,6 +97,12 @@ zip_more [] [] x y same = refl
 zip_more [] (b ∷ ys) x y same = absurd (omega (arith, same))
 zip_more (a ∷ xs) [] x y same = absurd (omega (arith, same))
 zip_more (a ∷ xs) (b ∷ ys) x y same = ap (λ rest. (a, b) ∷ rest) (zip_more xs ys x y (omega (arith, same)))
+
+-- so one more at the end of each is one pair more, and they are as long as each other still
+pub both_more : {A B : Type 0} (xs : List A) (ys : List B) (x : A) (y : B) (more : List A) (others : List B) → length xs ≡ length ys → more ≡ xs ++ x ∷ [] → others ≡ ys ++ y ∷ []
+    → (length more ≡ length others) × (zip more others ≡ zip xs ys ++ (x, y) ∷ [])
+both_more xs ys x y more others same first second =
+    rw (first, second) (omega (arith, length-append xs (x ∷ []), length-append ys (y ∷ []), same), zip_more xs ys x y same)
 
 pub zip_length : {A B : Type 0} (xs : List A) (ys : List B) → length xs ≡ length ys → length (zip xs ys) ≡ length xs
 zip_length [] ys same = refl

@@ -3,6 +3,8 @@
 ghost use Rattle.std.specs.Prelude.{◌≡◌, OnOk, Some};
 ghost use Rattle.osdp_sim.specs.Account.{empty_account, lists_of, taken_by, taken_command, with_issued, with_queued, with_report, with_session, with_taken};
 ghost use Rattle.osdp_sim.specs.Room.{HasPlaces};
+ghost use Rattle.osdp_controller.specs.declared.report.Report.TheVariants as reports;
+ghost use Rattle.osdp_msg.specs.declared.reply.Reply.TheVariants.{Ack};
 
 use crate::kept::Kept;
 use crate::message::Spelling;
@@ -161,6 +163,14 @@ impl Account {
         if let Some(report) = report {
             self.tell(report);
         }
+    }
+
+    /// The controller has settled a command by an ACK.
+    pub fn settle(&mut self, command: &Command)
+        requires { HasPlaces self.old }
+        ensures { lists_of self.new ≡ with_report (Some (reports.Settled command.now Ack)) (lists_of self.old) }
+    {
+        self.settled.push_acknowledged(command, &mut self.spelling);
     }
 
     /// The controller has reported this.

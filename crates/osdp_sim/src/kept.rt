@@ -74,7 +74,7 @@ impl<M: Message> Kept<M> {
     }
 
     /// Adds the message that these bytes are.
-    fn add(&mut self, own: &[u8])
+    pub(crate) fn add(&mut self, own: &[u8])
         requires place { self.old.has_place ≡ true }
         requires size { length own.now ≤ MAX_MESSAGE }
         ensures { self.new.items ≡ self.old.items ++ M.kept own.now ∷ [] }

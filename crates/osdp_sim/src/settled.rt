@@ -2,6 +2,7 @@
 
 ghost use Rattle.std.specs.Prelude.{◌≡◌, ◌∷◌, ◌++◌, [], true, length, OnOk};
 ghost use Rattle.std.specs.Iterator.{YieldsFirst, item_count};
+ghost use Rattle.osdp_msg.specs.declared.reply.Reply.TheVariants.{Ack};
 
 use crate::kept::{Kept, KeptLeft};
 use crate::message::Spelling;
@@ -70,6 +71,15 @@ impl Settled {
     {
         self.commands.push(command, spelling);
         self.answers.push(answer, spelling);
+    }
+
+    /// Adds a command that an ACK answered, by way of a place for its bytes.
+    pub(crate) fn push_acknowledged(&mut self, command: &Command, spelling: &mut Spelling)
+        requires { self.old.has_place ≡ true }
+        ensures { self.new.items ≡ self.old.items ++ (command.now, Ack) ∷ [] }
+    {
+        self.commands.push(command, spelling);
+        self.answers.add(&[0x40]);
     }
 
     /// All of them, to be taken one after the other.

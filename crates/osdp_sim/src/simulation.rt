@@ -14,6 +14,7 @@ use crate::config::SimConfig;
 use crate::fault::Cause;
 use crate::hearing::hear;
 use crate::line::{handed_packet, move_on, send};
+use crate::message::Spelling;
 use crate::running::SimulatedLine;
 use crate::step::{Move, SimStep};
 use crate::steps::StepTaker;
@@ -45,6 +46,8 @@ pub struct Simulation<H: Handler> {
     report: Option<Report>,
     /// What the reader made of the packet that it heard last.
     heard: Heard,
+    /// The bytes of the command that was submitted last.
+    spelling: Spelling,
 }
 
 /// Whether the reader's settings are in their ranges.
@@ -104,6 +107,7 @@ impl<H: Handler> Simulation<H> {
             out: Burst::new(),
             report: None,
             heard: Heard::new(),
+            spelling: Spelling::new(),
         })
     }
 
@@ -134,11 +138,11 @@ impl<H: Handler> StepTaker for Simulation<H> {
 
     fn issue(&mut self, number: usize, command: &Command) {
         // Writing it brings in that its fields are in their ranges.
-        let _ = command.write();
+        command.write_into(&mut self.spelling);
         if number != 1 {
             return;
         }
-        if self.controller.submit(command.copy()).is_ok() {
+        if self.controller.submit_copy(command).is_ok() {
             self.account.issue(command);
         }
     }
@@ -185,8 +189,14 @@ impl<H: Handler> StepTaker for Simulation<H> {
 
     fn to_controller(&mut self, way: &Move) {
         if let Some(packet) = handed_packet(&self.to_controller, way) {
-            self.controller.hear(&packet, self.clock, &mut self.report);
-            self.account.tell_any(&self.report);
+            // An ACK is told where the command stands, since a report has the size of the largest one.
+            if let Some(command) = self.controller.acknowledged(&packet) {
+                self.account.settle(command);
+                self.controller.pass(&packet, self.clock);
+            } else {
+                self.controller.hear(&packet, self.clock, &mut self.report);
+                self.account.tell_any(&self.report);
+            }
         }
         move_on(&mut self.to_controller, way);
     }
