@@ -278,13 +278,14 @@ impl Session {
     pub(crate) fn acknowledged(&self, frame: &FrameView<'_>) -> Option<&Command>
         ensures { IfSome (option_copied result) (λ command. (now : ℕ) → (hears frame.now now self.now).report ≡ Some (Settled command Ack)) }
     {
+        match self.state.asked {
+            Asked::Opening | Asked::Polling => return None,
+            Asked::Submitted => {}
+        }
         if !self.is_from_reader(frame) || !self.is_acknowledged_by(frame) {
             return None;
         }
-        match self.state.asked {
-            Asked::Opening | Asked::Polling => None,
-            Asked::Submitted => self.state.command.as_ref(),
-        }
+        self.state.command.as_ref()
     }
 
     /// A frame comes from the line, of which nothing is to be told.
