@@ -1,9 +1,10 @@
 //! The lines of a script below those of its readers, kept in little memory.
 
-ghost use Rattle.std.specs.Prelude.{◌≡◌, ◌↔◌, [], ◌∷◌, ◌++◌, length, IsTrue, MatchOption, OnOk};
+ghost use Rattle.std.specs.Prelude.{◌≡◌, ◌↔◌, List, [], ◌∷◌, ◌++◌, length, IsTrue, MatchOption, OnOk};
 ghost use Rattle.osdp_sim.specs.declared.step.SimStep.TheVariants as steps;
+ghost use Rattle.osdp_script.specs.declared.script.ScriptLine.{ScriptLine};
 ghost use Rattle.osdp_script.specs.declared.script.ScriptLine.TheVariants.{Clean, Step};
-ghost use Rattle.osdp_script.specs.Kept.{line_of, own_size};
+ghost use Rattle.osdp_script.specs.Kept.{line_of, lines_kept, own_size, sizes};
 
 use crate::step::{ScriptStep, Way, bytes_of};
 use osdp_msg::{Command, Event};
@@ -22,12 +23,7 @@ pub struct KeptLines {
 }
 
 impl Model for KeptLines {
-    ghost use Rattle.std.specs.Prelude.{◌≡◌, List, length};
-    ghost use Rattle.osdp_script.specs.declared.script.ScriptLine.{ScriptLine};
-
     ghost Value = { List ScriptLine };
-
-    ghost use Rattle.osdp_script.specs.Kept.{lines_kept, sizes};
 
     ghost view = { λ k. lines_kept k.steps.items k.row.items };
 
@@ -124,12 +120,7 @@ pub(crate) struct LinesLeft<'a> {
 }
 
 impl<'a> Model for LinesLeft<'a> {
-    ghost use Rattle.std.specs.Prelude.{◌≡◌, List, length};
-    ghost use Rattle.osdp_script.specs.declared.script.ScriptLine.{ScriptLine};
-
     ghost Value = { List ScriptLine };
-
-    ghost use Rattle.osdp_script.specs.Kept.{lines_kept, sizes};
 
     ghost view = { λ l. lines_kept l.steps.now l.row.now };
 
