@@ -14,6 +14,7 @@ use Rattle.osdp_tool_streams.specs.declared.fault.ToolFault.TheVariants.{NoMemor
 use Rattle.osdp_tool_show.specs.Tally.{counted}
 use Rattle.osdp_tool_show.proofs.Lines.{counted-tally_after}
 use Rattle.osdp_tool_monitor.specs.Listening.{HearsFirst, IsLineFault, Listening, heard_item, heard_items, item_report, items_report, listening_of, detail_of}
+use Rattle.osdp_tool_monitor.specs.InTurn.{after_all, report_of_all}
 
 not_true : IsTrue false → ⊥
 not_true never = cc
@@ -38,20 +39,20 @@ reading_nothing : reading [] ≡ []
 reading_nothing = sym (reading_is [] [] (λ place. omega arith) refl)
 
 heard_cons : (l : Listening) (part : RunItem) (parts : List RunItem) → heard_items l (part ∷ parts) ≡ heard_items (heard_item l part) parts
-unfolding heard_items
+unfolding after_all
 heard_cons l part parts = refl
 
 heard_nil : (l : Listening) → heard_items l [] ≡ l
-unfolding heard_items
+unfolding after_all
 heard_nil l = refl
 
 report_cons : (detail : Detail) (l : Listening) (part : RunItem) (parts : List RunItem)
     → items_report detail l (part ∷ parts) ≡ item_report detail l part ++ items_report detail (heard_item l part) parts
-unfolding items_report
+unfolding report_of_all
 report_cons detail l part parts = refl
 
 report_nil : (detail : Detail) (l : Listening) → items_report detail l [] ≡ []
-unfolding items_report
+unfolding report_of_all
 report_nil detail l = refl
 
 -- ---- one more item of a run

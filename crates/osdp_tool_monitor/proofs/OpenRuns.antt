@@ -18,6 +18,7 @@ use Rattle.osdp_tool_monitor.specs.declared.listener.Listener.{Listener}
 use Rattle.osdp_tool_monitor.specs.declared.open_line.OpenLine.{OpenLine}
 use Rattle.osdp_tool_monitor.specs.Hearing.{Come, Drained, Hearing, Hears, HearsItems, IsOpen, LineEvent, RunEnds, TableDue, after_event, after_events, event_report, events_report, hearing_of, load, line_detail}
 use Rattle.osdp_tool_monitor.specs.Listening.{HearsItem, Listening, ended, heard_item, heard_items, item_report, items_report, listening_of, table, detail_of}
+use Rattle.osdp_tool_monitor.specs.InTurn.{after_all, report_of_all}
 
 pub on_both : {T E : Type 0} {A B C : Type 0} (r : Result T E) → (A → B → C) → OnOk r A → OnOk r B → OnOk r C
 on_both (Ok x) f a b = f a b
@@ -30,11 +31,11 @@ on_each_err (Err e) f p = f e p
 -- ---- items, one after the other
 
 heard_in_turn : GoesOneByOne heard_item heard_items
-unfolding heard_items
+unfolding after_all
 heard_in_turn = record { none = λ l. refl; more = λ l part parts. refl }
 
 reported_in_turn : (detail : Detail) → TellsOneByOne heard_item (item_report detail) (items_report detail)
-unfolding items_report
+unfolding report_of_all
 reported_in_turn detail = record { none = λ l. refl; more = λ l part parts. refl }
 
 pub heard_items-append : (l : Listening) (xs ys : List RunItem) → heard_items l (xs ++ ys) ≡ heard_items (heard_items l xs) ys
@@ -45,11 +46,11 @@ pub items_report-append : (detail : Detail) (l : Listening) (xs ys : List RunIte
 items_report-append detail = tells-append heard_item heard_items (item_report detail) (items_report detail) heard_in_turn (reported_in_turn detail)
 
 pub hears_none : (l : Listener) (text : List ℕ) → HearsItems [] l l text text
-unfolding heard_items items_report
+unfolding after_all report_of_all
 hears_none l text = record { tells = refl; heard = refl; text = sym (append-nil text) }
 
 pub hears_one : (part : RunItem) (old new : Listener) (before after : List ℕ) → HearsItem part old new before after → HearsItems (part ∷ []) old new before after
-unfolding heard_items items_report
+unfolding after_all report_of_all
 hears_one part old new before after h = record {
   tells = h.tells;
   heard = h.heard;
@@ -74,7 +75,7 @@ hears_more xs ys old mid new before middle after a b =
 -- ---- what is counted
 
 pub counted_items : (l : Listening) (parts : List RunItem) → counted (heard_items l parts).tally ≤ counted l.tally + 3 * total_size parts
-unfolding heard_items
+unfolding after_all
 counted_items l [] = omega arith
 counted_items l (part ∷ parts) = omega (arith, counted_items (heard_item l part) parts, counted-tally_after l.tally part, item_size-positive part)
 
@@ -129,11 +130,11 @@ draining_long start now old mid before middle d =
 -- ---- events
 
 one_heard : (h : Hearing) (event : LineEvent) → after_events h (event ∷ []) ≡ after_event h event
-unfolding after_events
+unfolding after_all
 one_heard h event = refl
 
 one_told : (detail : Detail) (h : Hearing) (event : LineEvent) → events_report detail h (event ∷ []) ≡ event_report detail h event
-unfolding events_report
+unfolding report_of_all
 one_told detail h event = append-nil (event_report detail h event)
 
 pub hears_event : (event : LineEvent) (old new : OpenLine) (before after : List ℕ) → line_detail new ≡ line_detail old
@@ -221,14 +222,14 @@ come_none old text is_open =
 -- ---- events, one after the other
 
 events_in_turn : GoesOneByOne after_event after_events
-unfolding after_events
+unfolding after_all
 events_in_turn = record { none = λ h. refl; more = λ h event events. refl }
 
 pub after_events-append : (h : Hearing) (xs ys : List LineEvent) → after_events h (xs ++ ys) ≡ after_events (after_events h xs) ys
 after_events-append = goes-append after_event after_events events_in_turn
 
 event_reports_in_turn : (detail : Detail) → TellsOneByOne after_event (event_report detail) (events_report detail)
-unfolding events_report
+unfolding report_of_all
 event_reports_in_turn detail = record { none = λ h. refl; more = λ h event events. refl }
 
 pub events_report-append : (detail : Detail) (h : Hearing) (xs ys : List LineEvent)
@@ -237,7 +238,7 @@ events_report-append detail =
     tells-append after_event after_events (event_report detail) (events_report detail) events_in_turn (event_reports_in_turn detail)
 
 pub hears_nothing : (l : OpenLine) (text : List ℕ) → IsOpen l → Hears [] l l text text
-unfolding after_events events_report
+unfolding after_all report_of_all
 hears_nothing l text is_open = record { prints = refl; heard = refl; text = sym (append-nil text); is_open = is_open }
 
 pub hears_then : (xs ys : List LineEvent) (old mid new : OpenLine) (before middle after : List ℕ) → Hears xs old mid before middle

@@ -15,6 +15,7 @@ use Rattle.osdp_tool_monitor.specs.Ending.{CameIn, IsToldInPart, IsTooLong, Told
 use Rattle.osdp_tool_monitor.specs.Events.{Cut, Following, More, Piece, after_piece, after_pieces, are_good, bad_in, bytes_of, moments_of, nothing_cut, piece_events, pieces_events}
 use Rattle.osdp_tool_monitor.specs.Reading.{Broke, HasBroken, HasRead, HasTold, HasToldPieces, ReadsAll, TellsPiece}
 use Rattle.osdp_tool_monitor.specs.Session.{IsNew, IsReady, TakesPiece, cut_of, weight}
+use Rattle.osdp_tool_monitor.specs.InTurn.{after_all, report_of_all}
 
 -- ---- one piece more
 
@@ -104,7 +105,7 @@ weight_new s new =
     omega arith
 
 pub follows_none : (s : Session) (now : Option (List ℕ)) → IsNew s → IsReady s → HasToldPieces s.mode [] s now now
-unfolding after_events events_report after_pieces pieces_events are_good
+unfolding after_all report_of_all after_pieces pieces_events are_good
 follows_none s now new ready = record {
   mode_is = refl;
   cut = new.cut;
@@ -330,6 +331,6 @@ module _ {M : Type 0} (tells : M → ℕ → M → Type 0) (mode : MonitorMode) 
 -- nothing was read and nothing written
 pub nothing_read : {M : Type 0} (tells : M → ℕ → M → Type 0) (mode : MonitorMode) (clock : M) (input output : Option (List ℕ))
     → IsToldInPart tells mode clock clock input input output output
-unfolding after_pieces pieces_events events_report
+unfolding after_pieces pieces_events report_of_all
 nothing_read tells mode clock input output =
     part_of tells mode clock clock input input output output output [] [] More [] 0 (omega arith) (came_none tells clock input) (Appends-nil output) refl (Appends-nil output)

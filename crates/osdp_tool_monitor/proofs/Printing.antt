@@ -6,8 +6,9 @@ use Rattle.osdp_monitor.specs.declared.accusation.Accusation.{Accusation}
 use Rattle.osdp_monitor.specs.Line.{after_items, expected_in, found_in}
 use Rattle.osdp_tool_show.specs.ToldItems.{shown_line}
 use Rattle.osdp_tool_monitor.specs.Laws.{PrintsAccusations, both_packets, culprit, naming_line}
-use Rattle.osdp_tool_monitor.specs.Listening.{heard_item, heard_items, item_report, items_report}
+use Rattle.osdp_tool_monitor.specs.Listening.{heard_item, item_report, items_report}
 use Rattle.osdp_tool_monitor.specs.Text.{accusation_line, accused_text, expected_bytes, expected_lines, notice_line}
+use Rattle.osdp_tool_monitor.specs.InTurn.{after_all, report_of_all}
 
 in_parts : (s n a e r : List ℕ) → (s ++ (n ++ (a ++ e))) ++ r ≡ s ++ (n ++ (a ++ (e ++ r)))
 in_parts s n a e r =
@@ -26,7 +27,7 @@ both_are None p = refl
 both_are (Some e) p = refl
 
 pub prints_lem : PrintsAccusations
-unfolding after_items heard_items items_report
+unfolding after_items after_all report_of_all
 prints_lem detail l [] rest p accusation is =
     let run = l.tally.runs + 1 in
     let found = found_in l.knowledge p in

@@ -15,6 +15,7 @@ use Rattle.osdp_tool_monitor.specs.declared.mode.MonitorMode.{MonitorMode}
 use Rattle.osdp_tool_monitor.specs.declared.session.Session.{Session}
 use Rattle.osdp_tool_monitor.specs.Events.{Cut, Piece, after_piece, byte_events, bytes_events, closing_events, gap_events, is_due, lines_in, piece_events, run_events, table_events, tabled_after}
 use Rattle.osdp_tool_monitor.specs.Session.{Breaks, EndsAll, EndsInput, Goes, GoesOrBreaks, IsReady, TakesBytes, TakesPiece, cut_of}
+use Rattle.osdp_tool_monitor.specs.InTurn.{after_all}
 
 pub goes_none : (s : Session) (text : List ℕ) → IsReady s → Goes [] (cut_of s) s s text text
 goes_none s text ready = record { mode = refl; cut = refl; hears = hears_nothing s.line text ready.is_open; ready = ready }
@@ -118,7 +119,7 @@ unfolding bad_line
 good_one number line bytes is = rw is refl
 
 run_over : (h : Hearing) (bytes : List ℕ) → (after_events h (RunEnds bytes ∷ [])).held ≡ []
-unfolding after_events
+unfolding after_all
 run_over h bytes = refl
 
 -- by what is read of a line

@@ -8,6 +8,7 @@ use Rattle.osdp_tool_show.specs.Tally.{counted}
 use Rattle.osdp_tool_show.specs.declared.detail.Detail.{Detail}
 use Rattle.osdp_tool_monitor.specs.declared.listener.Listener.{Listener}
 use Rattle.osdp_tool_monitor.specs.declared.open_line.OpenLine.{OpenLine}
+use Rattle.osdp_tool_monitor.specs.InTurn.{after_all, report_of_all}
 use Rattle.osdp_tool_monitor.specs.Listening.{Listening, ended, heard_items, items_report, listening_of, nothing_heard, table, detail_of}
 
 pub record Hearing : Type 0 where
@@ -38,13 +39,11 @@ event_report detail h (RunEnds bytes) = items_report detail h.heard (items true 
 event_report detail h TableDue = table h.heard
 
 -- one after the other
-unfoldable pub after_events : Hearing → List LineEvent → Hearing
-after_events h [] = h
-after_events h (event ∷ events) = after_events (after_event h event) events
+abbrev pub after_events : Hearing → List LineEvent → Hearing
+after_events h events = after_all after_event h events
 
-unfoldable pub events_report : Detail → Hearing → List LineEvent → List ℕ
-events_report detail h [] = []
-events_report detail h (event ∷ events) = event_report detail h event ++ events_report detail (after_event h event) events
+abbrev pub events_report : Detail → Hearing → List LineEvent → List ℕ
+events_report detail h events = report_of_all after_event (event_report detail) h events
 
 -- how many bytes came
 abbrev pub event_size : LineEvent → ℕ

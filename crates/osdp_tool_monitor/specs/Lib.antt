@@ -8,3 +8,4 @@ pub mod Ending
 pub mod Session
 pub mod Reading
 pub mod Options
+pub mod InTurn

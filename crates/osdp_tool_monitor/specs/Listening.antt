@@ -1,5 +1,5 @@
 -- What has been heard of a line so far, and what is printed of it, item by item.
-use Rattle.std.specs.Prelude.{◌≡◌, ℕ, ◌+◌, ◌^◌, ◌≤◌, ◌==◌, not, ◌&&◌, Bool, is_some, List, [], ◌∷◌, ◌++◌, replicate}
+use Rattle.std.specs.Prelude.{◌≡◌, ℕ, ◌+◌, ◌^◌, ◌≤◌, ◌==◌, not, ◌&&◌, Bool, is_some, List, [], ◌++◌, replicate}
 use Rattle.osdp_frame.specs.Items.{reading}
 use Rattle.osdp_frame.specs.Reading.{RunItem, PacketItem, SkippedItem, RefusedItem, Stands, item_size}
 use Rattle.osdp_monitor.specs.Monitors.{knowledge_of}
@@ -13,6 +13,7 @@ use Rattle.osdp_tool_show.specs.declared.detail.Detail.{Detail}
 use Rattle.osdp_tool_monitor.specs.declared.counts.Counts.{Counts}
 use Rattle.osdp_tool_monitor.specs.declared.listener.Listener.{Listener}
 use Rattle.osdp_tool_monitor.specs.Counts.{counts_after, more_if, no_counts, table_of}
+use Rattle.osdp_tool_monitor.specs.InTurn.{after_all, report_of_all}
 use Rattle.osdp_tool_monitor.specs.Text.{expected_bytes, found_text}
 
 pub record Listening : Type 0 where
@@ -60,13 +61,11 @@ abbrev pub item_report : Detail → Listening → RunItem → List ℕ
 item_report detail l part = shown_line detail l.tally part ++ item_found l part
 
 -- after items, one after the other
-unfoldable pub heard_items : Listening → List RunItem → Listening
-heard_items l [] = l
-heard_items l (part ∷ parts) = heard_items (heard_item l part) parts
+abbrev pub heard_items : Listening → List RunItem → Listening
+heard_items l parts = after_all heard_item l parts
 
-unfoldable pub items_report : Detail → Listening → List RunItem → List ℕ
-items_report detail l [] = []
-items_report detail l (part ∷ parts) = item_report detail l part ++ items_report detail (heard_item l part) parts
+abbrev pub items_report : Detail → Listening → List RunItem → List ℕ
+items_report detail l parts = report_of_all heard_item (item_report detail) l parts
 
 -- the run has ended
 abbrev pub ended : Listening → Listening
@@ -80,13 +79,11 @@ abbrev pub run_report : Detail → Listening → List ℕ → List ℕ
 run_report detail l run = items_report detail l (reading run)
 
 -- after whole runs
-unfoldable pub heard_runs : Listening → List (List ℕ) → Listening
-heard_runs l [] = l
-heard_runs l (run ∷ runs) = heard_runs (heard_run l run) runs
+abbrev pub heard_runs : Listening → List (List ℕ) → Listening
+heard_runs l runs = after_all heard_run l runs
 
-unfoldable pub runs_report : Detail → Listening → List (List ℕ) → List ℕ
-runs_report detail l [] = []
-runs_report detail l (run ∷ runs) = run_report detail l run ++ runs_report detail (heard_run l run) runs
+abbrev pub runs_report : Detail → Listening → List (List ℕ) → List ℕ
+runs_report detail l runs = report_of_all heard_run (run_report detail) l runs
 
 abbrev pub table : Listening → List ℕ
 table l = table_of l.tally l.counts l.accused
