@@ -1,7 +1,7 @@
 -- The functions of a slot, whichever machine it has: they are proved once, for the code that each slot's own functions have.
 use Rattle.std.proofs.Common.{◌≡◌, ℕ, List, [], ◌∷◌, ◌++◌, refl, sym, ap, subst, true≢false}
 use seplogic.Ra.Ura.{Ura}
-use mir.Syntax.{Sym, Fn, Callee, Local, value_local, local, ty_ptr, seq, assign, place, field, rv_opd, copy, aggregate, int, w64, return}
+use mir.Syntax.{Sym, Fn, Body, Callee, Local, value_local, local, ty_ptr, seq, assign, place, field, rv_opd, copy, aggregate, int, w64, return}
 use mir.Raw.{raw as bare}
 use mir.Val.{Val, vptr, vstruct, vcons, vnil, of_list}
 use base.Fml.{Lft, Fml}
@@ -68,6 +68,11 @@ pub record Slot (R : RattleType) : Type 2 where
   pub coded : Coded D
   pub shr_at : D → ℕ → ℕ → Lft → Fml
 
+-- a function without lifetimes and type parameters
+abbrev plain_function : ℕ → List Local → Body → Fn
+plain_function params locals body =
+    record { lifetimes = 0; outlives = []; ty_params = []; givens = 0; params = params; locals = locals; body = body }
+
 module _ (R : RattleType) (F : Slot R) where
   abbrev pub the_type : Owning
   the_type = record {
@@ -127,47 +132,26 @@ module _ (R : RattleType) (F : Slot R) where
   none_ended = record { signature = record { lifetimes = 0; outlives = []; params = []; result = plain (λ κs. S) }; kept = tt }
 
   abbrev pub none_function : Fn
-  none_function = record {
-    lifetimes = 0;
-    outlives = [];
-    ty_params = [];
-    givens = 0;
-    params = 0;
-    locals = slot_local ∷ [];
-    body = seq (assign (place 0 []) (aggregate (int w64 0 ∷ []))) return;
-  }
+  none_function = plain_function 0 (slot_local ∷ [])
+      (seq (assign (place 0 []) (aggregate (int w64 0 ∷ []))) return)
 
   -- `of`: the pointer of a loose machine
   abbrev pub of_ended : Ended
   of_ended = record { signature = record { lifetimes = 0; outlives = []; params = plain (λ κs. Held) ∷ []; result = plain (λ κs. S) }; kept = (yes, tt) }
 
   abbrev pub of_function : Fn
-  of_function = record {
-    lifetimes = 0;
-    outlives = [];
-    ty_params = [];
-    givens = 0;
-    params = 1;
-    locals = slot_local ∷ loose_local ∷ pointer ∷ pointer ∷ [];
-    body = seq (assign (place 2 []) (rv_opd (copy (place 1 (field 0 ∷ []))))) (seq (assign (place 3 []) (rv_opd (copy (place 2 []))))
-        (seq (assign (place 0 []) (aggregate (copy (place 3 []) ∷ []))) return));
-  }
+  of_function = plain_function 1 (slot_local ∷ loose_local ∷ pointer ∷ pointer ∷ [])
+      (seq (assign (place 2 []) (rv_opd (copy (place 1 (field 0 ∷ []))))) (seq (assign (place 3 []) (rv_opd (copy (place 2 []))))
+        (seq (assign (place 0 []) (aggregate (copy (place 3 []) ∷ []))) return)))
 
   -- `into_loose`: the pointer of a machine that is there, with the allocator
   abbrev pub into_ended : Ended
   into_ended = record { signature = record { lifetimes = 0; outlives = []; params = plain (λ κs. S) ∷ plain (λ κs. Z) ∷ []; result = plain (λ κs. Held) }; kept = (yes, (yes, tt)) }
 
   abbrev pub into_function : Fn
-  into_function = record {
-    lifetimes = 0;
-    outlives = [];
-    ty_params = [];
-    givens = 0;
-    params = 2;
-    locals = loose_local ∷ slot_local ∷ local (layout Z) value_local ∷ pointer ∷ pointer ∷ [];
-    body = seq (assign (place 3 []) (rv_opd (copy (place 1 (field 0 ∷ []))))) (seq (assign (place 4 []) (rv_opd (copy (place 3 []))))
-        (seq (assign (place 0 []) (aggregate (copy (place 4 []) ∷ copy (place 2 []) ∷ []))) return));
-  }
+  into_function = plain_function 2 (loose_local ∷ slot_local ∷ local (layout Z) value_local ∷ pointer ∷ pointer ∷ [])
+      (seq (assign (place 3 []) (rv_opd (copy (place 1 (field 0 ∷ []))))) (seq (assign (place 4 []) (rv_opd (copy (place 3 []))))
+        (seq (assign (place 0 []) (aggregate (copy (place 4 []) ∷ copy (place 2 []) ∷ []))) return)))
 
   module _ {M : Type 1} (𝓤 : Ura M) (𝓛 : Logic 𝓤) where
     abbrev pub none_clauses : Clauses 𝓤 none_ended

@@ -2,6 +2,7 @@
 
 ghost use Rattle.circular_buffer.specs.Buffer.{buffer};
 ghost use Rattle.osdp_controller.specs.Comsets.{is_comset};
+ghost use Rattle.osdp_controller.specs.Hearing.{acknowledged_command};
 ghost use Rattle.osdp_controller.specs.Private.{after_act, frame_if, is_over, next_in};
 ghost use Rattle.osdp_controller.specs.Ticking.{stays, ticks_in};
 ghost use Rattle.osdp_controller.specs.declared.report.Report.TheVariants.{Settled};
@@ -322,7 +323,8 @@ impl Controller {
 
     /// The command that a frame settles by an ACK, where it stands. None where the frame says anything else: what it says, `hear` tells.
     pub fn acknowledged(&self, frame: &FrameView<'_>) -> Option<&Command>
-        ensures { IfSome (option_copied result) (λ command. (now : ℕ) → (hears frame.now now self.now.session).report ≡ Some (Settled command Ack)) }
+        ensures command { option_copied result ≡ acknowledged_command frame.now self.now.session }
+        ensures settled { IfSome (option_copied result) (λ command. (now : ℕ) → (hears frame.now now self.now.session).report ≡ Some (Settled command Ack)) }
     {
         self.session.acknowledged(frame)
     }

@@ -1,6 +1,7 @@
 //! The table of frames.
 
-ghost use Rattle.std.specs.Prelude.{◌≡◌, ◌<◌, ℕ, [], ◌∷◌, true, false, Option, None, Some, is_none, is_some, option_copied, IfSome};
+ghost use Rattle.std.specs.Str.{bytes_eq};
+ghost use Rattle.std.specs.Prelude.{◌≡◌, ◌==◌, ◌&&◌, ◌<◌, ℕ, [], ◌∷◌, true, false, Option, None, Some, is_none, is_some, option_copied, IfSome};
 ghost use Rattle.osdp_controller.specs.declared.meaning.ReplyMeaning.TheVariants.{Plain, Unreadable};
 ghost use Rattle.osdp_controller.specs.declared.report.Report.TheVariants.{Moved, PollAnswered, Settled};
 ghost use Rattle.osdp_controller.specs.declared.report.Report.TheVariants as reports;
@@ -11,10 +12,10 @@ ghost use Rattle.osdp_controller.specs.declared.state.Stage.TheVariants as stage
 ghost use Rattle.osdp_controller.specs.Answers.{meaning_of};
 ghost use Rattle.osdp_controller.specs.Exchanges.{submitted_command};
 ghost use Rattle.osdp_msg.specs.Events.{event_in};
-ghost use Rattle.osdp_controller.specs.Hearing.{answered, answered_unread, com_of, comset_of, hears, hears_busy, hears_in, is_ack, is_from_reader, is_numbered, loses, moved_by, opening_answered, pausing_hears, pd_id_of, poll_told, rests, waiting_hears};
+ghost use Rattle.osdp_controller.specs.Hearing.{acknowledged_command, answered, answered_unread, com_of, comset_of, hears, hears_busy, hears_in, is_ack, is_from_reader, is_numbered, loses, moved_by, opening_answered, pausing_hears, pd_id_of, poll_told, rests, waiting_hears};
 ghost use Rattle.osdp_controller.specs.Held.{exchange_of, outstanding_in, sends_in, stage_of};
 ghost use Rattle.osdp_controller.specs.Machine.{IsSession, is_outstanding};
-ghost use Rattle.osdp_controller.specs.Private.{HearsReply, acknowledged, is_no_answer, is_no_answer_in, numbered_in};
+ghost use Rattle.osdp_controller.specs.Private.{HearsReply, acknowledged, is_no_answer, is_no_answer_in, numbered_in, takes_ack};
 ghost use Rattle.osdp_controller.specs.Sessions.{at_rest, closed};
 
 use crate::exchange::Asked;
@@ -276,7 +277,8 @@ impl Session {
 
     /// The command that was submitted, where a packet settles it by an ACK.
     pub(crate) fn acknowledged(&self, frame: &FrameView<'_>) -> Option<&Command>
-        ensures { IfSome (option_copied result) (λ command. (now : ℕ) → (hears frame.now now self.now).report ≡ Some (Settled command Ack)) }
+        ensures command { option_copied result ≡ acknowledged_command frame.now self.now }
+        ensures settled { IfSome (option_copied result) (λ command. (now : ℕ) → (hears frame.now now self.now).report ≡ Some (Settled command Ack)) }
     {
         match self.state.asked {
             Asked::Opening | Asked::Polling => return None,
@@ -328,6 +330,7 @@ impl Session {
     /// Whether a packet is the ACK that a POLL or a command that was submitted waits for.
     #[tactic(auto, using(crate::proofs::Acks::acked))]
     fn is_acknowledged_by(&self, frame: &FrameView<'_>) -> bool
+        ensures exact { result ≡ (frame.now.sequence == self.now.number && (is_outstanding self.now.state && takes_ack (outstanding_in self.now.state).exchange) && bytes_eq frame.now.body (0x40 ∷ [])) }
         ensures held { result ≡ true → is_outstanding self.now.state ≡ true }
         ensures heard { result ≡ true → hears_in self.now.state frame.now.sequence (meaning_of frame.now) self.now ≡ rests (acknowledged (outstanding_in self.now.state).exchange) self.now }
     {
@@ -371,7 +374,7 @@ fn put_reply(reply: &mut Reply, report: &mut Option<Report>)
 
 /// Whether code and data are those of an ACK.
 fn is_ack_alone(body: &[u8]) -> bool
-    ensures { result ≡ true → body.now ≡ 0x40 ∷ [] }
+    ensures { result ≡ bytes_eq body.now (0x40 ∷ []) }
 {
     body.len() == 1 && body[0] == 0x40
 }

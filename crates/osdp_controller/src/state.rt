@@ -1,6 +1,6 @@
 //! Where a session stands.
 
-ghost use Rattle.std.specs.Prelude.{◌≡◌, ◌≢◌, ◌+◌, ◌<◌, ◌^◌, true, None, Some};
+ghost use Rattle.std.specs.Prelude.{◌≡◌, ◌&&◌, ◌≢◌, ◌+◌, ◌<◌, ◌^◌, true, None, Some};
 ghost use Rattle.osdp_controller.specs.declared.exchange.Asked.TheVariants.{Submitted};
 ghost use Rattle.osdp_controller.specs.declared.exchange.Exchange.TheVariants.{Asking, Polling};
 ghost use Rattle.osdp_controller.specs.declared.state.Stage.TheVariants as stages;
@@ -136,7 +136,7 @@ impl Held {
 
     /// Whether a POLL or a command that was submitted is outstanding.
     pub(crate) fn is_asking(&self) -> bool
-        ensures { result ≡ true → (is_outstanding self.now ≡ true) × (takes_ack (outstanding_in self.now).exchange ≡ true) }
+        ensures { result ≡ (is_outstanding self.now && takes_ack (outstanding_in self.now).exchange) }
     {
         self.is_outstanding() && matches!(self.asked, Asked::Polling | Asked::Submitted)
     }
