@@ -14,10 +14,13 @@ use Rattle.osdp_c_values.specs.Structs.{burst_of, command_struct}
 
 abbrev pub kind_number : Kind → ℕ
 kind_number Silent = 0
+-- NAK 5
 kind_number Secured = 1
+-- the command is acted on, or was
 kind_number Zero = 2
 kind_number Repeat = 3
 kind_number Taken = 4
+-- nothing is taken: BUSY, NAK 4
 kind_number Busy = 5
 kind_number Wrong = 6
 

@@ -33,14 +33,19 @@ reader_status reader.OutOfRange = 43
 
 abbrev pub number : Status → ℕ
 number Done = 0
+-- of a handle: it has no machine, or has one already
 number NoMachine = 1
 number InUse = 2
+-- of a text: it is none of a message, its reply tells no event, there is too little room for it
 number BadText = 3
 number NoEvent = 4
 number TooSmall = 5
+-- of an answer: no command waits for one
 number NotAsked = 7
+-- of what is handed over: the message is of another kind, the moment lies too far ahead
 number OtherMessage = 8
 number MomentTooFar = 9
+-- faults of a message, a panel and a device
 number (Message fault) = message_status fault
 number (Panel fault) = bus_status fault
 number (Reader fault) = reader_status fault

@@ -52,11 +52,13 @@ report_line None = []
 report_line (Some (entry, report)) = told_line entry report
 
 abbrev pub fault_name : BusFault → List ℕ
+-- of the bus
 fault_name NoMemory = codes "B1"
 fault_name TooMany = codes "B2"
 fault_name AddressTaken = codes "B3"
 fault_name NoEntry = codes "B4"
 fault_name OutOfRange = codes "B5"
+-- of the controller of an entry
 fault_name Full = codes "C3"
 fault_name PollSubmitted = codes "C4"
 fault_name NotClosed = codes "C5"

@@ -16,9 +16,11 @@ accused_text true = codes " reader "
 accused_text false = codes " panel to "
 
 abbrev pub accusation_text : Accusation → List ℕ
+-- a panel
 accusation_text accusation.AnotherPacket = codes "another packet with the number of the last"
 accusation_text accusation.NotAnswered = codes "the next number, but the last one was not answered"
 accusation_text accusation.SentOutOfTurn = codes "a number out of turn"
+-- a reader
 accusation_text accusation.SecondReply = codes "a second reply to one packet"
 accusation_text accusation.AnotherNumber = codes "another number"
 accusation_text accusation.AnotherCheck = codes "another check"
