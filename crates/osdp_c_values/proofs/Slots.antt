@@ -142,7 +142,7 @@ module _ (R : RattleType) (F : Slot R) where
   abbrev pub of_function : Fn
   of_function = plain_function 1 (slot_local ∷ loose_local ∷ pointer ∷ pointer ∷ [])
       (seq (assign (place 2 []) (rv_opd (copy (place 1 (field 0 ∷ []))))) (seq (assign (place 3 []) (rv_opd (copy (place 2 []))))
-        (seq (assign (place 0 []) (aggregate (copy (place 3 []) ∷ []))) return)))
+      (seq (assign (place 0 []) (aggregate (copy (place 3 []) ∷ []))) return)))
 
   -- `into_loose`: the pointer of a machine that is there, with the allocator
   abbrev pub into_ended : Ended
@@ -151,7 +151,7 @@ module _ (R : RattleType) (F : Slot R) where
   abbrev pub into_function : Fn
   into_function = plain_function 2 (loose_local ∷ slot_local ∷ local (layout Z) value_local ∷ pointer ∷ pointer ∷ [])
       (seq (assign (place 3 []) (rv_opd (copy (place 1 (field 0 ∷ []))))) (seq (assign (place 4 []) (rv_opd (copy (place 3 []))))
-        (seq (assign (place 0 []) (aggregate (copy (place 4 []) ∷ copy (place 2 []) ∷ []))) return)))
+      (seq (assign (place 0 []) (aggregate (copy (place 4 []) ∷ copy (place 2 []) ∷ []))) return)))
 
   module _ {M : Type 1} (𝓤 : Ura M) (𝓛 : Logic 𝓤) where
     abbrev pub none_clauses : Clauses 𝓤 none_ended

@@ -11,6 +11,7 @@ use Rattle.osdp_frame.specs.Receiving.{Received, ends_run}
 use Rattle.osdp_frame_laws.proofs.InTurn.{over_items, over_leaves}
 use Rattle.osdp_bus.specs.declared.device.Device.{Device}
 use Rattle.osdp_bus.specs.Devices.{first_from}
+use Rattle.osdp_line_calls.specs.Passing.{Listening}
 
 module _ (line : RunItem → List ℕ) where
   -- the lines of items are written after what was written before
@@ -34,10 +35,19 @@ module _ (line : RunItem → List ℕ) where
   end_text (Ok x) t0 t1 l over ends writes = writes ∙ ap (λ parts. t0 ++ flat_map line parts) (over_items l over ends)
   end_text (Err e) t0 t1 l over ends writes = tt
 
-pub end_left : {A E : Type 0} (r : Result A E) (l over : Received) (left : List ℕ) → over ≡ ends_run l
-    → OnOk r (left ≡ rest_of over.held.ended over.held.bytes) → OnOk r (left ≡ [])
-end_left (Ok x) l over left ends lefts = lefts ∙ over_leaves l over ends
-end_left (Err e) l over left ends lefts = tt
+-- what a listener with this receiver has heard
+abbrev heard_by : Received → List Bool → Listening
+heard_by l opened = record { held = l.held.bytes; gap = l.gap; last = l.last; greatest = l.greatest; opened = opened }
+
+-- what was held has gone, and nothing else has changed
+pub end_after : {A E : Type 0} (r : Result A E) (l over new : Received) (opened : List Bool) (s : Listening) → over ≡ ends_run l
+    → new ≡ record over { held = new.held } → heard_by l opened ≡ s → OnOk r (new.held.bytes ≡ rest_of over.held.ended over.held.bytes)
+    → OnOk r (heard_by new opened ≡ record s { held = [] })
+end_after (Ok x) l over new opened s ends same is lefts =
+    ap (λ (bytes : List ℕ). record (heard_by new opened) { held = bytes }) (lefts ∙ over_leaves l over ends)
+    ∙ ap (λ (r : Received). record (heard_by r opened) { held = [] }) (same ∙ ap (λ (r : Received). record r { held = new.held }) ends)
+    ∙ ap (λ (t : Listening). record t { held = [] }) is
+end_after (Err e) l over new opened s ends same is lefts = tt
 
 -- ---- entries
 

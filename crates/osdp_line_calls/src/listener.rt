@@ -153,23 +153,6 @@ fn read_bytes(
     Ok(())
 }
 
-/// The run is over: reads what is held of it to its end.
-fn read_end(
-    receiver: &mut Receiver,
-    bus: &Bus,
-    opened: &[bool; 16],
-    text: &mut String,
-) -> Result<(), AllocError>
-    requires { IsAllRead receiver.old }
-    ensures text { OnOk result (string_bytes text.new ≡ string_bytes text.old ++ passed_items bus.now.devices.entries opened.now (items true receiver.old.held.bytes)) }
-    ensures line { receiver.new ≡ record receiver.old { held = receiver.new.held } }
-    ensures left { OnOk result (receiver.new.held.bytes ≡ []) }
-    ensures read { OnOk result (IsAllRead receiver.new) }
-{
-    receiver.end_run();
-    read_items(receiver, bus, opened, text)
-}
-
 impl Listener {
     /// Nothing has been heard, and no session is open. A run is over after a silence of so many milliseconds.
     pub(crate) fn new(gap: u32) -> Listener
@@ -203,7 +186,8 @@ impl Listener {
         ensures text { OnOk result (string_bytes text.new ≡ string_bytes text.old ++ (hears_end bus.now.devices.entries self.old).text) }
         ensures after { OnOk result (self.new ≡ (hears_end bus.now.devices.entries self.old).after) }
     {
-        let told = read_end(&mut self.receiver, bus, &self.opened, text);
+        self.receiver.end_run();
+        let told = read_items(&mut self.receiver, bus, &self.opened, text);
         if told.is_err() {
             self.receiver.clear();
         }
