@@ -7,7 +7,7 @@ use Rattle.osdp_frame.specs.Bytes.{AreBytes}
 use Rattle.osdp_frame.specs.Held.{Held}
 use Rattle.osdp_reader.specs.State.{ReaderState}
 use Rattle.osdp_device.specs.Hearing.{Heard, hears_bytes, reads_all, turns_left}
-use Rattle.osdp_frame.specs.Receiving.{IsAllRead, IsReceived, Received, after_take, after_tick, count_taken, ends_silent, seen}
+use Rattle.osdp_frame.specs.Receiving.{IsAllRead, IsReceived, Received, after_take, count_taken, ends_silent, seen}
 use Rattle.osdp_device.specs.Saying.{Said}
 use Rattle.osdp_device.specs.Status.{status_after, status_answer}
 use Rattle.osdp_device.specs.Telling.{TellsInTurn, Told, next_told}
