@@ -119,7 +119,6 @@ fn value_at(code: u8, bytes: &[u8]) -> Reply
 
 /// The first fault of a code and data, or the reply that they stand for.
 #[tactic(auto, unfolding(crate::specs::ReplyTable::reply_of, crate::specs::ReplyTable::reply_fault))]
-#[inline(always)]
 fn decode(code: u8, bytes: &[u8]) -> Result<Reply, MsgFault>
     ensures { result ≡ reply_of code bytes.now }
 {
@@ -188,8 +187,6 @@ pub(crate) use write_told;
 
 impl Reply {
     /// The reply that a code and data stand for, or the first fault that holds.
-    // It is inlined, so that its places for the reply are those of its caller, and not a frame's of their own.
-    #[inline(always)]
     pub fn read(code: u8, bytes: &[u8]) -> Result<Reply, MsgFault>
         ensures value { IfOk result (IsReply code bytes.now) }
         ensures fault { IfErr result (λ e. reply_fault code bytes.now ≡ Some e) }
