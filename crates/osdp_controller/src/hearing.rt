@@ -344,7 +344,8 @@ impl Session {
         requires none { report.old ≡ None }
         ensures { HearsReply frame.now self.old report.new self.new }
     {
-        let mut answer = ReplyMeaning::of(frame);
+        let mut answer = ReplyMeaning::NotTaken;
+        ReplyMeaning::read_into(frame, &mut answer);
         if self.is_numbered(frame.seq(), &answer) && !self.is_no_answer(&answer) {
             self.hear_numbered(&mut answer, report);
         }

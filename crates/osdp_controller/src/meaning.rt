@@ -1,10 +1,11 @@
 //! What a reply says to a controller that waits for one.
 
-ghost use Rattle.std.specs.Prelude.{◌≡◌};
-ghost use Rattle.osdp_controller.specs.Answers.{meaning_by_reading, meaning_by_reason, meaning_by_reply, meaning_of, is_not_taken};
+ghost use Rattle.std.specs.Prelude.{◌≡◌, true, false};
+ghost use Rattle.osdp_controller.specs.Answers.{is_not_taken, meaning_by_reply, meaning_of};
+ghost use Rattle.osdp_controller.specs.declared.meaning.ReplyMeaning.TheVariants.{Plain, Unreadable};
 
 use osdp_frame::FrameView;
-use osdp_msg::{MsgFault, Nak, NakReason, Reply};
+use osdp_msg::{NakReason, Reply};
 
 /// What a reply says to a controller that waits for one.
 #[derive(Drop)]
@@ -22,13 +23,17 @@ pub enum ReplyMeaning {
 }
 
 impl ReplyMeaning {
-    /// What a packet from a reader says.
+    /// Puts what a packet from a reader says in place of what stands in `place`.
+    // What sorts a reply stands apart from what reads it, so that the stack has few places for one at a time.
     #[inline(never)]
-    pub(crate) fn of(frame: &FrameView<'_>) -> ReplyMeaning
-        ensures { result ≡ meaning_of frame.now }
+    pub(crate) fn read_into(frame: &FrameView<'_>, place: &mut ReplyMeaning)
+        ensures { place.new ≡ meaning_of frame.now }
     {
         let code = frame.code();
-        by_reading(code, Reply::read(code, frame.payload()))
+        match Reply::read(code, frame.payload()) {
+            Ok(reply) => put_read(reply, place),
+            Err(_) => put_unreadable(code, place),
+        }
     }
 
     /// Whether it is BUSY.
@@ -39,33 +44,39 @@ impl ReplyMeaning {
     }
 }
 
-/// The answer that is read from a code, or that nothing is.
-fn by_reading(code: u8, reading: Result<Reply, MsgFault>) -> ReplyMeaning
-    ensures { result ≡ meaning_by_reading code reading }
+/// Puts there that nothing can be read of a code.
+#[inline(never)]
+fn put_unreadable(code: u8, place: &mut ReplyMeaning)
+    ensures { place.new ≡ Unreadable code }
 {
-    match reading {
-        Ok(reply) => by_reply(reply),
-        Err(_) => ReplyMeaning::Unreadable(code),
+    *place = ReplyMeaning::Unreadable(code);
+}
+
+/// Puts there what a reply says.
+#[inline(never)]
+fn put_read(reply: Reply, place: &mut ReplyMeaning)
+    ensures { place.new ≡ meaning_by_reply reply }
+{
+    if !put_refusal(&reply, place) {
+        *place = ReplyMeaning::Plain(reply);
     }
 }
 
-fn by_reply(reply: Reply) -> ReplyMeaning
-    ensures { result ≡ meaning_by_reply reply }
+/// Puts there what a reply says that refuses what was sent. Whether it is such a reply: BUSY, or a NAK whose reason says so, whatever
+/// detail follows.
+#[inline(never)]
+fn put_refusal(reply: &Reply, place: &mut ReplyMeaning) -> bool
+    ensures refused { result ≡ true → place.new ≡ meaning_by_reply reply.now }
+    ensures plain { result ≡ false → meaning_by_reply reply.now ≡ Plain reply.now }
 {
     match reply {
-        Reply::Busy => ReplyMeaning::NotTaken,
-        Reply::Nak(nak) => by_reason(nak),
-        _ => ReplyMeaning::Plain(reply),
+        Reply::Busy => *place = ReplyMeaning::NotTaken,
+        Reply::Nak(nak) => match nak.reason {
+            NakReason::CheckCharacters => *place = ReplyMeaning::Damaged,
+            NakReason::UnexpectedSequence => *place = ReplyMeaning::NumberRefused,
+            _ => return false,
+        },
+        _ => return false,
     }
-}
-
-/// The reason alone decides, whatever detail follows.
-fn by_reason(nak: Nak) -> ReplyMeaning
-    ensures { result ≡ meaning_by_reason nak.reason nak }
-{
-    match nak.reason {
-        NakReason::CheckCharacters => ReplyMeaning::Damaged,
-        NakReason::UnexpectedSequence => ReplyMeaning::NumberRefused,
-        _ => ReplyMeaning::Plain(Reply::Nak(nak)),
-    }
+    true
 }
