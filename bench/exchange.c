@@ -70,6 +70,12 @@ static void event(void)
     (void)osdp_device_event_text(&reader, "RAW 0 0 26 12345640", 19);
 }
 
+static void event_read(void)
+{
+    static const uint8_t card[] = { 0, 0, 26, 0, 0x12, 0x34, 0x56, 0x40 };
+    (void)osdp_device_event(&reader, 0x50, card, sizeof card);
+}
+
 static void text(void)
 {
     static char room[6144];
@@ -165,6 +171,7 @@ static void print_depths(void)
 {
     print_depth("osdp_panel_submit_text", submit, 16000);
     print_depth("osdp_device_event_text", event, 16000);
+    print_depth("osdp_device_event", event_read, 12000);
     now += 50;
     print_depth("osdp_panel_tick", tick, 12000);
     print_depth("osdp_device_step", step, 12000);

@@ -22,8 +22,7 @@
  * Heap.       `osdp_panel_new` takes 6,912 bytes in two blocks, and `osdp_panel_add` 1,768, and 1,648 for each command that may
  *             wait, in two. `osdp_device_new` takes 14,000 bytes, and 1,456 for each event that may wait, in two blocks. `free`
  *             gives all back. No other call takes memory. Where there is none, a call says so, and nothing has changed.
- * Stack.      The calls of a panel's line take at most 21 KiB of stack, and each other call at most 17, as measured and counted on
- *             64-bit x86.
+ * Stack.      Each call takes at most 17 KiB of stack, and those of a panel's line 14, as measured and counted on 64-bit x86.
  * Targets.    64-bit x86 and ARM, where a `size_t` has 64 bits.
  *
  * What the caller owes. No proof checks it. Each has what happens otherwise:
