@@ -1,9 +1,11 @@
 -- How the parts of a bus make up what it is to its callers. No row of a table and no law speaks of these.
-use Rattle.std.specs.Prelude.{◌≡◌, ◌≤◌, length, vec_capacity}
-use Rattle.osdp_frame.specs.Receiving.{IsAllRead}
+use Rattle.std.specs.Prelude.{◌≡◌, ◌≤◌, ℕ, false, List, ◌++◌, length, drop, vec_capacity}
+use Rattle.osdp_frame.specs.Items.{items, left_over}
+use Rattle.osdp_frame.specs.Receiving.{IsAllRead, Received}
 use Rattle.osdp_bus.specs.declared.device_list.DeviceList.{DeviceList}
 use Rattle.osdp_bus.specs.declared.line.Line.{Line}
 use Rattle.osdp_bus.specs.Buses.{BusState, Devices}
+use Rattle.osdp_bus.specs.Hearing.{hears_items}
 use Rattle.osdp_bus.specs.Machine.{most_devices}
 use Rattle.osdp_bus.specs.Settings.{IsBusConfig}
 
@@ -32,3 +34,10 @@ pub record IsLine (l : Line) : Type 0 where
   pub gap : l.receiver.gap ≡ l.config.gap
   pub read : IsAllRead l.receiver
   pub first : l.first ≤ length l.devices.entries.items
+
+-- the first `count` bytes were read by themselves, by devices and a receiver that has read all before them: what comes of these and the
+-- others is what comes of all, and so is what is left of them
+pub record ReadsHead (bytes : List ℕ) (count : ℕ) (l m : Received) (now : ℕ) (ds es : Devices) : Type 0 where
+  pub within : count ≤ length bytes
+  pub heard : hears_items now (items false (m.held.bytes ++ drop count bytes)) es ≡ hears_items now (items false (l.held.bytes ++ bytes)) ds
+  pub left : left_over (m.held.bytes ++ drop count bytes) ≡ left_over (l.held.bytes ++ bytes)

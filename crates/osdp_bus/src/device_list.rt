@@ -125,6 +125,7 @@ impl DeviceList {
     }
 
     /// An item is read from the line.
+    #[inline(always)]
     pub(crate) fn hear_item(&mut self, item: &Item<'_>, now: u64)
         ensures devices { devices_of self.new ≡ hears_item now (item_of item.now) (devices_of self.old) }
         ensures capacity { vec_capacity self.new.entries ≡ vec_capacity self.old.entries }

@@ -1,18 +1,18 @@
 //! The line of a bus: its devices, and what has come of a run that goes on.
 
-ghost use Rattle.std.specs.Prelude.{◌≡◌, ◌++◌, None, Some, false, is_some, length, vec_capacity};
+ghost use Rattle.std.specs.Prelude.{◌≡◌, ◌<◌, ◌++◌, None, Some, false, is_some, length, vec_capacity};
 ghost use Rattle.osdp_controller.specs.Lent.{IsWritten};
 ghost use Rattle.osdp_frame.specs.Items.{items, left_over, rest_of};
 ghost use Rattle.osdp_frame.specs.Receiving.{IsAllRead};
 ghost use Rattle.osdp_bus.specs.Buses.{seen};
 ghost use Rattle.osdp_bus.specs.Hearing.{after_bytes, after_silence, ends_run, ends_silent, hears_bytes, hears_items};
-ghost use Rattle.osdp_bus.specs.Private.{IsLine, devices_of, state_of};
+ghost use Rattle.osdp_bus.specs.Private.{IsLine, ReadsHead, devices_of, state_of};
 ghost use Rattle.osdp_bus.specs.Ticking.{bus_ticks, is_due_at, is_held_and_due, ticks_at, ticks_by};
 
 use crate::Entry;
 use crate::config::BusConfig;
 use crate::device_list::{DeviceList, first_holding, next_due};
-use osdp_frame::{Burst, Receiver};
+use osdp_frame::{Burst, Receiver, whole_item};
 
 /// The parts of a bus. Moments are in milliseconds.
 #[derive(Debug, Drop)]
@@ -40,6 +40,45 @@ fn read_items(devices: &mut DeviceList, receiver: &mut Receiver, now: u64)
     }
 }
 
+/// Where no byte is held, reads the packet at the head of the bytes where it lies, or passes over the byte that begins none, and tells how
+/// many bytes that took. 0 where bytes are held, and where nothing at the head is decided by its own bytes.
+#[tactic(auto, using(crate::proofs::Runs::head_none))]
+fn read_whole(devices: &mut DeviceList, receiver: &Receiver, bytes: &[u8], now: u64) -> usize
+    ensures heard { ReadsHead bytes.now result receiver.now receiver.now now (devices_of devices.old) (devices_of devices.new) }
+    ensures capacity { vec_capacity devices.new.entries ≡ vec_capacity devices.old.entries }
+    ensures count { length devices.new.entries.items ≡ length devices.old.entries.items }
+{
+    if !receiver.is_empty() {
+        return 0;
+    }
+    let Some(item) = whole_item(bytes) else {
+        return 0;
+    };
+    devices.hear_item(&item, now);
+    item.size()
+}
+
+/// Reads what stands at the head of the bytes, where it lies, or else holds as many of them as there is room for and reads the items that they
+/// decide. Tells how many bytes that took.
+fn read_head(devices: &mut DeviceList, receiver: &mut Receiver, bytes: &[u8], now: u64) -> usize
+    requires read { IsAllRead receiver.old }
+    requires some { 0 < length bytes.now }
+    ensures some { 0 < result }
+    ensures heard { ReadsHead bytes.now result receiver.old receiver.new now (devices_of devices.old) (devices_of devices.new) }
+    ensures capacity { vec_capacity devices.new.entries ≡ vec_capacity devices.old.entries }
+    ensures count { length devices.new.entries.items ≡ length devices.old.entries.items }
+    ensures line { receiver.new ≡ record receiver.old { held = receiver.new.held } }
+    ensures read { IsAllRead receiver.new }
+{
+    let whole = read_whole(devices, receiver, bytes, now);
+    if whole > 0 {
+        return whole;
+    }
+    let count = receiver.push(bytes);
+    read_items(devices, receiver, now);
+    count
+}
+
 /// Takes bytes of a run that goes on, and reads the items that they decide.
 fn read_bytes(devices: &mut DeviceList, receiver: &mut Receiver, bytes: &[u8], now: u64)
     requires { IsAllRead receiver.old }
@@ -52,8 +91,7 @@ fn read_bytes(devices: &mut DeviceList, receiver: &mut Receiver, bytes: &[u8], n
 {
     let mut at = 0;
     'pieces: while at < bytes.len() {
-        at += receiver.push(&bytes[at..]);
-        read_items(devices, receiver, now);
+        at += read_head(devices, receiver, &bytes[at..], now);
     }
 }
 
@@ -67,12 +105,15 @@ impl Line {
         self.receiver.see(now);
     }
 
-    /// The run is over.
+    /// The run is over. Mostly nothing is held of it.
     fn end_run(&mut self)
         requires { IsLine self.old }
         ensures line { state_of self.new ≡ ends_run (state_of self.old) }
         ensures kept { IsLine self.new }
     {
+        if self.receiver.is_empty() {
+            return;
+        }
         self.receiver.end_run();
         let now = self.receiver.greatest();
         read_items(&mut self.devices, &mut self.receiver, now);
@@ -126,6 +167,7 @@ impl Line {
 
     /// The device of an entry, if there is one, does what is due. Whether a packet goes out, whose bytes stand in `out` then. No report
     /// waits before it.
+    #[inline(always)]
     fn tick_at(&mut self, entry: Option<Entry>, out: &mut Burst) -> bool
         requires line { IsLine self.old }
         requires none { is_some self.old.devices.report ≡ false }

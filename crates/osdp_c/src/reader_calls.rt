@@ -203,11 +203,13 @@ pub(crate) fn step(
     ensures taken { taken.new ≡ writes_at now (writes_taken bytes.now now) machine.old taken.old }
     ensures written { answer.new ≡ writes_at now (writes_step bytes.now now) machine.old answer.old }
 {
-    settled_at!(
+    at_moment!(
         machine,
         now,
-        answer,
-        *taken = machine.device.take(bytes, now)
+        {
+            *taken = machine.step(bytes, now, answer);
+            Status::Done
+        }
     )
 }
 

@@ -119,6 +119,7 @@ impl AnswerStruct {
     }
 
     /// Writes what a turn comes to, which stands in a place.
+    #[inline(always)]
     pub fn set_settled(&mut self, settled: Settled, heard: &Heard)
         ensures { self.new ≡ turn_struct (settled_pending settled heard.now) (settled_said settled heard.now) self.old }
     {

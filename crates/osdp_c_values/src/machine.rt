@@ -3,7 +3,8 @@
 ghost use Rattle.std.specs.Prelude.{◌≡◌};
 ghost use Rattle.osdp_bus.specs.Ticking.{bus_ticks};
 ghost use Rattle.osdp_c_values.specs.Panels.{IsSentIn, ticked};
-ghost use Rattle.osdp_c_values.specs.Readers.{reads_next, writes_next};
+ghost use Rattle.osdp_frame.specs.Receiving.{count_taken};
+ghost use Rattle.osdp_c_values.specs.Readers.{reads_next, steps, writes_next, writes_step};
 
 use crate::answer::AnswerStruct;
 use crate::arrays::BurstStruct;
@@ -59,5 +60,17 @@ impl ReaderMachine {
     {
         let settled = self.device.settle_into(&mut self.heard.value);
         answer.set_settled(settled, &self.heard.value);
+    }
+
+    /// Bytes have come up to a moment: tells how many of them were taken, and writes what the reader says, or the command before which it
+    /// stops.
+    pub fn step(&mut self, bytes: &[u8], now: u64, answer: &mut AnswerStruct) -> usize
+        ensures count { result ≡ count_taken bytes.now now self.old.device.line }
+        ensures machine { self.new ≡ (steps bytes.now now self.old).machine }
+        ensures written { answer.new ≡ writes_step bytes.now now self.old answer.old }
+    {
+        let (count, settled) = self.device.step_into(bytes, now, &mut self.heard.value);
+        answer.set_settled(settled, &self.heard.value);
+        count
     }
 }

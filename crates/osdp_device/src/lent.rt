@@ -1,9 +1,10 @@
 //! Calls of a device that put what comes of them into what the caller lends. A caller that uses one place for packet after packet moves
 //! only the bytes that are sent, and takes no stack for a response.
 
-ghost use Rattle.std.specs.Prelude.{◌≡◌, true, false, None, Some, is_some};
-ghost use Rattle.osdp_frame.specs.Held.{decided};
+ghost use Rattle.std.specs.Prelude.{◌≡◌, ◌≤◌, ◌<◌, ◌==◌, true, false, None, Some, is_some, length};
+ghost use Rattle.osdp_frame.specs.Held.{decided, new_run};
 ghost use Rattle.osdp_frame.specs.Reading.{PacketItem};
+ghost use Rattle.osdp_frame.specs.Receiving.{after_take, count_taken};
 ghost use Rattle.osdp_reader.specs.Table.{command_in};
 ghost use Rattle.osdp_reader.specs.declared.config.ReaderConfig.{ReaderConfig as Configured};
 ghost use Rattle.osdp_device.specs.Deciding.{handled, passed, pending_at, pending_of, settles, turned, with_question};
@@ -13,9 +14,9 @@ ghost use Rattle.osdp_device.specs.Saying.{after_item, answers_first, is_answere
 ghost use Rattle.osdp_device.specs.Telling.{next_told};
 ghost use Rattle.osdp_device.specs.declared.program.Question.TheVariants.{NotAsked};
 
-use crate::device::Device;
+use crate::device::{Device, is_answered};
 use crate::program::{ProgramAnswers, Question};
-use osdp_frame::{FrameView, Item};
+use osdp_frame::{FrameView, Item, MAX_PACKET, whole_item};
 use osdp_msg::Command;
 use osdp_reader::{Handler, Heard, Kind, Reader, read_command};
 
@@ -119,6 +120,16 @@ impl<H: Handler> Device<H> {
 }
 
 impl Device<ProgramAnswers> {
+    /// Whether the program was asked nothing so far.
+    fn is_unasked(&self) -> bool
+        ensures { result ≡ true → self.now.reader.handler.question ≡ NotAsked }
+    {
+        match self.reader.handler().question {
+            Question::NotAsked => true,
+            Question::Asked | Question::Answered(_) => false,
+        }
+    }
+
     /// What was asked and set is gone. Where nothing was, nothing is written.
     #[tactic(auto, using(crate::proofs::Unasked::unasked))]
     fn forget_question(&mut self)
@@ -149,7 +160,8 @@ impl Device<ProgramAnswers> {
         }
     }
 
-    /// Stops before a command that is pending, or else answers the next packet.
+    /// Stops before a command that is pending, or else answers the next packet. The packet is found once.
+    #[tactic(auto, using(crate::proofs::Taking::taking))]
     fn ask_into(&mut self, heard: &mut Heard) -> Settled
         requires { self.old.reader.handler.question ≡ NotAsked }
         ensures pending { settled_pending result heard.new ≡ (turned self.old.reader self.old.line.held).pending }
@@ -157,11 +169,21 @@ impl Device<ProgramAnswers> {
         ensures reader { self.new.reader ≡ (turned self.old.reader self.old.line.held).reader }
         ensures line { self.new.line ≡ record self.old.line { held = (turned self.old.reader self.old.line.held).held } }
     {
-        if self.pending_into(&mut heard.command) {
+        if !self.pass_over() {
+            self.forget_question();
+            return Settled::Nothing;
+        }
+        let Some(Item::Packet(first)) = self.line.next() else {
+            unreachable!();
+        };
+        if read_pending(&self.reader, &first, &mut heard.command) {
             self.reader.handler_mut().question = Question::Asked;
             return Settled::Pending;
         }
-        self.answer_packet_into(heard)
+        hear(&mut self.reader, &first, heard);
+        self.line.advance();
+        self.forget_question();
+        Settled::Said
     }
 
     /// As `settle`, but the command before which it stops, or what is said, is put in place of what stands in `heard`. Where it stops, the
@@ -176,5 +198,56 @@ impl Device<ProgramAnswers> {
             Question::NotAsked => self.ask_into(heard),
             Question::Asked | Question::Answered(_) => self.answer_packet_into(heard),
         }
+    }
+
+    /// Answers a packet that has come whole where it lies: where no byte is held, the bytes are that packet alone, the reader answers it, and
+    /// the program isn't asked about it first. Whether it did. Where it didn't, nothing has changed but the command in `heard`.
+    #[tactic(auto, using(crate::proofs::Whole::answers_whole))]
+    fn answer_whole(&mut self, bytes: &[u8], heard: &mut Heard) -> bool
+        ensures turned { result ≡ true → turned self.old.reader (record { bytes = bytes.now; ended = false })
+            ≡ record { pending = None; said = Some (heard_in heard.new); reader = self.new.reader; held = new_run } }
+        ensures room { result ≡ true → length bytes.now ≤ MAX_PACKET }
+        ensures some { result ≡ true → 0 < length bytes.now }
+        ensures empty { result ≡ true → (length self.old.line.held.bytes == 0) ≡ true }
+        ensures stays { result ≡ false → self.new.reader ≡ self.old.reader }
+        ensures line { self.new.line ≡ self.old.line }
+    {
+        if !self.line.is_empty() || !self.is_unasked() {
+            return false;
+        }
+        let Some(item) = whole_item(bytes) else {
+            return false;
+        };
+        if item.size() != bytes.len() || !is_answered(&self.reader, &item) {
+            return false;
+        }
+        let Item::Packet(whole) = item else {
+            return false;
+        };
+        if read_pending(&self.reader, &whole, &mut heard.command) {
+            return false;
+        }
+        hear(&mut self.reader, &whole, heard);
+        self.forget_question();
+        true
+    }
+
+    /// As `take`, and then as `settle_into`: tells how many of the bytes were taken, and what comes of them. A packet that comes whole, by itself, is
+    /// answered where it lies.
+    #[tactic(auto, using(crate::proofs::Whole::whole_taken))]
+    pub fn step_into(&mut self, bytes: &[u8], now: u64, heard: &mut Heard) -> (usize, Settled)
+        ensures count { result.0 ≡ count_taken bytes.now now self.old.line }
+        ensures pending { settled_pending result.1 heard.new ≡ (turned self.old.reader (after_take bytes.now now self.old.line).held).pending }
+        ensures said { settled_said result.1 heard.new ≡ (turned self.old.reader (after_take bytes.now now self.old.line).held).said }
+        ensures reader { self.new.reader ≡ (turned self.old.reader (after_take bytes.now now self.old.line).held).reader }
+        ensures line { self.new.line ≡ record (after_take bytes.now now self.old.line) { held = (turned self.old.reader (after_take bytes.now now self.old.line).held).held } }
+    {
+        if self.answer_whole(bytes, heard) {
+            self.line.see(now);
+            self.line.see_bytes();
+            return (bytes.len(), Settled::Said);
+        }
+        let count = self.take(bytes, now);
+        (count, self.settle_into(heard))
     }
 }

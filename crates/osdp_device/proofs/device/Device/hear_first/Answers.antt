@@ -3,7 +3,6 @@ use Rattle.osdp_frame.specs.Held.{Held, after_advance, decided}
 use Rattle.osdp_frame.specs.Reading.{PacketItem}
 use Rattle.osdp_frame.specs.Shown.{item_of}
 use Rattle.osdp_device.specs.Lent.{heard_in}
-use Rattle.osdp_frame.specs.Receiving.{Received}
 use Rattle.osdp_device.proofs.Taking.{told_here}
 use Rattle.osdp_device.proofs.device.Device.hear_first.Goals as goal
 

@@ -1,4 +1,4 @@
-use Rattle.std.proofs.Common.{◌≡◌, Some, is_some, refl, sym, ap, ◌∙◌}
+use Rattle.std.proofs.Common.{Some, is_some, refl, sym, ap, ◌∙◌}
 use Rattle.osdp_frame.specs.Reading.{PacketItem}
 use Rattle.osdp_frame.specs.Shown.{item_of}
 use Rattle.osdp_device.proofs.Taking.{pending_nothing, pending_shown}
