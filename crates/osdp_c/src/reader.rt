@@ -10,9 +10,9 @@ ghost use Rattle.osdp_c_values.specs.Readers.{IsEventRead, NewReaderEnds, answer
 
 use crate::held::{freed, on_held, put_new};
 use crate::read::read_event;
-use crate::reader_calls;
+use crate::reader_calls::{self, UNTOLD};
 use osdp_c_values::{AnswerStruct, MessageStruct, ReaderHandle, ReaderSettings, StateList, Status};
-use osdp_msg::NakReason;
+use osdp_msg::{Event, NakReason};
 use osdp_reader::Answer;
 use std::alloc::Global;
 
@@ -127,11 +127,12 @@ pub extern "C" fn osdp_device_event_nonnull(
     ensures { (read : Result Happened Answered) × IsEventRead (reply_of code body.now) read
         × IsDone (calls (submits_read read) reader.old.slot.machine) result reader.new.slot.machine }
 {
-    let read = reader_calls::event_at(code, body);
+    let mut event = Event::LocalState(UNTOLD);
+    let read = reader_calls::read_event_at(code, body, &mut event);
     on_held!(
         reader,
         alloc,
-        |machine| reader_calls::submit_data(&mut machine, read)
+        |machine| reader_calls::submit_data(&mut machine, read, &mut event)
     )
 }
 

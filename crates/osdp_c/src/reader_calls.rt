@@ -12,9 +12,16 @@ use osdp_c_values::{
 };
 use osdp_device::{Device, ProgramAnswers};
 use osdp_frame::{Address, CheckKind, FrameView, Header, Seq, is_time};
-use osdp_msg::{Event, MAX_DATA, MsgFault, PdCap, Reply, is_room};
+use osdp_msg::{Event, LocalState, MAX_DATA, MsgFault, PdCap, Reply, is_room};
 use osdp_reader::{Answer, Heard, Kind, Reader, ReaderConfig, ReaderFault};
 use std::alloc::Global;
+use std::mem::replace;
+
+/// What an event's place holds before an event is put there, and after it was taken.
+pub(crate) const UNTOLD: LocalState = LocalState {
+    tamper: 0,
+    power: 0,
+};
 
 /// What a reader answers to CAP, by the data of that reply.
 fn read_caps(body: &[u8]) -> Result<PdCap, MsgFault>
@@ -139,27 +146,37 @@ fn submit(machine: &mut ReaderMachine, event: Event) -> Status
     }
 }
 
-/// The event that the reply of a code and data tells.
-pub(crate) fn event_at(code: u8, body: &[u8]) -> Result<Event, Status>
-    ensures { IsEventRead (reply_of code body.now) result }
+/// Puts the event that the reply of a code and data tells in place of what stands in `event`, or tells why there is none.
+// It is not inlined: the places of reading are on the stack only while the reply is read.
+#[inline(never)]
+pub(crate) fn read_event_at(code: u8, body: &[u8], event: &mut Event) -> Result<(), Status>
+    ensures { IsEventRead (reply_of code body.now) (result_map_both (λ _. event.new) (λ refused. refused) result) }
 {
-    let reply = match Reply::read(code, body) {
-        Ok(reply) => reply,
-        Err(fault) => return Err(Status::Message(fault)),
-    };
-    match reply.to_event() {
-        Ok(event) => Ok(event),
-        Err(_) => Err(Status::NoEvent),
+    match Reply::read(code, body) {
+        Ok(reply) => {
+            if reply.event_into(event) {
+                Ok(())
+            } else {
+                Err(Status::NoEvent)
+            }
+        }
+        Err(fault) => Err(Status::Message(fault)),
     }
 }
 
-/// Puts the event after those that wait that was read of a reply's code and data.
-pub(crate) fn submit_data(machine: &mut ReaderMachine, read: Result<Event, Status>) -> Status
-    ensures status { result ≡ (submits_read read machine.old).status }
-    ensures machine { machine.new ≡ (submits_read read machine.old).machine }
+/// Puts the event after those that wait that was read of a reply's code and data. Its place holds another after that.
+// It is not inlined: the places of moving the event are not there while it is read.
+#[inline(never)]
+pub(crate) fn submit_data(
+    machine: &mut ReaderMachine,
+    read: Result<(), Status>,
+    event: &mut Event,
+) -> Status
+    ensures status { result ≡ (submits_read (result_map_both (λ _. event.old) (λ refused. refused) read) machine.old).status }
+    ensures machine { machine.new ≡ (submits_read (result_map_both (λ _. event.old) (λ refused. refused) read) machine.old).machine }
 {
     match read {
-        Ok(event) => submit(machine, event),
+        Ok(()) => submit(machine, replace(event, Event::LocalState(UNTOLD))),
         Err(refused) => refused,
     }
 }
