@@ -49,25 +49,27 @@ further limit left count buffer old mid a b c x y piece h = (
   omega (arith, piece.room, length-take count buffer),
 )
 
-pub read_more : (limit left count : ℕ) (buffer : List ℕ) (old mid new : Capture) (a b c : Option (List ℕ)) (x y z : Option (List ℕ))
-    → ReadsBytes left b c buffer count → HasRead limit left old mid a b x y → TookPiece (take count buffer) true mid new y z
+pub read_more : (limit left count : ℕ) (buffer : List ℕ) (old mid new : Capture) (a b c : Option (List ℕ)) (x y z : Option (List ℕ)) (good : Bool)
+    → good ≡ true → ReadsBytes left b c buffer count → HasRead limit left old mid a b x y → TookPart (take count buffer) good mid new y z
     → HasRead limit (left - count) old new a c x z
-read_more limit left count buffer old mid new a b c x y z piece h took =
+read_more limit left count buffer old mid new a b c x y z good well piece h took =
     let more = further limit left count buffer old mid a b c x y piece h in
-    record { read = h.read ++ take count buffer; taken = more.0; count = more.1; took = took_both h.read (take count buffer) true old mid new x y z h.took took }
+    let all = subst (λ b. TookPart (take count buffer) b mid new y z) well took in
+    record { read = h.read ++ take count buffer; taken = more.0; count = more.1; took = took_both h.read (take count buffer) true old mid new x y z h.took all }
 
-pub read_bad : (limit left count : ℕ) (buffer : List ℕ) (old mid new : Capture) (a b c : Option (List ℕ)) (x y z : Option (List ℕ))
-    → length buffer ≡ 65536 → ReadsBytes left b c buffer count → HasRead limit left old mid a b x y → TookPart (take count buffer) false mid new y z
+pub read_bad : (limit left count : ℕ) (buffer : List ℕ) (old mid new : Capture) (a b c : Option (List ℕ)) (x y z : Option (List ℕ)) (good : Bool)
+    → good ≡ false → length buffer ≡ 65536 → ReadsBytes left b c buffer count → HasRead limit left old mid a b x y → TookPart (take count buffer) good mid new y z
     → ReadToBadLine limit old new a c x z
-read_bad limit left count buffer old mid new a b c x y z size piece h took =
+read_bad limit left count buffer old mid new a b c x y z good bad size piece h took =
     let more = further limit left count buffer old mid a b c x y piece h in
+    let part = subst (λ b. TookPart (take count buffer) b mid new y z) bad took in
     record {
       read = record { earlier = h.read; piece = take count buffer; taken = more.0; within = omega (arith, more.1); one_piece = omega (arith, more.2) };
-      most = took.0;
+      most = part.0;
       mid = mid;
       middle = y;
       took_earlier = h.took;
-      took = took.1;
+      took = part.1;
     }
 
 pub read_stops : (limit left count : ℕ) (buffer : List ℕ) (old mid : Capture) (a b c : Option (List ℕ)) (x y now : Option (List ℕ))

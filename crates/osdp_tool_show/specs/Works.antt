@@ -9,8 +9,6 @@ use Rattle.osdp_tool_show.specs.ToldItems.{after_runs, runs_lines, end_line}
 use Rattle.osdp_tool_streams.specs.declared.fault.ToolFault.{ToolFault}
 use Rattle.osdp_tool_streams.specs.declared.fault.ToolFault.TheVariants.{NotHex, WriteFailed, NoMemory}
 use Rattle.osdp_tool_show.specs.declared.capture.Capture.{Capture}
-use Rattle.osdp_tool_show.specs.declared.reading.Ending.{Ending}
-use Rattle.osdp_tool_show.specs.declared.reading.Ending.TheVariants.{AtEnd, AtBadLine, PastLimit, AtFailedRead}
 use Rattle.osdp_tool_show.specs.Machine.{IsSettled, Stands}
 use Rattle.osdp_tool_show.specs.Shown.{shown, shown_so_far, is_refused_input}
 use Rattle.osdp_tool_show.specs.Written.{StopsWithin}
@@ -81,16 +79,6 @@ pub record ReadPart (limit : ℕ) (old : Capture) (input_before input_after befo
   pub middle : Option (List ℕ)
   pub took : TookPiece read true old mid before middle
   pub stops : StopsInPiece piece mid middle now
-
-abbrev pub ReadTo : Ending → ℕ → Capture → Capture → Option (List ℕ) → Option (List ℕ) → Option (List ℕ) → Option (List ℕ) → Bool → Bool → Type 0
-ReadTo AtEnd limit old new input_before input_after before after was_failed failed =
-    ReadToEnd limit old new input_before input_after before after × (failed ≡ was_failed)
-ReadTo AtBadLine limit old new input_before input_after before after was_failed failed =
-    ReadToBadLine limit old new input_before input_after before after × (failed ≡ was_failed)
-ReadTo PastLimit limit old new input_before input_after before after was_failed failed =
-    ReadToLimit limit old new input_before input_after before after × (failed ≡ was_failed)
-ReadTo AtFailedRead limit old new input_before input_after before after was_failed failed =
-    ReadToFailure limit old new input_before input_after before after × (failed ≡ true)
 
 -- the input ended here, and a call stopped while it told of that: what was written is a beginning of the text of the input, as one that goes
 -- on or as one that has ended

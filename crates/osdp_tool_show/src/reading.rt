@@ -10,56 +10,10 @@ use crate::capture::Capture;
 use osdp_tool_streams::{Piece, ToolFault, Watched, read_piece};
 use std::io::{Read, Write};
 
-/// Why no more is read.
-#[derive(Clone, Copy)]
-pub enum Ending {
-    AtEnd,
-    AtBadLine,
-    PastLimit,
-    AtFailedRead,
-}
-
 impl Capture {
     ghost use Rattle.osdp_tool_show.specs.Capture.{load, HasShown};
     ghost use Rattle.osdp_tool_show.specs.Ending.{streamed, watched};
-    ghost use Rattle.osdp_tool_show.specs.Works.{ReadTo, ReadPart, Works, Answered};
-
-    /// Reads to the end of the input, a bad line, the limit or a failed read.
-    pub fn read_all<R: Read, W: Write>(
-        &mut self,
-        limit: usize,
-        input: &mut Watched<R>,
-        output: &mut Watched<W>,
-    ) -> Result<Ending, ToolFault>
-        requires settled { IsSettled self.old.framer }
-        requires limit { limit < 2 ^ 40 }
-        requires load { load self.old + 5 * limit < 2 ^ 60 }
-        ensures step { IsStep result (has_failed output.old) (has_failed output.new) }
-        ensures input { OnErr result (has_failed input.new ≡ has_failed input.old) }
-        ensures settled { OnOk result (IsSettled self.new.framer) }
-        ensures load { OnOk result (load self.new ≤ load self.old + 5 * limit) }
-        ensures read { IfOk result (λ ending. ReadTo ending limit self.old self.new
-            (R.remaining (inner_of input.old)) (R.remaining (inner_of input.new))
-            (written_or_held (W.contents (inner_of output.old)) self.old.report) (written_or_held (W.contents (inner_of output.new)) self.new.report)
-            (has_failed input.old) (has_failed input.new)) }
-        ensures stops { OnErr result (ReadPart limit self.old (R.remaining (inner_of input.old)) (R.remaining (inner_of input.new))
-            (written_or_held (W.contents (inner_of output.old)) self.old.report) (W.contents (inner_of output.new))) }
-    {
-        let mut piece = [0u8; 65536];
-        let mut left = limit;
-        'reads: loop {
-            let count = match read_piece(input, &mut piece, left) {
-                Ok(Piece::Bytes(count)) => count,
-                Ok(Piece::AtEnd) => return Ok(Ending::AtEnd),
-                Ok(Piece::PastLimit) => return Ok(Ending::PastLimit),
-                Err(_) => return Ok(Ending::AtFailedRead),
-            };
-            left -= count;
-            if !self.take_read(&piece[..count], output)? {
-                return Ok(Ending::AtBadLine);
-            }
-        }
-    }
+    ghost use Rattle.osdp_tool_show.specs.Works.{Works, Answered};
 
     /// Reads the input and tells of it, and gives the answer.
     pub fn read<R: Read, W: Write>(
@@ -79,20 +33,26 @@ impl Capture {
             (watched R.remaining input.old input.new)
             (streamed start (W.contents (inner_of output.new)) (has_failed output.new)) result }
     {
-        match self.read_all(limit, input, output)? {
-            Ending::AtEnd => self.answer(output),
-            Ending::AtBadLine => {
+        let mut piece = [0u8; 65536];
+        let mut left = limit;
+        'reads: loop {
+            let count = match read_piece(input, &mut piece, left) {
+                Ok(Piece::Bytes(count)) => count,
+                Ok(Piece::AtEnd) => return self.answer(output),
+                Ok(Piece::PastLimit) => {
+                    self.report.write_out(output)?;
+                    return Err(ToolFault::TooLong);
+                }
+                Err(_) => {
+                    // A failed read is told before a failed write.
+                    let _ = self.report.write_out(output);
+                    return Err(ToolFault::ReadFailed);
+                }
+            };
+            left -= count;
+            if !self.take_read(&piece[..count], output)? {
                 self.close(output)?;
-                Err(ToolFault::NotHex(self.ended))
-            }
-            Ending::PastLimit => {
-                self.report.write_out(output)?;
-                Err(ToolFault::TooLong)
-            }
-            Ending::AtFailedRead => {
-                // A failed read is told before a failed write.
-                let _ = self.report.write_out(output);
-                Err(ToolFault::ReadFailed)
+                return Err(ToolFault::NotHex(self.ended));
             }
         }
     }

@@ -2,7 +2,7 @@ use Rattle.std.proofs.Common.{◌≡◌}
 use Rattle.osdp_tool_streams.specs.Watched.{inner_of, has_failed}
 use Rattle.osdp_tool_show.specs.Machine.{written_or_held}
 use Rattle.osdp_tool_show.proofs.Works.{HasRead}
-use Rattle.osdp_tool_show.proofs.capture.Capture.read_all.Given as goal
+use Rattle.osdp_tool_show.proofs.capture.Capture.read.Given as goal
 
 abbrev pub invariant-reads : goal.invariant-reads
 invariant-reads g l = record {
