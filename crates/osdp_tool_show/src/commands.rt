@@ -5,7 +5,6 @@ ghost use Rattle.std.specs.Io.KnownBytes.{Keeps};
 ghost use Rattle.osdp_tool_streams.specs.Watched.{has_failed};
 ghost use Rattle.osdp_tool_show.specs.Ending.{watched, Ends, EndsWhole};
 ghost use Rattle.osdp_tool_show.specs.Shown.{form_of};
-ghost use Rattle.osdp_tool_show.specs.Works.{Works};
 
 use crate::Detail;
 use crate::capture::Capture;
@@ -21,24 +20,6 @@ fn form_of(mode: Mode) -> Form
         return Form::Raw;
     }
     if mode.join { Form::Joined } else { Form::Apart }
-}
-
-/// Reads the input and prints its lines. Where memory runs out nothing more is printed.
-fn work<R: Read, W: Write>(
-    alloc: Global,
-    detail: Detail,
-    form: Form,
-    limit: usize,
-    input: &mut Watched<R>,
-    output: &mut Watched<W>,
-) -> Result<bool, ToolFault>
-    requires limit { limit < 2 ^ 40 }
-    requires input { has_failed input.old ≡ false }
-    requires output { has_failed output.old ≡ false }
-    ensures { Works detail form limit (watched R.remaining input.old input.new) (watched W.contents output.old output.new) result }
-{
-    let mut capture = Capture::new(alloc, detail, form)?;
-    capture.read(limit, input, output)
 }
 
 /// Does what `show` does over an input of this form, with a limit of the caller's own.
@@ -62,7 +43,10 @@ pub fn command<R: Read, W: Write>(
     if output.failed() {
         return Err(ToolFault::WriteFailed);
     }
-    let answer = work(alloc, detail, form, limit, input, output);
+    let answer = match Capture::new(alloc, detail, form) {
+        Ok(mut capture) => capture.read(limit, input, output),
+        Err(fault) => Err(fault),
+    };
     finish(input.failed(), output, answer)
 }
 
