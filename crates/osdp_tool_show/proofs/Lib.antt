@@ -17,7 +17,6 @@ pub mod Finishing
 pub mod HexText
 pub mod OneByOne
 pub mod Lines
-pub mod BareMessages
 pub mod Decimals
 pub mod Cuts
 pub mod OneMessage

@@ -1,5 +1,5 @@
 -- What an item of a run prints as.
-use Rattle.std.specs.Prelude.{ℕ, ◌==◌, Bool, true, false, if◌then◌else◌, List, [], ◌∷◌, ◌++◌, codes, drop, slice_index, Result, Ok, Err}
+use Rattle.std.specs.Prelude.{ℕ, ◌==◌, Bool, true, false, if◌then◌else◌, List, [], ◌∷◌, ◌++◌, codes, drop, slice_index, Option, Some, Result, Ok, Err}
 use Rattle.std.specs.Fmt.{decimal}
 use Rattle.hex.specs.Hex.{encode_upper}
 use Rattle.osdp_frame.specs.Check.{check_name}
@@ -37,6 +37,11 @@ unread_text fault code bytes = refusal_text fault ++ (codes "code " ++ (encode_u
 abbrev pub told_text : {M : Type 0} → (M → List ℕ) → Result M MsgFault → ℕ → List ℕ → List ℕ
 told_text text (Ok message) code bytes = text message
 told_text text (Err fault) code bytes = unread_text fault code bytes
+
+-- the same of a message that prints so, where it prints
+abbrev pub printed_text : {M : Type 0} → (M → Option (List ℕ)) → Result M MsgFault → ℕ → List ℕ → Option (List ℕ)
+printed_text output (Ok message) code bytes = output message
+printed_text output (Err fault) code bytes = Some (unread_text fault code bytes)
 
 -- a command is read by the table of commands, a reply by that of replies
 abbrev pub message_text : Bool → ℕ → List ℕ → List ℕ

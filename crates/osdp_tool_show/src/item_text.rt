@@ -8,7 +8,7 @@ ghost use Rattle.osdp_tool_show.specs.ToldItems.{shown_line, end_line};
 
 use crate::Detail;
 use crate::hex_text::push_bytes;
-use crate::message_text::{Told, bare_command, bare_reply, is_refused, push_message};
+use crate::message_text::{Told, bare_message, is_refused, push_message};
 use crate::number::push_number;
 use crate::packet_text::push_head;
 use crate::tally::Tally;
@@ -96,10 +96,7 @@ fn bare_name(view: &FrameView<'_>) -> Option<&'static str>
     if !view.payload().is_empty() {
         return None;
     }
-    if view.is_reply() {
-        return bare_reply(view.code());
-    }
-    bare_command(view.code())
+    bare_message(view.is_reply(), view.code())
 }
 
 /// Writes the line of a packet whose message is read to be told, and says whether it is refused.

@@ -1,10 +1,7 @@
 //! What is told of a packet's code and data.
 
 ghost use Rattle.std.specs.Prelude.{◌≡◌, ◌++◌, ℕ, Bool, List, [], false, true, IfSome, OnOk, Some, string_bytes};
-ghost use Rattle.std.proofs.Common.{refl};
-ghost use Rattle.osdp_tool_show.specs.ItemText.{data_text, unread_text, told_text, is_refused, is_refused_message, message_text};
-ghost use Rattle.osdp_msg.specs.CommandText.{command_text};
-ghost use Rattle.osdp_msg.specs.ReplyText.{reply_text};
+ghost use Rattle.osdp_tool_show.specs.ItemText.{data_text, unread_text, printed_text, is_refused, is_refused_message, message_text};
 
 use crate::hex_text::push_bytes;
 use osdp_msg::{Command, MsgFault, Reply};
@@ -16,23 +13,14 @@ pub(crate) trait Told: Drop + fmt::Display {
     /// They are replies.
     ghost reply: { Bool };
 
-    /// What is told of a message.
-    ghost told: { Self → List ℕ };
-
     /// The message of a code and data.
     fn read_message(code: u8, bytes: &[u8]) -> Result<Self, MsgFault>
-        ensures told { told_text told result code bytes.now ≡ message_text reply code bytes.now }
+        ensures told { printed_text Self.output result code bytes.now ≡ Some (message_text reply code bytes.now) }
         ensures refused { is_refused result ≡ is_refused_message reply code bytes.now };
-
-    ghost prints: { (message : Self) → Self.output message ≡ Some (told message) };
 }
 
 impl Told for Command {
     ghost reply = { false };
-
-    ghost told = { command_text };
-
-    ghost prints = { λ message. refl };
 
     #[inline(always)]
     fn read_message(code: u8, bytes: &[u8]) -> Result<Command, MsgFault> {
@@ -43,41 +31,34 @@ impl Told for Command {
 impl Told for Reply {
     ghost reply = { true };
 
-    ghost told = { reply_text };
-
-    ghost prints = { λ message. refl };
-
     #[inline(always)]
     fn read_message(code: u8, bytes: &[u8]) -> Result<Reply, MsgFault> {
         Reply::read(code, bytes)
     }
 }
 
-/// What is told of a command without data, where that is its name alone: most packets of a line are such, and
+/// What is told of a message without data, where that is its name alone: most packets of a line are such, and
 /// are told without a value of the message.
 #[inline(always)]
-pub(crate) fn bare_command(code: u8) -> Option<&'static str>
-    ensures { IfSome result (λ name. (message_text false code [] ≡ name.now) × (is_refused_message false code [] ≡ false)) }
+#[tactic(auto, unfolding(osdp_msg::specs::CommandTable::command_of, osdp_msg::specs::CommandTable::command_fault, osdp_msg::specs::CommandTable::command_at, osdp_msg::specs::CommandText::command_text, osdp_msg::specs::ReplyTable::reply_of, osdp_msg::specs::ReplyTable::reply_fault, osdp_msg::specs::ReplyTable::reply_at, osdp_msg::specs::ReplyText::reply_text))]
+pub(crate) fn bare_message(reply: bool, code: u8) -> Option<&'static str>
+    ensures { IfSome result (λ name. (message_text reply code [] ≡ name.now) × (is_refused_message reply code [] ≡ false)) }
 {
-    match code {
-        0x60 => Some("POLL"),
-        0x64 => Some("LSTAT"),
-        0x65 => Some("ISTAT"),
-        0x66 => Some("OSTAT"),
-        0x67 => Some("RSTAT"),
-        _ => None,
-    }
-}
-
-/// The same of a reply.
-#[inline(always)]
-pub(crate) fn bare_reply(code: u8) -> Option<&'static str>
-    ensures { IfSome result (λ name. (message_text true code [] ≡ name.now) × (is_refused_message true code [] ≡ false)) }
-{
-    match code {
-        0x40 => Some("ACK"),
-        0x79 => Some("BUSY"),
-        _ => None,
+    if reply {
+        match code {
+            0x40 => Some("ACK"),
+            0x79 => Some("BUSY"),
+            _ => None,
+        }
+    } else {
+        match code {
+            0x60 => Some("POLL"),
+            0x64 => Some("LSTAT"),
+            0x65 => Some("ISTAT"),
+            0x66 => Some("OSTAT"),
+            0x67 => Some("RSTAT"),
+            _ => None,
+        }
     }
 }
 
@@ -124,7 +105,7 @@ pub(crate) fn push_message<M: Told>(
     code: u8,
     bytes: &[u8],
 ) -> Result<(), AllocError>
-    ensures { OnOk result (string_bytes text.new ≡ string_bytes text.old ++ told_text M.told read.now code bytes.now) }
+    ensures { OnOk result (IfSome (printed_text M.output read.now code bytes.now) (λ told. string_bytes text.new ≡ string_bytes text.old ++ told)) }
 {
     match read {
         Ok(message) => write!(text, "{message}"),
