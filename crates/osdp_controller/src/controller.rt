@@ -7,7 +7,7 @@ ghost use Rattle.osdp_controller.specs.Private.{after_act, frame_if, is_over, ne
 ghost use Rattle.osdp_controller.specs.Ticking.{stays, ticks_in};
 ghost use Rattle.osdp_controller.specs.declared.report.Report.TheVariants.{Settled};
 ghost use Rattle.osdp_msg.specs.declared.reply.Reply.TheVariants.{Ack};
-ghost use Rattle.std.specs.Prelude.{◌≡◌, ◌↔◌, ◌*◌, ◌+◌, ◌≤◌, ℕ, IfErr, IfSome, None, Some, OnOk, drop, is_some, length, option_copied, true, false};
+ghost use Rattle.std.specs.Prelude.{◌≡◌, ◌↔◌, ◌*◌, ◌+◌, ◌<◌, ◌≤◌, ◌++◌, ◌∷◌, [], ℕ, IfErr, IfSome, None, Some, OnOk, drop, is_some, length, option_copied, true, false};
 
 use crate::config::ControllerConfig;
 use crate::fault::ControllerFault;
@@ -141,7 +141,7 @@ impl Controller {
         if self.waiting.is_full() {
             return Err(ControllerFault::Full);
         }
-        let _ = self.waiting.try_push_back(command.copy());
+        push_copy(&mut self.waiting, command);
         Ok(())
     }
 
@@ -385,6 +385,19 @@ fn next_command<'a>(state: &Held, waiting: &'a HeapCircularBuffer<Command>) -> O
         return None;
     }
     waiting.front()
+}
+
+/// Puts a copy of a command after those that wait, where there is room. It is written in its place, since a command that is pushed moves
+/// whole.
+fn push_copy(waiting: &mut HeapCircularBuffer<Command>, command: &Command)
+    requires { length waiting.old.items < waiting.old.capacity }
+    ensures { waiting.new ≡ buffer (waiting.old.items ++ command.now ∷ []) waiting.old.capacity }
+{
+    let last = waiting.len();
+    let _ = waiting.try_push_back(Command::Poll);
+    if let Some(place) = waiting.get_mut(last) {
+        command.copy_into(place);
+    }
 }
 
 /// The front of the waiting commands leaves them.

@@ -251,5 +251,14 @@ fn put_command(command: &Command, place: &mut Option<Command>)
         command.copy_into(place);
         return;
     }
+    begin_place(command, place);
+}
+
+/// Puts an equal command in a place that has none.
+// It stands by itself, since the zeros of a whole command are written for it, which a place that has one has no need of.
+#[inline(never)]
+fn begin_place(command: &Command, place: &mut Option<Command>)
+    ensures { place.new ≡ Some command.now }
+{
     *place = Some(command.copy());
 }
