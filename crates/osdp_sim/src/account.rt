@@ -2,12 +2,14 @@
 
 ghost use Rattle.std.specs.Prelude.{◌≡◌, OnOk, Some};
 ghost use Rattle.osdp_sim.specs.Account.{empty_account, lists_of, taken_by, taken_command, with_issued, with_queued, with_report, with_session, with_taken};
+ghost use Rattle.osdp_sim.specs.Kept.{command_kept};
 ghost use Rattle.osdp_sim.specs.Room.{HasPlaces};
 ghost use Rattle.osdp_controller.specs.declared.report.Report.TheVariants as reports;
+ghost use Rattle.osdp_msg.specs.CommandTable.{CommandFits};
 ghost use Rattle.osdp_msg.specs.declared.reply.Reply.TheVariants.{Ack};
 
 use crate::kept::Kept;
-use crate::message::Spelling;
+use crate::message::{Spelling, spell_command};
 use crate::settled::Settled;
 use osdp_controller::{LostCause, Report};
 use osdp_msg::{Command, Event, Reply};
@@ -112,6 +114,24 @@ impl Account {
             reported: self.reported.len(),
             ends: self.ends.len(),
         });
+    }
+
+    /// Puts the bytes of a command into the place for those of a message.
+    pub(crate) fn spell(&mut self, command: &Command)
+        ensures kept { command_kept self.new.spelling.items ≡ command.now }
+        ensures fits { CommandFits command.now }
+        ensures lists { lists_of self.new ≡ lists_of self.old }
+        ensures places { HasPlaces self.old → HasPlaces self.new }
+    {
+        spell_command(command, &mut self.spelling);
+    }
+
+    /// The command whose bytes stand in the place for those of a message was accepted.
+    pub(crate) fn issue_spelled(&mut self)
+        requires { HasPlaces self.old }
+        ensures { lists_of self.new ≡ with_issued (command_kept self.old.spelling.items) (lists_of self.old) }
+    {
+        self.issued.add(self.spelling.as_slice());
     }
 
     /// A command was accepted.

@@ -1,6 +1,7 @@
 //! Messages by their bytes.
 
 ghost use Rattle.std.specs.Prelude.{◌≡◌, ℕ, List};
+ghost use Rattle.osdp_msg.specs.CommandTable.{CommandFits};
 ghost use Rattle.osdp_sim.specs.Kept.{command_from, command_kept, event_from, event_kept, reply_from, reply_kept};
 
 use arrayvec::ArrayVec;
@@ -48,11 +49,19 @@ pub fn event_from(bytes: &[u8]) -> Option<Event>
     reply_from(bytes)?.to_event().ok()
 }
 
+/// Puts a command's code and data in place of what stands in `spelling`. That brings in that its fields are in their ranges.
+pub(crate) fn spell_command(command: &Command, spelling: &mut Spelling)
+    ensures kept { command_kept spelling.new.items ≡ command.now }
+    ensures fits { CommandFits command.now }
+{
+    command.write_into(spelling);
+}
+
 impl Message for Command {
     ghost kept = { command_kept };
 
     fn spell(&self, spelling: &mut Spelling) {
-        self.write_into(spelling);
+        spell_command(self, spelling);
     }
 
     fn read_back(bytes: &[u8]) -> Command {

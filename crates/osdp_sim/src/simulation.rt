@@ -14,7 +14,6 @@ use crate::config::SimConfig;
 use crate::fault::Cause;
 use crate::hearing::hear;
 use crate::line::{handed_packet, move_on, send};
-use crate::message::Spelling;
 use crate::running::SimulatedLine;
 use crate::step::{Move, SimStep};
 use crate::steps::StepTaker;
@@ -46,8 +45,6 @@ pub struct Simulation<H: Handler> {
     report: Option<Report>,
     /// What the reader made of the packet that it heard last.
     heard: Heard,
-    /// The bytes of the command that was submitted last.
-    spelling: Spelling,
 }
 
 /// Whether the reader's settings are in their ranges.
@@ -107,7 +104,6 @@ impl<H: Handler> Simulation<H> {
             out: Burst::new(),
             report: None,
             heard: Heard::new(),
-            spelling: Spelling::new(),
         })
     }
 
@@ -137,13 +133,13 @@ impl<H: Handler> StepTaker for Simulation<H> {
     }
 
     fn issue(&mut self, number: usize, command: &Command) {
-        // Writing it brings in that its fields are in their ranges.
-        command.write_into(&mut self.spelling);
+        // It is written once, for its ranges and for the account.
+        self.account.spell(command);
         if number != 1 {
             return;
         }
         if self.controller.submit_copy(command).is_ok() {
-            self.account.issue(command);
+            self.account.issue_spelled();
         }
     }
 
