@@ -112,6 +112,7 @@ pub(crate) fn is_taken_beside(devices: &[BoxedDevice], entry: Entry, address: u8
 
 impl DeviceList {
     /// A packet comes from the line.
+    #[inline(always)]
     fn hear(&mut self, frame: &FrameView<'_>, now: u64)
         ensures devices { devices_of self.new ≡ hears_packet frame.now now (devices_of self.old) }
         ensures capacity { vec_capacity self.new.entries ≡ vec_capacity self.old.entries }

@@ -82,8 +82,16 @@ impl AnswerStruct {
     fn set_order(&mut self, heard: &Heard)
         ensures { self.new ≡ orders (heard_in heard.now) self.old }
     {
-        self.order = order_number(order_of_heard(heard));
-        self.command.set_command(ordered_heard(heard));
+        match ordered_heard(heard) {
+            Some(command) => {
+                self.order = order_number(order_of_heard(heard));
+                self.command.set_command(Some(command));
+            }
+            None => {
+                self.order = order_number(Order::Nothing);
+                self.command.clear();
+            }
+        }
     }
 
     /// Writes that nothing is said.

@@ -113,7 +113,7 @@ impl<H: Handler> Device<H> {
 }
 
 /// Whether a reader answers an item.
-pub(crate) fn is_answered<H: Handler>(reader: &Reader<H>, item: &Item<'_>) -> bool
+fn is_answered<H: Handler>(reader: &Reader<H>, item: &Item<'_>) -> bool
     ensures { result ≡ is_answered reader.now (item_of item.now) }
 {
     match item {

@@ -14,7 +14,7 @@ ghost use Rattle.osdp_device.specs.Saying.{after_item, answers_first, is_answere
 ghost use Rattle.osdp_device.specs.Telling.{next_told};
 ghost use Rattle.osdp_device.specs.declared.program.Question.TheVariants.{NotAsked};
 
-use crate::device::{Device, is_answered};
+use crate::device::Device;
 use crate::program::{ProgramAnswers, Question};
 use osdp_frame::{FrameView, Item, MAX_PACKET, whole_item};
 use osdp_msg::Command;
@@ -55,6 +55,22 @@ fn read_pending<H: Handler>(
     match reader.kind(packet) {
         Kind::Zero | Kind::Taken => read_handled(packet, command),
         Kind::Silent | Kind::Secured | Kind::Repeat | Kind::Busy | Kind::Wrong => false,
+    }
+}
+
+/// Whether a reader answers a packet, and its handler isn't to answer the command. Anything may stand in `command` then.
+fn answers_unasked<H: Handler>(
+    reader: &Reader<H>,
+    packet: &FrameView,
+    command: &mut Option<Command>,
+) -> bool
+    ensures answered { result ≡ true → is_answered reader.now (PacketItem packet.now) ≡ true }
+    ensures unasked { result ≡ true → is_some (pending_at reader.now (PacketItem packet.now)) ≡ false }
+{
+    match reader.kind(packet) {
+        Kind::Silent => false,
+        Kind::Zero | Kind::Taken => !read_handled(packet, command),
+        Kind::Secured | Kind::Repeat | Kind::Busy | Kind::Wrong => true,
     }
 }
 
@@ -218,13 +234,13 @@ impl Device<ProgramAnswers> {
         let Some(item) = whole_item(bytes) else {
             return false;
         };
-        if item.size() != bytes.len() || !is_answered(&self.reader, &item) {
+        if item.size() != bytes.len() {
             return false;
         }
         let Item::Packet(whole) = item else {
             return false;
         };
-        if read_pending(&self.reader, &whole, &mut heard.command) {
+        if !answers_unasked(&self.reader, &whole, &mut heard.command) {
             return false;
         }
         hear(&mut self.reader, &whole, heard);

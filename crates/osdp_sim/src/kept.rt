@@ -53,9 +53,30 @@ impl<M: Message> Kept<M> {
         self.sizes.len()
     }
 
-    /// Makes a place for one more, however long.
-    #[inline]
+    /// Makes a place for one more, however long. Mostly there is one already.
+    #[inline(always)]
     pub fn grow(&mut self) -> Result<(), AllocError>
+        ensures same { self.new.items ≡ self.old.items }
+        ensures place { OnOk result (self.new.has_place ≡ true) }
+    {
+        if self.has_place() {
+            return Ok(());
+        }
+        self.reserve()
+    }
+
+    /// Whether there is a place for one more, however long.
+    #[inline(always)]
+    fn has_place(&self) -> bool
+        ensures { result ≡ self.now.has_place }
+    {
+        self.sizes.capacity() - self.sizes.len() >= 1
+            && self.row.capacity() - self.row.len() >= MAX_MESSAGE
+    }
+
+    /// Asks for a place for one more.
+    #[inline(never)]
+    fn reserve(&mut self) -> Result<(), AllocError>
         ensures same { self.new.items ≡ self.old.items }
         ensures place { OnOk result (self.new.has_place ≡ true) }
     {

@@ -54,7 +54,7 @@ impl Settled {
     }
 
     /// Makes a place for one more, however long it and its answer are.
-    #[inline]
+    #[inline(always)]
     pub fn grow(&mut self) -> Result<(), AllocError>
         ensures same { self.new.items ≡ self.old.items }
         ensures place { OnOk result (self.new.has_place ≡ true) }

@@ -5,7 +5,6 @@ use Rattle.osdp_frame.specs.Reading.{item_size}
 use Rattle.osdp_frame.specs.Shown.{item_of}
 use Rattle.osdp_reader.specs.State.{ReaderState}
 use Rattle.osdp_device.specs.Lent.{heard_in}
-use Rattle.osdp_device.specs.Saying.{is_answered}
 use Rattle.osdp_device.specs.declared.program.ProgramAnswers.{ProgramAnswers}
 use Rattle.osdp_device.proofs.Whole.{answers_whole}
 use Rattle.osdp_device.proofs.lent.Device+ProgramAnswers.answer_whole.Goals as goal
@@ -16,5 +15,5 @@ returns-clause-turned c _ =
     let size : packet_length c.in-Packet.whole ≡ c.size.result = sym (c.size.ensures ∙ ap (λ i. item_size (item_of i)) c.in-Packet.is) in
     answers_whole r c.hear.new.reader c.args.bytes.now c.in-Packet.whole (heard_in c.hear.new.heard) (λ k. omega (arith, c.type_inv.bytes k)) (c.if-not-is_unasked.ensures refl)
     (sym c.in-Some.ensures.shown ∙ ap (λ i. Some (item_of i)) c.in-Packet.is) (omega (arith, size, c.if-size-bytes.false))
-    (ap (λ i. is_answered r (item_of i)) (sym c.in-Packet.is) ∙ sym c.if-not-is_answered.ensures) (sym c.if-read_pending.ensures.some) c.hear.ensures.said c.hear.ensures.reader
+    (c.if-not-answers_unasked.ensures.answered refl) (c.if-not-answers_unasked.ensures.unasked refl) c.hear.ensures.said c.hear.ensures.reader
     ∙ ap (λ (x : ReaderState ProgramAnswers). record { pending = None; said = Some (heard_in c.hear.new.heard); reader = x; held = new_run }) (sym c.forget_question.ensures.reader)
