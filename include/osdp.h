@@ -63,7 +63,7 @@
  *   device may be at either: write both down before the order goes out, give neither to another device, and retarget to these two
  *   alone. A panel that starts again takes each device where it was, or where such an order may have taken it. A device that
  *   starts again starts at the address that it has kept.
- * - Set-up. Devices are added at different addresses, each with its device there, before anything is said.
+ * - Set-up. Devices are added at different addresses, each with its device there and no reply stored, before anything is said.
  */
 #ifndef OSDP_H
 #define OSDP_H

@@ -10,9 +10,9 @@ ghost use Rattle.osdp_c_values.specs.Readers.{IsEventRead, NewReaderEnds, answer
 
 use crate::held::{freed, on_held, put_new};
 use crate::read::read_event;
-use crate::reader_calls::{self, UNTOLD};
+use crate::reader_calls;
 use osdp_c_values::{AnswerStruct, MessageStruct, ReaderHandle, ReaderSettings, StateList, Status};
-use osdp_msg::{Event, NakReason};
+use osdp_msg::{Event, LocalState, NakReason};
 use osdp_reader::Answer;
 use std::alloc::Global;
 
@@ -127,7 +127,7 @@ pub extern "C" fn osdp_device_event_nonnull(
     ensures { (read : Result Happened Answered) × IsEventRead (reply_of code body.now) read
         × IsDone (calls (submits_read read) reader.old.slot.machine) result reader.new.slot.machine }
 {
-    let mut event = Event::LocalState(UNTOLD);
+    let mut event = Event::LocalState(LocalState::NORMAL);
     let read = reader_calls::read_event_at(code, body, &mut event);
     on_held!(
         reader,

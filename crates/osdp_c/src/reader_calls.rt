@@ -17,12 +17,6 @@ use osdp_reader::{Answer, Heard, Kind, Reader, ReaderConfig, ReaderFault};
 use std::alloc::Global;
 use std::mem::replace;
 
-/// What an event's place holds before an event is put there, and after it was taken.
-pub(crate) const UNTOLD: LocalState = LocalState {
-    tamper: 0,
-    power: 0,
-};
-
 /// What a reader answers to CAP, by the data of that reply.
 fn read_caps(body: &[u8]) -> Result<PdCap, MsgFault>
     ensures { result ≡ caps_of body.now }
@@ -176,7 +170,7 @@ pub(crate) fn submit_data(
     ensures machine { machine.new ≡ (submits_read (result_map_both (λ _. event.old) (λ refused. refused) read) machine.old).machine }
 {
     match read {
-        Ok(()) => submit(machine, replace(event, Event::LocalState(UNTOLD))),
+        Ok(()) => submit(machine, replace(event, Event::LocalState(LocalState::NORMAL))),
         Err(refused) => refused,
     }
 }

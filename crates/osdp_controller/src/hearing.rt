@@ -461,10 +461,7 @@ fn tell_event(reply: &Reply, report: &mut Option<Report>) -> bool
 fn begin_event(report: &mut Option<Report>)
     ensures { report.new ≡ Some (reports.Event (events.LocalState (record { tamper = 0; power = 0 }))) }
 {
-    *report = Some(Report::Event(Event::LocalState(LocalState {
-        tamper: 0,
-        power: 0,
-    })));
+    *report = Some(Report::Event(Event::LocalState(LocalState::NORMAL)));
 }
 
 /// Tells that a POLL is answered by this reply, which is taken out of its place.

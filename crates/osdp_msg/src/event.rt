@@ -37,12 +37,6 @@ pub enum Event {
     Keypad(Keypad),
 }
 
-/// What an event's place holds before an event is put there.
-const UNTOLD: LocalState = LocalState {
-    tamper: 0,
-    power: 0,
-};
-
 /// Puts the message of one enum that tells the same as one of the other in place of what stands at `$place`: an event and the reply
 /// that tells it have the same names and fields. Rows for what has no such message follow.
 macro_rules! put_same {
@@ -64,7 +58,7 @@ macro_rules! put_same {
 fn put_told(reply: &Reply, event: &mut Option<Event>)
     ensures { event.new ≡ event_in reply.now }
 {
-    put(|| Some(Event::LocalState(UNTOLD)), event);
+    put(|| Some(Event::LocalState(LocalState::NORMAL)), event);
     if let Some(place) = event {
         if reply.event_into(place) {
             return;
@@ -153,7 +147,7 @@ impl Reply {
         ensures event { IfOk result (λ e. self ≡ event_reply e) }
         ensures only { (e : Event) → self ≡ event_reply e → result ≡ Ok e }
     {
-        let mut event = Event::LocalState(UNTOLD);
+        let mut event = Event::LocalState(LocalState::NORMAL);
         if self.event_into(&mut event) {
             return Ok(event);
         }

@@ -205,6 +205,12 @@ pub struct LocalState {
 }
 
 impl LocalState {
+    /// Neither tampered with nor out of power. It also fills the place of an event that isn't there yet.
+    pub const NORMAL: LocalState = LocalState {
+        tamper: 0,
+        power: 0,
+    };
+
     pub(crate) fn read(bytes: &[u8]) -> LocalState
         requires { length bytes.now ≡ 2 }
         ensures { result ≡ local_state_at bytes.now }

@@ -139,7 +139,8 @@ impl Account {
         requires { HasPlaces self.old }
         ensures { lists_of self.new ≡ with_issued command.now (lists_of self.old) }
     {
-        self.issued.push(command, &mut self.spelling);
+        self.spell(command);
+        self.issue_spelled();
     }
 
     /// An event was accepted.

@@ -78,13 +78,6 @@ heard_run l run = ended (heard_items l (reading run))
 abbrev pub run_report : Detail → Listening → List ℕ → List ℕ
 run_report detail l run = items_report detail l (reading run)
 
--- after whole runs
-abbrev pub heard_runs : Listening → List (List ℕ) → Listening
-heard_runs l runs = after_all heard_run l runs
-
-abbrev pub runs_report : Detail → Listening → List (List ℕ) → List ℕ
-runs_report detail l runs = report_of_all heard_run (run_report detail) l runs
-
 abbrev pub table : Listening → List ℕ
 table l = table_of l.tally l.counts l.accused
 
