@@ -32,7 +32,7 @@ module _ {H : Type 0} where
     pub controller : next.controller ≡ l.controller
 
   -- Of a controller: the command that was outstanding, of which it isn't known whether the reader has taken it, and those that waited. All others
-  -- of the session were settled or told unsettled, and no event is lost.
+  -- of the session had ended before, and no event is lost.
   pub record ControllerCosts (l next : Link H) : Type 0 where
     pub others : SameButController l next
     pub account : Forgets (outstanding_command l.controller.session.state) l.controller.waiting l.account next.account

@@ -90,8 +90,8 @@ pub fn sessions_in_a_row<H: Handler>()
 /// is reported already or may be heard later; and at most the session. No command is lost. Nothing else is reported in that session but what
 /// was offered before and what is queued since.
 ///
-/// Of the controller: the outstanding command, of which it isn't known whether the reader has taken it, and those that waited. All others were
-/// settled or told unsettled, and no event is lost.
+/// Of the controller: the outstanding command, of which it isn't known whether the reader has taken it, and those that waited. All others had
+/// ended before, and no event is lost.
 pub fn restarts_cost<H: Handler>()
     ensures reader { ReaderRestartCosts H.answer_of H.after }
     ensures since { ReportsNoMore H.answer_of H.after }
