@@ -379,6 +379,9 @@ osdp_status osdp_output_of(const struct osdp_message *command, size_t at, struct
 /*
  * Each writes a command: `osdp_panel_submit(&panel, entry, command.code, command.data, command.length)` orders it.
  *
+ * The address of a COMSET is from 0 to 126. C cuts a larger number to its lowest byte, so 261 becomes 5. A device of ours answers 127 to 255
+ * by NAK 9.
+ *
  * OSDP_BAD_LENGTH (M2): there is no record, or more than 358 of an OUT or 102 of a LED; nothing is written.
  */
 static inline osdp_status osdp_out(const struct osdp_output *outputs, size_t count, struct osdp_message *command);
@@ -488,8 +491,8 @@ osdp_status osdp_panel_withdraw(osdp_panel *panel, size_t entry, struct osdp_mes
 osdp_status osdp_panel_retarget(osdp_panel *panel, size_t entry, uint32_t address);
 
 /*
- * Bytes have come from the line, in any pieces. Each packet that they finish goes to the device of its address. No bytes move the
- * greatest moment seen alone.
+ * Bytes have come from the line, in any pieces. Each packet that they finish goes to the device of its address. A call with no bytes
+ * moves the greatest moment seen, and changes nothing else.
  *
  * OSDP_NO_MACHINE. OSDP_MOMENT_TOO_FAR.
  */
@@ -531,13 +534,15 @@ enum {
     OSDP_REPORT_OPENED = 1,
     /* `command` was answered by `reply`, which may be a NAK. */
     OSDP_REPORT_SETTLED = 2,
-    /* `command`, a COMSET, was answered by `reply`, a COM: the device is at its new address, and the session has ended. */
+    /* `command`, a COMSET, was answered by `reply`, a COM with the same address: the device is there, and the session has ended. Its rate
+       is the COM's, which may be another than was ordered: data[1] to data[4], low byte first. */
     OSDP_REPORT_MOVED = 3,
     /* The device told an event; `reply` is the reply that tells it. */
     OSDP_REPORT_EVENT = 4,
     /* A POLL was answered by `reply`, which is neither an ACK nor an event. */
     OSDP_REPORT_ANSWERED = 5,
-    /* The answer to `command`, or to a POLL where there is none, can't be read. `detail` is its code. */
+    /* The answer to `command`, or to a POLL where there is none, can't be read. `detail` is its code. What became of `command` is unknown,
+       and it isn't sent again. An address that a COMSET reserved stays reserved until `osdp_panel_retarget`. */
     OSDP_REPORT_UNREAD = 6,
     /* The session has ended; `detail` is why. What became of `command`, if there is one, is unknown, and it isn't sent again. */
     OSDP_REPORT_LOST = 7

@@ -226,7 +226,7 @@ impl Capabilities {
 pub enum Reply {
     /// Done, or nothing to tell.
     Ack,
-    /// Not done, and why.
+    /// Not done, and why: a NAK for a reason from 1 to 9, without detail. Each other NAK is `Other`.
     Nak(NakReason),
     /// What the device is.
     PdId(PdId),
@@ -252,7 +252,7 @@ pub enum Reply {
     Busy,
     /// The maker's own: his code, and his bytes.
     Maker([u8; 3], Bytes),
-    /// Another reply, a NAK for another reason among them.
+    /// Another reply. A NAK with detail, or for a reason beyond 9, is here too: its `code()` is 0x41, and the command wasn't done.
     Other(RawReply),
 }
 

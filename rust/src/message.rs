@@ -241,8 +241,8 @@ impl core::ops::Deref for Burst {
     }
 }
 
-/// What a call has to send, if there is a burst. It borrows the panel or the device: a program that calls it again before `send` isn't compiled, and the
-/// compiler warns of one that forgets it.
+/// What a call has to send, if there is a burst. It borrows the panel or the device: while it is to be sent, no other call of that machine is compiled.
+/// The compiler warns where it isn't used at all, and not where it is dropped by `let _ =`, by `..` in a pattern, or by an early return: then the burst is lost.
 #[must_use = "its burst goes out before the next call: `send` hands it over"]
 #[derive(Debug)]
 pub struct Unsent<'a> {

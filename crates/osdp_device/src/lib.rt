@@ -45,8 +45,8 @@ pub use lent::Settled;
 pub use order::{Order, order_of, order_of_heard, ordered, ordered_heard};
 pub use osdp_frame::{Address, Burst, Receiver};
 pub use osdp_msg::{
-    Buzzer, Capability, Command, Communication, Event, Keypad, LedRecord, Leds, LocalState,
-    MAX_DATA, MakerMessage, NakReason, OutputRecord, Outputs, PdCap, PdId, Raw, Text,
+    Buzzer, Capability, Command, Communication, Event, Formatted, Keypad, LedRecord, Leds,
+    LocalState, MAX_DATA, MakerMessage, NakReason, OutputRecord, Outputs, PdCap, PdId, Raw, Text,
 };
 pub use osdp_reader::{Answer, Handler, Heard, Kind, Reader, ReaderConfig, ReaderFault, Response};
 pub use program::{ProgramAnswers, Question};

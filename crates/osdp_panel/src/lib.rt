@@ -1,7 +1,7 @@
 //! One turn of the loop of a panel that runs a bus on a serial line, as an example to start from. A panel with one reader runs a bus of one.
 //!
 //! The panel's program reads from its port, takes the moment after the read, and hands both to `Panel::turn`, or to `take_turn` with a bus of its own. No call reads or writes by itself,
-//! and none takes memory.
+//! and none but `Panel::new` and `Panel::add` takes memory.
 //!
 //! ```text
 //! let mut panel = Panel::new(alloc, BusConfig::new(CheckKind::Crc, 16))?;
@@ -9,8 +9,9 @@
 //! panel.begin(door, clock.now())?;
 //! let mut turn = Turn::new();
 //! loop {
-//!     // waits for bytes, at most until the moment that the last turn gave; a read that timed out gave none
-//!     let count = port.read(&mut buffer).unwrap_or(0);
+//!     // waits for bytes, at most until this moment; a read that timed out gave none
+//!     let deadline = panel.next_deadline();
+//!     let count = port.read(&mut buffer, deadline).unwrap_or(0);
 //!     if let Some(unsent) = panel.turn(&buffer[..count], clock.now(), &mut turn) {
 //!         .. unsent.bytes(&turn) is written, all of it, and flushed ..
 //!     }
@@ -20,7 +21,8 @@
 //!
 //! A read that gives nothing ends no run of bytes: what was begun may go on with the next read. A run ends once the line has been silent for
 //! the gap of the bus, by the moments handed in, and before each burst. So the moment must be taken after the read: one from before a read
-//! that waits is older than the bytes, and lets the gap and the deadlines pass too late.
+//! that waits is older than the bytes, and lets the gap and the deadlines pass too late. The deadline is asked for just before the read: the
+//! `sleep_until` of a turn doesn't know of a `begin` or a `submit` after it.
 #![tactic(auto)]
 
 pub mod laws;
@@ -36,8 +38,9 @@ pub use osdp_bus::{Bus, BusConfig, BusFault, Entry};
 pub use osdp_controller::{LostCause, Report};
 pub use osdp_frame::{Address, Burst, CheckKind};
 pub use osdp_msg::{
-    Buzzer, Capability, Command, Communication, Event, Keypad, LedRecord, Leds, LocalState,
-    MakerMessage, MsgFault, NakReason, OutputRecord, Outputs, PdCap, PdId, Raw, Reply, Text,
+    Buzzer, Capability, Command, Communication, Event, Formatted, Keypad, LedRecord, Leds,
+    LocalState, MakerMessage, MsgFault, Nak, NakReason, OutputRecord, Outputs, PdCap, PdId, Raw,
+    Reply, Text,
 };
 pub use panel::Panel;
 pub use unsent::Unsent;

@@ -210,7 +210,7 @@ Answers: before the last line of an answer stand lines like these.
 
   send HEX              write these bytes to the line at once
   opened I PDID..       the session is open
-  settled I X = Y       command X was answered Y, which may be a NAK: done where it is no NAK
+  settled I X = Y       command X was answered Y; a NAK says that it wasn't done
   moved I X = Y         COMSET X is done, and the session closed: once all have moved set the port, and begin
   event I X             the device tells X, once
   answered I X          a POLL was answered X, which is no event
