@@ -170,7 +170,10 @@ pub(crate) fn submit_data(
     ensures machine { machine.new ≡ (submits_read (result_map_both (λ _. event.old) (λ refused. refused) read) machine.old).machine }
 {
     match read {
-        Ok(()) => submit(machine, replace(event, Event::LocalState(LocalState::NORMAL))),
+        Ok(()) => submit(
+            machine,
+            replace(event, Event::LocalState(LocalState::NORMAL)),
+        ),
         Err(refused) => refused,
     }
 }
