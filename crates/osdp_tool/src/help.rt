@@ -194,7 +194,7 @@ count from 1, in the order in which they were added.
   silence             the line was silent
   tick                what is due is done
 
-Commands of submit, by their texts. Times are in 100 ms, that of TEXT in seconds. docs/PROTOCOL.md has each field.
+Commands of submit, by their texts. Times are in 100 ms, that of TEXT in seconds. docs/PROTOCOL.md has all.
 
   ID 0                            what the device is: it answers PDID
   CAP 0                           what it can do: it answers PDCAP
