@@ -1,0 +1,660 @@
+-- What holds of the events after each step.
+use Rattle.std.proofs.Common.{◌≡◌, ◌≤◌, ◌<◌, ◌+◌, ◌⊎◌, ◌==◌, ℕ, zero, suc, Bool, true, false, not, cond, List, [], ◌∷◌, ◌++◌, length, refl, sym, subst, ap, ◌∙◌, inl, inr, arith}
+use Rattle.std.specs.Prelude.{All, AllPairs, Contains, map, drop, filter, if◌then◌else◌, slice_index_or}
+use Rattle.std.proofs.lemmas.Bool.{eqb-true, eqb-false, eq-eqb, ne_eqb}
+use Rattle.std.proofs.lemmas.List.{length-append}
+use Rattle.std.proofs.lemmas.List.Elements.{All-append, All-cons, All-filter, All-head, All-push, All-tail, All-weaker, All-nil, Contains-push, Contains-append_left}
+use Rattle.std.proofs.lemmas.List.Quantifiers.{all_pairs_push}
+use Rattle.osdp_ledger.specs.Ledger.{Card, May, MayFollow, NoOffer, Offer, Reported, Unreported, Step, Submit, Withdraw, Open, Act, Settle, Doubt, Close, Queue, Offers, Report, Leave, WithdrawEvent, Lapse, RestartDevice, RestartPanel, acted_on, panel_restarted}
+use Rattle.osdp_ledger.specs.History.{AfterReport, AreAllowed, Exit, History, Lapsed, Left, TakenBack, ThrownAway, new_history, runs, steps_on}
+use Rattle.osdp_ledger.specs.Laws.{CountsFrom, EventsHold, Follows, KeepsEvents, times}
+
+abbrev Told : Type 0
+Told = ℕ × Card
+
+abbrev pub places : List Card → List ℕ
+places = map (λ c. c.place)
+
+abbrev left_places : List Left → List ℕ
+left_places = map (λ w. w.card.place)
+
+-- each place is at least this one, and above those before it
+abbrev Rising : ℕ → List Card → Type 0
+Rising low [] = Unit {0}
+Rising low (c ∷ cs) = (low ≤ c.place) × Rising (c.place + 1) cs
+
+-- all but the front were never offered
+abbrev Beyond : ℕ → List Card → Type 0
+Beyond shown [] = Unit {0}
+Beyond shown (c ∷ cs) = All (λ (d : Card). shown ≤ d.place) cs
+
+-- the card is the one in the queue, or it stood before it
+abbrev IsUpTo : Card → Card → Type 0
+IsUpTo c d = (c ≡ d) ⊎ (c.place < d.place)
+
+abbrev IsAtMost : Card → Told → Type 0
+IsAtMost c a = (a.1.place < c.place) ⊎ (a.1 ≡ c)
+
+-- an event that has left and has this place left in this session, and wasn't taken back
+abbrev LeftNow : ℕ → Card → Left → Type 0
+LeftNow sessions c w = w.card.place ≡ c.place → (w.session ≡ sessions) × (w.why ≡ TakenBack → ⊥)
+
+abbrev OfferIs : Offer → ℕ → ℕ → List Card → List Told → List Left → Type 0
+OfferIs NoOffer sessions shown cards reports left = All (λ (d : Card). All (λ (a : Told). Follows a (sessions, d)) reports) cards
+OfferIs (Unreported c) sessions shown cards reports left =
+    (c.place + 1 ≡ shown) × All (λ (a : Told). Follows a (sessions, c)) reports × All (IsUpTo c) cards × All (LeftNow sessions c) left
+OfferIs (Reported c) sessions shown cards reports left =
+    (c.place + 1 ≡ shown) × All (IsAtMost c) reports × All (IsUpTo c) cards × ((session : ℕ) × Contains reports (session, c))
+
+abbrev WasReported : List Told → Left → Type 0
+WasReported reports w = w.why ≡ AfterReport → (session : ℕ) × Contains reports (session, w.card)
+
+abbrev NeverReported : List Told → Left → Type 0
+NeverReported reports w = w.why ≡ TakenBack → All (λ (a : Told). a.1.place ≡ w.card.place → ⊥) reports
+
+abbrev NoLater : List Told → Left → Type 0
+NoLater reports w = All (λ (a : Told). a.1.place ≡ w.card.place → a.0 ≤ w.session) reports
+
+pub record EventsAre (count : ℕ) (cards : List Card) (shown : ℕ) (offer : Offer) (sessions : ℕ) (queued : List Card) (reports : List Told) (left : List Left) : Type 0 where
+  pub whole : CountsFrom 0 (places queued)
+  pub counted : length queued ≡ count
+  pub each : (place : ℕ) → times place (left_places left) + times place (places cards) ≡ times place (places queued)
+  pub rising : Rising 0 cards
+  pub below : All (λ (d : Card). d.place < count) cards
+  pub beyond : Beyond shown cards
+  pub shown_is : shown ≤ count
+  pub told : All (λ (a : Told). (a.1.place < shown) × (a.0 ≤ sessions)) reports
+  pub in_turn : AllPairs Follows reports
+  pub offer_is : OfferIs offer sessions shown cards reports left
+  pub reported : All (WasReported reports) left
+  pub withdrawn : All (NeverReported reports) left
+  pub no_later : All (NoLater reports) left
+
+abbrev pub Events : History → Type 0
+Events h = EventsAre h.ledger.queued h.ledger.cards h.ledger.shown h.ledger.offer h.sessions h.queued h.reports h.left
+
+-- ---- counts
+
+times_all : (place : ℕ) (xs ys : List ℕ) → times place (xs ++ ys) ≡ times place xs + times place ys
+times_all place [] ys = omega arith
+times_all place (x ∷ xs) ys = omega (arith, times_all place xs ys)
+
+places_all : (xs ys : List Card) → places (xs ++ ys) ≡ places xs ++ places ys
+places_all [] ys = refl
+places_all (x ∷ xs) ys = ap (λ ps. x.place ∷ ps) (places_all xs ys)
+
+left_all : (xs ys : List Left) → left_places (xs ++ ys) ≡ left_places xs ++ left_places ys
+left_all [] ys = refl
+left_all (x ∷ xs) ys = ap (λ ps. x.card.place ∷ ps) (left_all xs ys)
+
+times_queued : (place : ℕ) (cards : List Card) (c : Card) → times place (places (cards ++ c ∷ [])) ≡ times place (places cards) + times place (c.place ∷ [])
+times_queued place cards c = ap (times place) (places_all cards (c ∷ [])) ∙ times_all place (places cards) (c.place ∷ [])
+
+times_left : (place : ℕ) (left : List Left) (w : Left) → times place (left_places (left ++ w ∷ [])) ≡ times place (left_places left) + times place (w.card.place ∷ [])
+times_left place left w = ap (times place) (left_all left (w ∷ [])) ∙ times_all place (left_places left) (w.card.place ∷ [])
+
+-- what counts from n on has each place once, and none before
+no_time : (place n : ℕ) (xs : List ℕ) → CountsFrom n xs → place < n → times place xs ≡ 0
+no_time place n [] counts less = refl
+no_time place n (x ∷ xs) counts less =
+    let other : (x == place) ≡ false = ne_eqb x place (λ e. omega (arith, e, counts.0, less)) in
+    let rest : times place xs ≡ 0 = no_time place (n + 1) xs counts.1 (omega (arith, less)) in
+    rw other (omega (arith, rest))
+
+one_time : (place n : ℕ) (xs : List ℕ) → CountsFrom n xs → times place xs ≤ 1
+one_time place n [] counts = omega arith
+one_time place n (x ∷ xs) counts = by_test (one_time place (n + 1) xs counts.1) (x == place) refl
+  where
+    by_test : times place xs ≤ 1 → (b : Bool) → (x == place) ≡ b → (if b then 1 else 0) + times place xs ≤ 1
+    by_test most true e = let none : times place xs ≡ 0 = no_time place (n + 1) xs counts.1 (omega (arith, counts.0, eqb-true x place e)) in omega (arith, none)
+    by_test most false e = omega (arith, most)
+
+abbrev without : Card → List Card → List Card
+without c cards = filter (λ d. not (d.place == c.place)) cards
+
+none_of_it : (c : Card) (cards : List Card) → times c.place (places (without c cards)) ≡ 0
+none_of_it c [] = refl
+none_of_it c (d ∷ ds) = by_test (none_of_it c ds) (d.place == c.place) refl
+  where
+    by_test : times c.place (places (without c ds)) ≡ 0 → (b : Bool) → (d.place == c.place) ≡ b → times c.place (places (cond (not b) (d ∷ without c ds) (without c ds))) ≡ 0
+    by_test rest true e = rest
+    by_test rest false e = rw e (omega (arith, rest))
+
+others_stay : (place : ℕ) (c : Card) (cards : List Card) → (c.place ≡ place → ⊥) → times place (places (without c cards)) ≡ times place (places cards)
+others_stay place c [] other = refl
+others_stay place c (d ∷ ds) other = by_test (others_stay place c ds other) (d.place == c.place) refl
+  where
+    by_test : times place (places (without c ds)) ≡ times place (places ds) → (b : Bool) → (d.place == c.place) ≡ b → times place (places (cond (not b) (d ∷ without c ds) (without c ds))) ≡ times place (places (d ∷ ds))
+    by_test rest true e =
+        let different : (d.place == place) ≡ false = ne_eqb d.place place (λ w. other (sym (eqb-true d.place c.place e) ∙ w)) in
+        rw different (omega (arith, rest))
+    by_test rest false e = ap (λ n. (if d.place == place then 1 else 0) + n) rest
+
+contains_times : (cards : List Card) (c : Card) → Contains cards c → 1 ≤ times c.place (places cards)
+contains_times [] c h = omega (arith, h.1)
+contains_times (d ∷ ds) c h = by_place (contains_times ds c) h.0 h.1 h.2
+  where
+    by_place : (Contains ds c → 1 ≤ times c.place (places ds)) → (k : ℕ) → k < length (d ∷ ds) → slice_index_or (d ∷ ds) k c ≡ c → 1 ≤ times c.place (places (d ∷ ds))
+    by_place rest zero less e = rw (eq-eqb d.place c.place (ap (λ (x : Card). x.place) e)) (omega arith)
+    by_place rest (suc k) less e = let more : 1 ≤ times c.place (places ds) = rest (k, omega (arith, less), e) in omega (arith, more)
+
+none_left : (left : List Left) (place : ℕ) → times place (left_places left) ≡ 0 → All (λ (w : Left). w.card.place ≡ place → ⊥) left
+none_left [] place e = All-nil (λ (w : Left). w.card.place ≡ place → ⊥)
+none_left (w ∷ ws) place e = by_test (none_left ws place) (w.card.place == place) refl e
+  where
+    by_test : (times place (left_places ws) ≡ 0 → All (λ (w : Left). w.card.place ≡ place → ⊥) ws) → (b : Bool) → (w.card.place == place) ≡ b → (if b then 1 else 0) + times place (left_places ws) ≡ 0 → All (λ (w : Left). w.card.place ≡ place → ⊥) (w ∷ ws)
+    by_test rest true is e = absurd (one_zero e)
+      where
+        one_zero : 1 + times place (left_places ws) ≡ 0 → ⊥
+        one_zero e = omega (arith, e)
+    by_test rest false is e =
+        All-cons (λ (w : Left). w.card.place ≡ place → ⊥) w ws (eqb-false w.card.place place is) (rest (omega (arith, e)))
+
+-- ---- the queue in order
+
+rising_less : (m n : ℕ) (cards : List Card) → m ≤ n → Rising n cards → Rising m cards
+rising_less m n [] le h = tt
+rising_less m n (c ∷ cs) le h = (omega (arith, le, h.0), h.1)
+
+rising_push : (low : ℕ) (cards : List Card) (c : Card) → Rising low cards → low ≤ c.place → All (λ (d : Card). d.place < c.place) cards → Rising low (cards ++ c ∷ [])
+rising_push low [] c h le all = (le, tt)
+rising_push low (d ∷ ds) c h le all =
+    let first : d.place < c.place = All-head (λ (d : Card). d.place < c.place) d ds all in
+    (h.0, rising_push (d.place + 1) ds c h.1 (omega (arith, first)) (All-tail (λ (d : Card). d.place < c.place) d ds all))
+
+rising_above : (low : ℕ) (cards : List Card) → Rising low cards → All (λ (d : Card). low ≤ d.place) cards
+rising_above low [] h = All-nil (λ (d : Card). low ≤ d.place)
+rising_above low (c ∷ cs) h =
+    All-cons (λ (d : Card). low ≤ d.place) c cs h.0
+    (All-weaker (λ (d : Card). c.place + 1 ≤ d.place) (λ (d : Card). low ≤ d.place) (λ d le. omega (arith, le, h.0)) cs (rising_above (c.place + 1) cs h.1))
+
+rising_filter : (test : Card → Bool) (low : ℕ) (cards : List Card) → Rising low cards → Rising low (filter test cards)
+rising_filter test low [] h = tt
+rising_filter test low (c ∷ cs) h = by_test (rising_filter test (c.place + 1) cs h.1) (test c)
+  where
+    by_test : Rising (c.place + 1) (filter test cs) → (b : Bool) → Rising low (cond b (c ∷ filter test cs) (filter test cs))
+    by_test rest true = (h.0, rest)
+    by_test rest false = rising_less low (c.place + 1) (filter test cs) (omega (arith, h.0)) rest
+
+rising_drop : (low : ℕ) (cards : List Card) → Rising low cards → Rising low (drop 1 cards)
+rising_drop low [] h = tt
+rising_drop low (c ∷ cs) h = rising_less low (c.place + 1) cs (omega (arith, h.0)) h.1
+
+beyond_all : (shown : ℕ) (cards : List Card) → All (λ (d : Card). shown ≤ d.place) cards → Beyond shown cards
+beyond_all shown [] h = tt
+beyond_all shown (c ∷ cs) h = All-tail (λ (d : Card). shown ≤ d.place) c cs h
+
+beyond_push : (shown : ℕ) (cards : List Card) (c : Card) → Beyond shown cards → shown ≤ c.place → Beyond shown (cards ++ c ∷ [])
+beyond_push shown [] c h le = All-nil (λ (d : Card). shown ≤ d.place)
+beyond_push shown (d ∷ ds) c h le = All-push (λ (d : Card). shown ≤ d.place) ds c h le
+
+beyond_drop : (shown : ℕ) (cards : List Card) → Beyond shown cards → Beyond shown (drop 1 cards)
+beyond_drop shown [] h = tt
+beyond_drop shown (c ∷ cs) h = beyond_all shown cs h
+
+beyond_filter : (test : Card → Bool) (shown : ℕ) (cards : List Card) → Beyond shown cards → Beyond shown (filter test cards)
+beyond_filter test shown [] h = tt
+beyond_filter test shown (c ∷ cs) h = by_test (test c)
+  where
+    by_test : (b : Bool) → Beyond shown (cond b (c ∷ filter test cs) (filter test cs))
+    by_test true = All-filter test (λ (d : Card). shown ≤ d.place) cs h
+    by_test false = beyond_all shown (filter test cs) (All-filter test (λ (d : Card). shown ≤ d.place) cs h)
+
+-- ---- what was offered, where the queue or what has left changes
+
+offer_fewer : (offer : Offer) (sessions shown : ℕ) (cards fewer : List Card) (reports : List Told) (left : List Left)
+    → ((P : Card → Type 0) → All P cards → All P fewer) → OfferIs offer sessions shown cards reports left → OfferIs offer sessions shown fewer reports left
+offer_fewer NoOffer sessions shown cards fewer reports left keep h = keep (λ (d : Card). All (λ (a : Told). Follows a (sessions, d)) reports) h
+offer_fewer (Unreported c) sessions shown cards fewer reports left keep h = (h.0, h.1, keep (IsUpTo c) h.2, h.3)
+offer_fewer (Reported c) sessions shown cards fewer reports left keep h = (h.0, h.1, keep (IsUpTo c) h.2, h.3)
+
+offer_left : (offer : Offer) (sessions shown : ℕ) (cards : List Card) (reports : List Told) (left more : List Left)
+    → ((c : Card) → c.place + 1 ≡ shown → All (LeftNow sessions c) more) → OfferIs offer sessions shown cards reports left → OfferIs offer sessions shown cards reports (left ++ more)
+offer_left NoOffer sessions shown cards reports left more all h = h
+offer_left (Unreported c) sessions shown cards reports left more all h = (h.0, h.1, h.2, All-append (LeftNow sessions c) left more h.3 (all c h.0))
+offer_left (Reported c) sessions shown cards reports left more all h = h
+
+-- ---- each step
+
+offer_queued : (offer : Offer) (sessions shown : ℕ) (cards : List Card) (c : Card) (reports : List Told) (left : List Left)
+    → shown ≤ c.place → All (λ (a : Told). (a.1.place < shown) × (a.0 ≤ sessions)) reports
+    → OfferIs offer sessions shown cards reports left → OfferIs offer sessions shown (cards ++ c ∷ []) reports left
+offer_queued NoOffer sessions shown cards c reports left le told h =
+    All-push (λ (d : Card). All (λ (a : Told). Follows a (sessions, d)) reports) cards c h
+    (All-weaker (λ (a : Told). (a.1.place < shown) × (a.0 ≤ sessions)) (λ (a : Told). Follows a (sessions, c)) (λ a t. inl (omega (arith, t.0, le))) reports told)
+offer_queued (Unreported b) sessions shown cards c reports left le told h =
+    (h.0, h.1, All-push (IsUpTo b) cards c h.2 (inr (omega (arith, h.0, le))), h.3)
+offer_queued (Reported b) sessions shown cards c reports left le told h =
+    (h.0, h.1, All-push (IsUpTo b) cards c h.2 (inr (omega (arith, h.0, le))), h.3)
+
+queued : (c : Card) (h : History) → c.place ≡ h.ledger.queued → Events h → Events (steps_on (Queue c) h)
+queued c h is i =
+    let after_all : h.ledger.shown ≤ c.place = omega (arith, i.shown_is, is) in
+    record {
+      whole = counts_card 0 h.queued c i.whole (omega (arith, is, i.counted));
+      counted = omega (arith, i.counted, length-append h.queued (c ∷ []));
+      each = λ p. omega (arith, i.each p, times_queued p h.ledger.cards c, times_queued p h.queued c);
+      rising = rising_push 0 h.ledger.cards c i.rising (omega arith)
+          (All-weaker (λ (d : Card). d.place < h.ledger.queued) (λ (d : Card). d.place < c.place) (λ d b. omega (arith, b, is)) h.ledger.cards i.below);
+      below = All-push (λ (d : Card). d.place < h.ledger.queued + 1) h.ledger.cards c
+          (All-weaker (λ (d : Card). d.place < h.ledger.queued) (λ (d : Card). d.place < h.ledger.queued + 1) (λ d b. omega (arith, b)) h.ledger.cards i.below)
+          (omega (arith, is));
+      beyond = beyond_push h.ledger.shown h.ledger.cards c i.beyond after_all;
+      shown_is = omega (arith, i.shown_is);
+      told = i.told;
+      in_turn = i.in_turn;
+      offer_is = offer_queued h.ledger.offer h.sessions h.ledger.shown h.ledger.cards c h.reports h.left after_all i.told i.offer_is;
+      reported = i.reported;
+      withdrawn = i.withdrawn;
+      no_later = i.no_later;
+    }
+  where
+    counts_card : (n : ℕ) (cs : List Card) (c : Card) → CountsFrom n (places cs) → c.place ≡ n + length cs → CountsFrom n (places (cs ++ c ∷ []))
+    counts_card n [] c h e = (omega (arith, e), tt)
+    counts_card n (x ∷ xs) c h e = (h.0, counts_card (n + 1) xs c h.1 (omega (arith, e)))
+
+-- a session begins: what was offered in the one before may be offered once more
+offer_again : (offer : Offer) (sessions shown : ℕ) (cards : List Card) (reports : List Told) (left : List Left)
+    → All (λ (a : Told). (a.1.place < shown) × (a.0 ≤ sessions)) reports
+    → OfferIs offer sessions shown cards reports left → OfferIs NoOffer (sessions + 1) shown cards reports left
+offer_again NoOffer sessions shown cards reports left told h =
+    All-weaker (λ (d : Card). All (λ (a : Told). Follows a (sessions, d)) reports) (λ (d : Card). All (λ (a : Told). Follows a (sessions + 1, d)) reports)
+    (λ d all. All-weaker (λ (a : Told). Follows a (sessions, d)) (λ (a : Told). Follows a (sessions + 1, d)) (λ a f. later d a f) reports all) cards h
+  where
+    later : (d : Card) (a : Told) → Follows a (sessions, d) → Follows a (sessions + 1, d)
+    later d a (inl less) = inl less
+    later d a (inr same) = inr (same.0, omega (arith, same.1))
+offer_again (Unreported c) sessions shown cards reports left told h =
+    All-weaker (IsUpTo c) (λ (d : Card). All (λ (a : Told). Follows a (sessions + 1, d)) reports)
+    (λ d up. All-weaker (λ (a : Told). Follows a (sessions, c)) (λ (a : Told). Follows a (sessions + 1, d)) (λ a f. later d a up f) reports h.1) cards h.2
+  where
+    later : (d : Card) (a : Told) → IsUpTo c d → Follows a (sessions, c) → Follows a (sessions + 1, d)
+    later d a (inl same) (inl less) = inl (subst (λ (x : Card). a.1.place < x.place) same less)
+    later d a (inl same) (inr told) = inr (told.0 ∙ same, omega (arith, told.1))
+    later d a (inr before) (inl less) = inl (omega (arith, less, before))
+    later d a (inr before) (inr told) = inl (subst (λ (x : Card). x.place < d.place) (sym told.0) before)
+offer_again (Reported c) sessions shown cards reports left told h =
+    All-weaker (IsUpTo c) (λ (d : Card). All (λ (a : Told). Follows a (sessions + 1, d)) reports)
+    (λ d up. both d up reports told h.1) cards h.2
+  where
+    later : (d : Card) (a : Told) → IsUpTo c d → IsAtMost c a → a.0 ≤ sessions → Follows a (sessions + 1, d)
+    later d a (inl same) (inl less) le = inl (subst (λ (x : Card). a.1.place < x.place) same less)
+    later d a (inl same) (inr is) le = inr (is ∙ same, omega (arith, le))
+    later d a (inr before) (inl less) le = inl (omega (arith, less, before))
+    later d a (inr before) (inr is) le = inl (subst (λ (x : Card). x.place < d.place) (sym is) before)
+
+    both : (d : Card) → IsUpTo c d → (ts : List Told) → All (λ (a : Told). (a.1.place < shown) × (a.0 ≤ sessions)) ts → All (IsAtMost c) ts
+        → All (λ (a : Told). Follows a (sessions + 1, d)) ts
+    both d up ts all most k x less = later d (slice_index_or ts k x) up (most k x less) (all k x less).1
+
+begun : (h : History) → Events h → Events (steps_on Open h)
+begun h i = record {
+  whole = i.whole;
+  counted = i.counted;
+  each = i.each;
+  rising = i.rising;
+  below = i.below;
+  beyond = i.beyond;
+  shown_is = i.shown_is;
+  told = All-weaker (λ (a : Told). (a.1.place < h.ledger.shown) × (a.0 ≤ h.sessions)) (λ (a : Told). (a.1.place < h.ledger.shown) × (a.0 ≤ h.sessions + 1))
+      (λ a t. (t.0, omega (arith, t.1))) h.reports i.told;
+  in_turn = i.in_turn;
+  offer_is = offer_again h.ledger.offer h.sessions h.ledger.shown h.ledger.cards h.reports h.left i.told i.offer_is;
+  reported = i.reported;
+  withdrawn = i.withdrawn;
+  no_later = i.no_later;
+}
+
+-- the event in front is offered
+offer_front : (offer : Offer) (sessions shown : ℕ) (c : Card) (cs : List Card) (reports : List Told) (left : List Left) → MayFollow offer c
+    → OfferIs offer sessions shown (c ∷ cs) reports left → All (λ (a : Told). Follows a (sessions, c)) reports
+offer_front NoOffer sessions shown c cs reports left may h = All-head (λ (d : Card). All (λ (a : Told). Follows a (sessions, d)) reports) c cs h
+offer_front (Unreported b) sessions shown c cs reports left may h = absurd may
+offer_front (Reported b) sessions shown c cs reports left may h =
+    All-weaker (IsAtMost b) (λ (a : Told). Follows a (sessions, c)) (λ a most. inl (less a most)) reports h.1
+  where
+    less : (a : Told) → IsAtMost b a → a.1.place < c.place
+    less a (inl before) = omega (arith, before, may)
+    less a (inr is) = subst (λ (x : Card). x.place < c.place) (sym is) may
+
+offered_front : (c : Card) (cs : List Card) (count shown : ℕ) (offer : Offer) (sessions : ℕ) (queued : List Card) (reports : List Told) (left : List Left) → MayFollow offer c
+    → EventsAre count (c ∷ cs) shown offer sessions queued reports left
+    → EventsAre count (c ∷ cs) (c.place + 1) (Unreported c) sessions queued reports left
+offered_front c cs count shown offer sessions queued reports left may i =
+    let follow : All (λ (a : Told). Follows a (sessions, c)) reports = offer_front offer sessions shown c cs reports left may i.offer_is in
+    let above : All (λ (d : Card). c.place + 1 ≤ d.place) cs = rising_above (c.place + 1) cs i.rising.1 in
+    let bounded : c.place < count = All-head (λ (d : Card). d.place < count) c cs i.below in
+    let once : times c.place (places queued) ≤ 1 = one_time c.place 0 (places queued) i.whole in
+    let here : 1 ≤ times c.place (places (c ∷ cs)) = contains_times (c ∷ cs) c (0, omega arith, refl) in
+    let gone : times c.place (left_places left) ≡ 0 = omega (arith, i.each c.place, once, here) in
+    record {
+      whole = i.whole;
+      counted = i.counted;
+      each = i.each;
+      rising = i.rising;
+      below = i.below;
+      beyond = above;
+      shown_is = omega (arith, bounded);
+      told = both reports i.told follow;
+      in_turn = i.in_turn;
+      offer_is = (
+        refl,
+        follow,
+        All-cons (IsUpTo c) c cs (inl refl) (All-weaker (λ (d : Card). c.place + 1 ≤ d.place) (IsUpTo c) (λ d le. inr (omega (arith, le))) cs above),
+        All-weaker (λ (w : Left). w.card.place ≡ c.place → ⊥) (LeftNow sessions c) (λ w not_here same. absurd (not_here same)) left (none_left left c.place gone),
+      );
+      reported = i.reported;
+      withdrawn = i.withdrawn;
+      no_later = i.no_later;
+    }
+  where
+    up : (a : Told) → Follows a (sessions, c) → a.1.place < c.place + 1
+    up a (inl less) = omega (arith, less)
+    up a (inr same) = subst (λ (x : Card). x.place < c.place + 1) (sym same.0) (omega arith)
+
+    both : (ts : List Told) → All (λ (a : Told). (a.1.place < shown) × (a.0 ≤ sessions)) ts → All (λ (a : Told). Follows a (sessions, c)) ts
+        → All (λ (a : Told). (a.1.place < c.place + 1) × (a.0 ≤ sessions)) ts
+    both ts all follow k x less = (up (slice_index_or ts k x) (follow k x less), (all k x less).1)
+
+offered : (c : Card) (h : History) → May (Offers c) h.ledger → Events h → Events (steps_on (Offers c) h)
+offered c h may i =
+    subst (λ cards. EventsAre h.ledger.queued cards (c.place + 1) (Unreported c) h.sessions h.queued h.reports h.left) (sym may.2.1)
+    (offered_front c may.2.0 h.ledger.queued h.ledger.shown h.ledger.offer h.sessions h.queued h.reports h.left may.1
+    (subst (λ cards. EventsAre h.ledger.queued cards h.ledger.shown h.ledger.offer h.sessions h.queued h.reports h.left) may.2.1 i))
+
+-- the event that was offered is reported
+report_offered : (c : Card) (count : ℕ) (cards : List Card) (shown sessions : ℕ) (queued : List Card) (reports : List Told) (left : List Left)
+    → EventsAre count cards shown (Unreported c) sessions queued reports left
+    → EventsAre count cards shown (Reported c) sessions queued (reports ++ (sessions, c) ∷ []) left
+report_offered c count cards shown sessions queued reports left i =
+    let o = i.offer_is in
+    record {
+      whole = i.whole;
+      counted = i.counted;
+      each = i.each;
+      rising = i.rising;
+      below = i.below;
+      beyond = i.beyond;
+      shown_is = i.shown_is;
+      told = All-push (λ (a : Told). (a.1.place < shown) × (a.0 ≤ sessions)) reports (sessions, c) i.told (omega (arith, o.0), omega arith);
+      in_turn = all_pairs_push Follows reports (sessions, c) i.in_turn o.1;
+      offer_is = (
+        o.0,
+        All-push (IsAtMost c) reports (sessions, c) (All-weaker (λ (a : Told). Follows a (sessions, c)) (IsAtMost c) (λ a f. most a f) reports o.1) (inr refl),
+        o.2,
+        (sessions, Contains-push reports (sessions, c)),
+      );
+      reported = All-weaker (WasReported reports) (WasReported (reports ++ (sessions, c) ∷ [])) (λ w was why. still w (was why)) left i.reported;
+      withdrawn = both (NeverReported reports) (LeftNow sessions c) (NeverReported (reports ++ (sessions, c) ∷ [])) (λ w never now. never_yet w never now) left i.withdrawn o.3;
+      no_later = both (NoLater reports) (LeftNow sessions c) (NoLater (reports ++ (sessions, c) ∷ [])) (λ w none now. none_yet w none now) left i.no_later o.3;
+    }
+  where
+    most : (a : Told) → Follows a (sessions, c) → IsAtMost c a
+    most a (inl less) = inl less
+    most a (inr same) = inr same.0
+
+    still : (w : Left) → (session : ℕ) × Contains reports (session, w.card) → (session : ℕ) × Contains (reports ++ (sessions, c) ∷ []) (session, w.card)
+    still w was = (was.0, Contains-append_left reports ((sessions, c) ∷ []) (was.0, w.card) was.1)
+
+    both : (P Q R : Left → Type 0) → ((w : Left) → P w → Q w → R w) → (ws : List Left) → All P ws → All Q ws → All R ws
+    both P Q R f ws p q k x less = f (slice_index_or ws k x) (p k x less) (q k x less)
+
+    never_yet : (w : Left) → NeverReported reports w → LeftNow sessions c w → NeverReported (reports ++ (sessions, c) ∷ []) w
+    never_yet w never now why =
+        All-push (λ (a : Told). a.1.place ≡ w.card.place → ⊥) reports (sessions, c) (never why) (λ same. (now (sym same)).1 why)
+
+    none_yet : (w : Left) → NoLater reports w → LeftNow sessions c w → NoLater (reports ++ (sessions, c) ∷ []) w
+    none_yet w none now =
+        All-push (λ (a : Told). a.1.place ≡ w.card.place → a.0 ≤ w.session) reports (sessions, c) none (λ same. omega (arith, (now (sym same)).0))
+
+reported_now : (c : Card) (h : History) → May (Report c) h.ledger → Events h → Events (steps_on (Report c) h)
+reported_now c h may i =
+    report_offered c h.ledger.queued h.ledger.cards h.ledger.shown h.sessions h.queued h.reports h.left
+    (subst (λ offer. EventsAre h.ledger.queued h.ledger.cards h.ledger.shown offer h.sessions h.queued h.reports h.left) may.1 i)
+
+-- events leave: those that stay are some of those that waited
+leave_queue : (fewer : List Card) (more : List Left) (later : Offer) (count : ℕ) (cards : List Card) (shown : ℕ) (offer : Offer) (sessions : ℕ) (queued : List Card) (reports : List Told) (left : List Left)
+    → ((P : Card → Type 0) → All P cards → All P fewer)
+    → ((place : ℕ) → times place (left_places left) + times place (places cards) ≡ times place (places queued) → times place (places queued) ≤ 1
+    → times place (left_places (left ++ more)) + times place (places fewer) ≡ times place (places queued))
+    → Rising 0 fewer
+    → Beyond shown fewer
+    → OfferIs later sessions shown fewer reports (left ++ more)
+    → All (WasReported reports) more
+    → All (NeverReported reports) more
+    → All (λ (w : Left). w.session ≡ sessions) more
+    → EventsAre count cards shown offer sessions queued reports left
+    → EventsAre count fewer shown later sessions queued reports (left ++ more)
+leave_queue fewer more later count cards shown offer sessions queued reports left keep each rising beyond offer_is reported withdrawn now i = record {
+  whole = i.whole;
+  counted = i.counted;
+  each = λ p. each p (i.each p) (one_time p 0 (places queued) i.whole);
+  rising = rising;
+  below = keep (λ (d : Card). d.place < count) i.below;
+  beyond = beyond;
+  shown_is = i.shown_is;
+  told = i.told;
+  in_turn = i.in_turn;
+  offer_is = offer_is;
+  reported = All-append (WasReported reports) left more i.reported reported;
+  withdrawn = All-append (NeverReported reports) left more i.withdrawn withdrawn;
+  no_later = All-append (NoLater reports) left more i.no_later
+      (All-weaker (λ (w : Left). w.session ≡ sessions) (NoLater reports) (λ w is.
+      All-weaker (λ (a : Told). (a.1.place < shown) × (a.0 ≤ sessions)) (λ (a : Told). a.1.place ≡ w.card.place → a.0 ≤ w.session) (λ a t same. omega (arith, t.1, is)) reports i.told) more now);
+}
+
+one : (P : Left → Type 0) (w : Left) → P w → All P (w ∷ [])
+one P w p = All-cons P w [] p (All-nil P)
+
+abbrev gone : ℕ → Card → Exit → Left
+gone sessions c why = record { session = sessions; card = c; why = why }
+
+-- the front leaves
+front_leaves : (c : Card) (cs : List Card) (why : Exit) (later : Offer) (count shown : ℕ) (offer : Offer) (sessions : ℕ) (events : List Card) (reports : List Told) (left : List Left)
+    → OfferIs later sessions shown cs reports (left ++ gone sessions c why ∷ [])
+    → WasReported reports (gone sessions c why)
+    → NeverReported reports (gone sessions c why)
+    → EventsAre count (c ∷ cs) shown offer sessions events reports left
+    → EventsAre count cs shown later sessions events reports (left ++ gone sessions c why ∷ [])
+front_leaves c cs why later count shown offer sessions events reports left offer_is reported withdrawn i =
+    leave_queue cs (gone sessions c why ∷ []) later count (c ∷ cs) shown offer sessions events reports left
+    (λ P. All-tail P c cs)
+    (λ p each most. omega (arith, each, times_left p left (gone sessions c why)))
+    (rising_less 0 (c.place + 1) cs (omega arith) i.rising.1)
+    (beyond_all shown cs i.beyond)
+    offer_is
+    (one (WasReported reports) (gone sessions c why) reported)
+    (one (NeverReported reports) (gone sessions c why) withdrawn)
+    (one (λ (w : Left). w.session ≡ sessions) (gone sessions c why) refl)
+    i
+
+-- .. after it was reported: what comes next follows all that was reported
+after_reported : (c : Card) (cs : List Card) (sessions : ℕ) (reports : List Told) → All (IsAtMost c) reports → Rising (c.place + 1) cs
+    → All (λ (d : Card). All (λ (a : Told). Follows a (sessions, d)) reports) cs
+after_reported c cs sessions reports most rising =
+    All-weaker (λ (d : Card). c.place + 1 ≤ d.place) (λ (d : Card). All (λ (a : Told). Follows a (sessions, d)) reports)
+    (λ d le. All-weaker (IsAtMost c) (λ (a : Told). Follows a (sessions, d)) (λ a m. inl (less d a le m)) reports most)
+    cs (rising_above (c.place + 1) cs rising)
+  where
+    less : (d : Card) (a : Told) → c.place + 1 ≤ d.place → IsAtMost c a → a.1.place < d.place
+    less d a le (inl before) = omega (arith, before, le)
+    less d a le (inr is) = subst (λ (x : Card). x.place < d.place) (sym is) (omega (arith, le))
+
+left_reported : (c : Card) (h : History) → May (Leave c) h.ledger → Events h → Events (steps_on (Leave c) h)
+left_reported c h may i =
+    subst (λ cards. EventsAre h.ledger.queued (drop 1 cards) h.ledger.shown NoOffer h.sessions h.queued h.reports (h.left ++ gone h.sessions c AfterReport ∷ [])) (sym may.0.1)
+    (by_offer (subst (λ offer. EventsAre h.ledger.queued (c ∷ may.0.0) h.ledger.shown offer h.sessions h.queued h.reports h.left) may.1
+    (subst (λ cards. EventsAre h.ledger.queued cards h.ledger.shown h.ledger.offer h.sessions h.queued h.reports h.left) may.0.1 i)))
+  where
+    other : AfterReport ≡ TakenBack → ⊥
+    other e = cc
+
+    by_offer : EventsAre h.ledger.queued (c ∷ may.0.0) h.ledger.shown (Reported c) h.sessions h.queued h.reports h.left
+        → EventsAre h.ledger.queued may.0.0 h.ledger.shown NoOffer h.sessions h.queued h.reports (h.left ++ gone h.sessions c AfterReport ∷ [])
+    by_offer i =
+        front_leaves c may.0.0 AfterReport NoOffer h.ledger.queued h.ledger.shown (Reported c) h.sessions h.queued h.reports h.left
+        (after_reported c may.0.0 h.sessions h.reports i.offer_is.1 i.rising.1)
+        (λ why. i.offer_is.3)
+        (λ why. absurd (other why))
+        i
+
+-- what leaves now, and wasn't taken back
+now_but_taken : (sessions : ℕ) (c d : Card) (why : Exit) → (why ≡ TakenBack → ⊥) → LeftNow sessions c (gone sessions d why)
+now_but_taken sessions c d why other same = (refl, other)
+
+lapsed : (c : Card) (h : History) → May (Lapse c) h.ledger → Events h → Events (steps_on (Lapse c) h)
+lapsed c h may i =
+    subst (λ cards. EventsAre h.ledger.queued (drop 1 cards) h.ledger.shown h.ledger.offer h.sessions h.queued h.reports (h.left ++ gone h.sessions c Lapsed ∷ [])) (sym may.0.1)
+    (front (subst (λ cards. EventsAre h.ledger.queued cards h.ledger.shown h.ledger.offer h.sessions h.queued h.reports h.left) may.0.1 i))
+  where
+    not_taken : Lapsed ≡ TakenBack → ⊥
+    not_taken e = cc
+
+    not_reported : Lapsed ≡ AfterReport → ⊥
+    not_reported e = cc
+
+    front : EventsAre h.ledger.queued (c ∷ may.0.0) h.ledger.shown h.ledger.offer h.sessions h.queued h.reports h.left
+        → EventsAre h.ledger.queued may.0.0 h.ledger.shown h.ledger.offer h.sessions h.queued h.reports (h.left ++ gone h.sessions c Lapsed ∷ [])
+    front i =
+        front_leaves c may.0.0 Lapsed h.ledger.offer h.ledger.queued h.ledger.shown h.ledger.offer h.sessions h.queued h.reports h.left
+        (offer_left h.ledger.offer h.sessions h.ledger.shown may.0.0 h.reports h.left (gone h.sessions c Lapsed ∷ [])
+        (λ d is. one (LeftNow h.sessions d) (gone h.sessions c Lapsed) (now_but_taken h.sessions d c Lapsed not_taken))
+        (offer_fewer h.ledger.offer h.sessions h.ledger.shown (c ∷ may.0.0) may.0.0 h.reports h.left (λ P. All-tail P c may.0.0) i.offer_is))
+        (λ why. absurd (not_reported why))
+        (λ why. absurd (not_taken why))
+        i
+
+withdrawn_event : (c : Card) (h : History) → May (WithdrawEvent c) h.ledger → Events h → Events (steps_on (WithdrawEvent c) h)
+withdrawn_event c h may i =
+    leave_queue (without c h.ledger.cards) (gone h.sessions c TakenBack ∷ []) h.ledger.offer h.ledger.queued h.ledger.cards h.ledger.shown h.ledger.offer h.sessions h.queued h.reports h.left
+    (λ P. All-filter (λ d. not (d.place == c.place)) P h.ledger.cards)
+    each
+    (rising_filter (λ d. not (d.place == c.place)) 0 h.ledger.cards i.rising)
+    (beyond_filter (λ d. not (d.place == c.place)) h.ledger.shown h.ledger.cards i.beyond)
+    (offer_left h.ledger.offer h.sessions h.ledger.shown (without c h.ledger.cards) h.reports h.left (gone h.sessions c TakenBack ∷ [])
+    (λ d is. one (LeftNow h.sessions d) (gone h.sessions c TakenBack) (λ same. absurd (apart d is same)))
+    (offer_fewer h.ledger.offer h.sessions h.ledger.shown h.ledger.cards (without c h.ledger.cards) h.reports h.left
+    (λ P. All-filter (λ d. not (d.place == c.place)) P h.ledger.cards) i.offer_is))
+    (one (WasReported h.reports) (gone h.sessions c TakenBack) (λ why. absurd (other why)))
+    (one (NeverReported h.reports) (gone h.sessions c TakenBack) (λ why.
+    All-weaker (λ (a : Told). (a.1.place < h.ledger.shown) × (a.0 ≤ h.sessions)) (λ (a : Told). a.1.place ≡ c.place → ⊥) (λ a t same. omega (arith, t.0, may.1, same)) h.reports i.told))
+    (one (λ (w : Left). w.session ≡ h.sessions) (gone h.sessions c TakenBack) refl)
+    i
+  where
+    other : TakenBack ≡ AfterReport → ⊥
+    other e = cc
+
+    apart : (d : Card) → d.place + 1 ≡ h.ledger.shown → c.place ≡ d.place → ⊥
+    apart d is same = omega (arith, is, same, may.1)
+
+    each : (p : ℕ) → times p (left_places h.left) + times p (places h.ledger.cards) ≡ times p (places h.queued) → times p (places h.queued) ≤ 1
+        → times p (left_places (h.left ++ gone h.sessions c TakenBack ∷ [])) + times p (places (without c h.ledger.cards)) ≡ times p (places h.queued)
+    each p sum most = by_test (c.place == p) refl
+      where
+        by_test : (b : Bool) → (c.place == p) ≡ b → times p (left_places (h.left ++ gone h.sessions c TakenBack ∷ [])) + times p (places (without c h.ledger.cards)) ≡ times p (places h.queued)
+        by_test true e =
+            let is : c.place ≡ p = eqb-true c.place p e in
+            let added : times p (left_places (h.left ++ gone h.sessions c TakenBack ∷ [])) ≡ times p (left_places h.left) + 1 =
+            times_left p h.left (gone h.sessions c TakenBack) ∙ ap (λ b. times p (left_places h.left) + ((if b then 1 else 0) + 0)) e in
+            let none : times p (places (without c h.ledger.cards)) ≡ 0 = subst (λ q. times q (places (without c h.ledger.cards)) ≡ 0) is (none_of_it c h.ledger.cards) in
+            let here : 1 ≤ times p (places h.ledger.cards) = subst (λ q. 1 ≤ times q (places h.ledger.cards)) is (contains_times h.ledger.cards c may.0) in
+            omega (arith, sum, most, added, none, here)
+        by_test false e =
+            let added : times p (left_places (h.left ++ gone h.sessions c TakenBack ∷ [])) ≡ times p (left_places h.left) + 0 =
+            times_left p h.left (gone h.sessions c TakenBack) ∙ ap (λ b. times p (left_places h.left) + ((if b then 1 else 0) + 0)) e in
+            let stay : times p (places (without c h.ledger.cards)) ≡ times p (places h.ledger.cards) = others_stay p c h.ledger.cards (eqb-false c.place p e) in
+            omega (arith, sum, added, stay)
+
+abbrev thrown : ℕ → List Card → List Left
+thrown sessions = map (λ c. gone sessions c ThrownAway)
+
+all_thrown : (sessions : ℕ) (P : Left → Type 0) → ((c : Card) → P (gone sessions c ThrownAway)) → (cards : List Card) → All P (thrown sessions cards)
+all_thrown sessions P p [] = All-nil P
+all_thrown sessions P p (c ∷ cs) = All-cons P (gone sessions c ThrownAway) (thrown sessions cs) (p c) (all_thrown sessions P p cs)
+
+thrown_places : (sessions : ℕ) (cards : List Card) → left_places (thrown sessions cards) ≡ places cards
+thrown_places sessions [] = refl
+thrown_places sessions (c ∷ cs) = ap (λ ps. c.place ∷ ps) (thrown_places sessions cs)
+
+restarted_device : (h : History) → Events h → Events (steps_on RestartDevice h)
+restarted_device h i =
+    leave_queue [] (thrown h.sessions h.ledger.cards) h.ledger.offer h.ledger.queued h.ledger.cards h.ledger.shown h.ledger.offer h.sessions h.queued h.reports h.left
+    (λ P all. All-nil P)
+    (λ p sum most. omega (arith, sum, times_all p (left_places h.left) (left_places (thrown h.sessions h.ledger.cards)), split p))
+    tt
+    tt
+    (offer_left h.ledger.offer h.sessions h.ledger.shown [] h.reports h.left (thrown h.sessions h.ledger.cards)
+    (λ d is. all_thrown h.sessions (LeftNow h.sessions d) (λ c same. (refl, not_taken)) h.ledger.cards)
+    (offer_fewer h.ledger.offer h.sessions h.ledger.shown h.ledger.cards [] h.reports h.left (λ P all. All-nil P) i.offer_is))
+    (all_thrown h.sessions (WasReported h.reports) (λ c why. absurd (not_reported why)) h.ledger.cards)
+    (all_thrown h.sessions (NeverReported h.reports) (λ c why. absurd (not_taken why)) h.ledger.cards)
+    (all_thrown h.sessions (λ (w : Left). w.session ≡ h.sessions) (λ c. refl) h.ledger.cards)
+    i
+  where
+    not_taken : ThrownAway ≡ TakenBack → ⊥
+    not_taken e = cc
+
+    not_reported : ThrownAway ≡ AfterReport → ⊥
+    not_reported e = cc
+
+    split : (p : ℕ) → times p (left_places (h.left ++ thrown h.sessions h.ledger.cards)) ≡ times p (left_places h.left) + times p (places h.ledger.cards)
+    split p = ap (times p) (left_all h.left (thrown h.sessions h.ledger.cards)) ∙ times_all p (left_places h.left) (left_places (thrown h.sessions h.ledger.cards))
+        ∙ ap (λ ps. times p (left_places h.left) + times p ps) (thrown_places h.sessions h.ledger.cards)
+
+-- ---- all steps
+
+keeps : (step : Step) (h : History) → May step h.ledger → Events h → Events (steps_on step h)
+keeps (Submit o) h may i = i
+keeps (Withdraw o) h may i = i
+keeps Open h may i = begun h i
+keeps (Act o answer) h may i = by_state h.ledger.is_open i
+  where
+    by_state : (b : Bool) → Events h → (let l = acted_on b answer h.ledger in EventsAre l.queued l.cards l.shown l.offer h.sessions h.queued h.reports h.left)
+    by_state true i = i
+    by_state false i = i
+keeps (Settle o answer) h may i = i
+keeps (Doubt o) h may i = i
+keeps Close h may i = i
+keeps (Queue c) h may i = queued c h may i
+keeps (Offers c) h may i = offered c h may i
+keeps (Report c) h may i = reported_now c h may i
+keeps (Leave c) h may i = left_reported c h may i
+keeps (WithdrawEvent c) h may i = withdrawn_event c h may i
+keeps (Lapse c) h may i = lapsed c h may i
+keeps RestartDevice h may i = restarted_device h i
+keeps (RestartPanel on_wire) h may i = by_state h.ledger.is_open i
+  where
+    by_state : (b : Bool) → Events h → (let l = panel_restarted on_wire b h.ledger in EventsAre l.queued l.cards l.shown l.offer h.sessions h.queued h.reports h.left)
+    by_state true i = i
+    by_state false i = i
+
+hold : (steps : List Step) (h : History) → AreAllowed steps h → Events h → EventsHold (runs steps h)
+hold [] h allowed i = record {
+  each = i.each;
+  places = i.whole;
+  in_turn = i.in_turn;
+  reported = i.reported;
+  withdrawn = i.withdrawn;
+  no_later = i.no_later;
+}
+hold (step ∷ steps) h allowed i = hold steps (steps_on step h) allowed.1 (keeps step h allowed.0 i)
+
+pub keeps_events : KeepsEvents
+keeps_events steps allowed = hold steps new_history allowed (record {
+  whole = tt;
+  counted = refl;
+  each = λ p. refl;
+  rising = tt;
+  below = All-nil (λ (d : Card). d.place < 0);
+  beyond = tt;
+  shown_is = omega arith;
+  told = All-nil (λ (a : Told). (a.1.place < 0) × (a.0 ≤ 0));
+  in_turn = λ i j d less below. absurd (none_below j below);
+  offer_is = All-nil (λ (d : Card). All (λ (a : Told). Follows a (0, d)) []);
+  reported = All-nil (WasReported []);
+  withdrawn = All-nil (NeverReported []);
+  no_later = All-nil (NoLater []);
+})
+  where
+    none_below : (j : ℕ) → j < 0 → ⊥
+    none_below j below = omega (arith, below)

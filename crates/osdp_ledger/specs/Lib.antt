@@ -1,0 +1,4 @@
+pub mod Ledger
+pub mod History
+pub mod Laws
+pub mod Instance
