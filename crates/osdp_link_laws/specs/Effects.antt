@@ -21,7 +21,16 @@ use Rattle.osdp_link_laws.specs.Link.{Account, Link, LoseToController, LoseToRea
 
 -- all that is said of commands stays
 abbrev pub SameCommands : Account → Account → Type 0
-SameCommands t u = u ≡ record t { queued = u.queued; kept = u.kept; thrown_away = u.thrown_away; offered = u.offered; reported = u.reported; restarts = u.restarts }
+SameCommands t u = u ≡ record t {
+  queued = u.queued;
+  withdrawn = u.withdrawn;
+  stayed = u.stayed;
+  kept = u.kept;
+  thrown_away = u.thrown_away;
+  offered = u.offered;
+  reported = u.reported;
+  restarts = u.restarts;
+}
 
 -- a restart of the reader throws these events away, which it had not offered in the session, and is counted; what it had offered stays, and
 -- all that is said of commands
@@ -65,7 +74,7 @@ module _ {H : Type 0} where
     pub config : new.config ≡ record old.config { address = here }
     pub last : new.last ≡ None
     pub stored : new.stored ≡ None
-    pub queue : new.queue ≡ record { events = []; capacity = room; offered = false }
+    pub queue : new.queue ≡ record { events = []; capacity = room; offered = false; ever_offered = false }
     pub busy : new.busy ≡ false
     pub handler : new.handler ≡ answering
 
