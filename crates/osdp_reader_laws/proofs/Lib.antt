@@ -10,4 +10,3 @@ pub mod Sequences
 pub mod Addresses
 pub mod Handlers
 pub mod FittingReplies
-pub mod Withdrawing
