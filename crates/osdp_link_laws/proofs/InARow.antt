@@ -17,17 +17,18 @@ use Rattle.osdp_link_laws.specs.Headline.{EachIsOnce, HoldsOnce, IsOnce, IsWitho
 use Rattle.osdp_link_laws.specs.Link as link
 use Rattle.osdp_link_laws.specs.Link.{Account, Link, Move, Reopen, after_move, new_account, run, unoffered_in}
 use Rattle.osdp_link_laws.specs.Peers.{ReadEachOther}
-use Rattle.osdp_link_laws.specs.Sessions.{AreInARow, CommandsHavePlaces, EventsHavePlaces, HaveLeft, LastOneLasts, Leaves, SessionsInARow, StayInARow, TakesNoneTwice, all_queued, all_submitted, ended_commands, ended_in, queued, submitted, withdrawn_in}
+use Rattle.osdp_link_laws.specs.Sessions.{AreInARow, CommandsHavePlaces, EventsHavePlaces, HaveLeft, IsAmong, LastOneLasts, Leaves, SessionsInARow, StayInARow, TakesNoneTwice, all_queued, all_submitted, ended_commands, ended_in, queued, submitted, withdrawn_in}
 use Rattle.osdp_link_laws.proofs.Devices.{IsDevice, move_there}
 use Rattle.osdp_link_laws.proofs.Growing.{GoesOn, Grows, goes_on}
 use Rattle.osdp_link_laws.proofs.Lines.{each_of, each_rest}
 use Rattle.osdp_link_laws.proofs.Moves.{Premises}
 use Rattle.osdp_link_laws.proofs.Once.{Goes, fresh, is_once, moving}
 use Rattle.osdp_link_laws.proofs.Removed.{gone}
-use Rattle.osdp_link_laws.proofs.Offered.{queue_is}
+use Rattle.osdp_link_laws.specs.Withdrawn.{NeverOffersWhatIsWithdrawn, OfferAmong}
+use Rattle.osdp_link_laws.proofs.Offered.{offered_among, queue_is}
 use Rattle.osdp_link_laws.proofs.Staying.{EventsGo, events_go}
-use Rattle.osdp_link_laws.proofs.Taken.{taken_once}
-use Rattle.osdp_link_laws.proofs.Withdrawing.{IsApart, apart_again, apart_goes, apart_whole, ever_in_front}
+use Rattle.osdp_link_laws.proofs.Taken.{among_after, among_more, taken_once}
+use Rattle.osdp_link_laws.proofs.Withdrawing.{IsApart, apart_again, apart_as, apart_goes, apart_more, apart_whole, ever_in_front, others_are}
 use Rattle.osdp_link_laws.proofs.Without.{without_none}
 use Rattle.osdp_link_laws.proofs.Sessions.{lasts_or_leaves, leaves}
 use Rattle.osdp_link_laws.proofs.Stages.{Waits, frame}
@@ -69,42 +70,58 @@ left_more all more (t ∷ earlier) gone (before, left, events, until, prior, beg
   leaves,
 )
 
--- all events, but those withdrawn, are those that have left and those that stay; and these are never offered
+among_longer : (events more : List Event) (earlier : List Account) → OfferAmong events earlier → OfferAmong (events ++ more) earlier
+among_longer events more [] are = tt
+among_longer events more (t ∷ earlier) are = (among_more t.offered events more are.0, among_longer events more earlier are.1)
+
+-- all events, but those withdrawn, are those that have left and those that stay; what was offered before is among those that stand before the
+-- never offered ones
 abbrev pub AreQueuedOrLeft : List Event → List Account → Account → List Event → Type 0
 AreQueuedOrLeft all earlier t tail =
-    (gone : List Event) × HaveLeft all earlier gone × IsApart (withdrawn_in (t ∷ earlier)) gone all t.stayed tail
+    (gone : List Event) × HaveLeft all earlier gone
+    × (apart : IsApart (withdrawn_in (t ∷ earlier)) gone all t.stayed tail) × OfferAmong (gone ++ apart.others) earlier
 
 pub queued_on : {Keeps : Type 0} (all es : List Event) (earlier : List Account) (t u : Account) (tail new : List Event) → EventsGo Keeps es t u tail new
     → AreQueuedOrLeft all earlier t tail → AreQueuedOrLeft (all ++ es) earlier u new
-queued_on {Keeps} all es earlier t u tail new go (gone, left, apart) = (
-  gone,
-  left_more all es earlier gone left,
-  subst (λ out. IsApart out gone (all ++ es) u.stayed new)
-      (append_assoc (withdrawn_in earlier) t.withdrawn go.took ∙ ap (λ l. withdrawn_in earlier ++ l) (sym go.withdrawn))
-      (apart_goes es go.took t.stayed u.stayed tail new (withdrawn_in (t ∷ earlier)) gone all go.stayed apart),
-)
+queued_on {Keeps} all es earlier t u tail new go (gone, left, apart, offered) =
+    let out = withdrawn_in (t ∷ earlier) in
+    let more = apart_more es go.took t.stayed u.stayed tail new out gone all go.stayed apart in (
+      gone,
+      left_more all es earlier gone left,
+      apart_as (out ++ go.took) (withdrawn_in (u ∷ earlier)) gone (all ++ es) u.stayed new
+          (append_assoc (withdrawn_in earlier) t.withdrawn go.took ∙ ap (λ l. withdrawn_in earlier ++ l) (sym go.withdrawn))
+          (apart_goes es go.took t.stayed u.stayed tail new out gone all go.stayed apart),
+      subst (λ events. OfferAmong events earlier) (append_assoc gone apart.others more.0 ∙ ap (λ l. gone ++ l) (sym more.1))
+          (among_longer (gone ++ apart.others) more.0 earlier offered),
+    )
 
 -- .. and where a session ends, what it leaves is queued
 pub queued_again : (all : List Event) (earlier : List Account) (t : Account) (waiting : List Command) (q : Queue) → Leaves t waiting q.events
+    → ((others : List Event) → t.stayed ≡ others ++ unoffered_in q → IsAmong t.offered others)
     → AreQueuedOrLeft all earlier t (unoffered_in q) → AreQueuedOrLeft all (t ∷ earlier) (new_account waiting q.events) (unoffered_in q)
-queued_again all earlier t waiting q left (gone, before, apart) = (
-  gone ++ left.left,
-  (
-    gone,
-    left.left,
-    q.events,
-    all,
-    before,
-    ([], sym (append-nil all)),
-    apart_whole (withdrawn_in (t ∷ earlier)) gone all t.stayed (unoffered_in q) apart,
-    refl,
-    left.of_events,
-  ),
-  subst (λ out. IsApart out (gone ++ left.left) all q.events (unoffered_in q)) (sym (append-nil (withdrawn_in (t ∷ earlier))))
-      (subst (λ es. IsApart (withdrawn_in (t ∷ earlier)) (gone ++ left.left) all es (unoffered_in q)) (sym (queue_is q))
-      (apart_again (withdrawn_in (t ∷ earlier)) gone all t.stayed left.left (ever_in_front q) (unoffered_in q)
-      (left.of_events.stayed ∙ ap (λ es. left.left ++ es) (queue_is q)) apart)),
-)
+queued_again all earlier t waiting q left among (gone, before, apart, offered) =
+    let out = withdrawn_in (t ∷ earlier) in
+    let front = ever_in_front q in
+    let same : gone ++ apart.others ≡ (gone ++ left.left) ++ front =
+    ap (λ l. gone ++ l) (others_are t.stayed left.left front (unoffered_in q) q.events apart.others (queue_is q) left.of_events.stayed apart.stayed_are)
+    ∙ sym (append_assoc gone left.left front) in (
+      gone ++ left.left,
+      (
+        gone,
+        left.left,
+        q.events,
+        all,
+        before,
+        ([], sym (append-nil all)),
+        apart_whole out gone all t.stayed (unoffered_in q) apart,
+        refl,
+        left.of_events,
+      ),
+      apart_as out (withdrawn_in (new_account waiting q.events ∷ t ∷ earlier)) (gone ++ left.left) all q.events (unoffered_in q) (sym (append-nil out))
+          (apart_again out gone all t.stayed left.left front (unoffered_in q) q.events (queue_is q) left.of_events.stayed apart),
+      subst (λ events. OfferAmong events (t ∷ earlier)) same
+          (among_after t.offered gone apart.others (among apart.others apart.stayed_are), offered),
+    )
 
 -- within a session
 abbrev pub StaysApart : {H : Type 0} → Link H → Type 0
@@ -253,7 +270,8 @@ module _ {H : Type 0} (answer_of : H → Command → Answer) (after : H → Comm
             commands = placed.commands
                 ∙ ap (λ all. ended_commands l.earlier ++ all) left.of_commands.commands
                 ∙ sym (append_assoc (ended_commands l.earlier) (ended_in l.account) l.controller.waiting);
-            events = queued_again es l.earlier l.account l.controller.waiting l.reader.queue left placed.events;
+            events = queued_again es l.earlier l.account l.controller.waiting l.reader.queue left
+                (λ others is. offered_among h.fixed answer_of after settings l others h.goes is) placed.events;
           }
 
       by_move : (move : Move H) → Placed (cs ++ submitted move l) (es ++ queued move l) (after_move answer_of after move l)
@@ -329,7 +347,7 @@ module _ {H : Type 0} (answer_of : H → Command → Answer) (after : H → Comm
         commands = sym (ap (λ t. t.issued) b.account) ∙ sym (ap (λ earlier. ended_commands earlier ++ l.account.issued) b.earlier);
         events = subst (λ t. AreQueuedOrLeft l.reader.queue.events l.earlier t (unoffered_in l.reader.queue)) (sym b.account)
             (subst (λ earlier. AreQueuedOrLeft l.reader.queue.events earlier (new_account l.controller.waiting l.reader.queue.events) (unoffered_in l.reader.queue))
-            (sym b.earlier) ([], refl, begins_apart l.reader.queue));
+            (sym b.earlier) ([], refl, begins_apart l.reader.queue, tt));
       })
 
   commands_have_places : ReadEachOther answer_of after → CommandsHavePlaces answer_of after
@@ -338,9 +356,25 @@ module _ {H : Type 0} (answer_of : H → Command → Answer) (after : H → Comm
   events_have_places : ReadEachOther answer_of after → EventsHavePlaces answer_of after
   events_have_places peers l moves b fits =
       let later = run answer_of after moves l in
-      let (gone, left, apart) = (have_places peers l moves b fits).events in
+      let (gone, left, apart, offered) = (have_places peers l moves b fits).events in
       (gone, left, apart_whole (withdrawn_in (later.account ∷ later.earlier)) gone
           (l.reader.queue.events ++ all_queued answer_of after moves l) later.account.stayed (unoffered_in later.reader.queue) apart)
+
+  pub never_offers : ReadEachOther answer_of after → NeverOffersWhatIsWithdrawn answer_of after
+  never_offers peers l moves b fits =
+      let later = run answer_of after moves l in
+      let s = stands peers l moves b fits in
+      let all = l.reader.queue.events ++ all_queued answer_of after moves l in
+      let (gone, left, apart, offered) = (have_places peers l moves b fits).events in
+      let tail = unoffered_in later.reader.queue in (
+        gone ++ later.account.stayed,
+        apart_whole (withdrawn_in (later.account ∷ later.earlier)) gone all later.account.stayed tail apart,
+        subst (λ events. OfferAmong events (later.account ∷ later.earlier))
+            (append_assoc gone apart.others tail ∙ ap (λ l. gone ++ l) (sym apart.stayed_are))
+            (among_longer (gone ++ apart.others) tail (later.account ∷ later.earlier)
+            (among_after later.account.offered gone apart.others
+            (offered_among s.fixed answer_of after l.reader.config later apart.others s.goes apart.stayed_are), offered)),
+      )
 
   last_one_lasts : ReadEachOther answer_of after → LastOneLasts answer_of after
   last_one_lasts peers l moves b fits =

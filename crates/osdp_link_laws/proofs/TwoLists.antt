@@ -36,7 +36,7 @@ use Rattle.osdp_link_laws.specs.Link.{Account, Delivered, Delivery, Link, Lost, 
 use Rattle.osdp_link_laws.specs.TwoLists.{IsInStep, IsLevel, IsOneOrNone, IsRead, IsReadOff, IsStepOf, Issue, KeepsInStep, May, MovesInStep, Offer, Offers, OffersOnce, Queue, Report as Tell, Settle, Step, Take, ThrowAway, TwoLists, WithdrawEvent as WithdrawPlace, after_step, two_lists}
 use Rattle.osdp_link_laws.specs.Peers.{ReadEachOther}
 use Rattle.osdp_link_laws.proofs.InARow.{all_once, assumed_of, is_once_now, standing, stands}
-use Rattle.osdp_link_laws.proofs.Offered.{StandApart, offered_apart}
+use Rattle.osdp_link_laws.proofs.Offered.{stands_apart}
 use Rattle.osdp_link_laws.proofs.Withdrawing.{Splits, but_oldest_is, splits}
 use Rattle.osdp_link_laws.proofs.Lines.{both}
 use Rattle.osdp_link_laws.proofs.Once.{Goes}
@@ -168,13 +168,6 @@ module _ (fixed : ControllerConfig) {H : Type 0} (answer_of : H → Command → 
         offered = first;
         untold = (owed_at at, unreported_at at, sym held.account.settled, held.account.offered, one_untold_at at);
       }
-
-module _ (fixed : ControllerConfig) {H : Type 0} (answer_of : H → Command → Answer) (after : H → Command → H) (settings : ReaderConfig) where
-  -- what was offered stands before those in the queue that never were
-  pub stands_apart : (l : Link H) → Goes fixed answer_of after settings l → StandApart fixed l.reader l.account
-  stands_apart l h =
-      let held = h.holds.2 in
-      offered_apart fixed h.holds.0 h.holds.1 l.reader (as_waiting l).account held.reader held.account.offered held.account.told
 
 -- ---- the lists are read off the counts
 
@@ -412,5 +405,6 @@ module _ {H : Type 0} (answer_of : H → Command → Answer) (after : H → Comm
   pub moves_in_step : MovesInStep answer_of after
   moves_in_step l moves move b fits fit =
       let s = stands answer_of after peers l moves b fits in
+      let apart = stands_apart s.fixed answer_of after l.reader.config (run answer_of after moves l) s.goes in
       one_or_none answer_of after move (run answer_of after moves l)
-      (stands_apart s.fixed answer_of after l.reader.config (run answer_of after moves l) s.goes) (offers_once l moves b fits) (read_off l moves b fits).0 (next_counts l moves move b fits fit)
+      (apart.more, apart.kept) (offers_once l moves b fits) (read_off l moves b fits).0 (next_counts l moves move b fits fit)

@@ -142,7 +142,7 @@ Lose es took s t tail new =
 abbrev pub Goes : List Event → List Event → List Event → List Event → List Event → List Event → Type 0
 Goes es took s t tail new = Grow es took s t tail new ⊎ Lose es took s t tail new
 
-pub apart_goes : (es took s t tail new out before all : List Event) → Goes es took s t tail new → IsApart out before all s tail
+abbrev pub apart_goes : (es took s t tail new out before all : List Event) → Goes es took s t tail new → IsApart out before all s tail
     → IsApart (out ++ took) before (all ++ es) t new
 apart_goes es took s t tail new out before all (inl (none, grows, more, is)) a = record {
   older = a.older ++ more;
@@ -162,6 +162,21 @@ apart_goes es took s t tail new out before all (inr (none, e, takes, is, loses))
       (without_drops out a.older (before ++ a.others) (e ∷ []) a.without);
 }
 
+-- those before are as before, or more
+pub apart_more : (es took s t tail new out before all : List Event) (go : Goes es took s t tail new) (a : IsApart out before all s tail)
+    → (more : List Event) × ((apart_goes es took s t tail new out before all go a).others ≡ a.others ++ more)
+apart_more es took s t tail new out before all (inl (none, grows, more, is)) a = (more, refl)
+apart_more es took s t tail new out before all (inr (none, e, takes, is, loses)) a = ([], sym (append-nil a.others))
+
+abbrev pub apart_as : (out same before all stayed tail : List Event) → out ≡ same → IsApart out before all stayed tail → IsApart same before all stayed tail
+apart_as out same before all stayed tail is a = record {
+  older = a.older;
+  others = a.others;
+  all_are = a.all_are;
+  stayed_are = a.stayed_are;
+  without = subst (λ o. IsWithout o a.older (before ++ a.others)) is a.without;
+}
+
 -- those not taken back are all but those that were
 pub apart_whole : (out before all stayed tail : List Event) → IsApart out before all stayed tail → IsWithout out all (before ++ stayed)
 apart_whole out before all stayed tail a =
@@ -171,15 +186,21 @@ apart_whole out before all stayed tail a =
     (without_keeps out a.older (before ++ a.others) tail a.without))
 
 -- where a session ends: what has left is before, and the queue begins the next
-pub apart_again : (out before all stayed left front tail : List Event) → stayed ≡ left ++ (front ++ tail) → IsApart out before all stayed tail
-    → IsApart out (before ++ left) all (front ++ tail) tail
-apart_again out before all stayed left front tail is a =
+pub others_are : (stayed left front tail events others : List Event) → events ≡ front ++ tail → stayed ≡ left ++ events → stayed ≡ others ++ tail
+    → others ≡ left ++ front
+others_are stayed left front tail events others queue is before =
+    append_cancel_right others (left ++ front) tail
+    (sym before ∙ is ∙ ap (λ es. left ++ es) queue ∙ sym (append_assoc left front tail))
+
+abbrev pub apart_again : (out before all stayed left front tail events : List Event) → events ≡ front ++ tail → stayed ≡ left ++ events
+    → IsApart out before all stayed tail → IsApart out (before ++ left) all events tail
+apart_again out before all stayed left front tail events queue is a =
     let others : a.others ≡ left ++ front =
-    append_cancel_right a.others (left ++ front) tail (sym a.stayed_are ∙ is ∙ sym (append_assoc left front tail)) in
+    others_are stayed left front tail events a.others queue is a.stayed_are in
     record {
       older = a.older;
       others = front;
       all_are = a.all_are;
-      stayed_are = refl;
+      stayed_are = queue;
       without = subst (IsWithout out a.older) (ap (λ l. before ++ l) others ∙ sym (append_assoc before left front)) a.without;
     }
