@@ -181,8 +181,7 @@ module _ {H : Type 0} (answer_of : H → Command → Answer) (after : H → Comm
       let last = run answer_of after more next in
       let s = running answer_of after l.reader.config (assumed_of answer_of after peers l) (restart ∷ more) before on (stands answer_of after peers l moves b fits) in
       let later = all_since answer_of after before.account.offered next.account.withdrawn [] more next (each_of KeepsReader more keep) same
-      (record { took = []; others = []; withdrawn = sym (append-nil next.account.withdrawn); kept = sym (append-nil before.account.offered); apart = none_apart }) in
-      (
+      (record { took = []; others = []; withdrawn = sym (append-nil next.account.withdrawn); kept = sym (append-nil before.account.offered); apart = none_apart }) in (
         later.took,
         later.others,
         later.withdrawn,

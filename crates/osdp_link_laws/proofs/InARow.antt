@@ -356,9 +356,12 @@ module _ {H : Type 0} (answer_of : H → Command → Answer) (after : H → Comm
   events_have_places : ReadEachOther answer_of after → EventsHavePlaces answer_of after
   events_have_places peers l moves b fits =
       let later = run answer_of after moves l in
-      let (gone, left, apart, offered) = (have_places peers l moves b fits).events in
-      (gone, left, apart_whole (withdrawn_in (later.account ∷ later.earlier)) gone
-          (l.reader.queue.events ++ all_queued answer_of after moves l) later.account.stayed (unoffered_in later.reader.queue) apart)
+      let (gone, left, apart, offered) = (have_places peers l moves b fits).events in (
+        gone,
+        left,
+        apart_whole (withdrawn_in (later.account ∷ later.earlier)) gone
+            (l.reader.queue.events ++ all_queued answer_of after moves l) later.account.stayed (unoffered_in later.reader.queue) apart,
+      )
 
   pub never_offers : ReadEachOther answer_of after → NeverOffersWhatIsWithdrawn answer_of after
   never_offers peers l moves b fits =
@@ -371,9 +374,11 @@ module _ {H : Type 0} (answer_of : H → Command → Answer) (after : H → Comm
         apart_whole (withdrawn_in (later.account ∷ later.earlier)) gone all later.account.stayed tail apart,
         subst (λ events. OfferAmong events (later.account ∷ later.earlier))
             (append_assoc gone apart.others tail ∙ ap (λ l. gone ++ l) (sym apart.stayed_are))
-            (among_longer (gone ++ apart.others) tail (later.account ∷ later.earlier)
-            (among_after later.account.offered gone apart.others
-            (offered_among s.fixed answer_of after l.reader.config later apart.others s.goes apart.stayed_are), offered)),
+            (among_longer (gone ++ apart.others) tail (later.account ∷ later.earlier) (
+              among_after later.account.offered gone apart.others
+                  (offered_among s.fixed answer_of after l.reader.config later apart.others s.goes apart.stayed_are),
+              offered,
+            )),
       )
 
   last_one_lasts : ReadEachOther answer_of after → LastOneLasts answer_of after

@@ -101,7 +101,6 @@ keeps ThrowAway m may h = record {
   offered = omega (arith, length-take m.offered m.queued, h.offered);
   one = h.one;
 }
-
 keeps (WithdrawPlace place) m may h = record {
   settled = h.settled;
   taken = h.taken;
@@ -332,17 +331,17 @@ module _ {H : Type 0} (answer_of : H → Command → Answer) (after : H → Comm
       (n ≡ m) ⊎ ((step : Step) × IsStepOf {H = H} WithdrawEvent step × May step m × (n ≡ after_step step m))
   withdraws_one q s t (more, is) = elim s.few [
     | inl (e, one) ↦
-      let less : unoffered_in q ≡ e ∷ s.rest = s.old_tail ∙ ap (λ es. es ++ s.rest) one in
-      let count : length t.kept ≡ length ((t.offered ++ more) ++ e ∷ s.rest) = ap length (is ∙ ap (λ es. (t.offered ++ more) ++ es) less) in
-      let few : length (unoffered_in q) ≡ length (e ∷ s.rest) = ap length less in
-      let places = length-append (t.offered ++ more) (e ∷ s.rest) in
-      let offered = length-append t.offered more in
-      inr (
-        WithdrawPlace (length t.kept - length (unoffered_in q)),
-        tt,
-        (omega (arith, count, few, places, offered), omega (arith, count, few, places, offered)),
-        refl,
-      )
+        let less : unoffered_in q ≡ e ∷ s.rest = s.old_tail ∙ ap (λ es. es ++ s.rest) one in
+        let count : length t.kept ≡ length ((t.offered ++ more) ++ e ∷ s.rest) = ap length (is ∙ ap (λ es. (t.offered ++ more) ++ es) less) in
+        let few : length (unoffered_in q) ≡ length (e ∷ s.rest) = ap length less in
+        let places = length-append (t.offered ++ more) (e ∷ s.rest) in
+        let offered = length-append t.offered more in
+        inr (
+          WithdrawPlace (length t.kept - length (unoffered_in q)),
+          tt,
+          (omega (arith, count, few, places, offered), omega (arith, count, few, places, offered)),
+          refl,
+        )
     | inr (none, nothing) ↦ inl (ap (λ es. record (two_lists t) { queued = es })
         (but_oldest_is q s t.kept t.kept (sym (append-nil t.kept) ∙ ap (λ es. t.kept ++ es) (sym (ap (λ es. es ++ s.rest) none ∙ nothing)))
         ∙ ap (λ es. t.kept ++ es) nothing ∙ append-nil t.kept))
