@@ -72,6 +72,7 @@ module _ {H : Type 0} where
   abbrev pub IsUsual : Move H → Type 0
   IsUsual (link.SetHandler handler) = ⊥
   IsUsual link.Withdraw = ⊥
+  IsUsual link.WithdrawEvent = ⊥
   IsUsual (link.Retarget address) = ⊥
   IsUsual (link.RestartReader address handler room) = ⊥
   IsUsual (link.RestartController config room) = ⊥
@@ -82,6 +83,7 @@ module _ {H : Type 0} where
   usual_steady : (m : Move H) → IsUsual m → IsSteady m
   usual_steady (link.SetHandler handler) usual = absurd usual
   usual_steady link.Withdraw usual = absurd usual
+  usual_steady link.WithdrawEvent usual = absurd usual
   usual_steady (link.Retarget address) usual = absurd usual
   usual_steady (link.RestartReader address handler room) usual = absurd usual
   usual_steady (link.RestartController config room) usual = absurd usual

@@ -6,7 +6,7 @@ use Rattle.osdp_msg.specs.declared.command.Command.{Command}
 use Rattle.osdp_reader.specs.declared.handler.Answer.{Answer}
 use Rattle.osdp_link_laws.specs.Headline.{SaysWhatFitsIf}
 use Rattle.osdp_shared_line.specs.Addresses.{IsSetUp, NetMovesFit, in_front}
-use Rattle.osdp_shared_line.specs.Line.{LoseToPanel, LoseToReader, Net, NetMove, Queue, Reopen, RestartPanel, RestartReader, Retarget, SetBusy, SetHandler, Site, Submit, Tick, ToPanel, ToReader, Withdraw, after_net, site_at}
+use Rattle.osdp_shared_line.specs.Line.{LoseToPanel, LoseToReader, Net, NetMove, Queue, Reopen, RestartPanel, RestartReader, Retarget, SetBusy, SetHandler, Site, Submit, Tick, ToPanel, ToReader, Withdraw, WithdrawEvent, after_net, site_at}
 use Rattle.osdp_shared_line.specs.Views.{OpensQuietly}
 
 module _ {H : Type 0} where
@@ -15,6 +15,7 @@ module _ {H : Type 0} where
   abbrev pub IsScheduled : NetMove H → Type 0
   IsScheduled (SetHandler k handler) = ⊥
   IsScheduled (Withdraw k) = ⊥
+  IsScheduled (WithdrawEvent k) = ⊥
   IsScheduled (Retarget k address) = ⊥
   IsScheduled (LoseToReader k place) = ⊥
   IsScheduled (LoseToPanel place) = ⊥

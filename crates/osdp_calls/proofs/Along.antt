@@ -25,6 +25,7 @@ module _ {H : Type 0} where
   still_free (SetBusy k busy) still = tt
   still_free (line.SetHandler k handler) still = tt
   still_free (Withdraw k) still = tt
+  still_free (line.WithdrawEvent k) still = tt
   still_free (Retarget k address) still = still
   still_free (Tick k now) still = tt
   still_free (ToReader k how) still = tt
@@ -41,6 +42,7 @@ module _ {H : Type 0} where
   still_note j s (SetBusy k busy) n note still = refl
   still_note j s (line.SetHandler k handler) n note still = refl
   still_note j s (Withdraw k) n note still = refl
+  still_note j s (line.WithdrawEvent k) n note still = refl
   still_note j s (Retarget k address) n note still = absurd still
   still_note j s (Tick k now) n note still = refl
   still_note j s (ToReader k how) n note still = refl

@@ -222,5 +222,7 @@ module _ {H : Type 0} where
         ∙ in_link answer_of after queued own k came.moves next new
         (subst (AllHeard answer_of after came.moves) (run_then answer_of after b.moves (move ∷ []) b.net) heard) came.fit comes_to
         ∙ came.queued k in
-        subst (λ (p : Account × Account × List Event). IsBeginning p.0.reported (p.1.offered ++ p.2))
-        (λ i. (z.account i, s.account i, counts i)) begun
+        let made = made_at k address handler room gap t u ls.stations h.station h.next_station in
+        subst (λ (x : Station H). ReportsOnly t.account.offered (all_queued answer_of after k more next_line) x.account last.account) (sym made)
+        (subst (λ (p : Account × Account × List Event). ReportsOnly p.1.offered p.2 (reader_restarted p.1) p.0)
+        (λ i. (z.account i, s.account i, counts i)) begun)

@@ -9,7 +9,7 @@ use Rattle.osdp_link_laws.specs.Link.{Delivered, Delivery, Link, Lost, Move, Rep
 use Rattle.osdp_link_laws.proofs.Lines.{both}
 use Rattle.osdp_link_laws.proofs.Stages.{Each}
 use Rattle.osdp_shared_line.specs.Addresses.{IsSetUp, NetMoveFits, NetMovesFit, NobodyElseHears}
-use Rattle.osdp_shared_line.specs.Line.{LoseToPanel, LoseToReader, Net, NetMove, Queue, Reopen, RestartPanel, RestartReader, Retarget, SetBusy, SetHandler, Site, Submit, Tick, ToPanel, ToReader, Withdraw, address_of, after_net, is_retarget_refused, run, site_at}
+use Rattle.osdp_shared_line.specs.Line.{LoseToPanel, LoseToReader, Net, NetMove, Queue, Reopen, RestartPanel, RestartReader, Retarget, SetBusy, SetHandler, Site, Submit, Tick, ToPanel, ToReader, Withdraw, WithdrawEvent, address_of, after_net, is_retarget_refused, run, site_at}
 use Rattle.osdp_shared_line.specs.Runs.{moves_at, moves_of}
 use Rattle.osdp_shared_line.specs.Views.{EachMoveIsItsOwn, HeardByOwn, OpensQuietly, front_to_panel, lost, move_of, one_if, other_reply, own_front, own_place, own_reply, sees, view}
 use Rattle.osdp_calls.proofs.Losing.{run_then}
@@ -66,6 +66,7 @@ module _ {H : Type 0} where
   each_none k s (SetBusy i busy) n none = one_none i k (link.SetBusy busy) tt
   each_none k s (SetHandler i handler) n none = one_none i k (link.SetHandler handler) tt
   each_none k s (Withdraw i) n none = one_none i k link.Withdraw tt
+  each_none k s (WithdrawEvent i) n none = one_none i k link.WithdrawEvent tt
   each_none k s (Retarget i address) n none =
       both (Each LinkGivesNone) (is_retarget_refused i address s n.sites) [] (one_if i k (link.Retarget address)) tt (one_none i k (link.Retarget address) tt)
   each_none k s (Tick i now) n none = one_none i k (link.Tick now) tt

@@ -11,7 +11,7 @@ use Rattle.osdp_link_laws.specs.Link as link
 use Rattle.osdp_link_laws.specs.Sessions.{unless_full}
 use Rattle.osdp_link_laws.proofs.Lines.{each_of}
 use Rattle.osdp_link_laws.proofs.Stages.{Each}
-use Rattle.osdp_reader.specs.State.{ReaderState, after_set_handler, after_submit}
+use Rattle.osdp_reader.specs.State.{ReaderState, after_set_handler, after_submit, after_withdraw_event}
 use Rattle.osdp_reader.specs.Table.{hears}
 use Rattle.osdp_reader.specs.declared.handler.Answer.{Answer}
 use Rattle.osdp_shared_line.specs.Line as line
@@ -19,7 +19,7 @@ use Rattle.osdp_shared_line.specs.Line.{Net, Queue, Site, after_net, changed, le
 use Rattle.osdp_shared_line.proofs.Sites.{at_changed, some_same}
 use Rattle.osdp_calls.specs.Accepted.{queued_at}
 use Rattle.osdp_calls.specs.Calls as calls
-use Rattle.osdp_calls.specs.Calls.{SubmitEvent, after_next, answers, by_device, changes_at, first_answered, last_of, on_station, queues, read_up_to, reply_to}
+use Rattle.osdp_calls.specs.Calls.{SubmitEvent, after_next, answers, by_device, changes_at, first_answered, last_of, on_station, queues, read_up_to, reply_to, withdraws_event}
 use Rattle.osdp_calls.specs.Lines.{Burst, InUse, Station, is_past_for_device}
 use Rattle.osdp_calls.specs.Premises.{NextInOrder, NextInRange}
 use Rattle.osdp_calls.proofs.Losing.{IsStill, changed_twice}
@@ -38,7 +38,7 @@ module _ {H : Type 0} (answer_of : H → Command → Answer) (after : H → Comm
   queued_so true event l k d t s is = is
   queued_so false event l k d t s is =
       read_so is (ap (after_submit event) is.reader)
-      (ap (λ (a : link.Account). record a { queued = a.queued ++ event ∷ []; kept = a.kept ++ event ∷ [] }) is.account) is.stored
+      (ap (λ (a : link.Account). record a { queued = a.queued ++ event ∷ []; stayed = a.stayed ++ event ∷ []; kept = a.kept ++ event ∷ [] }) is.account) is.stored
 
   takes_same : (k : ℕ) (event : Event) (l : InUse H) (n : Net H) → IsNetOf l n
       → site_queues (site_at k n.sites) event ≡ queued_at (site_at k l.stations) event
@@ -76,6 +76,15 @@ module _ {H : Type 0} (answer_of : H → Command → Answer) (after : H → Comm
       (on_station k (λ t. record t { reader = after_set_handler handler t.reader }) l) (λ j. refl) (λ j. refl) tt refl (tt, tt) tt
       (both_change k (λ t. record t { reader = after_set_handler handler t.reader }) (line.calls answer_of after (link.SetHandler handler)) l n h
       (λ d t s is. read_so is (ap (after_set_handler handler) is.reader) is.account is.stored))
+
+  -- the oldest event that was never offered is taken back
+  pub withdrawing_event : (k : ℕ) (l : InUse H) (n : Net H) → IsNetOf l n
+      → StepsTo answer_of after (calls.WithdrawEvent k) l n (on_station k withdraws_event l)
+  withdrawing_event k l n h =
+      by_own answer_of after (calls.WithdrawEvent k) (line.WithdrawEvent k) l n (on_station k withdraws_event l) (λ j. refl) (λ j. refl) tt refl (tt, tt) tt
+      (both_change k withdraws_event (line.calls answer_of after link.WithdrawEvent) l n h
+      (λ d t s is. read_so is (ap after_withdraw_event is.reader)
+      (λ i. link.event_withdrawn (is.reader i).queue (is.account i)) is.stored))
 
   -- what has come on a line is nothing to the net
   pub lines_change : (k : ℕ) (change : Station H → Received) (l : InUse H) (n : Net H) → IsNetOf l n

@@ -17,7 +17,7 @@ use Rattle.osdp_reader.specs.State.{after_set_busy, after_set_handler}
 use Rattle.osdp_reader.specs.declared.handler.Answer.{Answer}
 use Rattle.osdp_shared_line.specs.Line.{site_at}
 use Rattle.osdp_shared_line.proofs.Sites.{some_same}
-use Rattle.osdp_calls.specs.Calls.{Call, NewDevice, NewPanel, Next, OfPanel, Pending, SetBusy, SetHandler, Silence, Step, SubmitEvent, Take, TickDevice, after_call, after_calls, after_next, all_forget, asked_at, begins_with, begun_of, change_at, changes_at, forgets, last_of, made_anew, nexts, noted, panel_says, queues, said_at}
+use Rattle.osdp_calls.specs.Calls.{Call, NewDevice, NewPanel, Next, OfPanel, Pending, SetBusy, SetHandler, Silence, Step, SubmitEvent, Take, TickDevice, after_call, after_calls, after_next, all_forget, asked_at, begins_with, begun_of, change_at, changes_at, forgets, last_of, made_anew, nexts, noted, panel_says, queues, said_at, WithdrawEvent, withdraws_event}
 use Rattle.osdp_calls.specs.Ends.{BusIsReached, CanStand, GoByTheirOwn, IsThatOfABus, OneExchange, Held, KeepsPanel, device_after, device_after_all, held_by, is_of_device, one_panel_call, panel_calls, takes_event}
 use Rattle.osdp_calls.specs.Lines.{InUse, Station}
 use Rattle.osdp_calls.specs.Turning.{PanelTurnsByCalls, panel_turn_calls}
@@ -91,6 +91,8 @@ module _ {H : Type 0} where
         device_keeps k i (λ t. record t { reader = after_set_busy busy t.reader }) (device_after answer_of after (SetBusy i busy)) d l.stations (λ t. refl) is
     step_keeps k (SetHandler i handler) places d l is =
         device_keeps k i (λ t. record t { reader = after_set_handler handler t.reader }) (device_after answer_of after (SetHandler i handler)) d l.stations (λ t. refl) is
+    step_keeps k (WithdrawEvent i) places d l is =
+        device_keeps k i withdraws_event (device_after answer_of after (WithdrawEvent i)) d l.stations (λ t. refl) is
     step_keeps k (Take i bytes now) places d l is =
         device_keeps k i (λ t. record t { line = after_take bytes now t.line }) (device_after answer_of after (Take i bytes now)) d l.stations (λ t. refl) is
     step_keeps k (TickDevice i now) places d l is =

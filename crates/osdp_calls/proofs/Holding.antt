@@ -14,7 +14,7 @@ use Rattle.osdp_link_laws.specs.Headline.{EachIsOnce, IsBeginning, IsWithout}
 use Rattle.osdp_link_laws.specs.Link as link
 use Rattle.osdp_link_laws.specs.Link.{Account, Link, Move}
 use Rattle.osdp_link_laws.specs.Sessions as sessions
-use Rattle.osdp_link_laws.specs.Sessions.{AreInARow, HaveLeft, IsAmong, LastsOrLeaves, Leaves, all_submitted, all_taken, ended_commands, queued, submitted, unsettled_in}
+use Rattle.osdp_link_laws.specs.Sessions.{AreInARow, HaveLeft, IsAmong, LastsOrLeaves, Leaves, all_submitted, all_taken, ended_commands, queued, submitted, unsettled_in, withdrawn_in}
 use Rattle.osdp_link_laws.proofs.Lines.{each_append, each_map, each_of}
 use Rattle.osdp_link_laws.proofs.Stages.{Each}
 use Rattle.osdp_reader.specs.State.{ReaderState}
@@ -24,12 +24,12 @@ use Rattle.osdp_shared_line.specs.Line.{Net, NetMove, RestartPanel, Site, after_
 use Rattle.osdp_shared_line.specs.Runs.{EachHasSessionsInARow, EachHoldsOnce, moves_of}
 use Rattle.osdp_shared_line.specs.Views.{EachMoveIsItsOwn, view}
 use Rattle.osdp_calls.specs.Accepted.{accepted_by, all_accepted, all_queued, queued_by}
-use Rattle.osdp_calls.specs.Calls.{Call, Next, NewDevice, NewPanel, OfPanel, Pending, SetBusy, SetHandler, Silence, Step, SubmitEvent, Take, TickDevice, after_call, after_calls}
+use Rattle.osdp_calls.specs.Calls.{Call, Next, NewDevice, NewPanel, OfPanel, Pending, SetBusy, SetHandler, Silence, Step, SubmitEvent, Take, TickDevice, after_call, after_calls, WithdrawEvent}
 use Rattle.osdp_calls.specs.Lines.{InUse, Station}
 use Rattle.osdp_calls.specs.Premises.{Addresses, AllKeep, InOrder, InRange, IsSetUp, QuietOpening}
 use Rattle.osdp_calls.specs.Promises.{CallsHoldOnce, CallsKeepApart, link_of_entry, state_until}
 use Rattle.osdp_calls.proofs.Counting.{LinkGivesNone, all_heard, counted, in_link, in_net, in_net_more, net_none}
-use Rattle.osdp_calls.proofs.Devices.{handling, lines_change, nexting, queueing}
+use Rattle.osdp_calls.proofs.Devices.{handling, lines_change, nexting, queueing, withdrawing_event}
 use Rattle.osdp_calls.proofs.Losing.{fit_then, run_then}
 use Rattle.osdp_calls.proofs.Orders.{beginning, retargeting, submitting, withdrawing}
 use Rattle.osdp_calls.proofs.Panel.{at_seen}
@@ -93,6 +93,7 @@ module _ {H : Type 0} (answer_of : H → Command → Answer) (after : H → Comm
   one_call (SetBusy k busy) places l n h order quiet addresses range =
       device_reads (SetBusy k busy) (after_call answer_of after (SetBusy k busy) places l) l n (λ j. refl) (λ j. refl) (busying answer_of after k busy l n h)
   one_call (SetHandler k handler) places l n h order quiet addresses range = handling answer_of after k handler l n h
+  one_call (WithdrawEvent k) places l n h order quiet addresses range = withdrawing_event answer_of after k l n h
   one_call (Take k bytes now) places l n h order quiet addresses range =
       device_reads (Take k bytes now) (after_call answer_of after (Take k bytes now) places l) l n (λ j. refl) (λ j. refl)
       (lines_change answer_of after k (λ t. after_take bytes now t.line) l n h)
@@ -257,7 +258,8 @@ module _ {H : Type 0} (answer_of : H → Command → Answer) (after : H → Comm
         once = subst EachIsOnce (λ i. s.account i ∷ s.earlier i) held;
         row = subst (λ (p : Account × List Account). AreInARow p.0 p.1) (λ i. (s.account i, s.earlier i)) rows.row;
         commands = sym commands ∙ rows.commands ∙ (λ i. ended_commands (s.earlier i) ++ (s.account i).issued);
-        events = subst (λ (p : List Event × Account × List Account). (gone : List Event) × HaveLeft p.0 p.2 gone × (p.0 ≡ gone ++ p.1.queued))
+        events = subst (λ (p : List Event × Account × List Account). (gone : List Event) × HaveLeft p.0 p.2 gone
+            × IsWithout (withdrawn_in (p.1 ∷ p.2)) p.0 (gone ++ p.1.stayed))
             (λ i. (events i, s.account i, s.earlier i)) rows.events;
         taken = subst (λ (p : List Command × Account × List Account). (left_out : List Command) × (others : List Command)
             × IsAmong left_out (unsettled_in (p.1 ∷ p.2))

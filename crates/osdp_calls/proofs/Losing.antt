@@ -8,7 +8,7 @@ use Rattle.osdp_link_laws.proofs.Lines.{each_append}
 use Rattle.osdp_link_laws.proofs.Stages.{Each}
 use Rattle.osdp_shared_line.specs.Addresses.{NetMoveFits, NetMovesFit}
 use Rattle.osdp_shared_line.specs.Line as line
-use Rattle.osdp_shared_line.specs.Line.{LoseToPanel, LoseToReader, Net, NetMove, Queue, Reopen, RestartPanel, RestartReader, Retarget, SetHandler, Site, Submit, ToPanel, Withdraw, after_net, changed, run, site_at}
+use Rattle.osdp_shared_line.specs.Line.{LoseToPanel, LoseToReader, Net, NetMove, Queue, Reopen, RestartPanel, RestartReader, Retarget, SetHandler, Site, Submit, ToPanel, Withdraw, WithdrawEvent, after_net, changed, run, site_at}
 use Rattle.osdp_shared_line.proofs.Sites.{at_changed}
 use Rattle.osdp_calls.specs.Lines.{Burst, those}
 
@@ -50,6 +50,7 @@ IsPlain (Submit k command) = ⊥
 IsPlain (Queue k event) = ⊥
 IsPlain (SetHandler k handler) = ⊥
 IsPlain (Withdraw k) = ⊥
+IsPlain (WithdrawEvent k) = ⊥
 IsPlain (RestartReader k address handler room) = ⊥
 IsPlain (RestartPanel settings) = ⊥
 IsPlain _ = Unit {0}

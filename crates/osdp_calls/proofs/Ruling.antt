@@ -23,7 +23,7 @@ use Rattle.osdp_shared_line.specs.Line.{Net, NetMove, RestartPanel, RestartReade
 use Rattle.osdp_shared_line.specs.Line as line
 use Rattle.osdp_shared_line.specs.Programs.{KeepRule, Note, RuleSuffices, no_notes, noted_at}
 use Rattle.osdp_shared_line.specs.Programs as programs
-use Rattle.osdp_calls.specs.Calls.{Call, Next, NewDevice, NewPanel, OfPanel, Pending, SetBusy, SetHandler, Silence, Step, SubmitEvent, Take, TickDevice, after_call, after_next, answers, begun_of, first_answered, made_anew, nexts, on_station, queues, read_up_to}
+use Rattle.osdp_calls.specs.Calls.{Call, Next, NewDevice, NewPanel, OfPanel, Pending, SetBusy, SetHandler, Silence, Step, SubmitEvent, Take, TickDevice, after_call, after_next, answers, begun_of, first_answered, made_anew, nexts, on_station, queues, read_up_to, WithdrawEvent, withdraws_event}
 use Rattle.osdp_calls.specs.Lines.{InUse, Station}
 use Rattle.osdp_calls.specs.Premises as premises
 use Rattle.osdp_calls.specs.Premises.{InOrder, InRange, QuietOpening}
@@ -204,6 +204,8 @@ module _ {H : Type 0} where
           let s = steps_to (SetBusy k busy) places order quiet rule range in reader_ruled (SetBusy k busy) k (after_set_busy busy) (λ j d. refl) s s.made
       call_ruled (SetHandler k handler) places order quiet rule range =
           let s = steps_to (SetHandler k handler) places order quiet rule range in reader_ruled (SetHandler k handler) k (after_set_handler handler) (λ j d. refl) s s.made
+      call_ruled (WithdrawEvent k) places order quiet rule range =
+          station_ruled (WithdrawEvent k) k withdraws_event (λ t. refl) (λ j d. refl) (steps_to (WithdrawEvent k) places order quiet rule range) (λ s. s.made)
       call_ruled (Take k bytes now) places order quiet rule range =
           let s = steps_to (Take k bytes now) places order quiet rule range in line_ruled (Take k bytes now) k (after_take bytes now) (λ j d. refl) s s.made
       call_ruled (TickDevice k now) places order quiet rule range =

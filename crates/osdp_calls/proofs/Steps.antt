@@ -37,6 +37,7 @@ module _ {H : Type 0} where
   IsOf call (Queue k event) = call ≡ SubmitEvent k event
   IsOf call (line.SetHandler k handler) = call ≡ calls.SetHandler k handler
   IsOf call (Withdraw k) = call ≡ OfPanel (bus.Withdraw k)
+  IsOf call (line.WithdrawEvent k) = call ≡ calls.WithdrawEvent k
   IsOf call (RestartReader k address handler room) = (gap : ℕ) × (call ≡ NewDevice k address handler room gap)
   IsOf call (RestartPanel settings) = (config : BusConfig) × (addresses : List ℕ) × (call ≡ NewPanel config addresses)
   IsOf call _ = Unit {0}
@@ -71,6 +72,7 @@ module _ {H : Type 0} where
   plain_of call (Queue k event) plain = absurd plain
   plain_of call (line.SetHandler k handler) plain = absurd plain
   plain_of call (Withdraw k) plain = absurd plain
+  plain_of call (line.WithdrawEvent k) plain = absurd plain
   plain_of call (RestartReader k address handler room) plain = absurd plain
   plain_of call (RestartPanel settings) plain = absurd plain
   plain_of call (SetBusy k busy) plain = tt

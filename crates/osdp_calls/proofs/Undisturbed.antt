@@ -28,7 +28,7 @@ use Rattle.osdp_reader.specs.declared.kind.Kind.{Kind}
 use Rattle.osdp_reader.specs.declared.kind.Kind.TheVariants as kind
 use Rattle.osdp_shared_line.specs.Line.{site_at}
 use Rattle.osdp_shared_line.proofs.Sites.{changed_from}
-use Rattle.osdp_calls.specs.Calls.{Call, NewDevice, NewPanel, Next, OfPanel, Pending, SetBusy, SetHandler, Silence, Step, SubmitEvent, Take, TickDevice, after_call, after_calls, all_hear, answers, asked_at, begins_session, begins_with, begun_of, change_at, changes_at, first_answered, hears_of, is_to_begin, issues, last_of, made_anew, nexts, noted, panel_says, queues, read_up_to, said_at, takes_back, waiting_of, withdrawn}
+use Rattle.osdp_calls.specs.Calls.{Call, NewDevice, NewPanel, Next, OfPanel, Pending, SetBusy, SetHandler, Silence, Step, SubmitEvent, Take, TickDevice, after_call, after_calls, all_hear, answers, asked_at, begins_session, begins_with, begun_of, change_at, changes_at, first_answered, hears_of, is_to_begin, issues, last_of, made_anew, nexts, noted, panel_says, queues, read_up_to, said_at, takes_back, waiting_of, withdrawn, WithdrawEvent, withdraws_event}
 use Rattle.osdp_calls.specs.Lines.{InUse, Station}
 use Rattle.osdp_calls.specs.Premises.{IsSetUp}
 use Rattle.osdp_calls.specs.Undisturbed.{IsOrdinaryOf, LeavesCommandsOf, OrdinaryCallsDisturbNone}
@@ -37,11 +37,14 @@ use Rattle.osdp_calls.proofs.Ends.{next_stations}
 -- ---- accounts
 
 -- what an account has beside these
-still : (a b : Account) → b.forgotten ≡ a.forgotten → b.removed ≡ a.removed → b.kept ≡ a.kept → b.queued ≡ a.queued → b.thrown_away ≡ a.thrown_away
+still : (a b : Account) → b.forgotten ≡ a.forgotten → b.removed ≡ a.removed → b.withdrawn ≡ a.withdrawn → b.stayed ≡ a.stayed → b.kept ≡ a.kept
+    → b.queued ≡ a.queued → b.thrown_away ≡ a.thrown_away
     → b.restarts ≡ a.restarts → IsUndisturbed a → IsUndisturbed b
-still a b forgotten removed kept queued thrown restarts is = record {
+still a b forgotten removed withdrawn stayed kept queued thrown restarts is = record {
   forgotten = forgotten ∙ is.forgotten;
   removed = removed ∙ is.removed;
+  withdrawn = withdrawn ∙ is.withdrawn;
+  stayed = stayed ∙ is.stayed ∙ sym queued;
   kept = kept ∙ is.kept ∙ sym queued;
   thrown_away = thrown ∙ is.thrown_away;
   restarts = restarts ∙ is.restarts;
@@ -49,17 +52,17 @@ still a b forgotten removed kept queued thrown restarts is = record {
 
 told_still : (r : Report) (a : Account) → IsUndisturbed a → IsUndisturbed (after_report (Some r) a)
 told_still (report.Opened id) a is = is
-told_still (report.Settled command answer) a is = still a (after_report (Some (report.Settled command answer)) a) refl refl refl refl refl refl is
-told_still (report.Moved command answered) a is = still a (after_report (Some (report.Moved command answered)) a) refl refl refl refl refl refl is
-told_still (report.Event event) a is = still a (after_report (Some (report.Event event)) a) refl refl refl refl refl refl is
+told_still (report.Settled command answer) a is = still a (after_report (Some (report.Settled command answer)) a) refl refl refl refl refl refl refl refl is
+told_still (report.Moved command answered) a is = still a (after_report (Some (report.Moved command answered)) a) refl refl refl refl refl refl refl refl is
+told_still (report.Event event) a is = still a (after_report (Some (report.Event event)) a) refl refl refl refl refl refl refl refl is
 told_still (report.PollAnswered answer) a is = is
 told_still (report.Unread command code) a is = is
-told_still (report.Lost cause command) a is = still a (after_report (Some (report.Lost cause command)) a) refl refl refl refl refl refl is
+told_still (report.Lost cause command) a is = still a (after_report (Some (report.Lost cause command)) a) refl refl refl refl refl refl refl refl is
 
 command_still : (c : Command) (said : Option Reply) (front : List Event) (a : Account) → IsUndisturbed a → IsUndisturbed (taken_command c said front a)
-command_still Poll said front a is = still a (taken_command Poll said front a) refl refl refl refl refl refl is
+command_still Poll said front a is = still a (taken_command Poll said front a) refl refl refl refl refl refl refl refl is
 command_still _ said front a is =
-    record { forgotten = is.forgotten; removed = is.removed; kept = is.kept; thrown_away = is.thrown_away; restarts = is.restarts }
+    record { forgotten = is.forgotten; removed = is.removed; withdrawn = is.withdrawn; stayed = is.stayed; kept = is.kept; thrown_away = is.thrown_away; restarts = is.restarts }
 
 taken_still : (k : Kind) (c : Option Command) (said : Option Reply) (front : List Event) (a : Account) → IsUndisturbed a → IsUndisturbed (taken k c said front a)
 taken_still kind.Taken None said front a is = is
@@ -104,7 +107,7 @@ module _ {H : Type 0} where
       unless_still k entry (begin_refusal_at entry b) (is_to_begin (max b.greatest now)) ts (λ t so. so) is
   noted_still k (bus.Submit entry command) b ts leaves is =
       unless_still k entry (submit_refusal_at entry command b) (issues command) ts
-      (λ t so. (still t.account (issues command t).account refl refl refl refl refl refl so.0, so.1)) is
+      (λ t so. (still t.account (issues command t).account refl refl refl refl refl refl refl refl so.0, so.1)) is
   noted_still k (bus.Withdraw entry) b ts leaves is = other_still k entry (takes_back (withdrawn (withdrawal_at entry b))) ts leaves is
   noted_still k (bus.Add address) b ts leaves is = is
   noted_still k (bus.Retarget entry address) b ts leaves is = is
@@ -117,7 +120,7 @@ module _ {H : Type 0} where
   begins_still k entry p None l is = is
   begins_still k entry p (Some moment) l is =
       one_still k entry (begins_session (waiting_of (device_of entry l.bus))) l.stations
-      (λ t so. (record { forgotten = refl; removed = refl; kept = refl; thrown_away = refl; restarts = refl }, so)) is
+      (λ t so. (record { forgotten = refl; removed = refl; withdrawn = refl; stayed = refl; kept = refl; thrown_away = refl; restarts = refl }, so)) is
 
   says_still : (k : ℕ) (o : Option ℕ) (p : Option Packet) (l : InUse H) → IsStill k l.stations → IsStill k (panel_says o p l).stations
   says_still k None p l is = is
@@ -141,6 +144,8 @@ module _ {H : Type 0} where
     record {
       forgotten = so.0.forgotten;
       removed = so.0.removed;
+      withdrawn = so.0.withdrawn;
+      stayed = ap (λ es. es ++ event ∷ []) so.0.stayed;
       kept = ap (λ es. es ++ event ∷ []) so.0.kept;
       thrown_away = so.0.thrown_away;
       restarts = so.0.restarts;
@@ -174,6 +179,7 @@ module _ {H : Type 0} where
     step_still k (SetBusy i busy) places l ordinary is = one_still k i (λ t. record t { reader = after_set_busy busy t.reader }) l.stations (λ t so. so) is
     step_still k (SetHandler i handler) places l ordinary is =
         one_still k i (λ t. record t { reader = after_set_handler handler t.reader }) l.stations (λ t so. so) is
+    step_still k (WithdrawEvent i) places l ordinary is = other_still k i withdraws_event l.stations ordinary is
     step_still k (Take i bytes now) places l ordinary is = one_still k i (λ t. record t { line = after_take bytes now t.line }) l.stations (λ t so. so) is
     step_still k (TickDevice i now) places l ordinary is = one_still k i (λ t. record t { line = after_tick now t.line }) l.stations (λ t so. so) is
     step_still k (Silence i now) places l ordinary is = one_still k i (λ t. record t { line = after_silence now t.line }) l.stations (λ t so. so) is
@@ -195,7 +201,7 @@ module _ {H : Type 0} where
     first_still k l up t there =
         let a = up.account k t there in
         subst (λ (p : Account × List Account). AreUndisturbed (p.0 ∷ p.1)) (λ i. (sym a.0 i, sym a.1 i))
-        (record { forgotten = refl; removed = refl; kept = refl; thrown_away = refl; restarts = refl }, tt)
+        (record { forgotten = refl; removed = refl; withdrawn = refl; stayed = refl; kept = refl; thrown_away = refl; restarts = refl }, tt)
 
     pub ordinary_calls_disturb_none : OrdinaryCallsDisturbNone answer_of after
     ordinary_calls_disturb_none l steps up k t there ordinary =

@@ -21,9 +21,9 @@ use Rattle.osdp_device.specs.Deciding.{passed}
 use Rattle.osdp_frame.specs.Receiving.{after_silence, after_take, after_tick, new_line}
 use Rattle.osdp_device.specs.Saying.{speaks}
 use Rattle.osdp_device.specs.Telling.{items_of, next_told}
-use Rattle.osdp_link_laws.specs.Link.{Withdrawn, front_of, new_account, reader_restarted, taken, after_report}
+use Rattle.osdp_link_laws.specs.Link.{Withdrawn, event_withdrawn, front_of, new_account, reader_restarted, taken, after_report}
 use Rattle.osdp_link_laws.specs.Link as link
-use Rattle.osdp_reader.specs.State.{ReaderState, after_set_busy, after_set_handler, after_submit, new_reader}
+use Rattle.osdp_reader.specs.State.{ReaderState, after_set_busy, after_set_handler, after_submit, after_withdraw_event, new_reader}
 use Rattle.osdp_reader.specs.Table.{hears, kind_of}
 use Rattle.osdp_reader.specs.declared.handler.Answer.{Answer}
 use Rattle.osdp_shared_line.specs.Line.{changed, site_at}
@@ -36,6 +36,7 @@ pub data Call (H : Type 0) : Type 0 where
   SubmitEvent : ℕ → Event → Call H
   SetBusy : ℕ → Bool → Call H
   SetHandler : ℕ → H → Call H
+  WithdrawEvent : ℕ → Call H
   Take : ℕ → List ℕ → ℕ → Call H
   TickDevice : ℕ → ℕ → Call H
   Silence : ℕ → ℕ → Call H
@@ -198,8 +199,16 @@ module _ {H : Type 0} where
   queues true event t = t
   queues false event t = record t {
     reader = after_submit event t.reader;
-    account = record t.account { queued = t.account.queued ++ event ∷ []; kept = t.account.kept ++ event ∷ [] };
+    account = record t.account {
+      queued = t.account.queued ++ event ∷ [];
+      stayed = t.account.stayed ++ event ∷ [];
+      kept = t.account.kept ++ event ∷ [];
+    };
   }
+
+  -- the oldest event that was never offered is taken back, where there is one
+  abbrev pub withdraws_event : Station H → Station H
+  withdraws_event t = record t { reader = after_withdraw_event t.reader; account = event_withdrawn t.reader.queue t.account }
 
   -- the same device, with nothing taken, nothing stored and no event
   abbrev pub made_anew : ℕ → H → ℕ → ℕ → Station H → Station H
@@ -264,6 +273,7 @@ module _ {H : Type 0} where
         on_station k (λ t. queues (length t.reader.queue.events == t.reader.queue.capacity) event t) l
     after_call (SetBusy k busy) places l = on_station k (λ t. record t { reader = after_set_busy busy t.reader }) l
     after_call (SetHandler k handler) places l = on_station k (λ t. record t { reader = after_set_handler handler t.reader }) l
+    after_call (WithdrawEvent k) places l = on_station k withdraws_event l
     after_call (Take k bytes now) places l = on_station k (λ t. record t { line = after_take bytes now t.line }) l
     after_call (TickDevice k now) places l = on_station k (λ t. record t { line = after_tick now t.line }) l
     after_call (Silence k now) places l = on_station k (λ t. record t { line = after_silence now t.line }) l

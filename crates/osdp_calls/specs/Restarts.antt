@@ -4,8 +4,7 @@ use Rattle.osdp_msg.specs.declared.command.Command.{Command}
 use Rattle.osdp_bus.specs.Buses.{device_of}
 use Rattle.osdp_bus.specs.declared.config.BusConfig.{BusConfig}
 use Rattle.osdp_bus.specs.declared.device.Device.{Device}
-use Rattle.osdp_link_laws.specs.Costs.{ControllerCosts, ReaderCosts}
-use Rattle.osdp_link_laws.specs.Headline.{IsBeginning}
+use Rattle.osdp_link_laws.specs.Costs.{ControllerCosts, ReaderCosts, ReportsOnly}
 use Rattle.osdp_reader.specs.declared.handler.Answer.{Answer}
 use Rattle.osdp_shared_line.specs.Line.{site_at}
 use Rattle.osdp_calls.specs.Accepted.{all_queued}
@@ -39,7 +38,7 @@ module _ {H : Type 0} where
         → IsBeforeAndAfter l steps (record { call = NewDevice k address handler room gap; places = places }) k first t u d e
         → ReaderCosts (link_of_entry d t) (link_of_entry e u)
 
-    -- .. and nothing else is reported in that session but what was offered before and what is queued since
+    -- .. and nothing else is reported in that session but what was offered before and what is queued since, but those of these that are withdrawn
     abbrev pub NewDeviceReportsNoMore : Type 0
     NewDeviceReportsNoMore = (l : InUse H) (steps more : List (Step H)) (places : List ℕ) (k address : ℕ) (handler : H) (room gap : ℕ)
         (first t u last : Station H) (d e : Device)
@@ -47,7 +46,7 @@ module _ {H : Type 0} where
         → let next = after_call answer_of after (NewDevice k address handler room gap) places (after_calls answer_of after steps l) in
         AllKeep answer_of after more next → All (λ (step : Step H). KeepsDevice k step.call) more
         → site_at k (after_calls answer_of after more next).stations ≡ Some last → length last.earlier ≡ length t.earlier
-        → IsBeginning last.account.reported (t.account.offered ++ all_queued answer_of after k more next)
+        → ReportsOnly t.account.offered (all_queued answer_of after k more next) u.account last.account
 
     -- the panel is made anew: of each entry the command that was outstanding, and those that waited, and no address is kept for a COMSET
     abbrev pub NewPanelCosts : Type 0

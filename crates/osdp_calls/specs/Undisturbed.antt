@@ -1,11 +1,11 @@
--- Where nobody restarts and no command of an entry is taken back, the lists that such calls fill are empty.
+-- Where nobody restarts and no command or event of an entry is taken back, the lists that such calls fill are empty.
 use Rattle.std.specs.Prelude.{◌≡◌, ◌≢◌, ℕ, All, List, ◌∷◌, Some}
 use Rattle.osdp_msg.specs.declared.command.Command.{Command}
 use Rattle.osdp_bus_laws.specs.Calls as bus
 use Rattle.osdp_link_laws.specs.Ordinary.{AreUndisturbed}
 use Rattle.osdp_reader.specs.declared.handler.Answer.{Answer}
 use Rattle.osdp_shared_line.specs.Line.{site_at}
-use Rattle.osdp_calls.specs.Calls.{Call, NewDevice, NewPanel, OfPanel, Step, after_calls}
+use Rattle.osdp_calls.specs.Calls.{Call, NewDevice, NewPanel, OfPanel, Step, WithdrawEvent, after_calls}
 use Rattle.osdp_calls.specs.Lines.{InUse, Station}
 use Rattle.osdp_calls.specs.Premises.{IsSetUp}
 
@@ -14,11 +14,12 @@ LeavesCommandsOf k (bus.Withdraw entry) = entry ≢ k
 LeavesCommandsOf k _ = Unit {0}
 
 module _ {H : Type 0} where
-  -- neither the device of this entry nor the panel is made anew, and no command of the entry is taken back
+  -- neither the device of this entry nor the panel is made anew, and no command or event of the entry is taken back
   abbrev pub IsOrdinaryOf : ℕ → Call H → Type 0
   IsOrdinaryOf k (OfPanel call) = LeavesCommandsOf k call
   IsOrdinaryOf k (NewDevice i address handler room gap) = i ≢ k
   IsOrdinaryOf k (NewPanel config addresses) = ⊥
+  IsOrdinaryOf k (WithdrawEvent i) = i ≢ k
   IsOrdinaryOf k _ = Unit {0}
 
   module _ (answer_of : H → Command → Answer) (after : H → Command → H) where

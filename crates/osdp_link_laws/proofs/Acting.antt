@@ -92,18 +92,18 @@ module _ (fixed : ControllerConfig) {H : Type 0} where
       (record r { config = record r.config { address = address }; last = None; stored = None }) here (elsewhere address)
 
   -- a POLL: the front is told and offered, or nothing is
-  pub polled : (events : List Event) (capacity : ℕ) (offered : Bool) (answer_of : H → Command → Answer) (after : H → Command → H) (config : ReaderConfig) (handler : H)
+  pub polled : (events : List Event) (capacity : ℕ) (ever : Bool) (answer_of : H → Command → Answer) (after : H → Command → H) (config : ReaderConfig) (handler : H)
       → let told = event_for command.Poll events in
       let a = event_or_answer answer_of after told config handler command.Poll in
-      Offers Polling a.reply (record { events = events; capacity = capacity; offered = is_some told }) × (a.handler ≡ handler)
-  polled [] capacity offered answer_of after config handler = (refl, refl)
-  polled (event.LocalState s ∷ rest) capacity offered answer_of after config handler = ((refl, (rest, refl)), refl)
-  polled (event.Inputs s ∷ rest) capacity offered answer_of after config handler = ((refl, (rest, refl)), refl)
-  polled (event.Outputs s ∷ rest) capacity offered answer_of after config handler = ((refl, (rest, refl)), refl)
-  polled (event.Readers s ∷ rest) capacity offered answer_of after config handler = ((refl, (rest, refl)), refl)
-  polled (event.Raw s ∷ rest) capacity offered answer_of after config handler = ((refl, (rest, refl)), refl)
-  polled (event.Formatted s ∷ rest) capacity offered answer_of after config handler = ((refl, (rest, refl)), refl)
-  polled (event.Keypad s ∷ rest) capacity offered answer_of after config handler = ((refl, (rest, refl)), refl)
+      Offers Polling a.reply (record { events = events; capacity = capacity; offered = is_some told; ever_offered = is_some told || ever }) × (a.handler ≡ handler)
+  polled [] capacity ever answer_of after config handler = (refl, refl)
+  polled (event.LocalState s ∷ rest) capacity ever answer_of after config handler = ((refl, refl, (rest, refl)), refl)
+  polled (event.Inputs s ∷ rest) capacity ever answer_of after config handler = ((refl, refl, (rest, refl)), refl)
+  polled (event.Outputs s ∷ rest) capacity ever answer_of after config handler = ((refl, refl, (rest, refl)), refl)
+  polled (event.Readers s ∷ rest) capacity ever answer_of after config handler = ((refl, refl, (rest, refl)), refl)
+  polled (event.Raw s ∷ rest) capacity ever answer_of after config handler = ((refl, refl, (rest, refl)), refl)
+  polled (event.Formatted s ∷ rest) capacity ever answer_of after config handler = ((refl, refl, (rest, refl)), refl)
+  polled (event.Keypad s ∷ rest) capacity ever answer_of after config handler = ((refl, refl, (rest, refl)), refl)
 
   -- the event that its answer tells is the front
   pub polled_front : (events : List Event) (answer_of : H → Command → Answer) (after : H → Command → H) (config : ReaderConfig) (handler : H)
@@ -143,13 +143,13 @@ kept t q off are = subst (λ b. EventsAre Before [] (cond b (drop 1 q.events) q.
 
 released_event : (told : Option Event) (t : Account) (q : Queue) → OffersEvent told q → Leaves (option_to_list told) q t
 released_event None t q off are = kept t q off are
-released_event (Some e) t q (on, (rest, is)) are =
+released_event (Some e) t q (on, ever, (rest, is)) are =
     let waits : rest ≡ (released q).events =
     sym (ap (λ b. cond b (drop 1 q.events) q.events) on ∙ ap (drop 1) is) in
     record {
       left = are.left ++ e ∷ [];
       past = are.past ++ e ∷ [];
-      queued = are.queued ∙ ap (λ l. are.left ++ l) is ∙ sym (append_assoc are.left (e ∷ []) rest) ∙ ap (λ l. (are.left ++ e ∷ []) ++ l) waits;
+      stayed = are.stayed ∙ ap (λ l. are.left ++ l) is ∙ sym (append_assoc are.left (e ∷ []) rest) ∙ ap (λ l. (are.left ++ e ∷ []) ++ l) waits;
       kept = are.kept ∙ ap (λ l. are.past ++ l) is ∙ sym (append_assoc are.past (e ∷ []) rest) ∙ ap (λ l. (are.past ++ e ∷ []) ++ l) waits;
       without = without_keeps t.thrown_away are.left are.past (e ∷ []) are.without;
       reported = are.reported ∙ sym (append-nil (are.past ++ e ∷ []));

@@ -122,11 +122,11 @@ module _ (fixed : ControllerConfig) {H : Type 0} (answer_of : H → Command → 
   -- the event that was reported leaves the queue
   told_on : (n : ℕ) (y : Exchange) (b : Reply) (l : Link H) (t : Account) → Hears since → Knows fixed since n y b l.reader
       → EventsAre since (shown y b) l.reader.queue.events l.account
-      → t.queued ≡ l.account.queued → t.kept ≡ l.account.kept → t.thrown_away ≡ l.account.thrown_away → t.reported ≡ l.account.reported
+      → t.stayed ≡ l.account.stayed → t.kept ≡ l.account.kept → t.thrown_away ≡ l.account.thrown_away → t.reported ≡ l.account.reported
       → EventsAre since [] (released l.reader.queue).events t
-  told_on n y b l t hears reader are queued kept thrown reported =
+  told_on n y b l t hears reader are stayed kept thrown reported =
       let events = (released l.reader.queue).events in
-      events_same since [] events l.account t queued kept thrown (λ past. past_heard since [] past l.account t hears reported)
+      events_same since [] events l.account t stayed kept thrown (λ past. past_heard since [] past l.account t hears reported)
       (events_of Before since [] events l.account tt hears
       (released_past y b l.account l.reader.queue (has_acted fixed since n y b l.reader hears reader).offer
       (events_of since Before (shown y b) l.reader.queue.events l.account hears tt are)))
@@ -146,7 +146,7 @@ module _ (fixed : ControllerConfig) {H : Type 0} (answer_of : H → Command → 
       let events = (released l.reader.queue).events in
       let told = event_for command.Poll events in
       let a = event_or_answer answer_of after told l.reader.config l.reader.handler command.Poll in
-      let poll = polled fixed events l.reader.queue.capacity false answer_of after l.reader.config l.reader.handler in
+      let poll = polled fixed events l.reader.queue.capacity (released l.reader.queue).ever_offered answer_of after l.reader.config l.reader.handler in
       subst (λ c. IfSome (taken answer_of after c l.reader p).said ReplyFits → IfSome (taken answer_of after c l.reader p).said IsPlain
       → Holding (taken_link c p l)) (sym reads)
       (λ fits plain. (

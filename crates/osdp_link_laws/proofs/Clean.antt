@@ -24,7 +24,7 @@ use Rattle.osdp_reader.specs.declared.handler.Answer.{Answer}
 use Rattle.osdp_link_laws.specs.Clean.{AreSpaced, GoesInTurn, IsInTurn, IsOrder}
 use Rattle.osdp_link_laws.specs.Headline.{MovesFit, Begins, MaySubmit}
 use Rattle.osdp_link_laws.specs.Link as link
-use Rattle.osdp_link_laws.specs.Link.{Account, Link, Move, Queue as QueueEvent, Reopen, RestartController, RestartReader, Retarget, SetBusy, SetHandler, Submit, Tick, ToController, ToReader, Withdraw, after_move, new_account, run, LoseToReader, LoseToController}
+use Rattle.osdp_link_laws.specs.Link.{Account, Link, Move, Queue as QueueEvent, Reopen, RestartController, RestartReader, Retarget, SetBusy, SetHandler, Submit, Tick, ToController, ToReader, Withdraw, WithdrawEvent, after_move, new_account, run, LoseToReader, LoseToController}
 use Rattle.osdp_link_laws.specs.OneHandler.{KeepHandler, KeepsHandler, handler_after, with_answers}
 use Rattle.osdp_link_laws.specs.Peers.{ReadEachOther}
 use Rattle.osdp_link_laws.specs.Progress.{SetsNoAddress, round, rounds}
@@ -136,13 +136,13 @@ module _ (fixed : ControllerConfig) {H : Type 0} (answer_of : H → Command → 
     queued = made.queued;
   }
 
-  left_is : (waiting : List Command) (events : List Event) (capacity : ℕ) → Each MaySubmit waiting
-      → (released (offering (event_for (exchange_command (next_exchange waiting)) events) (record { events = events; capacity = capacity; offered = false }))).events
+  left_is : (waiting : List Command) (events : List Event) (capacity : ℕ) (ever : Bool) → Each MaySubmit waiting
+      → (released (offering (event_for (exchange_command (next_exchange waiting)) events) (record { events = events; capacity = capacity; offered = false; ever_offered = ever }))).events
       ≡ left_by waiting events
-  left_is [] [] capacity may = refl
-  left_is [] (e ∷ events) capacity may = refl
-  left_is (c ∷ waiting) events capacity may =
-      ap (λ o. (released (offering o (record { events = events; capacity = capacity; offered = false }))).events) (no_event c events may.0.no_poll)
+  left_is [] [] capacity ever may = refl
+  left_is [] (e ∷ events) capacity ever may = refl
+  left_is (c ∷ waiting) events capacity ever may =
+      ap (λ o. (released (offering o (record { events = events; capacity = capacity; offered = false; ever_offered = ever }))).events) (no_event c events may.0.no_poll)
 
   -- each round is an exchange from rest
   rounds_make : Given → (wait interval : ℕ) → interval ≤ wait → (moments : List ℕ) (l : Link H) → IsBetween interval l → AreSpaced answer_of after wait moments l
@@ -164,7 +164,7 @@ module _ (fixed : ControllerConfig) {H : Type 0} (answer_of : H → Command → 
       let last = run answer_of after (rounds later) m in
       let rest = rounds_make given wait interval short later m next spaced.1 fits.1.1.1 in
       let afterwards = subst (λ k. Made (length later) k.controller.waiting (unreported k) k.account last.account) is rest.1 in
-      let left = left_is w (unreported l) l.reader.queue.capacity b.holds.2.waiting in (
+      let left = left_is w (unreported l) l.reader.queue.capacity (released l.reader.queue).ever_offered b.holds.2.waiting in (
         rest.0,
         made_more (length later) w (unreported l) l.reader l.account last.account
             (subst (λ es. Made (length later) (drop 1 w) es (accounted answer_of after w (unreported l) l.reader l.account) last.account) left afterwards),
@@ -246,7 +246,7 @@ module _ (fixed : ControllerConfig) {H : Type 0} (answer_of : H → Command → 
   queues_ready : (s : Session) (full : Bool) (e : Event) (l : Link H) → IsReadied s l → IsReadied s (link.queues full e l)
   queues_ready s true e l h = h
   queues_ready s false e l h =
-      subst (λ (t : Account). IsReadied s (record (link.queues false e l) { account = record t { queued = t.queued ++ e ∷ []; kept = t.kept ++ e ∷ [] } })) (sym h.account)
+      subst (λ (t : Account). IsReadied s (record (link.queues false e l) { account = record t { queued = t.queued ++ e ∷ []; stayed = t.stayed ++ e ∷ []; kept = t.kept ++ e ∷ [] } })) (sym h.account)
       (waits_ready s l.controller.waiting (queued e l.reader.queue) l h.waiting h)
 
   orders_ready : (s : Session) (orders : List (Move H)) (l : Link H) → Each IsOrder orders → MovesFit answer_of after orders l → IsReadied s l
@@ -259,6 +259,7 @@ module _ (fixed : ControllerConfig) {H : Type 0} (answer_of : H → Command → 
   orders_ready s (QueueEvent e ∷ orders) l all fits h =
       let full = length l.reader.queue.events == l.reader.queue.capacity in
       orders_ready s orders (link.queues full e l) all.1 fits.1 (queues_ready s full e l h)
+  orders_ready s (WithdrawEvent ∷ orders) l all fits h = absurd all.0
   orders_ready s (SetBusy busy ∷ orders) l all fits h = absurd all.0
   orders_ready s (Tick now ∷ orders) l all fits h = absurd all.0
   orders_ready s (ToReader how ∷ orders) l all fits h = absurd all.0

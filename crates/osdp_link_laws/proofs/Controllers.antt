@@ -13,7 +13,7 @@ use Rattle.osdp_controller.specs.declared.fault.ControllerFault.{ControllerFault
 use Rattle.osdp_controller.specs.declared.session.Session.{Session}
 use Rattle.osdp_reader.specs.declared.handler.Answer.{Answer}
 use Rattle.osdp_link_laws.specs.Link as link
-use Rattle.osdp_link_laws.specs.Link.{Delivered, Delivery, Link, Lost, Move, Queue as QueueEvent, Reopen, Repeated, RestartController, RestartReader, Retarget, SetBusy, SetHandler, Submit, Tick, ToController, ToReader, Withdraw, after_move, run, LoseToReader, LoseToController}
+use Rattle.osdp_link_laws.specs.Link.{Delivered, Delivery, Link, Lost, Move, Queue as QueueEvent, Reopen, Repeated, RestartController, RestartReader, Retarget, SetBusy, SetHandler, Submit, Tick, ToController, ToReader, Withdraw, WithdrawEvent, after_move, run, LoseToReader, LoseToController}
 use Rattle.osdp_link_laws.specs.Headline.{MoveFits, MovesFit}
 use Rattle.osdp_link_laws.proofs.Removed.{IsInside}
 
@@ -69,6 +69,7 @@ module _ {H : Type 0} (answer_of : H → Command → Answer) (after : H → Comm
   inside_keeps kept (Submit c) l on is = submits_keep (submit_refusal c l.controller) c l is
   inside_keeps kept (QueueEvent e) l on is = queues_keep (length l.reader.queue.events == l.reader.queue.capacity) e l is
   inside_keeps kept (SetBusy busy) l on is = is
+  inside_keeps kept WithdrawEvent l on is = is
   inside_keeps kept (Tick now) l on is = kept.tick now l.controller is
   inside_keeps kept (ToReader how) l on is = to_reader_keeps how l.to_reader l is
   inside_keeps kept (ToController how now) l on is = to_controller_keeps kept how now l.to_controller l is
@@ -85,6 +86,7 @@ module _ {H : Type 0} (answer_of : H → Command → Answer) (after : H → Comm
   pub move_keeps : IsKept P → IsKeptOutside P → (move : Move H) (l : Link H) → MoveFits answer_of after move l → Has l → Has (after_move answer_of after move l)
   move_keeps kept out (Submit c) l fits is = inside_keeps kept (Submit c) l tt is
   move_keeps kept out (QueueEvent e) l fits is = inside_keeps kept (QueueEvent e) l tt is
+  move_keeps kept out WithdrawEvent l fits is = is
   move_keeps kept out (SetBusy busy) l fits is = inside_keeps kept (SetBusy busy) l tt is
   move_keeps kept out (Tick now) l fits is = inside_keeps kept (Tick now) l tt is
   move_keeps kept out (ToReader how) l fits is = inside_keeps kept (ToReader how) l tt is

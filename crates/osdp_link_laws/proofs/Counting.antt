@@ -1,4 +1,4 @@
--- Within a session the restarts of the reader are counted, and where it doesn't restart all that was kept and is queued is kept.
+-- Within a session the restarts of the reader are counted.
 use Rattle.std.proofs.Common.{◌≡◌, ◌≢◌, ◌≤◌, ◌+◌, ℕ, Bool, true, false, List, [], ◌∷◌, ◌++◌, length, Option, Some, None, refl, sym, ap, ◌∙◌, arith, append_assoc}
 use Rattle.std.proofs.lemmas.List.{append-nil}
 use Rattle.std.specs.Prelude.{◌==◌}
@@ -17,29 +17,23 @@ use Rattle.osdp_reader.specs.declared.handler.Answer.{Answer}
 use Rattle.osdp_reader.specs.declared.kind.Kind.{Kind}
 use Rattle.osdp_link_laws.specs.Effects.{CountsRestarts, restarts_in}
 use Rattle.osdp_link_laws.specs.Link as link
-use Rattle.osdp_link_laws.specs.Link.{Account, Delivered, Delivery, Link, LoseToController, LoseToReader, Lost, Move, Queue as QueueEvent, Reopen, Repeated, RestartController, RestartReader, Retarget, SetBusy, SetHandler, Submit, Tick, ToController, ToReader, Withdraw, after_move, after_report, run}
+use Rattle.osdp_link_laws.specs.Link.{Account, Delivered, Delivery, Link, LoseToController, LoseToReader, Lost, Move, Queue as QueueEvent, Reopen, Repeated, RestartController, RestartReader, Retarget, SetBusy, SetHandler, Submit, Tick, ToController, ToReader, Withdraw, WithdrawEvent, after_move, after_report, run}
 use Rattle.osdp_link_laws.specs.Refusals.{KeepsReader}
-use Rattle.osdp_link_laws.specs.Sessions.{all_queued, queued, unless_full}
 use Rattle.osdp_link_laws.proofs.Growing.{GoesOn, goes_on, taken_takes}
-use Rattle.osdp_link_laws.proofs.Stages.{Each}
 
--- these events are kept too, and no restart is counted
-pub record Keeps (es : List Event) (t u : Account) : Type 0 where
-  pub kept : u.kept ≡ t.kept ++ es
-  pub restarts : u.restarts ≡ t.restarts
+-- no restart is counted
+abbrev pub Keeps : Account → Account → Type 0
+Keeps t u = u.restarts ≡ t.restarts
 
-keeps_same : (t u : Account) → u.kept ≡ t.kept → u.restarts ≡ t.restarts → Keeps [] t u
-keeps_same t u kept restarts = record { kept = kept ∙ sym (append-nil t.kept); restarts = restarts }
+told_keeps : (r : Option Report) (t : Account) → Keeps t (after_report r t)
+told_keeps None t = refl
+told_keeps (Some (report.Opened id)) t = refl
+told_keeps r t = refl
 
-told_keeps : (r : Option Report) (t : Account) → Keeps [] t (after_report r t)
-told_keeps None t = keeps_same t t refl refl
-told_keeps (Some (report.Opened id)) t = keeps_same t t refl refl
-told_keeps r t = keeps_same t (after_report r t) refl refl
-
-taken_keeps : (k : Kind) (c : Option Command) (said : Option Reply) (front : List Event) (t : Account) → Keeps [] t (link.taken k c said front t)
+taken_keeps : (k : Kind) (c : Option Command) (said : Option Reply) (front : List Event) (t : Account) → Keeps t (link.taken k c said front t)
 taken_keeps k c said front t =
     let more = taken_takes k c said front t in
-    keeps_same t (link.taken k c said front t) (ap (λ u. u.kept) more.1) (ap (λ u. u.restarts) more.1)
+    ap (λ u. u.restarts) more.1
 
 none_in : {H : Type 0} (move : Move H) (moves : List (Move H)) → KeepsReader move → restarts_in (move ∷ moves) ≡ restarts_in moves
 none_in (RestartReader address handler room) moves keeps = absurd keeps
@@ -70,87 +64,78 @@ module _ {H : Type 0} (answer_of : H → Command → Answer) (after : H → Comm
 
   -- ---- one move inside a session
 
-  submits_keeps : (refusal : Option ControllerFault) (c : Command) (l : Link H) → Keeps [] l.account (link.submits refusal c l).account
-  submits_keeps (Some fault) c l = keeps_same l.account l.account refl refl
-  submits_keeps None c l = keeps_same l.account (link.submits None c l).account refl refl
+  submits_keeps : (refusal : Option ControllerFault) (c : Command) (l : Link H) → Keeps l.account (link.submits refusal c l).account
+  submits_keeps (Some fault) c l = refl
+  submits_keeps None c l = refl
 
-  queues_keeps : (full : Bool) (e : Event) (l : Link H) → Keeps (unless_full full e) l.account (link.queues full e l).account
-  queues_keeps true e l = keeps_same l.account l.account refl refl
-  queues_keeps false e l = record { kept = refl; restarts = refl }
+  queues_keeps : (full : Bool) (e : Event) (l : Link H) → Keeps l.account (link.queues full e l).account
+  queues_keeps true e l = refl
+  queues_keeps false e l = refl
 
-  reader_gets_keeps : (p : Packet) (l : Link H) → Keeps [] l.account (link.reader_gets answer_of after p l).account
+  reader_gets_keeps : (p : Packet) (l : Link H) → Keeps l.account (link.reader_gets answer_of after p l).account
   reader_gets_keeps p l =
       let o = reader.hears answer_of after l.reader p in
       taken_keeps (reader.kind_of l.reader p) o.command o.said (link.front_of l.reader) l.account
 
-  to_reader_keeps : (how : Delivery) (ps : List Packet) (l : Link H) → Keeps [] l.account (link.to_reader answer_of after ps how l).account
-  to_reader_keeps how [] l = keeps_same l.account l.account refl refl
+  to_reader_keeps : (how : Delivery) (ps : List Packet) (l : Link H) → Keeps l.account (link.to_reader answer_of after ps how l).account
+  to_reader_keeps how [] l = refl
   to_reader_keeps Delivered (p ∷ ps) l = reader_gets_keeps p (record l { to_reader = ps })
-  to_reader_keeps Lost (p ∷ ps) l = keeps_same l.account l.account refl refl
+  to_reader_keeps Lost (p ∷ ps) l = refl
   to_reader_keeps Repeated (p ∷ ps) l = reader_gets_keeps p l
 
-  to_controller_keeps : (how : Delivery) (now : ℕ) (qs : List Packet) (l : Link H) → Keeps [] l.account (link.to_controller qs how now l).account
-  to_controller_keeps how now [] l = keeps_same l.account l.account refl refl
+  to_controller_keeps : (how : Delivery) (now : ℕ) (qs : List Packet) (l : Link H) → Keeps l.account (link.to_controller qs how now l).account
+  to_controller_keeps how now [] l = refl
   to_controller_keeps Delivered now (q ∷ qs) l = told_keeps (controller.hears q now l.controller.session).report l.account
-  to_controller_keeps Lost now (q ∷ qs) l = keeps_same l.account l.account refl refl
+  to_controller_keeps Lost now (q ∷ qs) l = refl
   to_controller_keeps Repeated now (q ∷ qs) l = told_keeps (controller.hears q now l.controller.session).report l.account
 
-  retargets_keeps : (refusal : Option ControllerFault) (address : ℕ) (l : Link H) → Keeps [] l.account (link.retargets refusal address l).account
-  retargets_keeps (Some fault) address l = keeps_same l.account l.account refl refl
-  retargets_keeps None address l = keeps_same l.account l.account refl refl
+  retargets_keeps : (refusal : Option ControllerFault) (address : ℕ) (l : Link H) → Keeps l.account (link.retargets refusal address l).account
+  retargets_keeps (Some fault) address l = refl
+  retargets_keeps None address l = refl
 
   reopens_keeps : (refusal : Option ControllerFault) (ps qs : List Packet) (now : ℕ) (l : Link H)
-      → length (link.reopens refusal ps qs now l).earlier ≡ length l.earlier → Keeps [] l.account (link.reopens refusal ps qs now l).account
-  reopens_keeps (Some fault) ps qs now l same = keeps_same l.account l.account refl refl
-  reopens_keeps None (p ∷ ps) qs now l same = keeps_same l.account l.account refl refl
-  reopens_keeps None [] (q ∷ qs) now l same = keeps_same l.account l.account refl refl
+      → length (link.reopens refusal ps qs now l).earlier ≡ length l.earlier → Keeps l.account (link.reopens refusal ps qs now l).account
+  reopens_keeps (Some fault) ps qs now l same = refl
+  reopens_keeps None (p ∷ ps) qs now l same = refl
+  reopens_keeps None [] (q ∷ qs) now l same = refl
   reopens_keeps None [] [] now l same = absurd (omega (arith, same))
 
   keeps : (move : Move H) (l : Link H) → KeepsReader move → length (after_move answer_of after move l).earlier ≡ length l.earlier
-      → Keeps (queued move l) l.account (after_move answer_of after move l).account
+      → Keeps l.account (after_move answer_of after move l).account
   keeps (Submit c) l reads same = submits_keeps (controllers.submit_refusal c l.controller) c l
   keeps (QueueEvent e) l reads same = queues_keeps (length l.reader.queue.events == l.reader.queue.capacity) e l
-  keeps (SetBusy busy) l reads same = keeps_same l.account l.account refl refl
+  keeps (SetBusy busy) l reads same = refl
+  keeps WithdrawEvent l reads same = refl
   keeps (Tick now) l reads same = told_keeps (ticks now l.controller.session l.controller.waiting).step.report l.account
   keeps (ToReader how) l reads same = to_reader_keeps how l.to_reader l
   keeps (ToController how now) l reads same = to_controller_keeps how now l.to_controller l
   keeps (Reopen now) l reads same = reopens_keeps (controllers.begin_refusal l.controller) l.to_reader l.to_controller now l same
-  keeps (LoseToReader place) l reads same = keeps_same l.account l.account refl refl
-  keeps (LoseToController place) l reads same = keeps_same l.account l.account refl refl
-  keeps (SetHandler handler) l reads same = keeps_same l.account l.account refl refl
-  keeps Withdraw l reads same = keeps_same l.account (link.withdraws l).account refl refl
+  keeps (LoseToReader place) l reads same = refl
+  keeps (LoseToController place) l reads same = refl
+  keeps (SetHandler handler) l reads same = refl
+  keeps Withdraw l reads same = refl
   keeps (Retarget address) l reads same = retargets_keeps (controllers.retarget_refusal address l.controller) address l
   keeps (RestartReader address handler room) l reads same = absurd reads
-  keeps (RestartController config room) l reads same = keeps_same l.account (link.controller_restarted l.controller l.account) refl refl
+  keeps (RestartController config room) l reads same = refl
 
   -- ---- a list of moves inside a session
 
   -- it stays in the session after its first move too
-  first_inside : (move : Move H) (moves : List (Move H)) (l : Link H) → length (run answer_of after (move ∷ moves) l).earlier ≡ length l.earlier
+  pub first_inside : (move : Move H) (moves : List (Move H)) (l : Link H) → length (run answer_of after (move ∷ moves) l).earlier ≡ length l.earlier
       → length (after_move answer_of after move l).earlier ≡ length l.earlier
   first_inside move moves l same =
       let next = after_move answer_of after move l in
       omega (arith, same, more move l, all_more moves next)
 
-  others_inside : (move : Move H) (moves : List (Move H)) (l : Link H) → length (run answer_of after (move ∷ moves) l).earlier ≡ length l.earlier
+  pub others_inside : (move : Move H) (moves : List (Move H)) (l : Link H) → length (run answer_of after (move ∷ moves) l).earlier ≡ length l.earlier
       → length (run answer_of after (move ∷ moves) l).earlier ≡ length (after_move answer_of after move l).earlier
   others_inside move moves l same = same ∙ sym (first_inside move moves l same)
-
-  pub all_kept : (moves : List (Move H)) (l : Link H) → Each KeepsReader moves → length (run answer_of after moves l).earlier ≡ length l.earlier
-      → (run answer_of after moves l).account.kept ≡ l.account.kept ++ all_queued answer_of after moves l
-  all_kept [] l reads same = sym (append-nil l.account.kept)
-  all_kept (move ∷ moves) l reads same =
-      let next = after_move answer_of after move l in
-      let first = keeps move l reads.0 (first_inside move moves l same) in
-      all_kept moves next reads.1 (others_inside move moves l same)
-      ∙ ap (λ es. es ++ all_queued answer_of after moves next) first.kept
-      ∙ append_assoc l.account.kept (queued move l) (all_queued answer_of after moves next)
 
   counts_one : (move : Move H) (moves : List (Move H)) (l : Link H) → length (after_move answer_of after move l).earlier ≡ length l.earlier
       → (after_move answer_of after move l).account.restarts + restarts_in moves ≡ l.account.restarts + restarts_in (move ∷ moves)
   counts_one (RestartReader address handler room) moves l same = omega arith
   counts_one move moves l same =
-      let first = (keeps move l tt same).restarts in
+      let first = keeps move l tt same in
       let none = none_in move moves tt in
       omega (arith, first, none)
 

@@ -1,8 +1,8 @@
 -- What each move does to a link, however it stands.
-use Rattle.std.proofs.Common.{◌≡◌, ◌≢◌, ◌⊎◌, ◌≤◌, ◌<◌, ◌+◌, ℕ, zero, suc, Bool, true, false, cond, eqb, List, [], ◌∷◌, ◌++◌, length, map, drop, Some, None, refl, sym, subst, ap, ◌∙◌, inl, inr, arith}
+use Rattle.std.proofs.Common.{◌≡◌, ◌≢◌, ◌⊎◌, ◌≤◌, ◌<◌, ◌+◌, ℕ, zero, suc, Bool, true, false, cond, eqb, List, [], ◌∷◌, ◌++◌, length, map, drop, Some, None, refl, sym, subst, ap, ◌∙◌, inl, inr, arith, append_assoc}
 use Rattle.std.proofs.lemmas.Bool.{le-ltb, lt-ltb}
 use Rattle.std.proofs.lemmas.List.{append-nil}
-use Rattle.std.specs.Prelude.{◌||◌, not, option_to_list}
+use Rattle.std.specs.Prelude.{◌-◌, ◌||◌, if◌then◌else◌, not, option_to_list}
 use Rattle.osdp_frame.specs.Packet.{Packet}
 use Rattle.osdp_msg.specs.declared.command.Command.{Command}
 use Rattle.osdp_msg.specs.declared.event.Event.{Event}
@@ -13,7 +13,7 @@ use Rattle.osdp_controller.specs.declared.fault.ControllerFault.{ControllerFault
 use Rattle.osdp_controller.specs.declared.fault.ControllerFault.TheVariants.{NotClosed, OutOfRange}
 use Rattle.osdp_controller.specs.declared.state.State.{State}
 use Rattle.osdp_controller.specs.declared.state.State.TheVariants.{Closed, Quiet, Idle, Waiting, Pausing}
-use Rattle.osdp_reader.specs.Queue.{released}
+use Rattle.osdp_reader.specs.Queue.{Queue as EventQueue, never_offered, released, withdrawn}
 use Rattle.osdp_reader.specs.Replies.{refused}
 use Rattle.osdp_reader.specs.State.{ReaderState, after_set_handler, new_reader}
 use Rattle.osdp_reader.specs.Table as reader
@@ -21,12 +21,13 @@ use Rattle.osdp_reader.specs.Table.{event_or_answer, is_for_another, kind_by_num
 use Rattle.osdp_reader.specs.declared.handler.Answer.{Answer}
 use Rattle.osdp_reader.specs.declared.kind.Kind.TheVariants.{Silent, Secured, Zero, Busy, Wrong}
 use Rattle.osdp_reader_laws.specs.Laws.{ComesTo}
-use Rattle.osdp_link_laws.specs.Effects.{AnswersBy, CountsRestarts, EachMoveDoes, HasAddress, HasHandler, HasNewController, HasNewReader, LosesOne, RefusesNumbers, Retargets, ThrowsAway, Withdraws}
+use Rattle.osdp_link_laws.specs.Effects.{AnswersBy, CountsRestarts, EachMoveDoes, HasAddress, HasHandler, HasNewController, HasNewReader, HasWithdrawn, LosesOne, RefusesNumbers, Retargets, ThrowsAway, Withdraws, WithdrawsEvents}
 use Rattle.osdp_link_laws.specs.Link as link
-use Rattle.osdp_link_laws.specs.Link.{Account, Link, RestartController, RestartReader, SetHandler, Withdrawn, after_move, lost_at, reader_restarted}
+use Rattle.osdp_link_laws.specs.Link.{Account, Link, RestartController, RestartReader, SetHandler, Withdrawn, after_move, but_oldest, lost_at, reader_restarted, unoffered_in}
 use Rattle.osdp_link_laws.proofs.Acting.{no_event}
 use Rattle.osdp_link_laws.proofs.Numbers.{is_false, is_true}
 use Rattle.osdp_link_laws.proofs.Restarts.{drop_front}
+use Rattle.osdp_link_laws.proofs.Withdrawing.{place_is}
 
 -- ---- a reader that knows no number
 
@@ -121,6 +122,26 @@ none_back (Idle due) all why = (refl, refl)
 none_back (Waiting until k o) all why = (refl, refl)
 none_back (Pausing until o) all why = (refl, refl)
 
+-- ---- an event is withdrawn
+
+withdrawn_by : (capacity : ℕ) (offered ever : Bool) (front : List Event) (event : Event) (rest : List Event) → length front ≡ (if ever then 1 else 0)
+    → let q : EventQueue = record { events = front ++ event ∷ rest; capacity = capacity; offered = offered; ever_offered = ever } in
+    ((withdrawn q).events ≡ front ++ rest) × (never_offered q ≡ Some event) × (unoffered_in q ≡ event ∷ rest)
+withdrawn_by capacity offered false [] event rest few = (refl, refl, refl)
+withdrawn_by capacity offered false (f ∷ front) event rest few = absurd (omega (arith, few))
+withdrawn_by capacity offered true [] event rest few = absurd (omega (arith, few))
+withdrawn_by capacity offered true (f ∷ []) event rest few = (refl, refl, refl)
+withdrawn_by capacity offered true (f ∷ g ∷ front) event rest few = absurd (omega (arith, few))
+
+none_by : (events : List Event) (capacity : ℕ) (offered ever : Bool) → length events ≤ (if ever then 1 else 0)
+    → let q : EventQueue = record { events = events; capacity = capacity; offered = offered; ever_offered = ever } in
+    ((withdrawn q).events ≡ events) × (never_offered q ≡ None) × (unoffered_in q ≡ [])
+none_by [] capacity offered false few = (refl, refl, refl)
+none_by (e ∷ events) capacity offered false few = absurd (omega (arith, few))
+none_by [] capacity offered true few = (refl, refl, refl)
+none_by (e ∷ []) capacity offered true few = (refl, refl, refl)
+none_by (e ∷ f ∷ events) capacity offered true few = absurd (omega (arith, few))
+
 -- ---- an address is set
 
 may_set : (state : State) (address : ℕ) → state ≡ Closed → address < 127 → controllers.or_no_device (controllers.refused_unless_closed state) address ≡ None
@@ -173,6 +194,52 @@ module _ {H : Type 0} (answer_of : H → Command → Answer) (after : H → Comm
         ∙ ap (λ rs. record l { account = record l.account { removed = rs } }) (append-nil l.account.removed);
   }
 
+  withdraws_events : WithdrawsEvents answer_of after
+  withdraws_events = record {
+    first = λ l front event rest is few. taken l front event rest is few;
+    none = λ l few. nothing l (none_by l.reader.queue.events l.reader.queue.capacity l.reader.queue.offered l.reader.queue.ever_offered few);
+  }
+    where
+      all_but : (all before : List Event) (q : EventQueue) (front : List Event) (event : Event) (rest : List Event) → q.events ≡ front ++ event ∷ rest
+          → unoffered_in q ≡ event ∷ rest → all ≡ before ++ q.events → but_oldest q all ≡ before ++ (front ++ rest)
+      all_but all before q front event rest is tail ends =
+          let whole : all ≡ (before ++ front) ++ event ∷ rest = ends ∙ ap (λ es. before ++ es) is ∙ sym (append_assoc before front (event ∷ rest)) in
+          ap (λ es. lost_at (length all - length es) all) tail
+          ∙ ap (λ es. lost_at (length es - length (event ∷ rest)) es) whole
+          ∙ ap (λ k. lost_at k ((before ++ front) ++ event ∷ rest)) (place_is (before ++ front) (event ∷ rest))
+          ∙ lost_there (before ++ front) event rest ∙ append_assoc before front rest
+
+      taken : (l : Link H) (front : List Event) (event : Event) (rest : List Event) → l.reader.queue.events ≡ front ++ event ∷ rest
+          → length front ≡ (if l.reader.queue.ever_offered then 1 else 0) → HasWithdrawn front event rest l (link.withdraws_event l)
+      taken l front event rest is few =
+          let q = l.reader.queue in
+          let by = subst (λ es. ((withdrawn (record q { events = es })).events ≡ front ++ rest) × (never_offered (record q { events = es }) ≡ Some event)
+          × (unoffered_in (record q { events = es }) ≡ event ∷ rest)) (sym is) (withdrawn_by q.capacity q.offered q.ever_offered front event rest few) in
+          record {
+            others = refl;
+            reader = ap (λ es. record l.reader { queue = record q { events = es } }) by.0;
+            account = λ stayed kept stays keeps.
+                ap (λ o. record (link.event_withdrawn q l.account) { withdrawn = l.account.withdrawn ++ option_to_list o }) by.1
+                ∙ ap (λ es. record (link.event_withdrawn q l.account) { withdrawn = l.account.withdrawn ++ event ∷ []; stayed = es })
+                (all_but l.account.stayed stayed q front event rest is by.2 stays)
+                ∙ ap (λ es. record l.account { withdrawn = l.account.withdrawn ++ event ∷ []; stayed = stayed ++ (front ++ rest); kept = es })
+                (all_but l.account.kept kept q front event rest is by.2 keeps);
+          }
+
+      same_all : (all : List Event) (q : EventQueue) → unoffered_in q ≡ [] → but_oldest q all ≡ all
+      same_all all q none = ap (λ es. lost_at (length all - length es) all) none ∙ lost_beyond (length all - 0) all (omega arith)
+
+      nothing : (l : Link H) → let q = l.reader.queue in ((withdrawn q).events ≡ q.events) × (never_offered q ≡ None) × (unoffered_in q ≡ [])
+          → link.withdraws_event l ≡ l
+      nothing l (events, never, tail) =
+          let q = l.reader.queue in
+          let t = l.account in
+          ap (λ es. record l { reader = record l.reader { queue = record q { events = es } }; account = link.event_withdrawn q t }) events
+          ∙ ap (λ o. record l { account = record (link.event_withdrawn q t) { withdrawn = t.withdrawn ++ option_to_list o } }) never
+          ∙ ap (λ es. record l { account = record (link.event_withdrawn q t) { withdrawn = es } }) (append-nil t.withdrawn)
+          ∙ ap (λ es. record l { account = record t { stayed = es; kept = but_oldest q t.kept } }) (same_all t.stayed q tail)
+          ∙ ap (λ es. record l { account = record t { kept = es } }) (same_all t.kept q tail)
+
   retargets : Retargets answer_of after
   retargets = record {
     set = λ l address closed small.
@@ -185,6 +252,7 @@ module _ {H : Type 0} (answer_of : H → Command → Answer) (after : H → Comm
   each_move_does counts = record {
     handler = λ l handler. (sets_handler answer_of after l handler, answers_by answer_of after handler l.reader);
     withdraw = withdraws;
+    event = withdraws_events;
     retarget = retargets;
     reader = restarts_reader answer_of after;
     controller = restarts_controller answer_of after;

@@ -1,5 +1,5 @@
--- What holds of each account of a link, where it goes by what is queued, kept and thrown away, by what is forgotten and removed, and by the restarts: it
--- is kept by moves with which neither end restarts and no command is withdrawn.
+-- What holds of each account of a link, where it goes by what is queued, withdrawn, kept and thrown away, by what is forgotten and removed, and by the restarts: it
+-- is kept by moves with which neither end restarts and no command or event is withdrawn.
 use Rattle.std.proofs.Common.{ℕ, Bool, true, false, List, [], ◌∷◌, ◌++◌, length, Option, Some, None, sym, subst}
 use Rattle.std.specs.Prelude.{◌==◌}
 use Rattle.osdp_frame.specs.Packet.{Packet}
@@ -14,17 +14,26 @@ use Rattle.osdp_controller.specs.declared.report.Report.TheVariants as report
 use Rattle.osdp_reader.specs.Table as reader
 use Rattle.osdp_reader.specs.declared.handler.Answer.{Answer}
 use Rattle.osdp_link_laws.specs.Link as link
-use Rattle.osdp_link_laws.specs.Link.{Account, Delivered, Delivery, Link, LoseToController, LoseToReader, Lost, Move, Queue as QueueEvent, Reopen, Repeated, RestartController, RestartReader, Retarget, SetBusy, SetHandler, Submit, Tick, ToController, ToReader, Withdraw, after_move, after_report, new_account}
+use Rattle.osdp_link_laws.specs.Link.{Account, Delivered, Delivery, Link, LoseToController, LoseToReader, Lost, Move, Queue as QueueEvent, Reopen, Repeated, RestartController, RestartReader, Retarget, SetBusy, SetHandler, Submit, Tick, ToController, ToReader, Withdraw, WithdrawEvent, after_move, after_report, new_account}
 use Rattle.osdp_link_laws.specs.Ordinary.{IsOrdinary}
 use Rattle.osdp_link_laws.proofs.Growing.{taken_takes}
 use Rattle.osdp_link_laws.proofs.Stages.{Each}
 
 pub record IsKept (P : Account → Type 0) : Type 0 where
   pub new : (waiting : List Command) (events : List Event) → P (new_account waiting events)
-  pub queue : (e : Event) (t : Account) → P t → P (record t { queued = t.queued ++ e ∷ []; kept = t.kept ++ e ∷ [] })
+  pub queue : (e : Event) (t : Account) → P t → P (record t { queued = t.queued ++ e ∷ []; stayed = t.stayed ++ e ∷ []; kept = t.kept ++ e ∷ [] })
   -- by another account, where these lists are the same
   pub others : (t u : Account) → P t
-      → P (record u { queued = t.queued; kept = t.kept; thrown_away = t.thrown_away; forgotten = t.forgotten; removed = t.removed; restarts = t.restarts })
+      → P (record u {
+        queued = t.queued;
+        withdrawn = t.withdrawn;
+        stayed = t.stayed;
+        kept = t.kept;
+        thrown_away = t.thrown_away;
+        forgotten = t.forgotten;
+        removed = t.removed;
+        restarts = t.restarts;
+      })
 
 module _ {H : Type 0} (answer_of : H → Command → Answer) (after : H → Command → H) (P : Account → Type 0) (kept : IsKept P) where
   abbrev AllSo : Link H → Type 0
@@ -85,5 +94,6 @@ module _ {H : Type 0} (answer_of : H → Command → Answer) (after : H → Comm
   each_kept (SetHandler handler) l ordinary all = all
   each_kept (Retarget address) l ordinary all = retargets (controllers.retarget_refusal address l.controller) address l all
   each_kept Withdraw l ordinary all = absurd ordinary
+  each_kept WithdrawEvent l ordinary all = absurd ordinary
   each_kept (RestartReader address handler room) l ordinary all = absurd ordinary
   each_kept (RestartController config room) l ordinary all = absurd ordinary

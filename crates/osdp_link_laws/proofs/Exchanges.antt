@@ -21,7 +21,7 @@ use Rattle.osdp_controller.specs.declared.report.Report.TheVariants as report
 use Rattle.osdp_controller.specs.declared.session.Session.{Session}
 use Rattle.osdp_controller.specs.declared.state.State.{State}
 use Rattle.osdp_controller.specs.declared.state.State.TheVariants.{Idle, Quiet}
-use Rattle.osdp_reader.specs.Queue.{event_for, offering, released, withdrawn}
+use Rattle.osdp_reader.specs.Queue.{event_for, offering, released, unoffered}
 use Rattle.osdp_reader.specs.State.{ReaderState}
 use Rattle.osdp_reader.specs.Table.{Outcome, answer_to, begun, event_or_answer, hears, kind_of, moved, outcome}
 use Rattle.osdp_reader.specs.declared.config.ReaderConfig.{ReaderConfig}
@@ -128,7 +128,7 @@ module _ (fixed : ControllerConfig) {H : Type 0} (answer_of : H → Command → 
   abbrev pub opened_link : ℕ → Link H → Link H
   opened_link now l = record l {
     controller = record l.controller { session = at_rest (seen now (record (seen now l.controller.session) { number = 0 })) };
-    reader = record l.reader { last = Some 0; queue = withdrawn l.reader.queue };
+    reader = record l.reader { last = Some 0; queue = unoffered l.reader.queue };
     to_reader = [];
     to_controller = [];
   }

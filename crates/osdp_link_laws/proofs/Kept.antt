@@ -1,15 +1,15 @@
--- Where the reader doesn't restart all events that are queued are kept.
+-- Where the reader doesn't restart all events that are queued are kept, but those withdrawn.
 use Rattle.std.proofs.Common.{◌≡◌, List, [], ◌∷◌, ◌++◌, refl, sym, subst, ap}
 use Rattle.osdp_msg.specs.declared.command.Command.{Command}
 use Rattle.osdp_reader.specs.declared.handler.Answer.{Answer}
 use Rattle.osdp_link_laws.specs.Headline.{Begins}
-use Rattle.osdp_link_laws.specs.Link.{Account, Link, Move, RestartController, RestartReader, Withdraw, after_move, run}
+use Rattle.osdp_link_laws.specs.Link.{Account, Link, Move, RestartController, RestartReader, Withdraw, WithdrawEvent, after_move, but_oldest, run}
 use Rattle.osdp_link_laws.specs.Refusals.{KeepsReader}
 use Rattle.osdp_link_laws.proofs.EachAccount.{IsKept, each_kept}
 use Rattle.osdp_link_laws.proofs.Stages.{Each}
 
 pub record KeepsEvents (t : Account) : Type 0 where
-  pub kept : t.kept ≡ t.queued
+  pub kept : t.kept ≡ t.stayed
   pub restarts : t.restarts ≡ 0
 
 abbrev pub AllKept : {H : Type 0} → Link H → Type 0
@@ -25,6 +25,7 @@ events_kept = record {
 module _ {H : Type 0} (answer_of : H → Command → Answer) (after : H → Command → H) where
   pub move_kept : (move : Move H) (l : Link H) → KeepsReader move → AllKept l → AllKept (after_move answer_of after move l)
   move_kept (RestartReader address handler room) l keeps is = absurd keeps
+  move_kept WithdrawEvent l keeps (is, before) = (record { kept = ap (but_oldest l.reader.queue) is.kept; restarts = is.restarts }, before)
   move_kept Withdraw l keeps (is, before) = (record { kept = is.kept; restarts = is.restarts }, before)
   move_kept (RestartController config room) l keeps (is, before) = (record { kept = is.kept; restarts = is.restarts }, before)
   move_kept move l keeps is = each_kept answer_of after KeepsEvents events_kept move l tt is

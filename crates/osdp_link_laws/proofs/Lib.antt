@@ -4,6 +4,7 @@ pub mod Lines
 pub mod Numbers
 pub mod Parts
 pub mod Without
+pub mod Withdrawing
 pub mod Acting
 pub mod Taking
 pub mod Ticks
@@ -15,6 +16,8 @@ pub mod Deliveries
 pub mod Restarts
 pub mod Removed
 pub mod Growing
+pub mod Staying
+pub mod Offered
 pub mod Closing
 pub mod Once
 pub mod Controllers

@@ -1,7 +1,7 @@
 -- What holds of a session holds after each move.
 use Rattle.std.proofs.Common.{◌≡◌, ◌≢◌, ◌⊎◌, ◌<◌, ℕ, Bool, true, false, List, [], ◌∷◌, ◌++◌, Option, Some, None, Ok, refl, sym, subst, ap, ◌∙◌, inl, inr, arith, append_assoc}
 use Rattle.std.proofs.lemmas.List.{append-nil}
-use Rattle.std.specs.Prelude.{option_to_list}
+use Rattle.std.specs.Prelude.{drop, if◌then◌else◌, option_to_list, take}
 use Rattle.osdp_frame.specs.Packet.{Packet, next_sequence}
 use Rattle.osdp_msg.specs.CommandTable.{CommandFits}
 use Rattle.osdp_msg.specs.ReplyTable.{ReplyFits}
@@ -22,18 +22,19 @@ use Rattle.osdp_controller.specs.declared.exchange.Exchange.TheVariants.{Opening
 use Rattle.osdp_controller.specs.declared.fault.ControllerFault.{ControllerFault}
 use Rattle.osdp_reader.specs.declared.config.ReaderConfig.{ReaderConfig}
 use Rattle.osdp_reader.specs.declared.handler.Answer.{Answer}
-use Rattle.osdp_reader.specs.Queue.{Queue, queued}
-use Rattle.osdp_reader.specs.State.{ReaderState, after_submit}
+use Rattle.osdp_reader.specs.Queue.{Queue, queued, withdrawn}
+use Rattle.osdp_reader.specs.State.{ReaderState, after_submit, after_withdraw_event}
 use Rattle.osdp_reader.specs.Table.{command_in}
 use Rattle.osdp_reader_laws.specs.Laws.{AnswersPlainly, IsPlain}
 use Rattle.osdp_link_laws.specs.Headline.{MaySubmit}
 use Rattle.osdp_link_laws.specs.Link as link
-use Rattle.osdp_link_laws.specs.Link.{Link, after_report}
+use Rattle.osdp_link_laws.specs.Link.{Link, after_report, event_withdrawn}
 use Rattle.osdp_link_laws.specs.Peers.{TellsItsEvent}
 use Rattle.osdp_link_laws.proofs.Since.{events_same, past_same}
 use Rattle.osdp_link_laws.proofs.Lines.{each_append, each_rest, runs_append, runs_first}
 use Rattle.osdp_link_laws.proofs.Stages.{Accounts, After, Asks, Before, Behind, ControllerAt, Each, Fresh, HasActed, IsAsked, IsFrame, IsOldFrame, Knows, Level, Never, Now, Offers, OffersEvent, Past, ReaderAt, Rest, Restarted, Runs, SaysOld, Stage, Start, ToReaderAt, answer, frame, given_up, given_up_at, number_after, pending, pending_at, shown, shown_at}
 use Rattle.osdp_link_laws.proofs.Parts.{At, with_reader, with_session, with_to_reader}
+use Rattle.osdp_link_laws.proofs.Withdrawing.{but_oldest_after, splits}
 use Rattle.osdp_link_laws.proofs.Ticks.{Begun, RestsOn, Unchanged, ticks_asking, ticks_resting, ticks_waiting}
 
 pub runs_last : (P Q : Packet → Type 0) (ps : List Packet) → Each Q ps → Runs P Q ps
@@ -57,7 +58,19 @@ asked_fits (After n y b) (Asking c) asked = asked.fits
 
 offers_more : (told : Option Event) (event : Event) (q : Queue) → OffersEvent told q → OffersEvent told (queued event q)
 offers_more None event q off = off
-offers_more (Some e) event q (on, (rest, is)) = (on, (rest ++ event ∷ [], ap (λ l. l ++ event ∷ []) is))
+offers_more (Some e) event q (on, ever, (rest, is)) = (on, ever, (rest ++ event ∷ [], ap (λ l. l ++ event ∷ []) is))
+
+-- what is offered stays in front
+offers_less : (told : Option Event) (q : Queue) → OffersEvent told q → OffersEvent told (withdrawn q)
+offers_less None q off = off
+offers_less (Some e) q (on, ever, (rest, is)) = (
+  on,
+  ever,
+  (
+    drop 1 rest,
+    ap (λ b. if b then take 1 q.events ++ drop 2 q.events else drop 1 q.events) ever ∙ ap (λ es. take 1 es ++ drop 2 es) is,
+  ),
+)
 
 still_offers : (x : Exchange) (a : Reply) (event : Event) (q : Queue) → Offers x a q → Offers x a (queued event q)
 still_offers Opening a event q offers = offers
@@ -76,6 +89,18 @@ module _ (fixed : ControllerConfig) {H : Type 0} where
   knows_queues Never n x a event r acted = acted_queues n x a event r acted
   knows_queues Before n x a event r acted = acted_queues n x a event r acted
   knows_queues Now n x a event r none = none
+
+  -- .. nor does an event that is taken back
+  acted_withdraws : (n : ℕ) (x : Exchange) (a : Reply) (r : ReaderState H) → HasActed fixed n x a r → HasActed fixed n x a (after_withdraw_event r)
+  acted_withdraws n Opening a r acted = record { here = acted.here; offer = acted.offer }
+  acted_withdraws n Polling a r acted = record { here = acted.here; offer = offers_less (event_in a) r.queue acted.offer }
+  acted_withdraws n (Asking c) a r acted = record { here = acted.here; offer = acted.offer }
+
+  knows_withdraws : (since : Restarted) (n : ℕ) (x : Exchange) (a : Reply) (r : ReaderState H) → Knows fixed since n x a r
+      → Knows fixed since n x a (after_withdraw_event r)
+  knows_withdraws Never n x a r acted = acted_withdraws n x a r acted
+  knows_withdraws Before n x a r acted = acted_withdraws n x a r acted
+  knows_withdraws Now n x a r none = none
 
   -- .. whether it is busy, and its handler, are no matter
   abbrev otherwise : Bool → H → ReaderState H → ReaderState H
@@ -151,16 +176,38 @@ module _ (fixed : ControllerConfig) {H : Type 0} (answer_of : H → Command → 
   pub queueing : (full : Bool) (e : Event) (at : Stage) (l : Link H) → AtStage at l → AtStage at (link.queues full e l)
   queueing true e at l h = h
   queueing false e at l h =
-      let t = record l.account { queued = l.account.queued ++ e ∷ []; kept = l.account.kept ++ e ∷ [] } in
+      let t = record l.account {
+        queued = l.account.queued ++ e ∷ [];
+        stayed = l.account.stayed ++ e ∷ [];
+        kept = l.account.kept ++ e ∷ [];
+      } in
       let told = h.account.told in
-      with_reader fixed answer_of after settings since at l (after_submit e l.reader) (l.account.queued ++ e ∷ []) (l.account.kept ++ e ∷ []) h
+      with_reader fixed answer_of after settings since at l (after_submit e l.reader) t.queued t.withdrawn t.stayed t.kept h
       (reader_changes fixed since l.reader (after_submit e l.reader) (λ n x a. knows_queues fixed since n x a e l.reader) at h.reader)
       (record { id = h.answering.id; caps = h.answering.caps })
       (record {
         left = told.left;
         past = told.past;
-        queued = ap (λ all. all ++ e ∷ []) told.queued ∙ append_assoc told.left l.reader.queue.events (e ∷ []);
+        stayed = ap (λ all. all ++ e ∷ []) told.stayed ∙ append_assoc told.left l.reader.queue.events (e ∷ []);
         kept = ap (λ all. all ++ e ∷ []) told.kept ∙ append_assoc told.past l.reader.queue.events (e ∷ []);
+        without = told.without;
+        reported = past_same since (shown_at at) told.past l.account t refl refl told.reported;
+      })
+
+  -- the oldest event that was never offered is taken back
+  pub withdrawing : (at : Stage) (l : Link H) → AtStage at l → AtStage at (link.withdraws_event l)
+  withdrawing at l h =
+      let t = event_withdrawn l.reader.queue l.account in
+      let told = h.account.told in
+      let split = splits l.reader.queue in
+      with_reader fixed answer_of after settings since at l (after_withdraw_event l.reader) t.queued t.withdrawn t.stayed t.kept h
+      (reader_changes fixed since l.reader (after_withdraw_event l.reader) (λ n x a. knows_withdraws fixed since n x a l.reader) at h.reader)
+      (record { id = h.answering.id; caps = h.answering.caps })
+      (record {
+        left = told.left;
+        past = told.past;
+        stayed = but_oldest_after l.reader.queue split told.left l.account.stayed told.stayed;
+        kept = but_oldest_after l.reader.queue split told.past l.account.kept told.kept;
         without = told.without;
         reported = past_same since (shown_at at) told.past l.account t refl refl told.reported;
       })
@@ -169,7 +216,7 @@ module _ (fixed : ControllerConfig) {H : Type 0} (answer_of : H → Command → 
   pub being_otherwise : (busy : Bool) (handler : H) (at : Stage) (l : Link H) → AtStage at l
       → AtStage at (record l { reader = record l.reader { busy = busy; handler = handler } })
   being_otherwise busy handler at l h =
-      with_reader fixed answer_of after settings since at l (otherwise fixed busy handler l.reader) l.account.queued l.account.kept h
+      with_reader fixed answer_of after settings since at l (otherwise fixed busy handler l.reader) l.account.queued l.account.withdrawn l.account.stayed l.account.kept h
       (reader_changes fixed since l.reader (otherwise fixed busy handler l.reader) (λ n x a. knows_otherwise fixed since n x a busy handler l.reader) at h.reader)
       (record { id = h.answering.id; caps = h.answering.caps }) h.account.told
 

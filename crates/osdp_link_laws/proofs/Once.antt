@@ -20,7 +20,7 @@ use Rattle.osdp_reader.specs.declared.config.ReaderConfig.{ReaderConfig}
 use Rattle.osdp_reader.specs.declared.handler.Answer.{Answer}
 use Rattle.osdp_link_laws.specs.Headline.{IsBeginning, IsOnce, IsWithout, MoveFits, MaySubmit}
 use Rattle.osdp_link_laws.specs.Link as link
-use Rattle.osdp_link_laws.specs.Link.{Account, Link, Move, Queue as QueueEvent, Removal, Reopen, RestartController, RestartReader, Retarget, SetBusy, SetHandler, Submit, ThrownAway, Tick, ToController, ToReader, Withdraw, Withdrawn, after_move, new_account, outstanding_command, LoseToReader, LoseToController}
+use Rattle.osdp_link_laws.specs.Link.{Account, Link, Move, Queue as QueueEvent, Removal, Reopen, RestartController, RestartReader, Retarget, SetBusy, SetHandler, Submit, ThrownAway, Tick, ToController, ToReader, Withdraw, WithdrawEvent, Withdrawn, after_move, new_account, outstanding_command, LoseToReader, LoseToController}
 use Rattle.osdp_link_laws.specs.Sessions.{removed_command}
 use Rattle.osdp_link_laws.proofs.Growing.{GoesOn, inside_on}
 use Rattle.osdp_link_laws.proofs.Moves.{Premises}
@@ -311,6 +311,7 @@ module _ (fixed : ControllerConfig) {H : Type 0} (answer_of : H → Command → 
   moving given (QueueEvent e) l on fits h = going_inside given (QueueEvent e) l tt fits h
   moving given (LoseToReader place) l on fits h = going_inside given (LoseToReader place) l tt fits h
   moving given (LoseToController place) l on fits h = going_inside given (LoseToController place) l tt fits h
+  moving given WithdrawEvent l on fits h = going_inside given WithdrawEvent l tt fits h
   moving given (SetBusy busy) l on fits h = going_inside given (SetBusy busy) l tt fits h
   moving given (Tick now) l on fits h = going_inside given (Tick now) l tt fits h
   moving given (ToReader how) l on fits h = going_inside given (ToReader how) l tt fits h
@@ -319,8 +320,8 @@ module _ (fixed : ControllerConfig) {H : Type 0} (answer_of : H → Command → 
   moving given (RestartReader address handler room) l on fits h = going_inside given (RestartReader address handler room) l tt fits h
 
   -- what holds of a session says that all is once and in order
-  pub is_once : (l : Link H) → Goes l → IsOnce l.account
-  is_once l h = once_at h.holds.0 h.holds.1 h.holds.2
+  pub is_once : (l : Link H) → IsWithout l.account.withdrawn l.account.queued l.account.stayed → Goes l → IsOnce l.account
+  is_once l stayed h = once_at h.holds.0 h.holds.1 h.holds.2
     where
       events_now : (since : Restarted) (at : Stage) → At fixed answer_of after settings since at (as_waiting l)
           → EventsAre since (shown_at at) l.reader.queue.events l.account
@@ -335,7 +336,8 @@ module _ (fixed : ControllerConfig) {H : Type 0} (answer_of : H → Command → 
         answered = held.account.answered;
         settled = (owed_at at, sym held.account.settled, one_owed_at at);
         reported = reported_first fixed since at l.reader l.account held.reader held.account.offered (events_now since at held);
-        kept = subst (λ all. IsWithout l.account.thrown_away all l.account.kept) (sym held.account.told.queued)
+        stayed = stayed;
+        kept = subst (λ all. IsWithout l.account.thrown_away all l.account.kept) (sym held.account.told.stayed)
             (subst (IsWithout l.account.thrown_away (held.account.told.left ++ l.reader.queue.events)) (sym held.account.told.kept)
             (without_keeps l.account.thrown_away held.account.told.left held.account.told.past l.reader.queue.events held.account.told.without));
       }
@@ -355,7 +357,7 @@ module _ (fixed : ControllerConfig) {H : Type 0} (answer_of : H → Command → 
       let told : EventsAre Never [] l.reader.queue.events t = record {
         left = [];
         past = [];
-        queued = refl;
+        stayed = refl;
         kept = refl;
         without = (refl, refl);
         reported = refl;

@@ -28,7 +28,7 @@ use Rattle.osdp_reader.specs.declared.kind.Kind.TheVariants as kind
 use Rattle.osdp_reader_laws.specs.Answering.{handler_after_commands}
 use Rattle.osdp_link_laws.specs.Headline.{EachIsOnce, IsBeginning, MovesFit}
 use Rattle.osdp_link_laws.specs.Link as link
-use Rattle.osdp_link_laws.specs.Link.{Account, Delivered, Delivery, Link, Lost, Move, Queue as QueueEvent, Reopen, Repeated, RestartController, RestartReader, Retarget, SetBusy, SetHandler, Submit, Tick, ToController, ToReader, Withdraw, after_move, run, taken_command, after_report, LoseToReader, LoseToController}
+use Rattle.osdp_link_laws.specs.Link.{Account, Delivered, Delivery, Link, Lost, Move, Queue as QueueEvent, Reopen, Repeated, RestartController, RestartReader, Retarget, SetBusy, SetHandler, Submit, Tick, ToController, ToReader, Withdraw, WithdrawEvent, after_move, run, taken_command, after_report, LoseToReader, LoseToController}
 use Rattle.osdp_link_laws.specs.OneHandler.{AreItsAnswers, AreOnce, GivesItsAnswers, KeepHandler, KeepsDevice, KeepsHandler, OneHandlerHoldsOnce, handler_after, with_answers}
 use Rattle.osdp_link_laws.specs.Peers.{ReadEachOther}
 use Rattle.osdp_link_laws.specs.Refusals.{KeepsReader}
@@ -208,7 +208,7 @@ module _ {H : Type 0} (answer_of : H → Command → Answer) (after : H → Comm
   queues_answered start true e l is = is
   queues_answered start false e l (is, before) =
       let first = handler_after answer_of after settings start l.earlier in (
-        same_answered first l.account (record l.account { queued = l.account.queued ++ e ∷ []; kept = l.account.kept ++ e ∷ [] })
+        same_answered first l.account (record l.account { queued = l.account.queued ++ e ∷ []; stayed = l.account.stayed ++ e ∷ []; kept = l.account.kept ++ e ∷ [] })
             l.reader.handler l.reader.handler refl refl refl is,
         before,
       )
@@ -255,6 +255,7 @@ module _ {H : Type 0} (answer_of : H → Command → Answer) (after : H → Comm
   move_answered given start (Submit c) l keeps s is = submits_answered start (controllers.submit_refusal c l.controller) c l is
   move_answered given start (QueueEvent e) l keeps s is = queues_answered start (length l.reader.queue.events == l.reader.queue.capacity) e l is
   move_answered given start (SetBusy busy) l keeps s is = is
+  move_answered given start WithdrawEvent l keeps s is = others_answered start l (link.withdraws_event l).account l.reader.handler refl refl refl is
   move_answered given start (LoseToReader place) l keeps s is = is
   move_answered given start (LoseToController place) l keeps s is = is
   move_answered given start (Tick now) l keeps s (is, before) =

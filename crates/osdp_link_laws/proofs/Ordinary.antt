@@ -4,10 +4,10 @@ use Rattle.std.proofs.lemmas.List.{append-nil}
 use Rattle.osdp_msg.specs.declared.command.Command.{Command}
 use Rattle.osdp_msg.specs.declared.event.Event.{Event}
 use Rattle.osdp_reader.specs.declared.handler.Answer.{Answer}
-use Rattle.osdp_link_laws.specs.Headline.{IsWithout}
+use Rattle.osdp_link_laws.specs.Headline.{IsBeginning, IsWithout}
 use Rattle.osdp_link_laws.specs.Link.{Account, Link, Move, after_move, run}
 use Rattle.osdp_link_laws.specs.Ordinary.{AreUndisturbed, HaveLeftUndisturbed, IsOrdinary, IsUndisturbed, LeavesUndisturbed, OrdinaryIsUndisturbed, UndisturbedLeaves}
-use Rattle.osdp_link_laws.specs.Sessions.{HaveLeft, Leaves, LeavesEvents, removed_command, settled_commands}
+use Rattle.osdp_link_laws.specs.Sessions.{HaveLeft, Leaves, LeavesEvents, removed_command, settled_commands, withdrawn_in}
 use Rattle.osdp_link_laws.proofs.EachAccount.{IsKept, each_kept}
 use Rattle.osdp_link_laws.proofs.Lines.{each_of}
 use Rattle.osdp_link_laws.proofs.Stages.{Each}
@@ -15,15 +15,25 @@ use Rattle.osdp_link_laws.proofs.Without.{without_nothing}
 
 undisturbed_kept : IsKept IsUndisturbed
 undisturbed_kept = record {
-  new = λ ws es. record { forgotten = refl; removed = refl; kept = refl; thrown_away = refl; restarts = refl };
+  new = λ ws es. record { forgotten = refl; removed = refl; withdrawn = refl; stayed = refl; kept = refl; thrown_away = refl; restarts = refl };
   queue = λ e t so. record {
     forgotten = so.forgotten;
     removed = so.removed;
+    withdrawn = so.withdrawn;
+    stayed = ap (λ es. es ++ e ∷ []) so.stayed;
     kept = ap (λ es. es ++ e ∷ []) so.kept;
     thrown_away = so.thrown_away;
     restarts = so.restarts;
   };
-  others = λ t u so. record { forgotten = so.forgotten; removed = so.removed; kept = so.kept; thrown_away = so.thrown_away; restarts = so.restarts };
+  others = λ t u so. record {
+    forgotten = so.forgotten;
+    removed = so.removed;
+    withdrawn = so.withdrawn;
+    stayed = so.stayed;
+    kept = so.kept;
+    thrown_away = so.thrown_away;
+    restarts = so.restarts;
+  };
 }
 
 each_so : (ts : List Account) → AreUndisturbed ts → Each IsUndisturbed ts
@@ -85,22 +95,34 @@ leaves_so t waiting events so leaves =
       unreported = record {
         left = leaves.left;
         again = leaves.of_events.again;
-        queued = leaves.of_events.queued;
+        queued = sym so.stayed ∙ leaves.of_events.stayed;
         reported = all_reported t leaves.left events so leaves.of_events;
         front = leaves.of_events.front;
         few = few_again t leaves.left events leaves.of_events;
       };
     }
 
+-- no session withdraws an event
+none_withdrawn : (earlier : List Account) → AreUndisturbed earlier → withdrawn_in earlier ≡ []
+none_withdrawn [] so = refl
+none_withdrawn (t ∷ earlier) (so, rest) = ap (λ es. es ++ t.withdrawn) (none_withdrawn earlier rest) ∙ so.withdrawn
+
+stands_so : (all : List Event) (t : Account) (earlier : List Account) (before until : List Event) → IsUndisturbed t → AreUndisturbed earlier
+    → IsBeginning until all → IsWithout (withdrawn_in (t ∷ earlier)) until (before ++ t.stayed) → IsBeginning (before ++ t.queued) all
+stands_so all t earlier before until so rest begins stays =
+    subst (λ es. IsBeginning es all)
+    (sym (without_nothing until (before ++ t.stayed) (subst (λ out. IsWithout out until (before ++ t.stayed)) (none_withdrawn (t ∷ earlier) (so, rest)) stays))
+    ∙ ap (λ es. before ++ es) so.stayed) begins
+
 have_left_so : (all : List Event) (earlier : List Account) (gone : List Event) → AreUndisturbed earlier → HaveLeft all earlier gone
     → HaveLeftUndisturbed all earlier gone
 have_left_so all [] gone so none = none
-have_left_so all (t ∷ earlier) gone (so, rest) (before, left, events, prior, stands, is, of) = (
+have_left_so all (t ∷ earlier) gone (so, rest) (before, left, events, until, prior, begins, stays, is, of) = (
   before,
   left,
   of.again,
   have_left_so all earlier before rest prior,
-  stands,
+  stands_so all t earlier before until so rest begins stays,
   is,
   all_reported t left events so of,
   few_again t left events of,

@@ -22,6 +22,7 @@ use Rattle.osdp_link_laws.proofs.Stages.{Each}
 
 is_ordinary : {H : Type 0} (m : Move H) → IsSteady m → IsOrdinary m
 is_ordinary link.Withdraw steady = absurd steady
+is_ordinary link.WithdrawEvent steady = absurd steady
 is_ordinary (link.RestartReader address handler room) steady = absurd steady
 is_ordinary (link.RestartController config room) steady = absurd steady
 is_ordinary m steady = tt
@@ -59,7 +60,7 @@ set_no_other reader controller ms steady =
 -- nothing has disturbed a first session
 pub begins_so : {H : Type 0} (l : Link H) → Begins l → AreUndisturbed (l.account ∷ l.earlier)
 begins_so l begins = (
-  subst IsUndisturbed (sym begins.account) (record { forgotten = refl; removed = refl; kept = refl; thrown_away = refl; restarts = refl }),
+  subst IsUndisturbed (sym begins.account) (record { forgotten = refl; removed = refl; withdrawn = refl; stayed = refl; kept = refl; thrown_away = refl; restarts = refl }),
   subst AreUndisturbed (sym begins.earlier) tt,
 )
 

@@ -70,10 +70,10 @@ module _ (fixed : ControllerConfig) {H : Type 0} (answer_of : H → Command → 
   with_to_controller at l qs h line = with_lines at l l.to_reader qs h h.to_reader line
 
   -- another reader of the same kind, where it keeps the same of its last command
-  pub with_reader : (at : Stage) (l : Link H) (r : ReaderState H) (queued kept : List Event) → At at l → ReaderAt fixed since at r → Answering settings r.config
-      → EventsAre since (shown_at at) r.queue.events (record l.account { queued = queued; kept = kept })
-      → At at (record l { reader = r; account = record l.account { queued = queued; kept = kept } })
-  with_reader at l r queued kept h is answers told = record {
+  pub with_reader : (at : Stage) (l : Link H) (r : ReaderState H) (queued withdrawn stayed kept : List Event) → At at l → ReaderAt fixed since at r → Answering settings r.config
+      → EventsAre since (shown_at at) r.queue.events (record l.account { queued = queued; withdrawn = withdrawn; stayed = stayed; kept = kept })
+      → At at (record l { reader = r; account = record l.account { queued = queued; withdrawn = withdrawn; stayed = stayed; kept = kept } })
+  with_reader at l r queued withdrawn stayed kept h is answers told = record {
     stage = h.stage;
     controller = h.controller;
     waiting = h.waiting;

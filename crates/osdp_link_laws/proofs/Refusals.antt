@@ -8,7 +8,7 @@ use Rattle.osdp_controller.specs.declared.report.Report.TheVariants as report
 use Rattle.osdp_reader.specs.declared.config.ReaderConfig.{ReaderConfig}
 use Rattle.osdp_reader.specs.declared.handler.Answer.{Answer}
 use Rattle.osdp_link_laws.specs.Headline.{MovesFit}
-use Rattle.osdp_link_laws.specs.Link.{Link, Move, Queue as QueueEvent, Reopen, RestartController, RestartReader, Retarget, SetBusy, SetHandler, Submit, Tick, ToController, ToReader, Withdraw, after_move, run, LoseToReader, LoseToController}
+use Rattle.osdp_link_laws.specs.Link.{Link, Move, Queue as QueueEvent, Reopen, RestartController, RestartReader, Retarget, SetBusy, SetHandler, Submit, Tick, ToController, ToReader, Withdraw, WithdrawEvent, after_move, run, LoseToReader, LoseToController}
 use Rattle.osdp_link_laws.specs.Peers.{IsPlainlySaid, ReadEachOther}
 use Rattle.osdp_link_laws.specs.Refusals.{IsNoRefusal, IsOtherCause, KeepsReader, RefusesNoNumber, RefusesNoNumberWithoutRestart, SaysAllPlainly, reports, told_by, told_by_front}
 use Rattle.osdp_link_laws.proofs.Deliveries.{all_said}
@@ -50,6 +50,7 @@ module _ {H : Type 0} (answer_of : H → Command → Answer) (after : H → Comm
   told_so given (Submit c) l s never = tt
   told_so given (QueueEvent e) l s never = tt
   told_so given (SetBusy busy) l s never = tt
+  told_so given WithdrawEvent l s never = tt
   told_so given (ToReader how) l s never = tt
   told_so given (Reopen now) l s never = tt
   told_so given (LoseToReader place) l s never = tt

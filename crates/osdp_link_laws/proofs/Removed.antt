@@ -23,11 +23,11 @@ use Rattle.osdp_reader.specs.declared.kind.Kind.TheVariants as kind
 use Rattle.osdp_reader.specs.Table as reader
 use Rattle.osdp_link_laws.specs.Headline.{MoveFits}
 use Rattle.osdp_link_laws.specs.Link as link
-use Rattle.osdp_link_laws.specs.Link.{Account, Delivered, Delivery, Link, Lost, Move, Queue as QueueEvent, Removal, Reopen, Repeated, RestartController, RestartReader, Retarget, SetBusy, SetHandler, Submit, ThrownAway, Tick, ToController, ToReader, Withdraw, Withdrawn, after_move, outstanding_command, after_report, LoseToReader, LoseToController}
+use Rattle.osdp_link_laws.specs.Link.{Account, Delivered, Delivery, Link, Lost, Move, Queue as QueueEvent, Removal, Reopen, Repeated, RestartController, RestartReader, Retarget, SetBusy, SetHandler, Submit, ThrownAway, Tick, ToController, ToReader, Withdraw, WithdrawEvent, Withdrawn, after_move, outstanding_command, after_report, LoseToReader, LoseToController}
 use Rattle.osdp_link_laws.specs.Sessions.{removed_command}
 use Rattle.osdp_link_laws.proofs.Deliveries.{coming_to_controller, coming_to_reader, missing_to_controller, missing_to_reader}
 use Rattle.osdp_link_laws.proofs.Lines.{both}
-use Rattle.osdp_link_laws.proofs.Moves.{Premises, being_otherwise, not_poll, queueing, submitting, ticking}
+use Rattle.osdp_link_laws.proofs.Moves.{Premises, being_otherwise, not_poll, queueing, submitting, ticking, withdrawing}
 use Rattle.osdp_link_laws.proofs.Parts.{At, HoldsAtSomeStage}
 use Rattle.osdp_link_laws.proofs.Restarts.{restarting_reader}
 use Rattle.osdp_link_laws.proofs.Stages.{Now, Restarted, Stage}
@@ -102,6 +102,7 @@ module _ (fixed : ControllerConfig) {H : Type 0} (answer_of : H → Command → 
   )
   moving_inside given (QueueEvent e) l on fits (s, at, h) =
       (s, at, queueing fixed answer_of after settings s (length l.reader.queue.events == l.reader.queue.capacity) e at l h)
+  moving_inside given WithdrawEvent l on fits (s, at, h) = (s, at, withdrawing fixed answer_of after settings s at l h)
   moving_inside given (SetBusy busy) l on fits (s, at, h) = (s, at, being_otherwise fixed answer_of after settings s busy l.reader.handler at l h)
   moving_inside given (Tick now) l on fits (s, at, h) = staying (ticking fixed answer_of after settings s at now l h)
   moving_inside given (ToReader how) l on fits (s, at, h) = coming_to_reader fixed answer_of after settings s given how l.to_reader l refl at h fits
@@ -188,6 +189,7 @@ module _ (fixed : ControllerConfig) {H : Type 0} (answer_of : H → Command → 
       )
   closed_inside given w u (QueueEvent e) l on fits closed h =
       queues_as w u (length l.reader.queue.events == l.reader.queue.capacity) e l (moving_inside given (QueueEvent e) (as_if w u l) tt tt h)
+  closed_inside given w u WithdrawEvent l on fits closed h = moving_inside given WithdrawEvent (as_if w u l) tt tt h
   closed_inside given w u (SetBusy busy) l on fits closed h = moving_inside given (SetBusy busy) (as_if w u l) tt tt h
   closed_inside given w u (Tick now) l on fits closed h = tick_as w u now l closed (moving_inside given (Tick now) (as_if w u l) tt tt h)
   closed_inside given w u (ToReader how) l on fits closed h =

@@ -24,7 +24,7 @@ use Rattle.osdp_link_laws.proofs.Without.{without_drops, without_keeps}
 -- what is shown stands in front of the queue
 front_event : (event : Option Event) (q : Queue) → OffersEvent event q → (rest : List Event) × (q.events ≡ option_to_list event ++ rest)
 front_event None q off = (q.events, refl)
-front_event (Some e) q (on, front) = front
+front_event (Some e) q (on, ever, front) = front
 
 front_shown : (x : Exchange) (a : Reply) (q : Queue) → Offers x a q → (rest : List Event) × (q.events ≡ shown x a ++ rest)
 front_shown Opening a q offers = (q.events, refl)
@@ -42,11 +42,11 @@ gone_now t events are =
     let kept : t.kept ≡ t.offered ++ events = are.kept ∙ ap (λ es. es ++ events) (sym are.reported) in
     let gone : drop (length t.offered) t.kept ≡ events = ap (drop (length t.offered)) kept ∙ drop_front t.offered events in
     record {
-      left = t.queued;
+      left = t.stayed;
       past = t.offered;
-      queued = sym (append-nil t.queued);
+      stayed = sym (append-nil t.stayed);
       kept = sym (append-nil t.offered);
-      without = subst (λ all. IsWithout (t.thrown_away ++ drop (length t.offered) t.kept) all t.offered) (sym are.queued)
+      without = subst (λ all. IsWithout (t.thrown_away ++ drop (length t.offered) t.kept) all t.offered) (sym are.stayed)
           (subst (λ es. IsWithout (t.thrown_away ++ es) (are.left ++ events) t.offered) (sym gone)
           (subst (IsWithout (t.thrown_away ++ events) (are.left ++ events)) (sym are.reported)
           (without_drops t.thrown_away are.left are.past events are.without)));
@@ -54,16 +54,16 @@ gone_now t events are =
     }
 
 gone_heard : (t : Account) (past standing rest events : List Event) → events ≡ standing ++ rest → t.offered ≡ past ++ standing → t.kept ≡ past ++ events
-    → (left : List Event) → t.queued ≡ left ++ events → IsWithout t.thrown_away left past → EventsAre Now [] [] (reader_restarted t)
-gone_heard t past standing rest events is offered kept left queued without =
+    → (left : List Event) → t.stayed ≡ left ++ events → IsWithout t.thrown_away left past → EventsAre Now [] [] (reader_restarted t)
+gone_heard t past standing rest events is offered kept left stayed without =
     let all : t.kept ≡ t.offered ++ rest =
     kept ∙ ap (λ es. past ++ es) is ∙ sym (append_assoc past standing rest) ∙ ap (λ es. es ++ rest) (sym offered) in
     let gone : drop (length t.offered) t.kept ≡ rest = ap (drop (length t.offered)) all ∙ drop_front t.offered rest in
-    let place : t.queued ≡ (left ++ standing) ++ rest = queued ∙ ap (λ es. left ++ es) is ∙ sym (append_assoc left standing rest) in
+    let place : t.stayed ≡ (left ++ standing) ++ rest = stayed ∙ ap (λ es. left ++ es) is ∙ sym (append_assoc left standing rest) in
     record {
-      left = t.queued;
+      left = t.stayed;
       past = t.offered;
-      queued = sym (append-nil t.queued);
+      stayed = sym (append-nil t.stayed);
       kept = sym (append-nil t.offered);
       without = subst (λ es. IsWithout (t.thrown_away ++ drop (length t.offered) t.kept) es t.offered) (sym place)
           (subst (λ es. IsWithout (t.thrown_away ++ es) ((left ++ standing) ++ rest) t.offered) (sym gone)
@@ -76,7 +76,7 @@ gone_before : (since : Restarted) (front new : List Event) (events : List Event)
     → t.offered ≡ t.reported ++ new → EventsAre since front events t → EventsAre Now [] [] (reader_restarted t)
 gone_before since front new events t hears (rest, is) offered are =
     gone_heard t are.past (front ++ new) rest events is
-    (offered ∙ ap (λ es. es ++ new) (reported_is since hears are.reported) ∙ append_assoc are.past front new) are.kept are.left are.queued are.without
+    (offered ∙ ap (λ es. es ++ new) (reported_is since hears are.reported) ∙ append_assoc are.past front new) are.kept are.left are.stayed are.without
   where
     reported_is : (since : Restarted) → Hears since → PastIs since are.past front t → t.reported ≡ are.past ++ front
     reported_is Never hears is = is

@@ -143,7 +143,7 @@ module _ (fixed : ControllerConfig) {H : Type 0} (answer_of : H → Command → 
   leaves_heard since at r t hears is offered are reported =
       let front = front_at fixed since at r hears is in
       record {
-        queued = are.queued;
+        stayed = are.stayed;
         heard = are.past;
         without = are.without;
         again = shown_at at;
@@ -160,7 +160,7 @@ module _ (fixed : ControllerConfig) {H : Type 0} (answer_of : H → Command → 
   leaves_events Never at r t is offered count are = leaves_heard Never at r t tt is offered are are.reported
   leaves_events Before at r t is offered count are = leaves_heard Before at r t tt is offered are are.reported
   leaves_events Now at r t is offered count are = record {
-    queued = are.queued;
+    stayed = are.stayed;
     heard = are.past;
     without = are.without;
     again = [];

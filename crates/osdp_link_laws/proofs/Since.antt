@@ -31,22 +31,22 @@ past_heard Before front past t u hears reported is = reported ∙ is
 past_heard Now front past t u hears reported is = absurd hears
 
 -- .. and the reader may have restarted, or heard the opening since
-pub events_moved : (since later : Restarted) (front shown events : List Event) (t u : Account) → u.queued ≡ t.queued → u.kept ≡ t.kept
+pub events_moved : (since later : Restarted) (front shown events : List Event) (t u : Account) → u.stayed ≡ t.stayed → u.kept ≡ t.kept
     → u.thrown_away ≡ t.thrown_away → ((past : List Event) → PastIs since past front t → PastIs later past shown u)
     → EventsAre since front events t → EventsAre later shown events u
-events_moved since later front shown events t u queued kept thrown past are = record {
+events_moved since later front shown events t u stayed kept thrown past are = record {
   left = are.left;
   past = are.past;
-  queued = queued ∙ are.queued;
+  stayed = stayed ∙ are.stayed;
   kept = kept ∙ are.kept;
   without = subst (λ out. IsWithout out are.left are.past) (sym thrown) are.without;
   reported = past are.past are.reported;
 }
 
-pub events_same : (since : Restarted) (front events : List Event) (t u : Account) → u.queued ≡ t.queued → u.kept ≡ t.kept
+pub events_same : (since : Restarted) (front events : List Event) (t u : Account) → u.stayed ≡ t.stayed → u.kept ≡ t.kept
     → u.thrown_away ≡ t.thrown_away → ((past : List Event) → PastIs since past front t → PastIs since past front u)
     → EventsAre since front events t → EventsAre since front events u
-events_same since front events t u queued kept thrown past are = events_moved since since front front events t u queued kept thrown past are
+events_same since front events t u stayed kept thrown past are = events_moved since since front front events t u stayed kept thrown past are
 
 -- a reader that hears does so whether or not it has restarted
 pub past_of : (s u : Restarted) (front past : List Event) (t : Account) → Hears s → Hears u → PastIs s past front t → PastIs u past front t

@@ -158,14 +158,14 @@ unreported_at _ = []
 -- the event that the last answer told is offered, and stands in front
 abbrev pub OffersEvent : Option Event → Queue → Type 0
 OffersEvent None q = q.offered ≡ false
-OffersEvent (Some event) q = (q.offered ≡ true) × ((rest : List Event) × (q.events ≡ event ∷ rest))
+OffersEvent (Some event) q = (q.offered ≡ true) × (q.ever_offered ≡ true) × ((rest : List Event) × (q.events ≡ event ∷ rest))
 
 abbrev pub Offers : Exchange → Reply → Queue → Type 0
 Offers Opening r q = q.offered ≡ false
 Offers Polling r q = OffersEvent (event_in r) q
 Offers (Asking command) r q = q.offered ≡ false
 
--- of the events that have left, those that no restart threw away were all reported, and the one in front too; or, after a restart, they are
+-- of the events that have left and weren't withdrawn, those that no restart threw away were all reported, and the one in front too; or, after a restart, they are
 -- those that were offered
 abbrev pub PastIs : Restarted → List Event → List Event → Account → Type 0
 PastIs Never past front t = t.reported ≡ past ++ front
@@ -175,7 +175,7 @@ PastIs Now past front t = t.offered ≡ past
 pub record EventsAre (restarted : Restarted) (front events : List Event) (t : Account) : Type 0 where
   pub left : List Event
   pub past : List Event
-  pub queued : t.queued ≡ left ++ events
+  pub stayed : t.stayed ≡ left ++ events
   pub kept : t.kept ≡ past ++ events
   pub without : IsWithout t.thrown_away left past
   pub reported : PastIs restarted past front t

@@ -22,6 +22,34 @@ module _ {A : Type 0} where
   among_both some (x ∷ all) others more (inr (rest, same, before)) is =
       inr (rest ++ others, ap (λ xs. xs ++ others) same, among_both rest all others more before is)
 
+module _ {A : Type 0} where
+  -- what is kept is among all
+  pub among_kept : (out all kept : List A) → IsWithout out all kept → IsAmong kept all
+  among_kept out [] kept (none, nothing) = nothing
+  among_kept out (x ∷ all) kept (inl (rest, is, before)) = inr (rest, is, among_kept out all rest before)
+  among_kept out (x ∷ all) kept (inr (rest, is, before)) = inl (among_kept rest all kept before)
+
+  -- the first of some
+  pub among_first : (xs ys all : List A) → IsAmong (xs ++ ys) all → IsAmong xs all
+  among_first [] ys all is = among_none all
+  among_first (x ∷ xs) ys [] is = absurd cc
+  among_first (x ∷ xs) ys (a ∷ all) (inl later) = inl (among_first (x ∷ xs) ys all later)
+  among_first (x ∷ xs) ys (a ∷ all) (inr (rest, is, later)) =
+      inr (xs, ap (λ e. e ∷ xs) (same_first is), among_first xs ys all (subst (λ es. IsAmong es all) (sym (same_rest is)) later))
+    where
+      same_first : {b : A} {bs cs : List A} → x ∷ bs ≡ b ∷ cs → x ≡ b
+      same_first {b} {bs} {cs} e = cc
+
+      same_rest : {b c : A} {bs cs : List A} → b ∷ bs ≡ c ∷ cs → bs ≡ cs
+      same_rest {b} {c} {bs} {cs} e = cc
+
+  -- more before all, or after it
+  pub among_after : (some before all : List A) → IsAmong some all → IsAmong some (before ++ all)
+  among_after some before all is = among_both [] before some all (among_none before) is
+
+  pub among_more : (some all more : List A) → IsAmong some all → IsAmong some (all ++ more)
+  among_more some all more is = subst (λ xs. IsAmong xs (all ++ more)) (append-nil some) (among_both some all [] more is (among_none more))
+
 -- the commands of one session that ended and were not taken
 abbrev LeftOut : Account → Type 0
 LeftOut t = (out : List Command) × IsAmong out (t.unsettled ++ (t.forgotten ++ map removed_command t.removed)) × IsWithout out (ended_in t) t.taken

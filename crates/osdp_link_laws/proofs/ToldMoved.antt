@@ -22,17 +22,16 @@ use Rattle.osdp_reader.specs.declared.handler.Answer.{Answer}
 use Rattle.osdp_reader.specs.Replies.{not_processed}
 use Rattle.osdp_reader.specs.Table.{answer_to}
 use Rattle.osdp_link_laws.specs.Headline.{MovesFit, IsOnce, MoveFits}
-use Rattle.osdp_link_laws.specs.Link.{Account, Delivered, Delivery, Link, LoseToController, LoseToReader, Move, Queue as QueueEvent, Reopen, Repeated, RestartController, RestartReader, Retarget, SetBusy, SetHandler, Submit, Tick, ToController, ToReader, Withdraw, after_move, after_report}
+use Rattle.osdp_link_laws.specs.Link.{Account, Delivered, Delivery, Link, LoseToController, LoseToReader, Move, Queue as QueueEvent, Reopen, Repeated, RestartController, RestartReader, Retarget, SetBusy, SetHandler, Submit, Tick, ToController, ToReader, Withdraw, WithdrawEvent, after_move, after_report}
 use Rattle.osdp_link_laws.specs.Link as link
 use Rattle.osdp_link_laws.specs.Names.{IsNoDevice, IsToldAsAsked, TellAsAsked}
 use Rattle.osdp_link_laws.specs.Peers.{ReadEachOther}
 use Rattle.osdp_link_laws.specs.Refusals.{reports, told_by, told_by_front}
 use Rattle.osdp_link_laws.proofs.Deliveries.{IsRead, all_read}
 use Rattle.osdp_link_laws.proofs.GivenAnswers.{AreAnswers, IsAnswerOf, first_given, move_given}
-use Rattle.osdp_link_laws.proofs.InARow.{Assumed, Stands, assumed_of, begins, standing}
+use Rattle.osdp_link_laws.proofs.InARow.{Assumed, Stands, assumed_of, begins, is_once_now, standing}
 use Rattle.osdp_link_laws.proofs.Lines.{both, each_all, each_append}
 use Rattle.osdp_link_laws.proofs.Numbers.{is_true}
-use Rattle.osdp_link_laws.proofs.Once.{is_once}
 use Rattle.osdp_link_laws.proofs.Reports.{MayBring, heard_so, tick_so}
 use Rattle.osdp_link_laws.proofs.Stages.{Each}
 use Rattle.osdp_link_laws.proofs.Refusals.{one_report}
@@ -117,10 +116,11 @@ module _ {H : Type 0} (answer_of : H → Command → Answer) (after : H → Comm
       let held = h.goes.holds in
       front_told answer_of after how l.to_controller now l
       (all_read h.fixed answer_of after settings held.0 (given h.fixed h.device) held.1 (as_waiting l) held.2)
-      (move_given answer_of after (ToController how now) l are) (is_once next.fixed answer_of after settings new next.goes)
+      (move_given answer_of after (ToController how now) l are) (is_once_now answer_of after settings new next)
   move_told given (Submit c) l fits h are = tt
   move_told given (QueueEvent e) l fits h are = tt
   move_told given (SetBusy busy) l fits h are = tt
+  move_told given WithdrawEvent l fits h are = tt
   move_told given (ToReader how) l fits h are = tt
   move_told given (Reopen now) l fits h are = tt
   move_told given (SetHandler handler) l fits h are = tt

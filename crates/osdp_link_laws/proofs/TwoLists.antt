@@ -1,8 +1,8 @@
 -- A link is two lists and four counts: what each of its moves does to them.
-use Rattle.std.proofs.Common.{◌≡◌, ◌≤◌, ◌+◌, ◌⊎◌, ◌==◌, ℕ, Bool, true, false, List, [], ◌∷◌, ◌++◌, length, take, Option, Some, None, refl, sym, subst, ap, ◌∙◌, inl, inr, arith, append_assoc, length-take}
+use Rattle.std.proofs.Common.{◌≡◌, ◌≤◌, ◌<◌, ◌+◌, ◌⊎◌, ◌==◌, ℕ, zero, suc, Bool, true, false, List, [], ◌∷◌, ◌++◌, length, take, Option, Some, None, refl, sym, subst, ap, ◌∙◌, inl, inr, arith, append_assoc, length-take}
 use Rattle.std.proofs.lemmas.List.{append-nil, length-append, length-map}
 use Rattle.std.proofs.Math.Seq.{take-append_seam}
-use Rattle.std.specs.Prelude.{if◌then◌else◌, nat_le, nat_lt, option_to_list}
+use Rattle.std.specs.Prelude.{◌-◌, if◌then◌else◌, nat_le, nat_lt, option_to_list}
 use Rattle.osdp_frame.specs.Packet.{Packet, next_sequence}
 use Rattle.osdp_msg.specs.declared.command.Command.{Command}
 use Rattle.osdp_msg.specs.declared.command.Command.TheVariants as command
@@ -24,7 +24,7 @@ use Rattle.osdp_controller.specs.declared.session.Session.{Session}
 use Rattle.osdp_controller.specs.declared.state.State.{State}
 use Rattle.osdp_controller.specs.declared.state.State.TheVariants.{Closed, Quiet, Idle, Waiting, Pausing}
 use Rattle.osdp_reader.specs.Table as reader
-use Rattle.osdp_reader.specs.Queue.{released}
+use Rattle.osdp_reader.specs.Queue.{Queue as EventQueue, released}
 use Rattle.osdp_reader.specs.State.{ReaderState}
 use Rattle.osdp_reader.specs.declared.config.ReaderConfig.{ReaderConfig}
 use Rattle.osdp_reader.specs.declared.handler.Answer.{Answer}
@@ -32,17 +32,24 @@ use Rattle.osdp_reader.specs.declared.kind.Kind.{Kind}
 use Rattle.osdp_reader.specs.declared.kind.Kind.TheVariants as kind
 use Rattle.osdp_link_laws.specs.Headline.{MovesFit, Begins, IsBeginning, IsOnce, MoveFits, asked}
 use Rattle.osdp_link_laws.specs.Link as link
-use Rattle.osdp_link_laws.specs.Link.{Account, Delivered, Delivery, Link, Lost, Move, Queue as QueueEvent, Reopen, Repeated, RestartController, RestartReader, Retarget, SetBusy, SetHandler, Submit, Tick, ToController, ToReader, Withdraw, after_move, run, after_report, LoseToReader, LoseToController}
-use Rattle.osdp_link_laws.specs.TwoLists.{IsInStep, IsLevel, IsOneOrNone, IsRead, IsReadOff, IsStepOf, Issue, KeepsInStep, May, MovesInStep, Offer, Offers, OffersOnce, Queue, Report as Tell, Settle, Step, Take, ThrowAway, TwoLists, after_step, two_lists}
+use Rattle.osdp_link_laws.specs.Link.{Account, Delivered, Delivery, Link, Lost, Move, Queue as QueueEvent, Reopen, Repeated, RestartController, RestartReader, Retarget, SetBusy, SetHandler, Submit, Tick, ToController, ToReader, Withdraw, WithdrawEvent, after_move, run, after_report, event_withdrawn, lost_at, LoseToReader, LoseToController, unoffered_in}
+use Rattle.osdp_link_laws.specs.TwoLists.{IsInStep, IsLevel, IsOneOrNone, IsRead, IsReadOff, IsStepOf, Issue, KeepsInStep, May, MovesInStep, Offer, Offers, OffersOnce, Queue, Report as Tell, Settle, Step, Take, ThrowAway, TwoLists, WithdrawEvent as WithdrawPlace, after_step, two_lists}
 use Rattle.osdp_link_laws.specs.Peers.{ReadEachOther}
-use Rattle.osdp_link_laws.proofs.InARow.{all_once, assumed_of, standing, stands}
+use Rattle.osdp_link_laws.proofs.InARow.{all_once, assumed_of, is_once_now, standing, stands}
+use Rattle.osdp_link_laws.proofs.Offered.{stands_apart}
+use Rattle.osdp_link_laws.proofs.Withdrawing.{Splits, but_oldest_is, splits}
 use Rattle.osdp_link_laws.proofs.Lines.{both}
-use Rattle.osdp_link_laws.proofs.Once.{Goes, is_once}
+use Rattle.osdp_link_laws.proofs.Once.{Goes}
 use Rattle.osdp_link_laws.proofs.Removed.{as_waiting}
 use Rattle.osdp_link_laws.proofs.Restarts.{front_at}
 use Rattle.osdp_link_laws.proofs.Stages.{Before, Behind, EventsAre, Fresh, Level, Never, Now, ReaderAt, Rest, Restarted, Stage, owed, owed_at, shown, shown_at, unreported_at}
 
 -- ---- the machine alone
+
+length_lost : {A : Type 0} (place : ℕ) (xs : List A) → place < length xs → length (lost_at place xs) + 1 ≡ length xs
+length_lost place [] few = absurd (omega (arith, few))
+length_lost zero (x ∷ xs) few = omega arith
+length_lost (suc place) (x ∷ xs) few = let less = length_lost place xs (omega (arith, few)) in omega (arith, less)
 
 keeps : (step : Step) (m : TwoLists) → May step m → IsInStep m → IsInStep (after_step step m)
 keeps (Issue c) m may h = record {
@@ -92,6 +99,13 @@ keeps ThrowAway m may h = record {
   taken = h.taken;
   reported = h.reported;
   offered = omega (arith, length-take m.offered m.queued, h.offered);
+  one = h.one;
+}
+keeps (WithdrawPlace place) m may h = record {
+  settled = h.settled;
+  taken = h.taken;
+  reported = h.reported;
+  offered = omega (arith, length_lost place m.queued may.1, may.0, may.1);
   one = h.one;
 }
 
@@ -184,9 +198,15 @@ is_read t once o = record {
 
 -- ---- each move
 
+-- all steps but one, which goes by its place
+abbrev IsCounted : Step → Type 0
+IsCounted (WithdrawPlace place) = ⊥
+IsCounted _ = Unit {0}
+
 -- what a step would be, before it is known that it may be
 abbrev Would : {H : Type 0} → Move H → Account → Account → Type 0
-Would move t u = (two_lists u ≡ two_lists t) ⊎ ((step : Step) × IsStepOf move step × (two_lists u ≡ after_step step (two_lists t)))
+Would move t u =
+    (two_lists u ≡ two_lists t) ⊎ ((step : Step) × IsStepOf move step × IsCounted step × (two_lists u ≡ after_step step (two_lists t)))
 
 -- where there is room for one that isn't told yet, all is told
 level : (m : TwoLists) → IsInStep m → m.taken + m.offered ≤ m.settled + m.reported → IsLevel m
@@ -196,14 +216,15 @@ level m before room = record {
 }
 
 -- a step that leads to counts in their order may be taken
-may : (step : Step) (m : TwoLists) → IsInStep m → IsInStep (after_step step m) → May step m
-may (Issue c) m before later = tt
-may (Queue e) m before later = tt
-may Take m before later = (level m before (omega (arith, later.one)), omega (arith, later.taken))
-may Settle m before later = omega (arith, later.settled)
-may Offer m before later = (level m before (omega (arith, later.one)), omega (arith, later.offered))
-may Tell m before later = omega (arith, later.reported)
-may ThrowAway m before later = tt
+may : (step : Step) (m : TwoLists) → IsCounted step → IsInStep m → IsInStep (after_step step m) → May step m
+may (Issue c) m counted before later = tt
+may (Queue e) m counted before later = tt
+may Take m counted before later = (level m before (omega (arith, later.one)), omega (arith, later.taken))
+may Settle m counted before later = omega (arith, later.settled)
+may Offer m counted before later = (level m before (omega (arith, later.one)), omega (arith, later.offered))
+may Tell m counted before later = omega (arith, later.reported)
+may ThrowAway m counted before later = tt
+may (WithdrawPlace place) m counted before later = absurd counted
 
 one_longer : {A : Type 0} (xs : List A) (x : A) → length (xs ++ x ∷ []) ≡ length xs + 1
 one_longer xs x = length-append xs (x ∷ [])
@@ -213,10 +234,10 @@ module _ (H : Type 0) where
   told_would None how now t = inl refl
   told_would (Some (report.Opened id)) how now t = inl refl
   told_would (Some (report.Settled c a)) how now t =
-      inr (Settle, tt, ap (λ n. record (two_lists t) { settled = n }) (one_longer t.settled (c, a)))
+      inr (Settle, tt, tt, ap (λ n. record (two_lists t) { settled = n }) (one_longer t.settled (c, a)))
   told_would (Some (report.Moved c a)) how now t =
-      inr (Settle, tt, ap (λ n. record (two_lists t) { settled = n }) (one_longer t.settled (c, reply.Com a)))
-  told_would (Some (report.Event e)) how now t = inr (Tell, tt, ap (λ n. record (two_lists t) { reported = n }) (one_longer t.reported e))
+      inr (Settle, tt, tt, ap (λ n. record (two_lists t) { settled = n }) (one_longer t.settled (c, reply.Com a)))
+  told_would (Some (report.Event e)) how now t = inr (Tell, tt, tt, ap (λ n. record (two_lists t) { reported = n }) (one_longer t.reported e))
   told_would (Some (report.PollAnswered a)) how now t = inl refl
   told_would (Some (report.Unread c code)) how now t = inl refl
   told_would (Some (report.Lost cause c)) how now t = inl refl
@@ -224,11 +245,11 @@ module _ (H : Type 0) where
   takes : (c : Command) (said : Option Reply) (how : Delivery) (t u : Account)
       → u ≡ record t { taken = t.taken ++ c ∷ []; given = t.given ++ link.given_to c said } → Would {H = H} (ToReader how) t u
   takes c said how t u is =
-      inr (Take, tt, ap two_lists is ∙ ap (λ n. record (two_lists t) { taken = n }) (one_longer t.taken c))
+      inr (Take, tt, tt, ap two_lists is ∙ ap (λ n. record (two_lists t) { taken = n }) (one_longer t.taken c))
 
   taken_would : (c : Command) (said : Option Reply) (events : List Event) (how : Delivery) (t : Account) → Would {H = H} (ToReader how) t (link.taken_command c said (take 1 events) t)
   taken_would command.Poll said [] how t = inl (ap (λ es. two_lists (record t { offered = es })) (append-nil t.offered))
-  taken_would command.Poll said (e ∷ rest) how t = inr (Offer, tt, ap (λ n. record (two_lists t) { offered = n }) (one_longer t.offered e))
+  taken_would command.Poll said (e ∷ rest) how t = inr (Offer, tt, tt, ap (λ n. record (two_lists t) { offered = n }) (one_longer t.offered e))
   taken_would c said events how t = takes c said how t _ refl
 
   kind_would : (k : Kind) (c : Option Command) (said : Option Reply) (events : List Event) (how : Delivery) (t : Account) → Would {H = H} (ToReader how) t (link.taken k c said (take 1 events) t)
@@ -261,11 +282,11 @@ quiet_tick (Pausing until o) s waiting t =
 
 module _ {H : Type 0} (answer_of : H → Command → Answer) (after : H → Command → H) where
   submits_would : (refusal : Option ControllerFault) (c : Command) (l : Link H) → Would {H = H} (Submit c) l.account (link.submits refusal c l).account
-  submits_would None c l = inr (Issue c, refl, refl)
+  submits_would None c l = inr (Issue c, refl, tt, refl)
   submits_would (Some fault) c l = inl refl
 
   queues_would : (full : Bool) (e : Event) (l : Link H) → Would {H = H} (QueueEvent e) l.account (link.queues full e l).account
-  queues_would false e l = inr (Queue e, refl, refl)
+  queues_would false e l = inr (Queue e, refl, tt, refl)
   queues_would true e l = inl refl
 
   reader_would : (ps : List Packet) (how : Delivery) (l : Link H) → Would {H = H} (ToReader how) l.account (link.to_reader answer_of after ps how l).account
@@ -287,7 +308,7 @@ module _ {H : Type 0} (answer_of : H → Command → Answer) (after : H → Comm
   is_one : (move : Move H) (t u : Account) → IsInStep (two_lists t) → IsInStep (two_lists u) → Would move t u
       → (two_lists u ≡ two_lists t) ⊎ ((step : Step) × IsStepOf move step × May step (two_lists t) × (two_lists u ≡ after_step step (two_lists t)))
   is_one move t u before later (inl same) = inl same
-  is_one move t u before later (inr (step, of, is)) = inr (step, of, may step (two_lists t) before (subst IsInStep is later), is)
+  is_one move t u before later (inr (step, of, counted, is)) = inr (step, of, may step (two_lists t) counted before (subst IsInStep is later), is)
 
   reopens : (refusal : Option ControllerFault) (ps qs : List Packet) (now : ℕ) (l : Link H)
       → IsOneOrNone (Reopen now) l (two_lists l.account) (two_lists (link.reopens refusal ps qs now l).account)
@@ -298,33 +319,57 @@ module _ {H : Type 0} (answer_of : H → Command → Answer) (after : H → Comm
 
   restarts_would : (address : ℕ) (handler : H) (room : ℕ) (t : Account) → Offers t → Would {H = H} (RestartReader address handler room) t (link.reader_restarted t)
   restarts_would address handler room t o =
-      inr (ThrowAway, tt, ap (λ es. record (two_lists t) { queued = es }) (is_front t.offered t.kept o.offered.0 o.offered.1))
+      inr (ThrowAway, tt, tt, ap (λ es. record (two_lists t) { queued = es }) (is_front t.offered t.kept o.offered.0 o.offered.1))
 
   retargets_would : (refusal : Option ControllerFault) (address : ℕ) (l : Link H) → two_lists (link.retargets refusal address l).account ≡ two_lists l.account
   retargets_would None address l = refl
   retargets_would (Some fault) address l = refl
 
-  one_or_none : (move : Move H) (l : Link H) → Offers l.account → IsInStep (two_lists l.account) → IsInStep (two_lists (after_move answer_of after move l).account)
+  -- the place of the event that is withdrawn is after those offered
+  withdraws_one : (q : EventQueue) (s : Splits q) (t : Account) → (more : List Event) × (t.kept ≡ (t.offered ++ more) ++ unoffered_in q)
+      → let m = two_lists t in let n = two_lists (event_withdrawn q t) in
+      (n ≡ m) ⊎ ((step : Step) × IsStepOf {H = H} WithdrawEvent step × May step m × (n ≡ after_step step m))
+  withdraws_one q s t (more, is) = elim s.few [
+    | inl (e, one) ↦
+        let less : unoffered_in q ≡ e ∷ s.rest = s.old_tail ∙ ap (λ es. es ++ s.rest) one in
+        let count : length t.kept ≡ length ((t.offered ++ more) ++ e ∷ s.rest) = ap length (is ∙ ap (λ es. (t.offered ++ more) ++ es) less) in
+        let few : length (unoffered_in q) ≡ length (e ∷ s.rest) = ap length less in
+        let places = length-append (t.offered ++ more) (e ∷ s.rest) in
+        let offered = length-append t.offered more in
+        inr (
+          WithdrawPlace (length t.kept - length (unoffered_in q)),
+          tt,
+          (omega (arith, count, few, places, offered), omega (arith, count, few, places, offered)),
+          refl,
+        )
+    | inr (none, nothing) ↦ inl (ap (λ es. record (two_lists t) { queued = es })
+        (but_oldest_is q s t.kept t.kept (sym (append-nil t.kept) ∙ ap (λ es. t.kept ++ es) (sym (ap (λ es. es ++ s.rest) none ∙ nothing)))
+        ∙ ap (λ es. t.kept ++ es) nothing ∙ append-nil t.kept))
+  ]
+
+  one_or_none : (move : Move H) (l : Link H) → (more : List Event) × (l.account.kept ≡ (l.account.offered ++ more) ++ unoffered_in l.reader.queue)
+      → Offers l.account → IsInStep (two_lists l.account) → IsInStep (two_lists (after_move answer_of after move l).account)
       → IsOneOrNone move l (two_lists l.account) (two_lists (after_move answer_of after move l).account)
-  one_or_none (Submit c) l offers before later =
+  one_or_none (Submit c) l apart offers before later =
       is_one (Submit c) l.account (after_move answer_of after (Submit c) l).account before later (submits_would (controllers.submit_refusal c l.controller) c l)
-  one_or_none (QueueEvent e) l offers before later =
+  one_or_none (QueueEvent e) l apart offers before later =
       is_one (QueueEvent e) l.account (after_move answer_of after (QueueEvent e) l).account before later (queues_would (length l.reader.queue.events == l.reader.queue.capacity) e l)
-  one_or_none (SetBusy busy) l offers before later = inl refl
-  one_or_none (Tick now) l offers before later =
+  one_or_none WithdrawEvent l apart offers before later = withdraws_one l.reader.queue (splits l.reader.queue) l.account apart
+  one_or_none (SetBusy busy) l apart offers before later = inl refl
+  one_or_none (Tick now) l apart offers before later =
       inl (quiet_tick l.controller.session.state (seen now l.controller.session) l.controller.waiting l.account)
-  one_or_none (ToReader how) l offers before later = is_one (ToReader how) l.account (after_move answer_of after (ToReader how) l).account before later (reader_would l.to_reader how l)
-  one_or_none (ToController how now) l offers before later =
+  one_or_none (ToReader how) l apart offers before later = is_one (ToReader how) l.account (after_move answer_of after (ToReader how) l).account before later (reader_would l.to_reader how l)
+  one_or_none (ToController how now) l apart offers before later =
       is_one (ToController how now) l.account (after_move answer_of after (ToController how now) l).account before later (controller_would l.to_controller how now l)
-  one_or_none (Reopen now) l offers before later = reopens (controllers.begin_refusal l.controller) l.to_reader l.to_controller now l
-  one_or_none (LoseToReader place) l offers before later = inl refl
-  one_or_none (LoseToController place) l offers before later = inl refl
-  one_or_none (SetHandler handler) l offers before later = inl refl
-  one_or_none Withdraw l offers before later = inl refl
-  one_or_none (Retarget address) l offers before later = inl (retargets_would (controllers.retarget_refusal address l.controller) address l)
-  one_or_none (RestartReader address handler room) l offers before later =
+  one_or_none (Reopen now) l apart offers before later = reopens (controllers.begin_refusal l.controller) l.to_reader l.to_controller now l
+  one_or_none (LoseToReader place) l apart offers before later = inl refl
+  one_or_none (LoseToController place) l apart offers before later = inl refl
+  one_or_none (SetHandler handler) l apart offers before later = inl refl
+  one_or_none Withdraw l apart offers before later = inl refl
+  one_or_none (Retarget address) l apart offers before later = inl (retargets_would (controllers.retarget_refusal address l.controller) address l)
+  one_or_none (RestartReader address handler room) l apart offers before later =
       is_one (RestartReader address handler room) l.account (link.reader_restarted l.account) before later (restarts_would address handler room l.account offers)
-  one_or_none (RestartController config room) l offers before later = inl refl
+  one_or_none (RestartController config room) l apart offers before later = inl refl
 
 -- ---- all moves
 
@@ -354,8 +399,11 @@ module _ {H : Type 0} (answer_of : H → Command → Answer) (after : H → Comm
       let next = after_move answer_of after move later in
       let given = assumed_of answer_of after peers l in
       let s = standing answer_of after settings given move later fit (stands answer_of after peers l moves b fits) in
-      in_step next.account (is_once s.fixed answer_of after settings next s.goes) (offers_at s.fixed answer_of after settings next s.goes)
+      in_step next.account (is_once_now answer_of after settings next s) (offers_at s.fixed answer_of after settings next s.goes)
 
   pub moves_in_step : MovesInStep answer_of after
   moves_in_step l moves move b fits fit =
-      one_or_none answer_of after move (run answer_of after moves l) (offers_once l moves b fits) (read_off l moves b fits).0 (next_counts l moves move b fits fit)
+      let s = stands answer_of after peers l moves b fits in
+      let apart = stands_apart s.fixed answer_of after l.reader.config (run answer_of after moves l) s.goes in
+      one_or_none answer_of after move (run answer_of after moves l)
+      (apart.more, apart.kept) (offers_once l moves b fits) (read_off l moves b fits).0 (next_counts l moves move b fits fit)

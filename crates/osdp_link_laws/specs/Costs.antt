@@ -6,7 +6,7 @@ use Rattle.osdp_controller.specs.Machine.{AreSettings}
 use Rattle.osdp_controller.specs.declared.config.ControllerConfig.{ControllerConfig}
 use Rattle.osdp_reader.specs.declared.handler.Answer.{Answer}
 use Rattle.osdp_link_laws.specs.Effects.{Forgets, SameButController, SameCommands}
-use Rattle.osdp_link_laws.specs.Headline.{Begins, IsBeginning, MovesFit}
+use Rattle.osdp_link_laws.specs.Headline.{Begins, IsBeginning, IsWithout, MovesFit}
 use Rattle.osdp_link_laws.specs.Link.{Account, Link, Move, RestartController, RestartReader, after_move, outstanding_command, run}
 use Rattle.osdp_link_laws.specs.Refusals.{KeepsReader}
 use Rattle.osdp_link_laws.specs.Sessions.{LeavesCommands, all_queued}
@@ -20,6 +20,12 @@ pub record IsParted (events : List Event) (t : Account) : Type 0 where
   pub before : List Event
   pub offered : t.offered ≡ before ++ front
   pub kept : t.kept ≡ t.offered ++ gone
+
+-- what was reported in the session is a beginning of these events and of those queued since, but those withdrawn since
+abbrev pub ReportsOnly : List Event → List Event → Account → Account → Type 0
+ReportsOnly offered since t u =
+    (taken_back : List Event) × (others : List Event)
+    × (u.withdrawn ≡ t.withdrawn ++ taken_back) × IsWithout taken_back since others × IsBeginning u.reported (offered ++ others)
 
 module _ {H : Type 0} where
   -- Of a reader: the events in its queue that it has not offered in this session, which are all but one at most. The one that it has offered
@@ -39,8 +45,8 @@ module _ {H : Type 0} where
     pub ended : LeavesCommands next.account []
 
   module _ (answer_of : H → Command → Answer) (after : H → Command → H) where
-    -- what may be reported in this session after the restart: what was offered before it, and what is queued after it. Whatever was thrown away
-    -- is none of these.
+    -- what may be reported in this session after the restart: what was offered before it, and what is queued after it, but those of these that
+    -- are withdrawn. Whatever was thrown away is none of these.
     abbrev pub ReportsNoMore : Type 0
     ReportsNoMore = (l : Link H) (moves : List (Move H)) (address : ℕ) (handler : H) (room : ℕ) (more : List (Move H)) → Begins l
         → MovesFit answer_of after moves l
@@ -49,7 +55,7 @@ module _ {H : Type 0} where
         let last = run answer_of after more next in
         MovesFit answer_of after (RestartReader address handler room ∷ more) before → All KeepsReader more
         → length last.earlier ≡ length before.earlier
-        → IsBeginning last.account.reported (before.account.offered ++ all_queued answer_of after more next)
+        → ReportsOnly before.account.offered (all_queued answer_of after more next) next.account last.account
 
     abbrev pub ReaderRestartCosts : Type 0
     ReaderRestartCosts = (l : Link H) (moves : List (Move H)) (address : ℕ) (handler : H) (room : ℕ) → Begins l

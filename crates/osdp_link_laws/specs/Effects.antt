@@ -1,6 +1,6 @@
 -- What each move of a program, of a power failure or of the line does to a link, however it stands: what is new, empty or gone after it, and
 -- that all else is as it was.
-use Rattle.std.specs.Prelude.{◌≡◌, ◌≢◌, ◌≤◌, ◌<◌, ◌+◌, ◌⊎◌, ℕ, suc, false, List, [], ◌∷◌, ◌++◌, length, map, Option, Some, None, Ok, option_to_list}
+use Rattle.std.specs.Prelude.{◌≡◌, ◌≢◌, ◌≤◌, ◌<◌, ◌+◌, ◌⊎◌, ℕ, suc, false, if◌then◌else◌, List, [], ◌∷◌, ◌++◌, length, map, Option, Some, None, Ok, option_to_list}
 use Rattle.osdp_frame.specs.Packet.{Packet}
 use Rattle.osdp_msg.specs.declared.command.Command.{Command}
 use Rattle.osdp_msg.specs.declared.command.Command.TheVariants.{Poll}
@@ -15,13 +15,22 @@ use Rattle.osdp_reader.specs.Table.{answer_to, command_in, hears, kind_of}
 use Rattle.osdp_reader.specs.declared.handler.Answer.{Answer}
 use Rattle.osdp_reader.specs.declared.kind.Kind.TheVariants.{Repeat, Taken}
 use Rattle.osdp_reader_laws.specs.Laws.{ComesTo, DiffersByHandler}
-use Rattle.osdp_link_laws.specs.Link.{Account, Link, LoseToController, LoseToReader, Move, Reopen, RestartController, RestartReader, Retarget, SetHandler, ThrownAway, Withdraw, Withdrawn, after_move, outstanding_command, run}
+use Rattle.osdp_link_laws.specs.Link.{Account, Link, LoseToController, LoseToReader, Move, Reopen, RestartController, RestartReader, Retarget, SetHandler, ThrownAway, Withdraw, WithdrawEvent, Withdrawn, after_move, outstanding_command, run}
 
 -- ---- accounts
 
 -- all that is said of commands stays
 abbrev pub SameCommands : Account → Account → Type 0
-SameCommands t u = u ≡ record t { queued = u.queued; kept = u.kept; thrown_away = u.thrown_away; offered = u.offered; reported = u.reported; restarts = u.restarts }
+SameCommands t u = u ≡ record t {
+  queued = u.queued;
+  withdrawn = u.withdrawn;
+  stayed = u.stayed;
+  kept = u.kept;
+  thrown_away = u.thrown_away;
+  offered = u.offered;
+  reported = u.reported;
+  restarts = u.restarts;
+}
 
 -- a restart of the reader throws these events away, which it had not offered in the session, and is counted; what it had offered stays, and
 -- all that is said of commands
@@ -38,6 +47,10 @@ Forgets outstanding waiting t u = u ≡ record t {
 -- a command that waited is taken back; all else stays
 abbrev pub TakesBack : Command → Account → Account → Type 0
 TakesBack command t u = u ≡ record t { removed = t.removed ++ Withdrawn command ∷ [] }
+
+-- an event is withdrawn: it is told so, and leaves the events that stay and those kept, of which these are the ones before the queue; all else stays
+abbrev pub WithdrawsIt : Event → List Event → List Event → List Event → Account → Account → Type 0
+WithdrawsIt event stayed kept queue t u = u ≡ record t { withdrawn = t.withdrawn ++ event ∷ []; stayed = stayed ++ queue; kept = kept ++ queue }
 
 -- ---- machines
 
@@ -65,7 +78,7 @@ module _ {H : Type 0} where
     pub config : new.config ≡ record old.config { address = here }
     pub last : new.last ≡ None
     pub stored : new.stored ≡ None
-    pub queue : new.queue ≡ record { events = []; capacity = room; offered = false }
+    pub queue : new.queue ≡ record { events = []; capacity = room; offered = false; ever_offered = false }
     pub busy : new.busy ≡ false
     pub handler : new.handler ≡ answering
 
@@ -94,6 +107,13 @@ module _ {H : Type 0} where
     pub waiting : next.controller.waiting ≡ left
     pub capacity : next.controller.capacity ≡ l.controller.capacity
     pub account : TakesBack command l.account next.account
+
+  -- this event alone has left the queue, from between these; what is offered is so still, and what is stored stays
+  pub record HasWithdrawn (front : List Event) (event : Event) (rest : List Event) (l next : Link H) : Type 0 where
+    pub others : SameButReader l next
+    pub reader : next.reader ≡ record l.reader { queue = record l.reader.queue { events = front ++ rest } }
+    pub account : (stayed kept : List Event) → l.account.stayed ≡ stayed ++ l.reader.queue.events → l.account.kept ≡ kept ++ l.reader.queue.events
+        → WithdrawsIt event stayed kept (front ++ rest) l.account next.account
 
   -- the controller has this address, and is as it was: closed, with the commands that wait
   pub record HasAddress (here : ℕ) (l next : Link H) : Type 0 where
@@ -157,6 +177,13 @@ module _ {H : Type 0} where
       pub refused : (l : Link H) (address : ℕ) → (l.controller.session.state ≢ Closed) ⊎ (127 ≤ address)
           → after_move answer_of after (Retarget address) l ≡ l
 
+    -- the oldest event that was never offered, in this session or before, where there is one: the front, or the one after a front that was
+    pub record WithdrawsEvents : Type 0 where
+      pub first : (l : Link H) (front : List Event) (event : Event) (rest : List Event) → l.reader.queue.events ≡ front ++ event ∷ rest
+          → length front ≡ (if l.reader.queue.ever_offered then 1 else 0) → HasWithdrawn front event rest l (after_move answer_of after WithdrawEvent l)
+      pub none : (l : Link H) → length l.reader.queue.events ≤ (if l.reader.queue.ever_offered then 1 else 0)
+          → after_move answer_of after WithdrawEvent l ≡ l
+
     pub record Loses : Type 0 where
       pub to_reader : (l : Link H) (place : ℕ) → let next = after_move answer_of after (LoseToReader place) l in
           LosesOne place l.to_reader next.to_reader × (next ≡ record l { to_reader = next.to_reader })
@@ -176,6 +203,7 @@ module _ {H : Type 0} where
       pub handler : (l : Link H) (handler : H) → let next = after_move answer_of after (SetHandler handler) l in
           HasHandler handler l next × AnswersBy handler l.reader next.reader
       pub withdraw : Withdraws
+      pub event : WithdrawsEvents
       pub retarget : Retargets
       pub reader : (l : Link H) (address : ℕ) (handler : H) (room : ℕ)
           → HasNewReader address handler room l (after_move answer_of after (RestartReader address handler room) l)

@@ -13,3 +13,4 @@ pub mod Ordinary
 pub mod Clean
 pub mod Effects
 pub mod Costs
+pub mod Withdrawn

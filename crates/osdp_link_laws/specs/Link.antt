@@ -1,5 +1,5 @@
 -- One link: a controller, a reader, and the packets that are on the way between them.
-use Rattle.std.specs.Prelude.{ℕ, zero, suc, Bool, true, false, ◌==◌, ◌+◌, List, [], ◌∷◌, ◌++◌, drop, length, map, take, Option, Some, None, option_to_list}
+use Rattle.std.specs.Prelude.{ℕ, zero, suc, Bool, true, false, ◌==◌, ◌+◌, ◌-◌, if◌then◌else◌, List, [], ◌∷◌, ◌++◌, drop, length, map, take, Option, Some, None, option_to_list}
 use Rattle.osdp_frame.specs.Packet.{Packet}
 use Rattle.osdp_msg.specs.declared.command.Command.{Command}
 use Rattle.osdp_msg.specs.declared.command.Command.TheVariants.{Poll}
@@ -20,7 +20,7 @@ use Rattle.osdp_controller.specs.Ticking.{Ticked, ticks}
 use Rattle.osdp_reader.specs.declared.handler.Answer.{Answer}
 use Rattle.osdp_reader.specs.declared.kind.Kind.{Kind}
 use Rattle.osdp_reader.specs.declared.kind.Kind.TheVariants as kind
-use Rattle.osdp_reader.specs.Queue.{released}
+use Rattle.osdp_reader.specs.Queue.{Queue as EventQueue, never_offered, released}
 use Rattle.osdp_reader.specs.State as readers
 use Rattle.osdp_reader.specs.State.{ReaderState}
 use Rattle.osdp_reader.specs.Table as reader
@@ -34,8 +34,9 @@ pub data Removal : Type 0 where
 -- Of commands: those that waited when it began and those accepted since; those that the reader has taken, POLLs left out, and each with the
 -- answer that the reader gave to it then; those settled, each with its answer; those told unsettled; the one that was outstanding when the
 -- controller restarted; and those that waited after the end and were withdrawn or thrown away.
--- Of events: those in the queue when it began and those accepted since; those of them that no restart of the reader has thrown away before
--- they were offered in this session, and those that one has; those that the reader has offered; and those reported.
+-- Of events: those in the queue when it began and those accepted since; those of them that the device has withdrawn, and those that it has
+-- not; of these, those that no restart of the reader has thrown away before they were offered in this session, and those that one has; those
+-- that the reader has offered; and those reported.
 -- And how often the reader has restarted in it.
 pub record Account : Type 0 where
   pub issued : List Command
@@ -46,6 +47,8 @@ pub record Account : Type 0 where
   pub forgotten : List Command
   pub removed : List Removal
   pub queued : List Event
+  pub withdrawn : List Event
+  pub stayed : List Event
   pub kept : List Event
   pub thrown_away : List Event
   pub offered : List Event
@@ -62,6 +65,8 @@ new_account waiting events = record {
   forgotten = [];
   removed = [];
   queued = events;
+  withdrawn = [];
+  stayed = events;
   kept = events;
   thrown_away = [];
   offered = [];
@@ -88,7 +93,7 @@ pub data Delivery : Type 0 where
 
 -- what may happen to a link, at any moment. `Reopen`: a session begins again. `SetHandler`: the device has another handler from now on.
 -- `Withdraw`: where the controller is closed, the command that has waited longest is taken back. `Retarget`: where it is closed, its
--- address is set. `RestartReader`: the reader is new, at this address, with this handler and room for events. `RestartController`: the
+-- address is set. `WithdrawEvent`: the device takes the oldest event back that it has never offered, if there is one. `RestartReader`: the reader is new, at this address, with this handler and room for events. `RestartController`: the
 -- controller is new, with these settings and room for commands. What is on the line stays on it. `LoseToReader`, `LoseToController`: what stands at this place of
 -- the line, the front at 0, is lost, beside what others say on it.
 pub data Move (H : Type 0) : Type 0 where
@@ -102,6 +107,7 @@ pub data Move (H : Type 0) : Type 0 where
   SetHandler : H → Move H
   Withdraw : Move H
   Retarget : ℕ → Move H
+  WithdrawEvent : Move H
   RestartReader : ℕ → H → ℕ → Move H
   RestartController : ControllerConfig → ℕ → Move H
   LoseToReader : ℕ → Move H
@@ -137,6 +143,22 @@ taken_command command said front t = record t { taken = t.taken ++ command ∷ [
 abbrev pub taken : Kind → Option Command → Option Reply → List Event → Account → Account
 taken kind.Taken (Some command) said front t = taken_command command said front t
 taken _ _ said front t = t
+
+-- the events of a queue that were never offered, in this session or before
+abbrev pub unoffered_in : EventQueue → List Event
+unoffered_in q = if q.ever_offered then drop 1 q.events else q.events
+
+-- events that end with those in the queue, but the oldest that was never offered
+abbrev pub but_oldest : EventQueue → List Event → List Event
+but_oldest q events = lost_at (length events - length (unoffered_in q)) events
+
+-- .. after an event was withdrawn
+abbrev pub event_withdrawn : EventQueue → Account → Account
+event_withdrawn q t = record t {
+  withdrawn = t.withdrawn ++ option_to_list (never_offered q);
+  stayed = but_oldest q t.stayed;
+  kept = but_oldest q t.kept;
+}
 
 -- .. after a restart of the reader: the events that it had not offered in this session are gone
 abbrev pub reader_restarted : Account → Account
@@ -174,7 +196,11 @@ module _ {H : Type 0} where
   queues true event l = l
   queues false event l = record l {
     reader = readers.after_submit event l.reader;
-    account = record l.account { queued = l.account.queued ++ event ∷ []; kept = l.account.kept ++ event ∷ [] };
+    account = record l.account {
+      queued = l.account.queued ++ event ∷ [];
+      stayed = l.account.stayed ++ event ∷ [];
+      kept = l.account.kept ++ event ∷ [];
+    };
   }
 
   -- the controller's frame goes after those that are on the way
@@ -214,6 +240,10 @@ module _ {H : Type 0} where
   abbrev pub retargets : Option ControllerFault → ℕ → Link H → Link H
   retargets (Some fault) address l = l
   retargets None address l = record l { controller = controllers.after_retarget address l.controller }
+
+  -- the oldest event that was never offered is taken back, where there is one; what is offered stays so
+  abbrev pub withdraws_event : Link H → Link H
+  withdraws_event l = record l { reader = readers.after_withdraw_event l.reader; account = event_withdrawn l.reader.queue l.account }
 
   -- the same device, with nothing taken, nothing stored and no event
   abbrev pub restarts_reader : ℕ → H → ℕ → Link H → Link H
@@ -263,6 +293,7 @@ module _ {H : Type 0} where
     after_move (SetHandler handler) l = record l { reader = readers.after_set_handler handler l.reader }
     after_move Withdraw l = withdraws l
     after_move (Retarget address) l = retargets (controllers.retarget_refusal address l.controller) address l
+    after_move WithdrawEvent l = withdraws_event l
     after_move (RestartReader address handler room) l = restarts_reader address handler room l
     after_move (RestartController config room) l = restarts_controller config room l
     after_move (LoseToReader place) l = record l { to_reader = lost_at place l.to_reader }

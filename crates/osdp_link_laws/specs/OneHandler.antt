@@ -30,11 +30,11 @@ module _ {H : Type 0} (answer_of : H → Command → Answer) (after : H → Comm
       (command, a.reply) ∷ with_answers config a.handler commands
 
   -- the commands that the reader has taken are a beginning of those issued, and hold each settled one, with the answer that the
-  -- reader gave, and one more at most; the events reported are a beginning of those queued
+  -- reader gave, and one more at most; the events reported are a beginning of those queued, but those withdrawn
   pub record Once (config : ReaderConfig) (handler : H) (t : Account) : Type 0 where
     pub taken : IsBeginning t.taken t.issued
     pub settled : (more : List (Command × Reply)) × (with_answers config handler t.taken ≡ t.settled ++ more) × (length more ≤ 1)
-    pub reported : IsBeginning t.reported t.queued
+    pub reported : IsBeginning t.reported t.stayed
 
   -- the handler after the commands taken in these sessions, the last of them first
   abbrev pub handler_after : ReaderConfig → H → List Account → H

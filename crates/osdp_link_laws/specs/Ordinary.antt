@@ -1,15 +1,16 @@
--- Runs in which neither end restarts and no command is withdrawn: the lists that such moves fill are empty.
+-- Runs in which neither end restarts and no command or event is withdrawn: the lists that such moves fill are empty.
 use Rattle.std.specs.Prelude.{◌≡◌, ◌≤◌, ◌⊎◌, All, List, [], ◌∷◌, ◌++◌, length}
 use Rattle.osdp_msg.specs.declared.command.Command.{Command}
 use Rattle.osdp_msg.specs.declared.event.Event.{Event}
 use Rattle.osdp_reader.specs.declared.handler.Answer.{Answer}
 use Rattle.osdp_link_laws.specs.Headline.{Begins, IsBeginning}
-use Rattle.osdp_link_laws.specs.Link.{Account, Link, LoseToController, LoseToReader, Move, RestartController, RestartReader, Retarget, SetHandler, Withdraw, run}
+use Rattle.osdp_link_laws.specs.Link.{Account, Link, LoseToController, LoseToReader, Move, RestartController, RestartReader, Retarget, SetHandler, Withdraw, WithdrawEvent, run}
 use Rattle.osdp_link_laws.specs.Sessions.{HaveLeft, Leaves, settled_commands}
 
--- a move with which neither end restarts and no command is withdrawn
+-- a move with which neither end restarts and no command or event is withdrawn
 abbrev pub IsOrdinary : {H : Type 0} → Move H → Type 0
 IsOrdinary Withdraw = ⊥
+IsOrdinary WithdrawEvent = ⊥
 IsOrdinary (RestartReader address handler room) = ⊥
 IsOrdinary (RestartController config room) = ⊥
 IsOrdinary _ = Unit {0}
@@ -18,6 +19,7 @@ IsOrdinary _ = Unit {0}
 abbrev pub IsSteady : {H : Type 0} → Move H → Type 0
 IsSteady (SetHandler handler) = ⊥
 IsSteady Withdraw = ⊥
+IsSteady WithdrawEvent = ⊥
 IsSteady (Retarget address) = ⊥
 IsSteady (RestartReader address handler room) = ⊥
 IsSteady (RestartController config room) = ⊥
@@ -25,10 +27,12 @@ IsSteady (LoseToReader place) = ⊥
 IsSteady (LoseToController place) = ⊥
 IsSteady _ = Unit {0}
 
--- no command is forgotten or removed, and no event is thrown away
+-- no command is forgotten or removed, and no event is withdrawn or thrown away
 pub record IsUndisturbed (t : Account) : Type 0 where
   pub forgotten : t.forgotten ≡ []
   pub removed : t.removed ≡ []
+  pub withdrawn : t.withdrawn ≡ []
+  pub stayed : t.stayed ≡ t.queued
   pub kept : t.kept ≡ t.queued
   pub thrown_away : t.thrown_away ≡ []
   pub restarts : t.restarts ≡ 0

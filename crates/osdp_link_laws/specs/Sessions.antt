@@ -1,5 +1,5 @@
--- Sessions in a row: what one has left the next begins with. No event is skipped but those that a restart threw away, and one at most is
--- told again; a command that has ended is none of a later session.
+-- Sessions in a row: what one has left the next begins with. No event is skipped but those that were withdrawn or that a restart threw away,
+-- and one at most is told again; a command that has ended is none of a later session.
 use Rattle.std.specs.Prelude.{◌≡◌, ◌≤◌, ◌+◌, Bool, true, false, ◌==◌, List, [], ◌∷◌, ◌++◌, length, map, Option, Some, None, ◌⊎◌}
 use Rattle.osdp_msg.specs.declared.command.Command.{Command}
 use Rattle.osdp_msg.specs.declared.event.Event.{Event}
@@ -30,11 +30,11 @@ pub record LeavesCommands (t : Account) (waiting : List Command) : Type 0 where
   pub one : length (t.unsettled ++ t.forgotten) ≤ 1
   pub taken : (t.taken ≡ settled_commands t) ⊎ (t.taken ≡ settled_commands t ++ (t.unsettled ++ t.forgotten))
 
--- .. and of its events: some have left the queue, and the others wait. Those that a restart threw away have left, and so have those that
+-- .. and of its events, but those withdrawn: some have left the queue, and the others wait. Those that a restart threw away have left, and so have those that
 -- were reported: all of them, or all but the last, which waits in front. Where the reader has restarted, one more may have left that was
 -- offered and never reported.
 pub record LeavesEvents (t : Account) (left events : List Event) : Type 0 where
-  pub queued : t.queued ≡ left ++ events
+  pub stayed : t.stayed ≡ left ++ events
   pub heard : List Event
   pub without : IsWithout t.thrown_away left heard
   pub again : List Event
@@ -65,13 +65,19 @@ abbrev pub ended_commands : List Account → List Command
 ended_commands [] = []
 ended_commands (t ∷ earlier) = ended_commands earlier ++ ended_in t
 
--- of all events, those that have left the queue in these sessions, session after session. The events of a session are those after what had
--- left before it.
+-- the events withdrawn in these sessions, session after session
+abbrev pub withdrawn_in : List Account → List Event
+withdrawn_in [] = []
+withdrawn_in (t ∷ earlier) = withdrawn_in earlier ++ t.withdrawn
+
+-- of all events, those that have left the queue in these sessions, session after session, and weren't withdrawn. The events of a session are
+-- those after what had left before it, of all that were accepted until its end and weren't withdrawn.
 abbrev pub HaveLeft : List Event → List Account → List Event → Type 0
 HaveLeft all [] gone = gone ≡ []
 HaveLeft all (t ∷ earlier) gone =
-    (before : List Event) × (left : List Event) × (events : List Event)
-    × HaveLeft all earlier before × IsBeginning (before ++ t.queued) all × (gone ≡ before ++ left) × LeavesEvents t left events
+    (before : List Event) × (left : List Event) × (events : List Event) × (until : List Event)
+    × HaveLeft all earlier before × IsBeginning until all × IsWithout (withdrawn_in (t ∷ earlier)) until (before ++ t.stayed)
+    × (gone ≡ before ++ left) × LeavesEvents t left events
 
 -- the commands of these sessions that have ended and were not settled
 abbrev pub unsettled_in : List Account → List Command
@@ -136,12 +142,14 @@ module _ {H : Type 0} where
         → let later = run answer_of after moves l in
         l.controller.waiting ++ all_submitted moves l ≡ ended_commands later.earlier ++ later.account.issued
 
-    -- .. and each event: the events of the last session are those that have not left the queue before it
+    -- .. and each event: those withdrawn left out, each at its own place, the events of the last session are those that have not left the
+    -- queue before it
     abbrev pub EventsHavePlaces : Type 0
     EventsHavePlaces = (l : Link H) (moves : List (Move H)) → Begins l → MovesFit answer_of after moves l
         → let later = run answer_of after moves l in
         let all = l.reader.queue.events ++ all_queued moves l in
-        (gone : List Event) × HaveLeft all later.earlier gone × (all ≡ gone ++ later.account.queued)
+        (gone : List Event) × HaveLeft all later.earlier gone
+        × IsWithout (withdrawn_in (later.account ∷ later.earlier)) all (gone ++ later.account.stayed)
 
     -- over all sessions no command is taken twice: those taken are a beginning of those accepted, but for some of those that have ended
     -- without being settled, each left out at its own place

@@ -1,6 +1,6 @@
 -- The headline's machine: two lists and four counts, without packets, numbers or timers. Of the commands issued so many were taken, and
--- of these so many were settled; of the events queued, but those that a restart threw away, so many were offered, and of these so many were
--- reported.
+-- of these so many were settled; of the events queued, but those that were withdrawn or that a restart threw away, so many were offered, and
+-- of these so many were reported.
 use Rattle.std.specs.Prelude.{◌≡◌, ◌≤◌, ◌<◌, ◌+◌, ◌⊎◌, ℕ, List, [], ◌∷◌, ◌++◌, length, take}
 use Rattle.osdp_msg.specs.declared.command.Command.{Command}
 use Rattle.osdp_msg.specs.declared.event.Event.{Event}
@@ -8,7 +8,7 @@ use Rattle.osdp_msg.specs.declared.reply.Reply.{Reply}
 use Rattle.osdp_reader.specs.declared.handler.Answer.{Answer}
 use Rattle.osdp_link_laws.specs.Headline.{MovesFit, Begins, IsBeginning, MoveFits}
 use Rattle.osdp_link_laws.specs.Link as link
-use Rattle.osdp_link_laws.specs.Link.{Account, Link, Move, after_move, run}
+use Rattle.osdp_link_laws.specs.Link.{Account, Link, Move, after_move, lost_at, run}
 
 pub record TwoLists : Type 0 where
   pub issued : List Command
@@ -23,7 +23,7 @@ abbrev pub beginning : List Command → List Event → TwoLists
 beginning commands events = record { issued = commands; queued = events; taken = 0; settled = 0; offered = 0; reported = 0 }
 
 -- a command is issued, an event queued; the next command is taken or settled, the next event offered or reported; the events that were
--- not offered are thrown away
+-- not offered are thrown away, or the one at this place, the first at 0, is withdrawn
 pub data Step : Type 0 where
   Issue : Command → Step
   Queue : Event → Step
@@ -32,6 +32,7 @@ pub data Step : Type 0 where
   Offer : Step
   Report : Step
   ThrowAway : Step
+  WithdrawEvent : ℕ → Step
 
 abbrev pub after_step : Step → TwoLists → TwoLists
 after_step (Issue command) m = record m { issued = m.issued ++ command ∷ [] }
@@ -41,6 +42,7 @@ after_step Settle m = record m { settled = m.settled + 1 }
 after_step Offer m = record m { offered = m.offered + 1 }
 after_step Report m = record m { reported = m.reported + 1 }
 after_step ThrowAway m = record m { queued = take m.offered m.queued }
+after_step (WithdrawEvent place) m = record m { queued = lost_at place m.queued }
 
 -- all that was taken is settled, and all that was offered is reported
 pub record IsLevel (m : TwoLists) : Type 0 where
@@ -48,7 +50,7 @@ pub record IsLevel (m : TwoLists) : Type 0 where
   pub events : m.reported ≡ m.offered
 
 -- the lists may always become longer, and events may always be thrown away. Where there is one more, the next command is taken, or the next event offered, once all before is
--- settled and reported. What is settled was taken, and what is reported was offered.
+-- settled and reported. What is settled was taken, what is reported was offered, and what is withdrawn was not.
 abbrev pub May : Step → TwoLists → Type 0
 May (Issue command) m = Unit {0}
 May (Queue event) m = Unit {0}
@@ -57,6 +59,7 @@ May Settle m = m.settled < m.taken
 May Offer m = IsLevel m × m.offered < length m.queued
 May Report m = m.reported < m.offered
 May ThrowAway m = Unit {0}
+May (WithdrawEvent place) m = (m.offered ≤ place) × (place < length m.queued)
 
 -- so no more is taken than issued and no more offered than queued, and of the last command taken and the last event offered at most one is
 -- not yet told
@@ -92,6 +95,7 @@ IsStepOf (link.ToReader how) Offer = Unit {0}
 IsStepOf (link.ToController how now) Settle = Unit {0}
 IsStepOf (link.ToController how now) Report = Unit {0}
 IsStepOf (link.RestartReader address handler room) ThrowAway = Unit {0}
+IsStepOf link.WithdrawEvent (WithdrawEvent place) = Unit {0}
 IsStepOf _ _ = ⊥
 
 -- a move of the link is none of them or one, where it may be; or a session begins, with the commands and the events that wait
@@ -99,7 +103,7 @@ abbrev pub IsOneOrNone : {H : Type 0} → Move H → Link H → TwoLists → Two
 IsOneOrNone (link.Reopen now) l m n = (n ≡ m) ⊎ (n ≡ beginning l.controller.waiting l.reader.queue.events)
 IsOneOrNone move l m n = (n ≡ m) ⊎ ((step : Step) × IsStepOf move step × May step m × (n ≡ after_step step m))
 
--- the events that the reader has offered are a beginning of those that no restart threw away, and hold those reported. Of the last command
+-- the events that the reader has offered are a beginning of those that were not withdrawn and that no restart threw away, and hold those reported. Of the last command
 -- taken and the last event offered at most one isn't told yet.
 pub record Offers (t : Account) : Type 0 where
   pub offered : IsBeginning t.offered t.kept

@@ -11,6 +11,9 @@ use osdp_reader::Handler;
 ///
 /// `withdraw`: where the controller is closed and a command waits, the one that has waited longest is taken back; else nothing happens.
 ///
+/// `event`: where some event of the device was never offered, in this session or before, the oldest of these is withdrawn: it leaves the queue, and no
+/// other does. What is offered stays so, and so does the stored reply. Else nothing happens.
+///
 /// `retarget`: where the controller is closed and the address is a device's, the controller has this address, and all else stays; else nothing
 /// happens.
 ///

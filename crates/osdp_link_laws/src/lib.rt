@@ -17,6 +17,7 @@ ghost use Rattle.osdp_link_laws.specs.TwoLists.{IsTwoLists, KeepsInStep};
 pub mod effects;
 pub mod ends;
 pub mod names;
+pub mod withdrawn;
 
 use osdp_reader::Handler;
 

@@ -3,7 +3,7 @@ use Rattle.std.specs.Prelude.{ℕ, Bool, false, Option, None}
 use Rattle.osdp_frame.specs.Packet.{Packet}
 use Rattle.osdp_reader.specs.declared.config.ReaderConfig.{ReaderConfig}
 use Rattle.osdp_msg.specs.declared.event.Event.{Event}
-use Rattle.osdp_reader.specs.Queue.{Queue, empty_queue, queued}
+use Rattle.osdp_reader.specs.Queue.{Queue, empty_queue, lapsed, queued, withdrawn}
 
 pub record ReaderState (H : Type 0) : Type 0 where
   -- what it is, and the address that it has now
@@ -32,6 +32,14 @@ module _ {H : Type 0} where
   -- after an event that was accepted
   abbrev pub after_submit : Event → ReaderState H → ReaderState H
   after_submit event r = record r { queue = queued event r.queue }
+
+  -- after an event that the device took back: the oldest that was never offered
+  abbrev pub after_withdraw_event : ReaderState H → ReaderState H
+  after_withdraw_event r = record r { queue = withdrawn r.queue }
+
+  -- after a front lapsed that was ever offered; a repeat still has the stored reply as its answer
+  abbrev pub after_lapse_event : ReaderState H → ReaderState H
+  after_lapse_event r = record r { queue = lapsed r.queue }
 
   -- after BUSY on or off
   abbrev pub after_set_busy : Bool → ReaderState H → ReaderState H

@@ -12,7 +12,7 @@ use Rattle.osdp_reader.specs.declared.config.ReaderConfig.{ReaderConfig}
 use Rattle.osdp_reader.specs.declared.handler.Answer.{Answer}
 use Rattle.osdp_reader.specs.declared.kind.Kind.{Kind}
 use Rattle.osdp_reader.specs.declared.kind.Kind.TheVariants.{Silent, Secured, Zero, Repeat, Taken, Busy, Wrong}
-use Rattle.osdp_reader.specs.Queue.{event_for, offering, released, withdrawn}
+use Rattle.osdp_reader.specs.Queue.{event_for, offering, released, unoffered}
 use Rattle.osdp_reader.specs.Replies.{own_reply, refused, reply_for, reply_packet, unread_reason}
 use Rattle.osdp_reader.specs.State.{ReaderState}
 
@@ -96,7 +96,7 @@ module _ {H : Type 0} where
       command = None;
       said = Some (refused (unread_reason fault));
       reply = Some (reply_packet p 0 (refused (unread_reason fault)));
-      reader = record r { last = Some 0; queue = withdrawn r.queue };
+      reader = record r { last = Some 0; queue = unoffered r.queue };
     }
     begun (Ok command) r p =
         let a = answer_to r.config r.handler command in
@@ -105,7 +105,7 @@ module _ {H : Type 0} where
           said = Some a.reply;
           reply = Some (reply_packet p 0 a.reply);
           reader = moved (new_address command)
-              (record r { last = Some 0; queue = withdrawn r.queue; handler = a.handler });
+              (record r { last = Some 0; queue = unoffered r.queue; handler = a.handler });
         }
 
     -- the next number: an offered front has come through, and the reply is stored

@@ -1,9 +1,9 @@
 //! The events that wait until the controller has them.
 
-ghost use Rattle.std.specs.Prelude.{◌≡◌, ◌↔◌, length, IfOk, IfErr, IsErr, OnOk};
+ghost use Rattle.std.specs.Prelude.{◌≡◌, ◌↔◌, ◌||◌, length, IfOk, IfErr, IsErr, OnOk};
 ghost use Rattle.std.specs.Option.{option_copied, option_map};
 ghost use Rattle.osdp_msg.specs.Events.{event_reply};
-ghost use Rattle.osdp_reader.specs.Queue.{empty_queue, event_for, queued, released, withdrawn};
+ghost use Rattle.osdp_reader.specs.Queue.{empty_queue, event_for, in_doubt, lapsed, never_offered, queued, released, unoffered, withdrawn};
 
 use circular_buffer::HeapCircularBuffer;
 use osdp_msg::{Command, Event};
@@ -14,7 +14,10 @@ use std::marker::Model;
 #[derive(Drop)]
 pub struct EventQueue {
     events: HeapCircularBuffer<Event>,
+    /// Whether the front is offered in this session.
     offered: bool,
+    /// Whether the front was ever offered, in this session or in one before.
+    ever_offered: bool,
 }
 
 impl Model for EventQueue {
@@ -22,7 +25,7 @@ impl Model for EventQueue {
 
     ghost Value = { Queue };
 
-    ghost view = { λ q. record { events = q.events.items; capacity = q.events.capacity; offered = q.offered } };
+    ghost view = { λ q. record { events = q.events.items; capacity = q.events.capacity; offered = q.offered; ever_offered = q.ever_offered } };
 }
 
 impl EventQueue {
@@ -34,6 +37,7 @@ impl EventQueue {
         Ok(EventQueue {
             events,
             offered: false,
+            ever_offered: false,
         })
     }
 
@@ -63,15 +67,48 @@ impl EventQueue {
     {
         if self.offered {
             let _ = self.events.pop_front();
+            self.ever_offered = false;
         }
         self.offered = false;
     }
 
     /// Offers nothing any more. All events stay.
-    pub fn withdraw(&mut self)
-        ensures { self.new ≡ withdrawn self.old }
+    pub fn stop_offering(&mut self)
+        ensures { self.new ≡ unoffered self.old }
     {
         self.offered = false;
+    }
+
+    /// Takes back the oldest event that was never offered, if there is one.
+    pub fn withdraw(&mut self) -> Option<Event>
+        ensures event { result ≡ never_offered self.old }
+        ensures queue { self.new ≡ withdrawn self.old }
+    {
+        if !self.ever_offered {
+            return self.events.pop_front();
+        }
+        if self.events.len() < 2 {
+            return None;
+        }
+        let front = self.events.pop_front();
+        let second = self.events.pop_front();
+        if let Some(front) = front {
+            let _ = self.events.push_front(front);
+        }
+        second
+    }
+
+    /// Lets the front go where it was ever offered, and gives it back. Nothing is offered any more then.
+    pub fn lapse(&mut self) -> Option<Event>
+        ensures event { result ≡ in_doubt self.old }
+        ensures queue { self.new ≡ lapsed self.old }
+    {
+        if !self.ever_offered {
+            return None;
+        }
+        self.offered = false;
+        self.ever_offered = false;
+        self.events.pop_front()
     }
 
     /// The event that is told: the front, where the command is a POLL and an event waits.
@@ -87,8 +124,9 @@ impl EventQueue {
 
     /// Keeps whether the front was told: it is offered then.
     pub fn offer(&mut self, told: bool)
-        ensures { self.new ≡ record self.old { offered = told } }
+        ensures { self.new ≡ record self.old { offered = told; ever_offered = told || self.old.ever_offered } }
     {
         self.offered = told;
+        self.ever_offered = told || self.ever_offered;
     }
 }

@@ -6,7 +6,8 @@ ghost use Rattle.osdp_reader.specs.contracts.reader.Reader.{the_row};
 ghost use Rattle.osdp_msg.specs.Limits.{most_waiting};
 ghost use Rattle.osdp_msg.specs.ReplyTable.{ReplyFits};
 ghost use Rattle.osdp_reader.specs.Spelled.{IsSpelled};
-ghost use Rattle.osdp_reader.specs.State.{after_set_busy, after_set_handler, after_submit, new_reader};
+ghost use Rattle.osdp_reader.specs.State.{after_lapse_event, after_set_busy, after_set_handler, after_submit, after_withdraw_event, new_reader};
+ghost use Rattle.osdp_reader.specs.Queue.{in_doubt, never_offered};
 ghost use Rattle.osdp_reader.specs.Table.{begun, command_in, hears, kind_by_number, kind_of, moved, new_address, is_for_another, taken};
 ghost use Rattle.osdp_reader.specs.Responses.{response_bytes, response_command, response_kind};
 ghost use Rattle.osdp_reader.specs.declared.fault.ReaderFault.TheVariants.{OutOfRange};
@@ -82,6 +83,25 @@ impl<H: Handler> Reader<H> {
         ensures back { IfErr result (λ back. (back ≡ event) × (self.new ≡ self.old)) }
     {
         self.queue.submit(event)
+    }
+
+    /// Takes back the oldest event that was never offered, in this session or in one before: it is never told then. None, and nothing
+    /// changes, where no such event waits.
+    pub fn withdraw_event(&mut self) -> Option<Event>
+        ensures event { result ≡ never_offered self.old.queue }
+        ensures reader { self.new ≡ after_withdraw_event self.old }
+    {
+        self.queue.withdraw()
+    }
+
+    /// Lets the oldest event go where it was ever offered, in this session or in one before: its answer may be lost, so the panel may
+    /// have it or not. None, and nothing changes, where it was never offered. Nothing is offered any more then, but the stored reply stays:
+    /// a repeat still has it as its answer, so within this session the event may yet be told again.
+    pub fn lapse_event(&mut self) -> Option<Event>
+        ensures event { result ≡ in_doubt self.old.queue }
+        ensures reader { self.new ≡ after_lapse_event self.old }
+    {
+        self.queue.lapse()
     }
 
     /// Sets whether the reader is busy. A busy reader takes nothing, but repeats its last reply.
@@ -256,7 +276,7 @@ impl<H: Handler> Reader<H> {
         ensures fits { IfSome (begun H.answer_of H.after (command_in packet.now) self.old packet.now).said ReplyFits }
     {
         self.last = Some(zero());
-        self.queue.withdraw();
+        self.queue.stop_offering();
         if let Err(fault) = read_command(packet, command) {
             spell_nak(packet, zero(), unread(fault), out);
             return;

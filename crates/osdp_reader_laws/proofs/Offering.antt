@@ -1,5 +1,5 @@
 -- What counts as offered is the front, told by the stored reply.
-use Rattle.std.proofs.Common.{◌≡◌, ℕ, Bool, false, List, [], ◌∷◌, ◌++◌, Option, Some, None, Result, Ok, Err, refl}
+use Rattle.std.proofs.Common.{◌≡◌, ℕ, Bool, true, false, cond, drop, take, List, [], ◌∷◌, ◌++◌, Option, Some, None, Result, Ok, Err, refl}
 use Rattle.std.specs.Prelude.{slice_get}
 use Rattle.std.specs.Option.{option_map}
 use Rattle.osdp_frame.specs.Packet.{Packet}
@@ -13,14 +13,20 @@ use Rattle.osdp_reader.specs.declared.kind.Kind.{Kind}
 use Rattle.osdp_reader_laws.specs.Laws.{TellsItsOffer}
 use Rattle.osdp_reader.specs.Queue.{Queue, offering, released}
 use Rattle.osdp_reader.specs.Replies.{reply_packet}
-use Rattle.osdp_reader.specs.State.{ReaderState, after_submit}
+use Rattle.osdp_reader.specs.State.{ReaderState, after_lapse_event, after_submit, after_withdraw_event}
 use Rattle.osdp_reader.specs.Table.{begun, command_in, moved, new_address, outcome, taken, event_or_answer}
 use Rattle.osdp_reader_laws.proofs.Outcomes.{by_kind, by_move}
 
-front_stays : (events more : List Event) (front : Event) → slice_get events 0 ≡ Some front
+pub front_stays : (events more : List Event) (front : Event) → slice_get events 0 ≡ Some front
     → slice_get (events ++ more) 0 ≡ Some front
 front_stays [] more front is = absurd cc
 front_stays (x ∷ xs) more front is = is
+
+rest_withdrawn : (ever : Bool) (events : List Event) (front : Event) → ever ≡ true → slice_get events 0 ≡ Some front
+    → slice_get (cond ever (take 1 events ++ drop 2 events) (drop 1 events)) 0 ≡ Some front
+rest_withdrawn false events front offered is = absurd cc
+rest_withdrawn true [] front offered is = absurd cc
+rest_withdrawn true (x ∷ xs) front offered is = is
 
 module _ {H : Type 0} where
   pub none_offered : (r : ReaderState H) → r.queue.offered ≡ false → TellsItsOffer r
@@ -37,6 +43,7 @@ module _ {H : Type 0} where
           (tells offered).1.0,
           record {
             front = front_stays r.queue.events (event ∷ []) (tells offered).0 is.front;
+            ever = is.ever;
             stored = is.stored;
             number = is.number;
             body = is.body;
@@ -49,7 +56,33 @@ module _ {H : Type 0} where
       → TellsItsOffer (record r { busy = busy; handler = handler })
   offer_stays r busy handler tells offered =
       let is = (tells offered).1.1 in
-      ((tells offered).0, ((tells offered).1.0, record { front = is.front; stored = is.stored; number = is.number; body = is.body }))
+      ((tells offered).0, ((tells offered).1.0, record { front = is.front; ever = is.ever; stored = is.stored; number = is.number; body = is.body }))
+
+  -- an event that is taken back isn't the one that is offered
+  pub withdraw_offer : (r : ReaderState H) → TellsItsOffer r → TellsItsOffer (after_withdraw_event r)
+  withdraw_offer r tells offered =
+      let is = (tells offered).1.1 in (
+        (tells offered).0,
+        (
+          (tells offered).1.0,
+          record {
+            front = rest_withdrawn r.queue.ever_offered r.queue.events (tells offered).0 is.ever is.front;
+            ever = is.ever;
+            stored = is.stored;
+            number = is.number;
+            body = is.body;
+          },
+        ),
+      )
+
+  -- where the front lapses nothing is offered
+  pub lapse_offer : (r : ReaderState H) → TellsItsOffer r → TellsItsOffer (after_lapse_event r)
+  lapse_offer r tells = by_ever r.queue.ever_offered
+    where
+      by_ever : (ever : Bool)
+          → TellsItsOffer (record r { queue = cond ever (record { events = drop 1 r.queue.events; capacity = r.queue.capacity; offered = false; ever_offered = false }) r.queue })
+      by_ever true = none_offered _ refl
+      by_ever false = tells
 
   module _ (answer_of : H → Command → Answer) (after : H → Command → H) where
     begun_offer : (read : Result Command MsgFault) (r : ReaderState H) (p : Packet)
@@ -66,7 +99,7 @@ module _ {H : Type 0} where
           handler = told.handler;
         })
     poll_offer None queue r p is = none_offered _ refl
-    poll_offer (Some event) queue r p is = λ offered. (event, (_, record { front = is; stored = refl; number = refl; body = refl }))
+    poll_offer (Some event) queue r p is = λ offered. (event, (_, record { front = is; ever = refl; stored = refl; number = refl; body = refl }))
 
     taken_offer : (read : Result Command MsgFault) (r : ReaderState H) (p : Packet)
         → TellsItsOffer (taken answer_of after read r p).reader

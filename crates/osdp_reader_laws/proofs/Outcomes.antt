@@ -9,7 +9,7 @@ use Rattle.osdp_msg.specs.declared.reply.Reply.{Reply}
 use Rattle.osdp_reader.specs.declared.handler.Answer.{Answer}
 use Rattle.osdp_reader.specs.declared.kind.Kind.{Kind}
 use Rattle.osdp_reader.specs.declared.kind.Kind.TheVariants.{Silent, Secured, Zero, Repeat, Taken, Busy, Wrong}
-use Rattle.osdp_reader.specs.Queue.{event_for, offering, released, withdrawn}
+use Rattle.osdp_reader.specs.Queue.{event_for, offering, released, unoffered}
 use Rattle.osdp_reader.specs.Replies.{refused, reply_packet, unread_reason}
 use Rattle.osdp_reader.specs.State.{ReaderState}
 use Rattle.osdp_reader.specs.Table.{answer_to, begun, command_in, event_or_answer, moved, new_address, outcome, taken}
@@ -32,7 +32,7 @@ module _ {H : Type 0} where
   at_address address r = record r { config = record r.config { address = address }; last = None; stored = None }
 
   abbrev pub after_zero : H → ReaderState H → ReaderState H
-  after_zero handler r = record r { last = Some 0; queue = withdrawn r.queue; handler = handler }
+  after_zero handler r = record r { last = Some 0; queue = unoffered r.queue; handler = handler }
 
   abbrev pub after_next : ℕ → Packet → Option Reply → H → ReaderState H → ReaderState H
   after_next number back told handler r =

@@ -16,7 +16,7 @@ use Rattle.osdp_reader.specs.declared.kind.Kind.TheVariants.{Zero, Taken}
 use Rattle.osdp_reader_laws.specs.Answering.{answers, handler_after_commands}
 use Rattle.osdp_reader.specs.Replies.{reply_packet}
 use Rattle.osdp_reader.specs.Spelled.{IsSpelled}
-use Rattle.osdp_reader.specs.State.{ReaderState, after_set_busy, after_set_handler, after_submit, new_reader}
+use Rattle.osdp_reader.specs.State.{ReaderState, after_lapse_event, after_set_busy, after_set_handler, after_submit, after_withdraw_event, new_reader}
 use Rattle.osdp_reader.specs.Table.{answer_to, command_in, hears, kind_of}
 
 -- neither BUSY nor a NAK 1 or 4, which say that the command wasn't taken
@@ -72,9 +72,10 @@ module _ {H : Type 0} where
   abbrev pub HasRoom : ReaderState H → Type 0
   HasRoom r = length r.queue.events ≤ r.queue.capacity
 
-  -- the front is this event, and the stored reply, with the last number, is the packet that tells it
+  -- the front is this event, it counts as ever offered, and the stored reply, with the last number, is the packet that tells it
   pub record IsOffered (r : ReaderState H) (event : Event) (p : Packet) : Type 0 where
     pub front : slice_get r.queue.events 0 ≡ Some event
+    pub ever : r.queue.ever_offered ≡ true
     pub stored : r.stored ≡ Some p
     pub number : r.last ≡ Some p.sequence
     pub body : p.body ≡ reply_code (event_reply event) ∷ reply_data (event_reply event)
@@ -189,14 +190,16 @@ module _ {H : Type 0} where
         ((hears answer_of after r p).reply ≡ Some (reply_packet p p.sequence a.reply))
         × ((hears answer_of after r p).reader.handler ≡ a.handler)
 
-    -- what holds of a reader holds after each of its calls: a packet, an event where there is room, BUSY on or off, and
-    -- another handler
+    -- what holds of a reader holds after each of its calls: a packet, an event where there is room, BUSY on or off, another handler,
+    -- an event that is taken back, and one that lapses
     abbrev pub IsKeptByCalls : (ReaderState H → Type 0) → Type 0
     IsKeptByCalls P =
         ((r : ReaderState H) (p : Packet) → P r → P (hears answer_of after r p).reader)
         × ((r : ReaderState H) (event : Event) → length r.queue.events ≢ r.queue.capacity → P r → P (after_submit event r))
         × ((r : ReaderState H) (busy : Bool) → P r → P (after_set_busy busy r))
         × ((r : ReaderState H) (handler : H) → P r → P (after_set_handler handler r))
+        × ((r : ReaderState H) → P r → P (after_withdraw_event r))
+        × ((r : ReaderState H) → P r → P (after_lapse_event r))
 
     -- it holds of each new reader too
     abbrev pub IsKept : (ReaderState H → Type 0) → Type 0

@@ -1,3 +1,5 @@
 pub mod Answering
 pub mod Laws
 pub mod Steps
+pub mod Runs
+pub mod Withdrawing

@@ -88,7 +88,7 @@ pub fn sends_what_it_says<H: Handler>()
 {}
 
 /// Whatever is called: a reply is stored wherever the last number is 1 to 3, what counts as offered is the front, told by that
-/// reply, no more events wait than there is room for, and the address is that of a device.
+/// reply, what was ever offered is an event that waits, no more events wait than there is room for, and the address is that of a device.
 pub fn reader_stays_well<H: Handler>()
     ensures reply { IsKept H.answer_of H.after KeepsReply }
     ensures offer { IsKept H.answer_of H.after TellsItsOffer }

@@ -12,10 +12,10 @@ use Rattle.osdp_link_laws.specs.Link as link
 use Rattle.osdp_link_laws.specs.Link.{Delivered, Delivery, Link, Lost, Move, Repeated, after_move}
 use Rattle.osdp_link_laws.specs.Peers.{ReadsWhatIsAsked}
 use Rattle.osdp_link_laws.specs.Refusals.{IsNoRefusal, RefusesNoNumber, told_by}
-use Rattle.osdp_link_laws.specs.Sessions.{AreInARow, HaveLeft, IsAmong, LastsOrLeaves, SessionsInARow, all_queued, all_submitted, all_taken, ended_commands, unsettled_in}
+use Rattle.osdp_link_laws.specs.Sessions.{AreInARow, HaveLeft, IsAmong, LastsOrLeaves, SessionsInARow, all_queued, all_submitted, all_taken, ended_commands, unsettled_in, withdrawn_in}
 use Rattle.osdp_link_laws.proofs.Lines.{both}
 use Rattle.osdp_shared_line.specs.Addresses.{NetMoveFits, NetMovesFit, in_front}
-use Rattle.osdp_shared_line.specs.Line.{LoseToPanel, LoseToReader, Net, NetMove, Queue, Reopen, RestartPanel, RestartReader, Retarget, SetBusy, SetHandler, Site, Submit, Tick, ToPanel, ToReader, Withdraw, address_of, after_net, is_comset_refused, is_retarget_refused, run, site_at}
+use Rattle.osdp_shared_line.specs.Line.{LoseToPanel, LoseToReader, Net, NetMove, Queue, Reopen, RestartPanel, RestartReader, Retarget, SetBusy, SetHandler, Site, Submit, Tick, ToPanel, ToReader, Withdraw, WithdrawEvent, address_of, after_net, is_comset_refused, is_retarget_refused, run, site_at}
 use Rattle.osdp_shared_line.specs.Runs.{EachHasSessionsInARow, EachHoldsOnce, EachIsALink, EachRefusesNoNumber, IsItsLink, moves_at, moves_of}
 use Rattle.osdp_shared_line.specs.Views as views
 use Rattle.osdp_shared_line.specs.Views.{IsMoved, OpensQuietly, front_to_panel, move_of, one_if, own, own_front, own_place, view}
@@ -81,6 +81,7 @@ module _ {H : Type 0} (answer_of : H → Command → Answer) (after : H → Comm
       both (Fit k s n) (is_comset_refused i (comset_of c) s n.sites) [] (one_if i k (link.Submit c)) tt (one_fits i k s n (link.Submit c) (λ e. fits.0))
   move_fits (Queue i e) k s n is fits = one_fits i k s n (link.Queue e) (λ e. tt)
   move_fits (SetBusy i busy) k s n is fits = one_fits i k s n (link.SetBusy busy) (λ e. tt)
+  move_fits (WithdrawEvent i) k s n is fits = one_fits i k s n link.WithdrawEvent (λ e. tt)
   move_fits (SetHandler i h) k s n is fits = one_fits i k s n (link.SetHandler h) (λ e. tt)
   move_fits (Withdraw i) k s n is fits = one_fits i k s n link.Withdraw (λ e. tt)
   move_fits (Retarget i address) k s n is fits =
@@ -180,7 +181,8 @@ module _ {H : Type 0} (answer_of : H → Command → Answer) (after : H → Comm
           commands = subst (λ (v : Link H). s.controller.waiting ++ all_submitted answer_of after ms l ≡ ended_commands v.earlier ++ v.account.issued) same
               (each.commands l ms begins h.fits);
           events = subst (λ (v : Link H). let all = s.reader.queue.events ++ all_queued answer_of after ms l in
-              (gone : List Event) × HaveLeft all v.earlier gone × (all ≡ gone ++ v.account.queued)) same (each.events l ms begins h.fits);
+              (gone : List Event) × HaveLeft all v.earlier gone
+              × IsWithout (withdrawn_in (v.account ∷ v.earlier)) all (gone ++ v.account.stayed)) same (each.events l ms begins h.fits);
           taken = subst (λ (v : Link H). (left_out : List Command) × (others : List Command)
               × IsAmong left_out (unsettled_in (v.account ∷ v.earlier))
               × IsWithout left_out (s.controller.waiting ++ all_submitted answer_of after ms l) others

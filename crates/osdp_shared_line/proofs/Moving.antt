@@ -21,7 +21,7 @@ use Rattle.osdp_link_laws.proofs.Lines.{each_map, each_of}
 use Rattle.osdp_link_laws.proofs.Numbers.{is_false, is_true}
 use Rattle.osdp_link_laws.proofs.Stages.{Each}
 use Rattle.osdp_shared_line.specs.Line as line
-use Rattle.osdp_shared_line.specs.Line.{LoseToPanel, LoseToReader, Net, NetMove, Queue, Reopen, RestartPanel, RestartReader, Retarget, SetBusy, SetHandler, Site, Submit, Tick, ToPanel, ToReader, Withdraw, address_of, after_net, calls, changed, gets, is_comset_refused, is_retarget_refused, is_told, link_of, left_by, restarts, site_at, tagged}
+use Rattle.osdp_shared_line.specs.Line.{LoseToPanel, LoseToReader, Net, NetMove, Queue, Reopen, RestartPanel, RestartReader, Retarget, SetBusy, SetHandler, Site, Submit, Tick, ToPanel, ToReader, Withdraw, WithdrawEvent, address_of, after_net, calls, changed, gets, is_comset_refused, is_retarget_refused, is_told, link_of, left_by, restarts, site_at, tagged}
 use Rattle.osdp_shared_line.specs.Views as views
 use Rattle.osdp_shared_line.specs.Views.{EachMoveIsItsOwn, IsMoved, IsQuiet, OpensQuietly, front_to_panel, move_of, one_if, own, own_front, own_place, view}
 use Rattle.osdp_shared_line.proofs.Hearing.{closed_hears, first_other, first_own, silent}
@@ -436,6 +436,7 @@ module _ {H : Type 0} (answer_of : H → Command → Answer) (after : H → Comm
       changes_always i k s (link.Queue e) (calls answer_of after (link.Queue e)) n is
       (queued (length s.reader.queue.events == s.reader.queue.capacity) e s (own k s.coming) (own k n.to_panel))
   each_is_its_own n (SetBusy i busy) heard quiet k s is = changes_always i k s (link.SetBusy busy) (calls answer_of after (link.SetBusy busy)) n is refl
+  each_is_its_own n (WithdrawEvent i) heard quiet k s is = changes_always i k s link.WithdrawEvent (calls answer_of after link.WithdrawEvent) n is refl
   each_is_its_own n (SetHandler i h) heard quiet k s is = changes_always i k s (link.SetHandler h) (calls answer_of after (link.SetHandler h)) n is refl
   each_is_its_own n (Withdraw i) heard quiet k s is = changes_always i k s link.Withdraw (line.withdraws answer_of after) n is refl
   each_is_its_own n (Retarget i address) heard quiet k s is =

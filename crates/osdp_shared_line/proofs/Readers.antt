@@ -4,7 +4,7 @@ use Rattle.std.proofs.lemmas.Bool.Decides.{eqb_tells}
 use Rattle.osdp_frame.specs.Packet.{Packet}
 use Rattle.osdp_msg.specs.declared.command.Command.{Command}
 use Rattle.osdp_msg.specs.declared.fault.MsgFault.{MsgFault}
-use Rattle.osdp_reader.specs.Queue.{event_for, offering, released, withdrawn}
+use Rattle.osdp_reader.specs.Queue.{event_for, offering, released, unoffered}
 use Rattle.osdp_reader.specs.Replies.{reply_packet}
 use Rattle.osdp_reader.specs.State.{ReaderState}
 use Rattle.osdp_reader.specs.Table.{Outcome, answer_to, begun, command_in, event_or_answer, hears, kind_of, moved, new_address, outcome, taken}
@@ -44,7 +44,7 @@ module _ {H : Type 0} where
     begun_well (Err fault) r p here read own = record { goes = inl refl; said = here; stored = own }
     begun_well (Ok c) r p here read own =
         let a = answer_to answer_of after r.config r.handler c in
-        let is = moves (new_address c) (record r { last = Some 0; queue = withdrawn r.queue; handler = a.handler }) own in
+        let is = moves (new_address c) (record r { last = Some 0; queue = unoffered r.queue; handler = a.handler }) own in
         record {
           goes = elim is.0 [ inl stays ↦ inl stays | inr went ↦ inr (ap address_in read ∙ went) ];
           said = here;

@@ -7,8 +7,8 @@ use Rattle.osdp_msg.specs.declared.command.Command.{Command}
 use Rattle.osdp_controller.specs.Hearing.{comset_of}
 use Rattle.osdp_controller.specs.declared.config.ControllerConfig.{ControllerConfig}
 use Rattle.osdp_reader.specs.declared.handler.Answer.{Answer}
-use Rattle.osdp_link_laws.specs.Costs.{ControllerCosts, ControllerRestartCosts, ReaderCosts, ReaderRestartCosts, ReportsNoMore}
-use Rattle.osdp_link_laws.specs.Headline.{IsBeginning, MovesFit}
+use Rattle.osdp_link_laws.specs.Costs.{ControllerCosts, ControllerRestartCosts, ReaderCosts, ReaderRestartCosts, ReportsNoMore, ReportsOnly}
+use Rattle.osdp_link_laws.specs.Headline.{MovesFit}
 use Rattle.osdp_link_laws.specs.Link as link
 use Rattle.osdp_link_laws.specs.Link.{Delivered, Delivery, Link, Lost, Move, Repeated, after_move}
 use Rattle.osdp_link_laws.specs.OneHandler.{AreOnce, KeepsDevice, OneHandlerHoldsOnce}
@@ -18,7 +18,7 @@ use Rattle.osdp_link_laws.specs.Refusals.{KeepsReader, RefusesNoNumberWithoutRes
 use Rattle.osdp_link_laws.specs.Sessions.{all_queued}
 use Rattle.osdp_link_laws.proofs.Lines.{both, each_all, each_append, each_of}
 use Rattle.osdp_link_laws.proofs.Stages.{Each}
-use Rattle.osdp_shared_line.specs.Line.{LoseToPanel, LoseToReader, Net, NetMove, Queue, Reopen, RestartPanel, RestartReader, Retarget, SetBusy, SetHandler, Site, Submit, Tick, ToPanel, ToReader, Withdraw, address_of, after_net, is_comset_refused, is_retarget_refused, run, site_at}
+use Rattle.osdp_shared_line.specs.Line.{LoseToPanel, LoseToReader, Net, NetMove, Queue, Reopen, RestartPanel, RestartReader, Retarget, SetBusy, SetHandler, Site, Submit, Tick, ToPanel, ToReader, Withdraw, WithdrawEvent, address_of, after_net, is_comset_refused, is_retarget_refused, run, site_at}
 use Rattle.osdp_shared_line.specs.Restarts.{EachOfOneHandlerHoldsOnce, EachOrdinaryIsUndisturbed, EachPanelRestartCosts, EachReaderRestartCosts, EachRefusesNoneWithoutRestart, EachReportsNoMore, IsOrdinaryOf, KeepsDeviceOf, KeepsReaderOf}
 use Rattle.osdp_shared_line.specs.Runs.{EachIsALink, moves_at, moves_of}
 use Rattle.osdp_shared_line.specs.Views as views
@@ -37,6 +37,7 @@ module _ {H : Type 0} (P : Move H → Type 0) (k : ℕ) where
   HoldsOf (Submit i command) = i ≡ k → P (link.Submit command)
   HoldsOf (Queue i event) = i ≡ k → P (link.Queue event)
   HoldsOf (SetBusy i busy) = i ≡ k → P (link.SetBusy busy)
+  HoldsOf (WithdrawEvent i) = i ≡ k → P link.WithdrawEvent
   HoldsOf (SetHandler i handler) = i ≡ k → P (link.SetHandler handler)
   HoldsOf (Withdraw i) = i ≡ k → P link.Withdraw
   HoldsOf (Retarget i address) = i ≡ k → P (link.Retarget address)
@@ -98,6 +99,7 @@ module _ {H : Type 0} (P : Move H → Type 0) (k : ℕ) where
       both (Each P) (is_comset_refused i (comset_of c) s n.sites) [] (one_if i k (link.Submit c)) tt (one_holds i (link.Submit c) holds)
   move_holds (Queue i e) s n holds = one_holds i (link.Queue e) holds
   move_holds (SetBusy i busy) s n holds = one_holds i (link.SetBusy busy) holds
+  move_holds (WithdrawEvent i) s n holds = one_holds i link.WithdrawEvent holds
   move_holds (SetHandler i h) s n holds = one_holds i (link.SetHandler h) holds
   move_holds (Withdraw i) s n holds = one_holds i link.Withdraw holds
   move_holds (Retarget i address) s n holds =
@@ -145,6 +147,7 @@ module _ {H : Type 0} (k : ℕ) where
   all_ordinary : (move : NetMove H) → IsOrdinaryOf k move → HoldsOf IsOrdinary k move
   all_ordinary (RestartPanel settings) is = absurd is
   all_ordinary (Withdraw i) is = λ e. absurd (is e)
+  all_ordinary (WithdrawEvent i) is = λ e. absurd (is e)
   all_ordinary move is = reader_kept move is
 
 module _ {H : Type 0} (answer_of : H → Command → Answer) (after : H → Command → H) where
@@ -218,13 +221,14 @@ module _ {H : Type 0} (answer_of : H → Command → Answer) (after : H → Comm
         let kept = each_all KeepsReader rest (moves_hold KeepsReader k answer_of after more next
         (each_holds (KeepsReaderOf k) (HoldsOf KeepsReader k) (reader_kept k) more (each_of (KeepsReaderOf k) more keep))) in
         let first_fits = subst (λ (v : Link H). MovesFit answer_of after (alone ∷ []) v) same ((fits.0 s h.is).0, tt) in
+        let restarted_link = after_move answer_of after alone (link.run answer_of after ms l) in
         let result = no_more l ms address handler room rest (h.up.begins k first h.was) own.fits
         (first_fits.0, subst (MovesFit answer_of after rest) restart on.fits) kept
         (sym (ap (λ (v : Link H). length v.earlier) all_end) ∙ inside ∙ ap (λ (v : Link H). length v.earlier) same) in
-        subst (λ (v : Link H). IsBeginning last.account.reported (s.account.offered ++ all_queued answer_of after rest v)) (sym restart)
-        (subst (λ (v : Link H). IsBeginning last.account.reported (v.account.offered ++ all_queued answer_of after rest (after_move answer_of after alone (link.run answer_of after ms l)))) (sym same)
-        (subst (λ (v : Link H). IsBeginning v.account.reported ((link.run answer_of after ms l).account.offered
-        ++ all_queued answer_of after rest (after_move answer_of after alone (link.run answer_of after ms l)))) (sym all_end) result))
+        subst (λ (v : Link H). ReportsOnly s.account.offered (all_queued answer_of after rest v) v.account last.account) (sym restart)
+        (subst (λ (v : Link H). ReportsOnly v.account.offered (all_queued answer_of after rest restarted_link) restarted_link.account last.account) (sym same)
+        (subst (λ (v : Link H). ReportsOnly (link.run answer_of after ms l).account.offered (all_queued answer_of after rest restarted_link) restarted_link.account v.account)
+        (sym all_end) result))
 
     -- ---- where a device never changes, or nobody restarts
 

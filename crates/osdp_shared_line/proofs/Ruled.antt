@@ -15,7 +15,7 @@ use Rattle.osdp_link_laws.proofs.Lines.{each_of}
 use Rattle.osdp_link_laws.proofs.Stages.{Each}
 use Rattle.osdp_shared_line.specs.Addresses.{IsAsked, IsSetUp, IsSaid, IsThere, MayComeTo, NetMovesFit, Sets, Somewhere, asked_in, unended}
 use Rattle.osdp_shared_line.specs.Line as line
-use Rattle.osdp_shared_line.specs.Line.{LoseToPanel, LoseToReader, Net, NetMove, Queue, Reopen, RestartPanel, RestartReader, Retarget, SetBusy, SetHandler, Site, Submit, Tick, ToPanel, ToReader, Withdraw, address_of, after_net, calls, first_gets, gets, site_at}
+use Rattle.osdp_shared_line.specs.Line.{LoseToPanel, LoseToReader, Net, NetMove, Queue, Reopen, RestartPanel, RestartReader, Retarget, SetBusy, SetHandler, Site, Submit, Tick, ToPanel, ToReader, Withdraw, WithdrawEvent, address_of, after_net, calls, first_gets, gets, site_at}
 use Rattle.osdp_shared_line.specs.Programs.{IsKnown, KeepRule, KeepsRule, Note, RestFits, RuleSuffices, all_addresses, is_opened, no_notes, note_after, noted_opened, noted_panel, notes_after}
 use Rattle.osdp_shared_line.proofs.Apart.{Apart, IsToClosed, IsOwnComset, all_left, reader_address}
 use Rattle.osdp_shared_line.proofs.Changing.{Nothing, One, left_withdrawn}
@@ -240,6 +240,8 @@ module _ {H : Type 0} (answer_of : H → Command → Answer) (after : H → Comm
       noted_after (Queue i e) rest rule = quiet_call answer_of after n notes h i (Queue i e) (calls answer_of after (link.Queue e)) (λ k s. refl)
           (λ s at. queueing answer_of after n notes h i (length s.reader.queue.events == s.reader.queue.capacity) e s)
       noted_after (SetBusy i busy) rest rule = quiet_call answer_of after n notes h i (SetBusy i busy) (calls answer_of after (link.SetBusy busy)) (λ k s. refl)
+          (λ s at. record { address = refl; left = all_left (unended s); reader = refl; coming = Nothing refl; opens = λ is. is })
+      noted_after (WithdrawEvent i) rest rule = quiet_call answer_of after n notes h i (WithdrawEvent i) (calls answer_of after link.WithdrawEvent) (λ k s. refl)
           (λ s at. record { address = refl; left = all_left (unended s); reader = refl; coming = Nothing refl; opens = λ is. is })
       noted_after (SetHandler i handler) rest rule =
           quiet_call answer_of after n notes h i (SetHandler i handler) (calls answer_of after (link.SetHandler handler)) (λ k s. refl)

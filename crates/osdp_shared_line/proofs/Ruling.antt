@@ -18,7 +18,7 @@ use Rattle.osdp_link_laws.proofs.Lines.{each_map, each_of}
 use Rattle.osdp_link_laws.proofs.Numbers.{is_false, is_true}
 use Rattle.osdp_shared_line.specs.Addresses.{IsAsked, IsSaid, IsThere, MayComeTo, Sets, Somewhere, asked_in, unended}
 use Rattle.osdp_shared_line.specs.Line as line
-use Rattle.osdp_shared_line.specs.Line.{LoseToPanel, LoseToReader, Net, NetMove, Queue, Reopen, RestartPanel, RestartReader, Retarget, SetBusy, SetHandler, Site, Submit, Tick, ToPanel, ToReader, Withdraw, address_of, after_net, calls, changed, first_gets, gets, is_command_accepted, is_comset_refused, is_retarget_accepted, is_retarget_refused, is_taken_beside, is_told, left_by, link_of, restarts, site_at, tagged}
+use Rattle.osdp_shared_line.specs.Line.{LoseToPanel, LoseToReader, Net, NetMove, Queue, Reopen, RestartPanel, RestartReader, Retarget, SetBusy, SetHandler, Site, Submit, Tick, ToPanel, ToReader, Withdraw, WithdrawEvent, address_of, after_net, calls, changed, first_gets, gets, is_command_accepted, is_comset_refused, is_retarget_accepted, is_retarget_refused, is_taken_beside, is_told, left_by, link_of, restarts, site_at, tagged}
 use Rattle.osdp_shared_line.specs.Programs.{IsKnown, KeepsRule, Note, also_at, note_after, notes_after, two_addresses}
 use Rattle.osdp_shared_line.specs.Views.{IsQuiet}
 use Rattle.osdp_shared_line.proofs.Apart.{all_left}

@@ -17,7 +17,7 @@ use Rattle.osdp_link_laws.proofs.Lines.{each_append, each_map}
 use Rattle.osdp_link_laws.proofs.Stages.{Each}
 use Rattle.osdp_shared_line.specs.Addresses.{IsAsked, IsSaid, IsThere, MayComeTo, Sets, SetsReader, Somewhere, unended}
 use Rattle.osdp_shared_line.specs.Line as line
-use Rattle.osdp_shared_line.specs.Line.{LoseToPanel, LoseToReader, Net, NetMove, Queue, Reopen, RestartPanel, RestartReader, Retarget, SetBusy, SetHandler, Site, Submit, Tick, ToPanel, ToReader, Withdraw, address_of, after_net, calls, changed, first_gets, gets, is_comset_refused, is_retarget_refused, is_taken_beside, is_told, left_by, link_of, restarts, site_at, tagged}
+use Rattle.osdp_shared_line.specs.Line.{LoseToPanel, LoseToReader, Net, NetMove, Queue, Reopen, RestartPanel, RestartReader, Retarget, SetBusy, SetHandler, Site, Submit, Tick, ToPanel, ToReader, Withdraw, WithdrawEvent, address_of, after_net, calls, changed, first_gets, gets, is_comset_refused, is_retarget_refused, is_taken_beside, is_told, left_by, link_of, restarts, site_at, tagged}
 use Rattle.osdp_shared_line.specs.Programs.{IsKnown, KeepsRule, Note, also_at, notes_after}
 use Rattle.osdp_shared_line.proofs.Apart.{Apart, IsAway, IsKept, IsOwnComset, IsToDevice, all_left, each_any, each_tagged, reader_address}
 use Rattle.osdp_shared_line.proofs.Changing.{One}

@@ -5,7 +5,7 @@ use Rattle.osdp_controller.specs.declared.config.ControllerConfig.{ControllerCon
 use Rattle.osdp_controller.specs.declared.state.State.TheVariants.{Closed}
 use Rattle.osdp_reader.specs.declared.handler.Answer.{Answer}
 use Rattle.osdp_link_laws.specs.Effects.{AnswersBy, HasAddress, HasHandler, HasNewController, HasNewReader, HasTakenBack}
-use Rattle.osdp_shared_line.specs.Line.{LoseToReader, Net, NetMove, Queue, Reopen, RestartPanel, RestartReader, Retarget, SetBusy, SetHandler, Site, Submit, Withdraw, after_net, is_retarget_accepted, site_at}
+use Rattle.osdp_shared_line.specs.Line.{LoseToReader, Net, NetMove, Queue, Reopen, RestartPanel, RestartReader, Retarget, SetBusy, SetHandler, Site, Submit, Withdraw, WithdrawEvent, after_net, is_retarget_accepted, site_at}
 use Rattle.osdp_shared_line.specs.Views.{HeardByOwn, view}
 
 module _ {H : Type 0} where
@@ -17,6 +17,7 @@ module _ {H : Type 0} where
   SpeaksOf k (SetHandler i handler) = i ≡ k
   SpeaksOf k (Withdraw i) = i ≡ k
   SpeaksOf k (Retarget i address) = i ≡ k
+  SpeaksOf k (WithdrawEvent i) = i ≡ k
   SpeaksOf k (LoseToReader i place) = i ≡ k
   SpeaksOf k (Reopen i now) = i ≡ k
   SpeaksOf k (RestartReader i address handler room) = i ≡ k

@@ -4,14 +4,13 @@ use Rattle.osdp_msg.specs.declared.command.Command.{Command}
 use Rattle.osdp_controller.specs.Machine.{AreSettings}
 use Rattle.osdp_controller.specs.declared.config.ControllerConfig.{ControllerConfig}
 use Rattle.osdp_reader.specs.declared.handler.Answer.{Answer}
-use Rattle.osdp_link_laws.specs.Costs.{ControllerCosts, ReaderCosts}
-use Rattle.osdp_link_laws.specs.Headline.{IsBeginning}
+use Rattle.osdp_link_laws.specs.Costs.{ControllerCosts, ReaderCosts, ReportsOnly}
 use Rattle.osdp_link_laws.specs.OneHandler.{AreOnce}
 use Rattle.osdp_link_laws.specs.Ordinary.{AreUndisturbed}
 use Rattle.osdp_link_laws.specs.Refusals.{IsNoRefusal, reports}
 use Rattle.osdp_link_laws.specs.Sessions.{all_queued}
 use Rattle.osdp_shared_line.specs.Addresses.{IsSetUp, NetMovesFit}
-use Rattle.osdp_shared_line.specs.Line.{Net, NetMove, RestartPanel, RestartReader, SetHandler, Site, Withdraw, after_net, run, site_at}
+use Rattle.osdp_shared_line.specs.Line.{Net, NetMove, RestartPanel, RestartReader, SetHandler, Site, Withdraw, WithdrawEvent, after_net, run, site_at}
 use Rattle.osdp_shared_line.specs.Runs.{moves_of}
 use Rattle.osdp_shared_line.specs.Views.{view}
 
@@ -27,9 +26,10 @@ module _ {H : Type 0} where
   KeepsDeviceOf k (RestartReader i address handler room) = i ≢ k
   KeepsDeviceOf k _ = Unit {0}
 
-  -- neither of its ends restarts, and no command of it is withdrawn
+  -- neither of its ends restarts, and no command or event of it is withdrawn
   abbrev pub IsOrdinaryOf : ℕ → NetMove H → Type 0
   IsOrdinaryOf k (Withdraw i) = i ≢ k
+  IsOrdinaryOf k (WithdrawEvent i) = i ≢ k
   IsOrdinaryOf k (RestartReader i address handler room) = i ≢ k
   IsOrdinaryOf k (RestartPanel settings) = ⊥
   IsOrdinaryOf k _ = Unit {0}
@@ -51,7 +51,8 @@ module _ {H : Type 0} where
         → let before = run answer_of after moves n in
         ReaderCosts (view k s before) (view k t (after_net answer_of after (RestartReader k address handler room) before))
 
-    -- nothing else is reported in the session of the restart but what was offered before it and what is queued since
+    -- nothing else is reported in the session of the restart but what was offered before it and what is queued since, but those of these that
+    -- are withdrawn
     abbrev pub EachReportsNoMore : Type 0
     EachReportsNoMore = (n : Net H) (moves : List (NetMove H)) (k address : ℕ) (handler : H) (room : ℕ) (more : List (NetMove H))
         (first s t last : Site H)
@@ -60,8 +61,7 @@ module _ {H : Type 0} where
         let next = after_net answer_of after (RestartReader k address handler room) before in
         NetMovesFit answer_of after (RestartReader k address handler room ∷ more) before → All (KeepsReaderOf k) more
         → site_at k (run answer_of after more next).sites ≡ Some last → length last.earlier ≡ length s.earlier
-        → IsBeginning last.account.reported
-        (s.account.offered ++ all_queued answer_of after (moves_of answer_of after k more next) (view k t next))
+        → ReportsOnly s.account.offered (all_queued answer_of after (moves_of answer_of after k more next) (view k t next)) t.account last.account
 
     -- the panel restarts: each site bears what a restart of its controller costs, and nothing is kept for any COMSET
     abbrev pub EachPanelRestartCosts : Type 0

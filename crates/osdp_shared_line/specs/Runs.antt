@@ -6,7 +6,7 @@ use Rattle.osdp_reader.specs.declared.handler.Answer.{Answer}
 use Rattle.osdp_link_laws.specs.Headline.{EachIsOnce, IsBeginning, IsWithout, MovesFit}
 use Rattle.osdp_link_laws.specs.Link.{Move}
 use Rattle.osdp_link_laws.specs.Refusals.{IsNoRefusal, told_by}
-use Rattle.osdp_link_laws.specs.Sessions.{AreInARow, HaveLeft, IsAmong, LastsOrLeaves, all_queued, all_submitted, all_taken, ended_commands, unsettled_in}
+use Rattle.osdp_link_laws.specs.Sessions.{AreInARow, HaveLeft, IsAmong, LastsOrLeaves, all_queued, all_submitted, all_taken, ended_commands, unsettled_in, withdrawn_in}
 use Rattle.osdp_shared_line.specs.Addresses.{IsSetUp, NetMovesFit}
 use Rattle.osdp_shared_line.specs.Line.{Net, NetMove, Site, after_net, run, site_at}
 use Rattle.osdp_shared_line.specs.Views.{IsMoved, move_of, view}
@@ -54,7 +54,8 @@ module _ {H : Type 0} (answer_of : H → Command → Answer) (after : H → Comm
     pub commands : first.controller.waiting ++ all_submitted answer_of after (moves_of k moves n) (view k first n)
         ≡ ended_commands last.earlier ++ last.account.issued
     pub events : let all = first.reader.queue.events ++ all_queued answer_of after (moves_of k moves n) (view k first n) in
-        (gone : List Event) × HaveLeft all last.earlier gone × (all ≡ gone ++ last.account.queued)
+        (gone : List Event) × HaveLeft all last.earlier gone
+        × IsWithout (withdrawn_in (last.account ∷ last.earlier)) all (gone ++ last.account.stayed)
     pub taken : (left_out : List Command) × (others : List Command)
         × IsAmong left_out (unsettled_in (last.account ∷ last.earlier))
         × IsWithout left_out (first.controller.waiting ++ all_submitted answer_of after (moves_of k moves n) (view k first n)) others

@@ -3,9 +3,9 @@ use Rattle.osdp_reader.specs.Table.{kind_of}
 use Rattle.osdp_reader_laws.specs.Laws.{HasDeviceAddress, HasRoom, KeepsReply}
 use Rattle.osdp_reader_laws.proofs.Addresses.{keeps_device}
 use Rattle.osdp_reader_laws.proofs.Keeping.{keeps_reply, none_is_some}
-use Rattle.osdp_reader_laws.proofs.Offering.{none_offered, offer_stays, outcome_offer, submit_offer}
+use Rattle.osdp_reader_laws.proofs.Offering.{lapse_offer, none_offered, offer_stays, outcome_offer, submit_offer, withdraw_offer}
 use Rattle.osdp_reader_laws.proofs.Outcomes.{outcome_keeps}
-use Rattle.osdp_reader_laws.proofs.Room.{keeps_room, submit_room}
+use Rattle.osdp_reader_laws.proofs.Room.{keeps_room, lapse_room, submit_room, withdraw_room}
 use Rattle.osdp_reader_laws.proofs.reader_stays_well.Goals as goal
 
 pub returns-clause-reply : goal.returns-clause-reply
@@ -16,6 +16,8 @@ returns-clause-reply g c = (
     (λ r event free keeps. keeps),
     (λ r busy keeps. keeps),
     (λ r handler keeps. keeps),
+    (λ r keeps. keeps),
+    (λ r keeps. keeps),
   ),
 )
 
@@ -27,6 +29,8 @@ returns-clause-offer g c = (
     (λ r event free tells. submit_offer r event tells),
     (λ r busy tells. offer_stays r busy r.handler tells),
     (λ r handler tells. offer_stays r r.busy handler tells),
+    (λ r tells. withdraw_offer r tells),
+    (λ r tells. lapse_offer r tells),
   ),
 )
 
@@ -38,6 +42,8 @@ returns-clause-room g c = (
     (λ r event free room. submit_room r event free room),
     (λ r busy room. room),
     (λ r handler room. room),
+    (λ r room. withdraw_room r room),
+    (λ r room. lapse_room r room),
   ),
 )
 
@@ -49,5 +55,7 @@ returns-clause-address g c = (
     (λ r event free device. device),
     (λ r busy device. device),
     (λ r handler device. device),
+    (λ r device. device),
+    (λ r device. device),
   ),
 )

@@ -1,0 +1,249 @@
+-- What each move does to the events of a session, those of them that stay, those kept, and those in the queue that were never offered.
+use Rattle.std.proofs.Common.{◌≡◌, ℕ, Bool, true, false, List, [], ◌∷◌, ◌++◌, length, drop, Option, Some, None, Result, Ok, Err, refl, sym, subst, ap, ◌∙◌, inl, inr, append_assoc}
+use Rattle.std.proofs.lemmas.List.{append-nil}
+use Rattle.std.specs.Prelude.{◌==◌, if◌then◌else◌, option_to_list}
+use Rattle.osdp_frame.specs.Packet.{Packet}
+use Rattle.osdp_msg.specs.declared.command.Command.{Command}
+use Rattle.osdp_msg.specs.declared.event.Event.{Event}
+use Rattle.osdp_msg.specs.declared.fault.MsgFault.{MsgFault}
+use Rattle.osdp_msg.specs.declared.reply.Reply.{Reply}
+use Rattle.osdp_controller.specs.Hearing as controller
+use Rattle.osdp_controller.specs.Machine as controllers
+use Rattle.osdp_controller.specs.Ticking.{ticks}
+use Rattle.osdp_controller.specs.declared.config.ControllerConfig.{ControllerConfig}
+use Rattle.osdp_controller.specs.declared.fault.ControllerFault.{ControllerFault}
+use Rattle.osdp_controller.specs.declared.report.Report.{Report}
+use Rattle.osdp_controller.specs.declared.report.Report.TheVariants as report
+use Rattle.osdp_reader.specs.Queue.{Queue, event_for, never_offered, offering, released, withdrawn}
+use Rattle.osdp_reader.specs.State.{ReaderState}
+use Rattle.osdp_reader.specs.Table as reader
+use Rattle.osdp_reader.specs.Table.{command_in, new_address}
+use Rattle.osdp_reader.specs.declared.handler.Answer.{Answer}
+use Rattle.osdp_reader.specs.declared.kind.Kind.{Kind}
+use Rattle.osdp_reader.specs.declared.kind.Kind.TheVariants as kind
+use Rattle.osdp_link_laws.specs.Link as link
+use Rattle.osdp_link_laws.specs.Link.{Account, Delivered, Delivery, Link, LoseToController, LoseToReader, Lost, Move, Queue as QueueEvent, Reopen, Repeated, RestartController, RestartReader, Retarget, SetBusy, SetHandler, Submit, Tick, ToController, ToReader, Withdraw, WithdrawEvent, after_move, after_report, unoffered_in}
+use Rattle.osdp_link_laws.specs.Refusals.{KeepsReader}
+use Rattle.osdp_link_laws.specs.Sessions.{queued, unless_full}
+use Rattle.osdp_link_laws.proofs.Growing.{GoesOn, taken_takes}
+use Rattle.osdp_link_laws.proofs.Lines.{both}
+use Rattle.osdp_link_laws.proofs.Withdrawing.{Goes, Splits, but_oldest_is, splits}
+
+-- ---- a queue: fewer were never offered
+
+abbrev pub Fewer : List Event → List Event → Type 0
+Fewer old new = (more : List Event) × (old ≡ more ++ new)
+
+same_tail : (q : Queue) → Fewer (unoffered_in q) (unoffered_in q)
+same_tail q = ([], refl)
+
+fewer_still : (old new last : List Event) → Fewer old new → Fewer new last → Fewer old last
+fewer_still old new last (more, is) (others, later) =
+    (more ++ others, is ∙ ap (λ l. more ++ l) later ∙ sym (append_assoc more others last))
+
+released_by : (events : List Event) (capacity : ℕ) (offered ever : Bool)
+    → let q : Queue = record { events = events; capacity = capacity; offered = offered; ever_offered = ever } in Fewer (unoffered_in q) (unoffered_in (released q))
+released_by events capacity false ever = ([], refl)
+released_by events capacity true true = ([], refl)
+released_by [] capacity true false = ([], refl)
+released_by (e ∷ events) capacity true false = (e ∷ [], refl)
+
+released_tail : (q : Queue) → Fewer (unoffered_in q) (unoffered_in (released q))
+released_tail q = released_by q.events q.capacity q.offered q.ever_offered
+
+offering_by : (told : Option Reply) (events : List Event) (capacity : ℕ) (offered ever : Bool)
+    → let q : Queue = record { events = events; capacity = capacity; offered = offered; ever_offered = ever } in Fewer (unoffered_in q) (unoffered_in (offering told q))
+offering_by None events capacity offered ever = ([], refl)
+offering_by (Some a) events capacity offered true = ([], refl)
+offering_by (Some a) [] capacity offered false = ([], refl)
+offering_by (Some a) (e ∷ events) capacity offered false = (e ∷ [], refl)
+
+offering_tail : (told : Option Reply) (q : Queue) → Fewer (unoffered_in q) (unoffered_in (offering told q))
+offering_tail told q = offering_by told q.events q.capacity q.offered q.ever_offered
+
+-- one more at the end
+queued_by : (e : Event) (events : List Event) (ever : Bool)
+    → Fewer ((if ever then drop 1 events else events) ++ e ∷ []) (if ever then drop 1 (events ++ e ∷ []) else events ++ e ∷ [])
+queued_by e events false = ([], refl)
+queued_by e [] true = (e ∷ [], refl)
+queued_by e (f ∷ events) true = ([], refl)
+
+module _ {H : Type 0} (answer_of : H → Command → Answer) (after : H → Command → H) where
+  moved_queue : (to : Option ℕ) (r : ReaderState H) → (reader.moved to r).queue ≡ r.queue
+  moved_queue None r = refl
+  moved_queue (Some address) r =
+      both (λ (s : ReaderState H). s.queue ≡ r.queue) (address == r.config.address) r
+      (record r { config = record r.config { address = address }; last = None; stored = None }) refl refl
+
+  abbrev Leaves : ReaderState H → ReaderState H → Type 0
+  Leaves r s = Fewer (unoffered_in r.queue) (unoffered_in s.queue)
+
+  begun_tail : (c : Result Command MsgFault) (r : ReaderState H) (p : Packet) → Leaves r (reader.begun answer_of after c r p).reader
+  begun_tail (Err fault) r p = ([], refl)
+  begun_tail (Ok c) r p = ([], sym (ap unoffered_in (moved_queue (new_address c) _)))
+
+  taken_tail : (c : Result Command MsgFault) (r : ReaderState H) (p : Packet) → Leaves r (reader.taken answer_of after c r p).reader
+  taken_tail (Err fault) r p = released_tail r.queue
+  taken_tail (Ok c) r p =
+      let told = event_for c (released r.queue).events in
+      subst (λ q. Fewer (unoffered_in r.queue) (unoffered_in q)) (sym (moved_queue (new_address c) _))
+      (fewer_still (unoffered_in r.queue) (unoffered_in (released r.queue)) (unoffered_in (offering told (released r.queue)))
+      (released_tail r.queue) (offering_tail told (released r.queue)))
+
+  outcome_tail : (k : Kind) (r : ReaderState H) (p : Packet) → Leaves r (reader.outcome answer_of after k r p).reader
+  outcome_tail kind.Silent r p = same_tail r.queue
+  outcome_tail kind.Secured r p = same_tail r.queue
+  outcome_tail kind.Zero r p = begun_tail (command_in p) r p
+  outcome_tail kind.Repeat r p = same_tail r.queue
+  outcome_tail kind.Taken r p = taken_tail (command_in p) r p
+  outcome_tail kind.Busy r p = same_tail r.queue
+  outcome_tail kind.Wrong r p = same_tail r.queue
+
+  hears_tail : (r : ReaderState H) (p : Packet) → Leaves r (reader.hears answer_of after r p).reader
+  hears_tail r p = outcome_tail (reader.kind_of r p) r p
+
+-- ---- accounts
+
+pub record SameEvents (t u : Account) : Type 0 where
+  pub queued : u.queued ≡ t.queued
+  pub withdrawn : u.withdrawn ≡ t.withdrawn
+  pub stayed : u.stayed ≡ t.stayed
+  pub kept : u.kept ≡ t.kept
+
+same_events : (t u : Account) → u.queued ≡ t.queued → u.withdrawn ≡ t.withdrawn → u.stayed ≡ t.stayed → u.kept ≡ t.kept → SameEvents t u
+same_events t u queued withdrawn stayed kept = record { queued = queued; withdrawn = withdrawn; stayed = stayed; kept = kept }
+
+told_same : (r : Option Report) (t : Account) → SameEvents t (after_report r t)
+told_same None t = same_events t t refl refl refl refl
+told_same (Some (report.Opened id)) t = same_events t t refl refl refl refl
+told_same r t = same_events t (after_report r t) refl refl refl refl
+
+taken_same : (k : Kind) (c : Option Command) (said : Option Reply) (front : List Event) (t : Account) → SameEvents t (link.taken k c said front t)
+taken_same k c said front t =
+    let more = taken_takes k c said front t in
+    same_events t (link.taken k c said front t) (ap (λ u. u.queued) more.1) (ap (λ u. u.withdrawn) more.1) (ap (λ u. u.stayed) more.1) (ap (λ u. u.kept) more.1)
+
+-- these events are queued, some of those never offered are left, and one or none is taken back
+pub record EventsGo (Keeps : Type 0) (es : List Event) (t u : Account) (tail new : List Event) : Type 0 where
+  pub took : List Event
+  pub queued : u.queued ≡ t.queued ++ es
+  pub withdrawn : u.withdrawn ≡ t.withdrawn ++ took
+  pub stayed : Goes es took t.stayed u.stayed tail new
+  pub kept : Keeps → Goes es took t.kept u.kept tail new
+
+none_goes : (s t tail new : List Event) → t ≡ s → Fewer tail new → Goes [] [] s t tail new
+none_goes s t tail new same (more, is) = inl (refl, same ∙ sym (append-nil s), more, append-nil tail ∙ is)
+
+still : {Keeps : Type 0} (t u : Account) (tail new : List Event) → SameEvents t u → Fewer tail new → EventsGo Keeps [] t u tail new
+still {Keeps} t u tail new same fewer = record {
+  took = [];
+  queued = same.queued ∙ sym (append-nil t.queued);
+  withdrawn = same.withdrawn ∙ sym (append-nil t.withdrawn);
+  stayed = none_goes t.stayed u.stayed tail new same.stayed fewer;
+  kept = λ keeps. none_goes t.kept u.kept tail new same.kept fewer;
+}
+
+module _ {H : Type 0} (answer_of : H → Command → Answer) (after : H → Command → H) where
+  abbrev pub Going : Type 0 → List Event → Link H → Link H → Type 0
+  Going Keeps es l m = EventsGo Keeps es l.account m.account (unoffered_in l.reader.queue) (unoffered_in m.reader.queue)
+
+  unchanged : {Keeps : Type 0} (l : Link H) → Going Keeps [] l l
+  unchanged {Keeps} l = still l.account l.account (unoffered_in l.reader.queue) (unoffered_in l.reader.queue)
+      (same_events l.account l.account refl refl refl refl) (same_tail l.reader.queue)
+
+  same_as : {Keeps : Type 0} (l : Link H) (t : Account) → SameEvents l.account t → EventsGo Keeps [] l.account t (unoffered_in l.reader.queue) (unoffered_in l.reader.queue)
+  same_as {Keeps} l t same = still l.account t (unoffered_in l.reader.queue) (unoffered_in l.reader.queue) same (same_tail l.reader.queue)
+
+  submits_go : {Keeps : Type 0} (refusal : Option ControllerFault) (c : Command) (l : Link H) → Going Keeps [] l (link.submits refusal c l)
+  submits_go {Keeps} (Some fault) c l = unchanged l
+  submits_go {Keeps} None c l = still l.account (link.submits None c l).account (unoffered_in l.reader.queue) (unoffered_in l.reader.queue)
+      (same_events l.account (link.submits None c l).account refl refl refl refl) (same_tail l.reader.queue)
+
+  queues_go : {Keeps : Type 0} (full : Bool) (e : Event) (l : Link H) → Going Keeps (unless_full full e) l (link.queues full e l)
+  queues_go {Keeps} true e l = unchanged l
+  queues_go {Keeps} false e l =
+      let fewer = queued_by e l.reader.queue.events l.reader.queue.ever_offered in
+      record {
+        took = [];
+        queued = refl;
+        withdrawn = sym (append-nil l.account.withdrawn);
+        stayed = inl (refl, refl, fewer.0, fewer.1);
+        kept = λ keeps. inl (refl, refl, fewer.0, fewer.1);
+      }
+
+  reader_gets_go : {Keeps : Type 0} (p : Packet) (l : Link H) → Going Keeps [] l (link.reader_gets answer_of after p l)
+  reader_gets_go {Keeps} p l =
+      let o = reader.hears answer_of after l.reader p in
+      still l.account (link.reader_gets answer_of after p l).account (unoffered_in l.reader.queue) (unoffered_in o.reader.queue)
+      (taken_same (reader.kind_of l.reader p) o.command o.said (link.front_of l.reader) l.account) (hears_tail answer_of after l.reader p)
+
+  to_reader_go : {Keeps : Type 0} (how : Delivery) (ps : List Packet) (l : Link H) → Going Keeps [] l (link.to_reader answer_of after ps how l)
+  to_reader_go {Keeps} how [] l = unchanged l
+  to_reader_go {Keeps} Delivered (p ∷ ps) l = reader_gets_go p (record l { to_reader = ps })
+  to_reader_go {Keeps} Lost (p ∷ ps) l = unchanged l
+  to_reader_go {Keeps} Repeated (p ∷ ps) l = reader_gets_go p l
+
+  tells : {Keeps : Type 0} (r : Option Report) (l : Link H) → EventsGo Keeps [] l.account (after_report r l.account) (unoffered_in l.reader.queue) (unoffered_in l.reader.queue)
+  tells {Keeps} r l = still l.account (after_report r l.account) (unoffered_in l.reader.queue) (unoffered_in l.reader.queue) (told_same r l.account) (same_tail l.reader.queue)
+
+  to_controller_go : {Keeps : Type 0} (how : Delivery) (now : ℕ) (qs : List Packet) (l : Link H) → Going Keeps [] l (link.to_controller qs how now l)
+  to_controller_go {Keeps} how now [] l = unchanged l
+  to_controller_go {Keeps} Delivered now (q ∷ qs) l = tells (controller.hears q now l.controller.session).report l
+  to_controller_go {Keeps} Lost now (q ∷ qs) l = unchanged l
+  to_controller_go {Keeps} Repeated now (q ∷ qs) l = tells (controller.hears q now l.controller.session).report l
+
+  retargets_go : {Keeps : Type 0} (refusal : Option ControllerFault) (address : ℕ) (l : Link H) → Going Keeps [] l (link.retargets refusal address l)
+  retargets_go {Keeps} (Some fault) address l = unchanged l
+  retargets_go {Keeps} None address l = unchanged l
+
+  -- the oldest that was never offered is taken back
+  loses : (q : Queue) (s : Splits q) (all : List Event) → Goes [] (option_to_list (never_offered q)) all (link.but_oldest q all) (unoffered_in q) (unoffered_in (withdrawn q))
+  loses q s all = elim s.few [
+    | inl (e, is) ↦ inr (
+      refl,
+      e,
+      s.taken ∙ is,
+      s.old_tail ∙ ap (λ l. l ++ s.rest) is ∙ ap (λ l. e ∷ l) (sym s.new_tail),
+      λ front ends. but_oldest_is q s front all (ends ∙ ap (λ l. front ++ e ∷ l) s.new_tail ∙ ap (λ l. front ++ (l ++ s.rest)) (sym is))
+          ∙ ap (λ l. front ++ l) (sym s.new_tail),
+    )
+    | inr (none, nothing) ↦ inl (
+      s.taken ∙ none,
+      but_oldest_is q s all all (sym (append-nil all) ∙ ap (λ l. all ++ l) (sym (ap (λ l. l ++ s.rest) none ∙ nothing))) ∙ ap (λ l. all ++ l) nothing,
+      [],
+      append-nil (unoffered_in q) ∙ s.old_tail ∙ ap (λ l. l ++ s.rest) none ∙ sym s.new_tail,
+    )
+  ]
+
+  withdraws_go : {Keeps : Type 0} (l : Link H) → Going Keeps [] l (link.withdraws_event l)
+  withdraws_go {Keeps} l = record {
+    took = option_to_list (never_offered l.reader.queue);
+    queued = sym (append-nil l.account.queued);
+    withdrawn = refl;
+    stayed = loses l.reader.queue (splits l.reader.queue) l.account.stayed;
+    kept = λ keeps. loses l.reader.queue (splits l.reader.queue) l.account.kept;
+  }
+
+  pub events_go : (move : Move H) (l : Link H) → GoesOn move → Going (KeepsReader move) (queued move l) l (after_move answer_of after move l)
+  events_go (Submit c) l on = submits_go (controllers.submit_refusal c l.controller) c l
+  events_go (QueueEvent e) l on = queues_go (length l.reader.queue.events == l.reader.queue.capacity) e l
+  events_go (SetBusy busy) l on = unchanged l
+  events_go (Tick now) l on = tells (ticks now l.controller.session l.controller.waiting).step.report l
+  events_go (ToReader how) l on = to_reader_go how l.to_reader l
+  events_go (ToController how now) l on = to_controller_go how now l.to_controller l
+  events_go (LoseToReader place) l on = unchanged l
+  events_go (LoseToController place) l on = unchanged l
+  events_go (SetHandler handler) l on = unchanged l
+  events_go Withdraw l on = same_as l (link.withdraws l).account (same_events l.account (link.withdraws l).account refl refl refl refl)
+  events_go (Retarget address) l on = retargets_go (controllers.retarget_refusal address l.controller) address l
+  events_go WithdrawEvent l on = withdraws_go l
+  events_go (RestartReader address handler room) l on = record {
+    took = [];
+    queued = sym (append-nil l.account.queued);
+    withdrawn = sym (append-nil l.account.withdrawn);
+    stayed = none_goes l.account.stayed l.account.stayed (unoffered_in l.reader.queue) [] refl (unoffered_in l.reader.queue, sym (append-nil (unoffered_in l.reader.queue)));
+    kept = λ keeps. absurd keeps;
+  }
+  events_go (RestartController config room) l on =
+      let t = link.controller_restarted l.controller l.account in same_as l t (same_events l.account t refl refl refl refl)
+  events_go (Reopen now) l on = absurd on
