@@ -12,6 +12,7 @@ from .serial_port import RATES, has_rate
 EVERYBODY = 127  # the configuration address: each device answers there
 ANSWER = 0.2  # seconds that an answer may take
 GAP = 0.03  # seconds of silence after which an answer is over
+SETTLES = 0.05  # seconds that a port is left after its rate was changed
 CHECKS = ("crc", "sum")
 LINE = re.compile(r"^\d+:\d+ (.*)$", re.M)
 REPLY = re.compile(r"reply (\d+) seq (\d) (?:crc|sum) (.*)")
@@ -39,6 +40,12 @@ class Line:
         self.port, self.console, self.osdp = port, console, osdp
         self.wait = ANSWER
         self.made = {}
+
+    def goes(self, rate):
+        """Sets the port to a rate. An adapter may need a moment for it."""
+        if rate != self.port.rate:
+            self.port.set_rate(rate)
+            time.sleep(SETTLES)
 
     def packet(self, address, number, check, text):
         """A packet as `osdp make` spells it."""
@@ -128,7 +135,7 @@ class Search:
     def goes(self):
         """Tries each rate with both checks by the configuration address."""
         for rate in self.rates():
-            self.line.port.set_rate(rate)
+            self.line.goes(rate)
             for check in CHECKS:
                 if not self.line.is_going():
                     return
@@ -147,7 +154,7 @@ class Search:
         """Nobody answers at the configuration address: asks each address, at each rate, with both checks."""
         self.say(f"nobody answers at address {EVERYBODY}: each address is asked at each rate, which takes some {len(RATES) * 2 * EVERYBODY * self.line.wait / 60:.0f} minutes; Ctrl-C ends it")
         for rate in self.rates():
-            self.line.port.set_rate(rate)
+            self.line.goes(rate)
             for check in CHECKS:
                 if self.line.is_going() and self.each_address(check):
                     break
@@ -156,7 +163,7 @@ class Search:
 def opens(line, place, check, identity):
     """Whether this device answers an opening there."""
     address, rate = place
-    line.port.set_rate(rate)
+    line.goes(rate)
     for _ in range(3):
         replies, _ = line.replies(line.ask(address, 0, check, "ID 0"))
         if (address, f"PDID {identity}") in replies:
