@@ -109,7 +109,7 @@ class Panel:
             device.stands(device.place)  # it answers here
         elif reply.startswith("NAK"):
             device.stands(device.place)
-            self.stays_behind(device)
+            self.refuses_rate(device)
         self.keep()
 
     def heed_withdrawn(self, device, words):
@@ -192,7 +192,7 @@ class Panel:
         else:
             self.submit(device, f"COMSET {device.address} {self.goal}")
 
-    def stays_behind(self, device):
+    def refuses_rate(self, device):
         """A device has refused another rate: the others come back to it, once."""
         if self.goal is None or device.place.rate == self.goal:
             return
@@ -280,7 +280,7 @@ class Panel:
             raise Refused(f"the port has no rate {words[1]}")
         for each in self.devices:
             if each.session != "open":
-                raise Refused(f"the session with {each.address} isn't open: it would be left behind")
+                raise Refused(f"the session with {each.address} isn't open: it would stay at its rate, where nobody finds it")
             if each.is_in_doubt():
                 raise Refused(f"the COMSET of {each.address} isn't answered yet")
 
