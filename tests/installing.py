@@ -4,6 +4,7 @@ Takes the path of the program.
 A panel runs by `osdp panel` in simulated time, and a device that the fault is put into answers it. What the table speaks of is read from the trace by
 `osdp show`, each line with the way of its burst, and from what the panel has told. A row is its text in the page, so that a row that is changed there
 has to be changed here."""
+import itertools
 import random
 import re
 import subprocess
@@ -118,6 +119,12 @@ def noisy(burst, chance):
     return [(3, b"\xa7\x21")] * (chance.random() < 0.15) + [(6, whole)]
 
 
+def at_times():
+    """A device that is cut off now and then."""
+    count = itertools.count()
+    return lambda burst, _: [] if next(count) % 40 > 32 else [(5, answer(burst))]
+
+
 def another_address(burst, _):
     return [(5, crc(bytes([0x53, 0x89]) + answer(burst)[2:-2]))]
 
@@ -201,6 +208,12 @@ class Seen:
     def has_reply(self, text):
         return any(line.startswith("reply") and line.endswith(text) for _, line in self.lines)
 
+    def has_another_address(self):
+        """Most of the `reply` have another address than the `cmd` before them."""
+        lines = [line.split() for _, line in self.lines if line.startswith(("cmd", "reply"))]
+        pairs = [(one[1], other[1]) for one, other in zip(lines, lines[1:]) if one[0] == "cmd" and other[0] == "reply"]
+        return len(pairs) > 2 and sum(one != other for one, other in pairs) > len(pairs) / 2
+
     def repeats(self):
         """Most of the `cmd` come again before they are answered."""
         cmds = [line for _, line in self.lines if line.startswith("cmd")]
@@ -223,12 +236,13 @@ ROWS = {
     "`reply .. NAK 6`, or `passed over I block`": (lambda seen: seen.has_reply("NAK 6") or seen.tells("passed over 1 block"), [("Secure Channel", lambda: Capture(secure))]),
     "`lost I too-busy`": (lambda seen: seen.tells("lost 1 too-busy"), [("busy", lambda: Capture(busy))]),
     "`lost I number-refused` at each opening": (lambda seen: seen.tells("lost 1 number-refused"), [("another session", lambda: Capture(number_refused))]),
+    "a `reply` with another address than its `cmd`": (lambda seen: seen.has_another_address(), [("answers with another address", lambda: Capture(another_address))]),
     "`reply .. PDID`, and each `cmd` comes again": (lambda seen: any(" PDID " in line for _, line in seen.lines) and seen.repeats() and not seen.tells("passed over"),
                                                    [("late answers", lambda: Capture(late))]),
     "`passed over I seq N`": (lambda seen: seen.tells("passed over 1 seq"), [("another number", lambda: Capture(another_number))]),
     "`passed over I` and another reply": (lambda seen: seen.tells("passed over 1"), [("another reply", lambda: Capture(another_reply))]),
     "`refused F3` or `skip` now and then": (lambda seen: "reply" in seen.kinds() and any(line.startswith(("refused", "skip")) for _, line in seen.lines), [("noise", lambda: Capture(noisy))]),
-    "`lost I no-reply` every few seconds": (lambda seen: seen.tells("lost 1 no-reply"), [("answers with another address", lambda: Capture(another_address))]),
+    "`lost I no-reply` every few seconds": (lambda seen: seen.tells("lost 1 no-reply"), [("a loose wire", lambda: Capture(at_times()))]),
     "none of these, and a `cmd` was left out": (lambda seen: seen.echoes > 0, [("an echo", lambda: Capture(echo))]),
 }
 
