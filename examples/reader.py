@@ -1,37 +1,25 @@
 #!/usr/bin/env python3
-"""A reader on a serial port.
+"""A small reader on a serial port, to copy. `osdp-port` has more: a place that is kept, ports that come back, traces.
 
-    reader.py [--trace FILE] [--keep FILE] PORT RATE [PROGRAM] [SETTING VALUE]..
+    reader.py PORT RATE [PROGRAM] [SETTING VALUE]..
 
-It carries the port's bytes to the program, with the moments at which they come, and what the program sends to the port.
-PROGRAM is the path of the program, with a `/` in it, where it isn't found by its name. Its settings are in its manual.
+It carries the port's bytes to `osdp reader`, with the moments at which they come, and what that sends to the port. PROGRAM is the path of osdp, with
+a `/` in it, where it isn't found by its name. Its settings are in its manual.
 
-Each line of standard input is handed to the program too: `event KEYPAD 0 31`, `busy on`, `inputs 0100`, `readers 00`,
-`local 0 0`. The program's other calls are made here, and such a line is refused. `inputs` alone tells the panel
-nothing; `event ISTATR 0100` does.
+Each line of standard input is handed over too: `event KEYPAD 0 31`, `busy on`, `inputs 0100`, `readers 00`, `local 0 0`. The other calls are made here.
+Each line of standard output is such a line, or what is told. `taken` and a command is for the device to do, once: an OUT is done here, before it is
+answered. `refused` and a command was answered by a NAK: nothing of it is done. `again` and a command came with number 0, and may come once more.
 
-Each line of standard output is such a line, or what the program tells. `taken` and a command is for the device to do,
-once: an OUT is done here. `refused` and a command was answered by a NAK: nothing of it is done. `again` and a command
-came with number 0, and may come once more: nothing of it is done here. A panel of osdp sends nothing but ID with it.
-`moved` is a new address and rate. The file of `--keep` keeps them, before the panel is told, and a reader that starts
-again is there, whatever its words say. Without such a file it is where its words say, and the panel doesn't find it.
-`not kept` tells that the file couldn't be written.
+The reader has eight outputs, which an OUT switches; the time of an output is counted here. Its address is lost with its power: osdp-port keeps it.
 
-The reader has eight outputs, which an OUT switches; the time of an output is counted here. The file of `--trace` gets
-each burst, both ways, as `osdp show` reads it.
-
-Status: 2 bad words or settings, 3 the port or standard output fails, 4 out of memory, 127 there is no such program,
-130 at Ctrl-C. Nothing is said at Ctrl-C and where nobody reads standard output any more, else one line that says why,
-and of bad settings two.
+Status: 2 bad words or settings, 3 the port or standard output fails, 4 out of memory, 127 there is no such program, 130 at Ctrl-C.
 """
-import os
-
-from lines import Lines, Program, moment, number, stop, take_words, tell, wait_for
-from port import Port, has_rate
+from lines import Lines, Program, moment, number, take_words, tell
+from port import Port
 
 TURN = 0.01  # how long a read waits, in seconds
 NAK = 0x41  # the code of a reply that says that nothing was done
-CALLS = ("event", "busy", "inputs", "readers", "local")  # what a line of standard input may begin with: all other calls are made here
+CALLS = ("event", "busy", "inputs", "readers", "local")  # what a line of standard input may begin with
 
 
 class Output:
@@ -54,87 +42,33 @@ class Output:
             self.until = 0 if control in (1, 2) else self.until
 
 
-class Place:
-    """The file that keeps a reader's address and rate while it has no power: one line with both numbers."""
-
-    def __init__(self, path):
-        self.path = path
-
-    def read(self):
-        """The address and the rate; none where nothing was kept yet."""
-        try:
-            with open(self.path, encoding="ascii") as file:
-                words = file.read().split()
-        except FileNotFoundError:
-            return None
-        except (OSError, ValueError):
-            words = []
-        if len(words) != 2 or not all(word.isdecimal() for word in words):
-            stop(f"the kept place can't be read: {self.path}")
-        return int(words[0]), int(words[1])
-
-    def keep(self, address, rate):
-        """Writes the whole line to the disk, and puts it in the place of the one before, so that a loss of power leaves one of both."""
-        new = f"{self.path}.new"
-        try:
-            with open(new, "w", encoding="ascii") as file:
-                file.write(f"{address} {rate}\n")
-                file.flush()
-                os.fsync(file.fileno())
-            os.replace(new, self.path)
-            folder = os.open(os.path.dirname(self.path) or ".", os.O_RDONLY)
-            os.fsync(folder)
-            os.close(folder)
-        except OSError:
-            tell(f"not kept {address} {rate}")
-
-
 class Reader:
-    def __init__(self, port, rate, program, place):
-        self.port, self.rate, self.program, self.place, self.lines = port, rate, program, place, Lines()
+    def __init__(self, port, program):
+        self.port, self.program, self.lines = port, program, Lines()
         self.outputs = [Output() for _ in range(8)]
         self.told = None  # what the program was told of them
         self.tell_outputs()
 
     def call(self, line):
-        """Hands the program a line, and does what its answer says; its last line tells how many events wait."""
-        answer = self.program.call(line)[:-1]
-        for line in answer:
-            if line.startswith("moved "):
-                address, rate = map(int, line.split()[1:])
-                self.keep(address, rate if has_rate(rate) else self.rate)
-        for line in answer:
+        """Hands the program a line, and does what its answer says: a packet to send stands before the command that it answers, and goes out after the deed."""
+        burst = b""
+        for line in [*self.program.call(line)[:-1], "send "]:
             name, *words = line.split()
             if name == "send":
-                burst = bytes.fromhex(words[0])
                 self.port.write(burst)
+                burst = bytes.fromhex("".join(words))
                 continue
-            if name in ("taken", "again") and burst[5] == NAK:
-                name = "refused"
-            tell(" ".join([name, *words]))
-            if name == "taken" and words[0] == "OUT":
-                self.switch(words[1:])
-            if name == "moved":
-                self.set_rate(*map(int, words))
-
-    def keep(self, address, rate):
-        """Keeps where the reader is from now on: before the panel is told."""
-        if self.place:
-            self.place.keep(address, rate)
-
-    def set_rate(self, address, rate):
-        """Sets the port to the rate of a COMSET, once what was sent has gone out. It keeps its rate where it hasn't that one."""
-        if self.port.set_rate(rate):
-            self.rate = rate
-        else:
-            tell(f"no rate {rate}")
-            self.keep(address, self.rate)
-
-    def switch(self, records):
-        """Does what an OUT says. One of an output that isn't here was refused."""
-        for output, control, time in (map(int, record.split(":")) for record in records):
-            self.outputs[output].switch(control, time)
-        self.tell_outputs()
+            is_refused = name in ("taken", "again") and burst[5] == NAK
+            tell(f"refused {' '.join(words)}" if is_refused else "refused no room for another event" if line == "refused N2" else line)
+            if name == "taken" and words[0] == "OUT" and not is_refused:
+                for output, control, time in (map(int, record.split(":")) for record in words[1:]):
+                    self.outputs[output].switch(control, time)
+                self.tell_outputs()
+            elif name == "moved":
+                self.port.write(burst)
+                burst = b""
+                if not self.port.set_rate(int(words[1])):
+                    tell(f"no rate {words[1]}")
 
     def tell_outputs(self):
         """Tells the program which outputs are on, where that has changed: by it OSTAT is answered."""
@@ -145,7 +79,7 @@ class Reader:
 
     def turn(self):
         """Waits for bytes and for lines, and hands them to the program."""
-        read, lines = wait_for(self.port, self.lines, TURN)
+        read, lines = self.port.wait(self.lines, TURN)
         self.call(f"at {moment()}")
         self.tell_outputs()
         if read:
@@ -160,11 +94,7 @@ class Reader:
 
 
 if __name__ == "__main__":
-    files, (path, rate, *settings) = take_words(__doc__, 2, ("--trace", "--keep"))
-    rate, place = number(rate, "rate"), Place(files["--keep"]) if "--keep" in files else None
-    kept = place and place.read()
-    if kept:
-        rate, settings = kept[1], [*settings, "address", str(kept[0])]
-    reader = Reader(Port(path, rate, files.get("--trace")), rate, Program("reader", settings), place)
+    path, rate, *settings = take_words(__doc__, 2)
+    reader = Reader(Port(path, number(rate, "rate")), Program("reader", settings))
     while True:
         reader.turn()

@@ -328,7 +328,7 @@ def judge_page(page, all_crates):
     for name in sorted(set(re.findall(r"`(osdp_[a-z_]+)`", text))):
         if name not in all_crates and name not in exports:
             faults.append(f"{page}: there is no crate {name}")
-    for name in sorted(set(re.findall(r"`((?:bench|c|crates/osdp\w+|docs|examples|include|man|rust|tests|tools)/[\w./-]*)", text))):
+    for name in sorted(set(re.findall(r"`((?:bench|c|crates/osdp\w+|docs|examples|include|man|port|rust|tests|tools)/[\w./-]*)", text))):
         if not (TOP / name).exists() and not ((TOP / page).parent / name).exists():
             faults.append(f"{page}: there is no {name}")
     for number, line in enumerate(text.splitlines(), 1):
@@ -357,7 +357,7 @@ def judge_messages():
 
 def plain_texts():
     """What is written for people: pages, manual pages and scripts."""
-    for folder in ("", "docs", "man", "tests", "tests/c", "tests/rows", "tools", "bench", "c", "examples", "examples/c", "include", "rust", "rust/src", "rust/examples"):
+    for folder in ("", "docs", "man", "tests", "tests/c", "tests/rows", "tools", "bench", "c", "examples", "examples/c", "include", "port", "port/osdp_port", "rust", "rust/src", "rust/examples"):
         for file in sorted((TOP / folder).iterdir()):
             if file.is_file() and file != Path(__file__).resolve():
                 yield file, file.read_text(errors="replace")

@@ -1,6 +1,6 @@
 #!/usr/bin/env bash
 # Runs each script of examples/ and compares its account, and the pictures of turns and of a restart. Runs the examples of a panel and of a
-# reader, in Python and in C over the archive that `c.sh` has built, by what their users see (`examples.py`). Takes the path of the program.
+# reader in C, over the archive that `c.sh` has built, by what their users see (`examples.py`); those in Python are run by `port.sh`. Takes the path of the program.
 set -uo pipefail
 program=$(cd "$(dirname "$1")" && pwd)/$(basename "$1")
 failed=0
@@ -18,7 +18,6 @@ timeout 60 python3 ../tests/restart.py "$program" || failed=1
 
 work=$(mktemp -d)
 trap 'rm -rf "$work"' EXIT
-timeout 900 python3 ../tests/examples.py "$program" || failed=1
 { c/build "$work" -Werror && timeout 900 python3 ../tests/examples.py "$program" "$work"; } || failed=1
 
 exit "$failed"

@@ -16,7 +16,10 @@ grep -qF "export PKG_CONFIG_PATH=$there/lib/pkgconfig" "$work/said" || fail 'it 
 
 [ "$("$there/bin/osdp" --version)" = 'osdp 0.1.0' ] || fail 'another version, or no program'
 cmp -s "$there/bin/osdp" "$1" || fail 'another program than the one that is proved'
-for page in osdp osdp-monitor osdp-panel osdp-reader; do
+[ "$("$there/bin/osdp-port" --version)" = 'osdp-port 0.1.0' ] || fail 'osdp-port is another version, or no program'
+"$there/bin/osdp-port" /nowhere/port 9600 show >"$work/said" 2>&1
+{ [ $? -eq 3 ] && grep -qF "/nowhere/port isn't there" "$work/said"; } || { cat "$work/said"; fail 'osdp-port does not find the program or pyserial'; }
+for page in osdp osdp-monitor osdp-panel osdp-port osdp-reader; do
   MANPATH=$there/share/man man "$page" 2>/dev/null | grep -q SYNOPSIS || fail "man $page finds no page"
 done
 [ "$(find "$there" -name '*.new' -o -name __pycache__ -o -name target | wc -l)" -eq 0 ] || fail 'work of a build was put in place'

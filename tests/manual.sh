@@ -1,7 +1,7 @@
 #!/usr/bin/env bash
 # The manual pages: each is formatted without a warning, and its examples print what it says. Takes the path of the program osdp.
 set -u
-PATH="$(cd "$(dirname "$1")" && pwd):$PATH"
+PATH="$(cd "$(dirname "$1")" && pwd):$(cd "$(dirname "$0")/../port" && pwd):$PATH"
 work=$(mktemp -d)
 trap 'rm -rf "$work"' EXIT
 failed=0

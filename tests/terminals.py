@@ -60,6 +60,7 @@ class Script:
             os.set_blocking(self.process.stdout.fileno(), False)
         self.lines = []
         self.rest = b""
+        self.is_over = False  # whether all that it writes has been read
 
     def say(self, line):
         """Hands it a line. Where it has ended that is seen by what it doesn't write."""
@@ -70,7 +71,8 @@ class Script:
             pass
 
     def read(self):
-        piece = self.process.stdout.read() or b""
+        piece = self.process.stdout.read()
+        self.is_over, piece = piece == b"", piece or b""
         *whole, self.rest = (self.rest + piece).split(b"\n")
         self.lines += [line.decode() for line in whole]
 

@@ -1,0 +1,92 @@
+"""The lines of standard input, and the lines that are printed, each with its moment where that is asked."""
+import os
+import select
+import signal
+import sys
+import time
+
+from .faults import FAILED, Stop
+
+LONGEST = 8192  # how many characters a line has at most
+
+
+def write_all(end, data):
+    while data:
+        data = data[os.write(end, data):]
+
+
+def stamp(seconds=None):
+    """A moment as it is printed: hours, minutes, seconds and milliseconds of the day here."""
+    seconds = time.time() if seconds is None else seconds
+    return f"{time.strftime('%H:%M:%S', time.localtime(seconds))}.{int(seconds * 1000) % 1000:03}"
+
+
+class Console:
+    """Standard input and output. Where nobody reads the output any more the program ends without a word."""
+
+    def __init__(self, has_times=True):
+        self.has_times = has_times
+        self.rest, self.is_over = b"", sys.stdin is None
+        self.stops = 0  # how often Ctrl-C was typed
+        self.wakes, self.woken = os.pipe()
+        for number in (signal.SIGINT, signal.SIGTERM):
+            signal.signal(number, self.stopped)
+
+    def stopped(self, number, _):
+        """Ctrl-C: the first one ends the program as soon as all is told, and the second one at once."""
+        self.stops += 1
+        os.write(self.woken, b"x")
+        if self.stops > 1:
+            raise Stop("", 128 + number)
+
+    def say(self, line):
+        """Prints a line at once, with this moment."""
+        self.raw(f"{stamp()} {line}" if self.has_times else line)
+
+    @staticmethod
+    def raw(line):
+        try:
+            write_all(1, f"{line}\n".encode())
+        except BrokenPipeError:
+            raise Stop("", FAILED) from None
+        except OSError:
+            raise Stop("standard output can't be written") from None
+
+    def note(self, line):
+        """Prints a line that isn't of what was asked, on standard error."""
+        try:
+            write_all(2, f"osdp-port: {line}\n".encode())
+        except OSError:
+            pass  # nobody reads it
+
+    def lines(self):
+        """The lines that have come. The last one needs no line feed. One that is no text comes as None."""
+        if self.is_over or not select.select([0], [], [], 0)[0]:
+            return []
+        try:
+            piece = os.read(0, 4096)
+        except OSError:
+            piece = b""
+        *whole, rest = (self.rest + piece).split(b"\n")
+        self.is_over, self.rest = not piece, rest[:LONGEST + 1]
+        return [self.text(line) for line in (whole + [rest] if self.is_over and rest else whole)]
+
+    @staticmethod
+    def text(line):
+        is_text = len(line) <= LONGEST and all(0x20 <= byte < 0x7F for byte in line)
+        return line.decode() if is_text else None
+
+
+def wait_for(port, console, seconds, lines=True):
+    """Waits so many seconds at most, or until the port or, where lines are wanted, standard input has something. A port without a descriptor is looked at again
+    every 5 milliseconds."""
+    ends = [console.wakes] + ([0] if lines and not console.is_over else [])
+    number = port.number()
+    if number is None and port.is_there:
+        seconds = min(0.005, 1 if seconds is None else seconds)
+    try:
+        ready = select.select(ends + ([number] if number is not None else []), [], [], seconds)[0]
+        if console.wakes in ready:
+            os.read(console.wakes, 16)
+    except OSError:
+        time.sleep(0.01)  # the port has gone: the read will say so

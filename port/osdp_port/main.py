@@ -1,0 +1,151 @@
+"""The program: its words, its port, and what it does there."""
+import time
+
+from . import VERSION, find, listen
+from .advice import Advice
+from .console import Console, wait_for
+from .faults import BAD_WORDS, FAILED, Stop
+from .keep import PanelPlaces, ReaderPlace
+from .panel import Panel, first_rate, new_devices
+from .program import Lines, find_program
+from .reader import Reader
+from .serial_port import Port, needs_pyserial
+from .shown import Shown, printed
+from .trace import Bursts, Trace, digits, osdpcap
+from .words import HELP, Words, addresses, bad
+
+START = time.monotonic()
+END = 5.0  # how many seconds after Ctrl-C answers to orders are waited for
+
+
+def moment():
+    """Milliseconds since the start, by a clock that never goes backwards."""
+    return int((time.monotonic() - START) * 1000)
+
+
+def taps(words, port, console, osdp):
+    """What else gets the bursts: a trace, and each packet as `osdp show` prints it. Their ends, which are called when the program ends."""
+    ends = []
+    if words.get("--trace"):
+        file = Trace(words.get("--trace"), words.get("--size", 10) * 1000000, console.note, osdpcap if words.get("--osdpcap") else digits)
+        port.taps.append(Bursts(file.takes))
+        ends += [port.taps[-1].flush, file.ended]
+    if words.get("--all"):
+        shown = Shown(osdp, printed(console), is_all=True)
+        port.taps.append(Bursts(shown.takes))
+        ends += [port.taps[-1].flush, shown.ends]
+    return ends
+
+
+def goes_on(machine, port, console):
+    """Runs a panel or a reader until Ctrl-C, and then until its orders have their ends."""
+    ended_at = None
+    while True:
+        if console.stops:
+            ended_at = ended_at or time.monotonic()
+            if machine.ends() or not port.is_there or time.monotonic() > ended_at + END:
+                machine.nothing_comes()
+                return
+        moment_due = machine.next_moment()
+        wait = None if moment_due is None else max(0, moment_due - moment()) / 1000
+        if not port.is_there or ended_at or port.taps:
+            wait = min(0.05, 1 if wait is None else wait)
+        wait_for(port, console, wait)
+        port.comes_back()
+        machine.turn(port.read(), console.lines())
+
+
+def says_for_panel(words, port, console):
+    """Prints what is told, and what to do about it."""
+    advice = Advice(console.say, f"{port.path} {port.rate}")
+    port.taps.append(advice)
+
+    def say(line):
+        console.say(line)
+        advice.heard(line)
+    return say
+
+
+def panel(words, port, console, osdp, kept, devices):
+    ends = taps(words, port, console, osdp)
+    program = Lines(osdp, ["panel", *words.rest[1:]])
+    console.say(f"panel at {port.path} {port.rate}: devices {','.join(str(device.address) for device in devices)}; settings {' '.join(words.rest[1:]) or 'as osdp has them'}")
+    machine = Panel(port, program, devices, moment, says_for_panel(words, port, console), kept)
+    return runs(machine, port, console, ends)
+
+
+def reader(words, port, console, osdp, kept, place):
+    ends = taps(words, port, console, osdp)
+    program = Lines(osdp, ["reader", *words.rest[1:], "address", str(place[0])])
+    console.say(f"reader at {port.path} {port.rate}: address {place[0]}; settings {' '.join(words.rest[1:]) or 'as osdp has them'}")
+    machine = Reader(port, program, moment, console.say, kept)
+    return runs(machine, port, console, ends)
+
+
+def runs(machine, port, console, ends):
+    """Runs it, and ends all that stands beside it. The status: 1 where something was met."""
+    try:
+        goes_on(machine, port, console)
+    finally:
+        for each in ends:
+            said = each()
+            if isinstance(said, str):
+                console.note(said)
+    return 1 if machine.met else 0
+
+
+def opened(words, rate, console):
+    """The port, opened. Other programs that have it open already are told."""
+    port = Port(words.port, rate, console.say)
+    others = port.others()
+    if others:
+        console.note(f"{words.port} is open in {' and '.join(others)} too, which may take bytes from it: end it")
+    return port
+
+
+def does_command(words, console):
+    """Does what the words ask. The status."""
+    osdp = find_program(words.get("--osdp"))
+    if words.command == "panel":
+        kept = PanelPlaces(words.get("--keep")) if words.get("--keep") else None
+        devices = new_devices(addresses(words.rest[0]), words.rate, kept)
+        return panel(words, opened(words, first_rate(devices, words.rate), console), console, osdp, kept, devices)
+    if words.command == "reader":
+        named = addresses(words.rest[0])
+        if len(named) != 1:
+            bad(f"word 4, {words.rest[0]}: a reader has one address")
+        kept = ReaderPlace(words.get("--keep")) if words.get("--keep") else None
+        place = kept.read() if kept else None
+        place = (place.address, place.rate) if place else (named[0], words.rate)
+        return reader(words, opened(words, place[1], console), console, osdp, kept, place)
+    port = opened(words, words.rate, console)
+    if words.command != "find":
+        console.say(f"{words.command} at {port.path} {port.rate}: Ctrl-C ends it")
+    does = {"monitor": listen.monitor, "show": listen.show, "trace": listen.trace, "find": find.find}[words.command]
+    return does(words, port, console, osdp)
+
+
+def main(arguments):
+    """The status of the program."""
+    if not arguments or arguments[0] in ("--help", "-h", "help"):
+        Console.raw(HELP.rstrip("\n"))
+        return 0 if arguments else BAD_WORDS
+    if arguments[0] in ("--version", "-V"):
+        Console.raw(f"osdp-port {VERSION}")
+        return 0
+    if "--help" in arguments or "-h" in arguments:
+        Console.raw(HELP.rstrip("\n"))
+        return 0
+    console = Console()
+    try:
+        words = Words(arguments)
+        console.has_times = not words.get("--plain", False)
+        needs_pyserial()
+        return does_command(words, console)
+    except Stop as stop:
+        if stop.why:
+            console.note(stop.why)
+        return stop.status
+    except OSError as error:
+        console.note(f"{error.filename or 'the system'}: {error.strerror}")
+        return FAILED

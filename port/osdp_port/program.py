@@ -1,0 +1,68 @@
+"""The program `osdp` beside this one: by lines, as `osdp panel` and `osdp reader`, or with a stream of bytes, as `osdp monitor`."""
+import os
+import shutil
+import signal
+import subprocess
+import sys
+from pathlib import Path
+
+from .console import write_all
+from .faults import NO_PROGRAM, Stop
+
+PROGRAM_FAULTS = (2, 3, 4)  # statuses of the program: it has told the fault
+STOPS = (signal.SIGINT, signal.SIGTERM)
+
+
+def find_program(given=None):
+    """The path of `osdp`: as it was given, or beside this program, or on PATH."""
+    beside = Path(sys.argv[0]).resolve().parent / "osdp"
+    path = given or (str(beside) if os.access(beside, os.X_OK) and beside.is_file() else shutil.which("osdp"))
+    if path is None:
+        raise Stop("the program osdp isn't on PATH: ./install puts it there, or --osdp names it", NO_PROGRAM)
+    return path
+
+
+def start(path, words, **streams):
+    """Starts the program. Ctrl-C doesn't reach it, so that it can tell its end."""
+    pipes = {"stdin": subprocess.PIPE, "stdout": subprocess.PIPE, **streams}
+    try:
+        return subprocess.Popen([path, *words], start_new_session=True, **pipes)
+    except OSError:
+        raise Stop(f"the program can't be started: {path}", NO_PROGRAM) from None
+
+
+class Lines:
+    """`osdp panel` or `osdp reader`: a line is a call, and is answered by lines."""
+
+    def __init__(self, path, words):
+        self.process = start(path, words)
+
+    def call(self, line):
+        """Hands it one line. The lines of its answer; the last of them begins with `due` or `waiting`."""
+        answer = []
+        signal.pthread_sigmask(signal.SIG_BLOCK, STOPS)  # so that the program isn't left in the middle of an answer
+        try:
+            write_all(self.process.stdin.fileno(), line.encode() + b"\n")
+        except OSError:
+            pass  # it has ended, and its output ends too
+        try:
+            while not answer or not answer[-1].startswith(("due ", "waiting ")):
+                text = self.process.stdout.readline()
+                if not text:
+                    self.ended()
+                answer.append(text.decode().rstrip("\n"))
+        finally:
+            signal.pthread_sigmask(signal.SIG_UNBLOCK, STOPS)
+        return answer
+
+    def ended(self):
+        """The program has ended. It has said why where its status is one of its faults."""
+        status = self.process.wait()
+        if status not in PROGRAM_FAULTS:
+            raise Stop("the program osdp has ended")
+        raise Stop("", status)
+
+    def close(self):
+        self.process.stdin.close()
+        self.process.stdout.close()
+        self.process.wait()

@@ -1,0 +1,168 @@
+"""A serial port, by pyserial: opened for this program alone, set raw, and opened again where its adapter was pulled."""
+import fcntl
+import os
+import termios
+import time
+
+from .faults import BAD_WORDS, NO_PROGRAM, Stop
+from .owner import holders
+
+try:
+    import serial
+except ImportError:
+    serial = None
+
+RATES = (9600, 19200, 38400, 57600, 115200, 230400)  # those of the standard
+PIECE = 2048  # how many bytes a read takes at most: a line to `osdp` has 8,192 characters at most, and a byte two of them
+AGAIN = 500  # after how many milliseconds a port that isn't there is tried again
+STOLEN_AGAIN = 10.0  # after how many seconds it is told again that bytes were taken
+
+
+def needs_pyserial():
+    if serial is None:
+        raise Stop("pyserial isn't there: call  sudo apt-get install python3-serial", NO_PROGRAM)
+
+
+def has_rate(rate):
+    """Whether a port may have this rate, in bits for a second."""
+    return rate in (serial.Serial.BAUDRATES if serial else RATES) and rate > 0
+
+
+def refusal(path, error):
+    """What a port that can't be opened asks for."""
+    cause = getattr(error, "errno", None)
+    if "exclusively lock" in str(error) or cause in (16, 11):
+        owners = holders(path)
+        return f"{path} is in use by {' and '.join(owners) if owners else 'another program, which this user may not see'}: end it first"
+    if cause == 13:
+        return f"{path}: no permission: add yourself to dialout (sudo adduser $USER dialout) and log in again"
+    if cause == 2:
+        return f"{path} isn't there: ls -l /dev/serial/by-id tells which ports are"
+    if cause in (25, 22) or "configure port" in str(error):
+        return f"{path} is no serial port"
+    return f"{path} can't be opened: {os.strerror(cause) if isinstance(cause, int) and cause else error}"
+
+
+class Port:
+    """The port, and what it lost. `tell` gets the lines of what happens to it."""
+
+    def __init__(self, path, rate, tell=lambda line: None):
+        needs_pyserial()
+        if not has_rate(rate):
+            raise Stop(f"{path} has no rate {rate}: try {', '.join(map(str, RATES[:-1]))} or {RATES[-1]}", BAD_WORDS)
+        self.path, self.rate, self.tell = path, rate, tell
+        self.serial, self.tries_at, self.told_stolen = None, 0.0, -STOLEN_AGAIN
+        self.taps = []  # what else gets each burst that is sent, and the bytes that come
+        try:
+            self.open()
+        except (OSError, ValueError) as error:
+            raise Stop(refusal(path, error)) from None
+
+    @property
+    def is_there(self):
+        return self.serial is not None
+
+    def open(self):
+        """Opens the port, for this program alone: other programs are refused by a lock, and, but for root, by the system."""
+        made = serial.serial_for_url(self.path, self.rate, timeout=0, write_timeout=2, do_not_open=True)
+        if "://" not in self.path:
+            made.exclusive = True
+        made.open()
+        if "://" not in self.path:
+            try:
+                fcntl.ioctl(made.fileno(), termios.TIOCEXCL)
+            except OSError:
+                pass  # a port without it still has the lock
+        self.serial = made
+
+    def others(self):
+        """Which other programs have it open already."""
+        return [] if "://" in self.path else holders(self.path)
+
+    def number(self):
+        """The descriptor to wait on, where there is one."""
+        try:
+            return self.serial.fileno() if self.serial else None
+        except (OSError, AttributeError, ValueError):
+            return None
+
+    def pulled(self):
+        """The port has failed: it is closed, and tried again later."""
+        try:
+            self.serial.close()
+        except (OSError, ValueError):
+            pass
+        self.serial, self.tries_at = None, time.monotonic() + AGAIN / 1000
+        self.tell(f"pulled {self.path}: it is opened again as soon as it is back")
+
+    def comes_back(self):
+        """Tries to open a port that was pulled. Whether it is back."""
+        if self.serial is None and time.monotonic() >= self.tries_at:
+            try:
+                self.open()
+                self.tell(f"back {self.path}")
+                return True
+            except (OSError, ValueError):
+                self.tries_at = time.monotonic() + AGAIN / 1000
+        return False
+
+    def is_hung_up(self):
+        """Whether the device is gone, which a read without bytes doesn't tell."""
+        try:
+            termios.tcgetattr(self.serial.fileno())
+        except (OSError, termios.error, AttributeError):
+            return True
+        return False
+
+    def read(self):
+        """The bytes that have come."""
+        read = self.read_some()
+        for tap in self.taps:
+            tap.came(read)
+        return read
+
+    def read_some(self):
+        if self.serial is None:
+            return b""
+        try:
+            return self.serial.read(min(PIECE, max(1, self.serial.in_waiting)))
+        except (OSError, TypeError, ValueError):
+            if self.is_hung_up():
+                self.pulled()
+            elif time.monotonic() - self.told_stolen >= STOLEN_AGAIN:
+                self.told_stolen = time.monotonic()
+                others = self.others()
+                self.tell(f"bytes taken from {self.path} by {' and '.join(others) if others else 'another program'}: end it")
+        return b""
+
+    def write(self, burst):
+        if self.serial is None:
+            return
+        try:
+            self.serial.write(burst)
+        except (OSError, ValueError):
+            self.pulled()
+            return
+        for tap in self.taps:
+            tap.sent(burst)
+
+    def set_rate(self, rate):
+        """Sets another rate. What was written goes out before, at the old one. Whether the port has such a rate; else it stays as it is."""
+        if not has_rate(rate):
+            return False
+        try:
+            if self.serial is not None:
+                self.serial.flush()
+                self.serial.baudrate = rate
+        except (OSError, ValueError, termios.error):
+            return False
+        self.rate = rate
+        return True
+
+    def close(self):
+        if self.serial is not None:
+            try:
+                self.serial.close()
+            except (OSError, ValueError):
+                pass
+            self.serial = None

@@ -1,0 +1,276 @@
+"""Where devices are found after a COMSET whose answers were lost, over a simulated line. Takes the path of `osdp`.
+
+For 1, 2 and 3 readers, at several settings, a COMSET of the rate is given while answers are lost: those of each set of readers, each answer of the
+line in turn, each row of answers that ends an exchange, the COMSET itself, and all at random. After that each reader is reached within two rounds,
+all are at one rate within the rounds that are asked here, and each takes an order once. Then devices that refuse, that are gone, or that were
+swapped; and panels that are killed, with a file and without."""
+import itertools
+import random
+import sys
+import tempfile
+import time
+from pathlib import Path
+
+from simulated import Line
+
+COMSET, COM, NAK, ID, POLL = 0x6E, 0x54, 0x41, 0x61, 0x60
+SETTINGS = ((), ("reply-wait", "400"), ("sends", "1"), ("sends", "2", "reply-wait", "50", "poll-interval", "10", "quiet-wait", "150"), ("check", "sum", "quiet-wait", "1000"))
+TOGETHER = 6  # rounds within which all are at one rate again
+osdp = ""
+faults = []
+runs = 0
+
+
+def asks(holds, what):
+    if not holds:
+        faults.append(what)
+
+
+def opened_line(count, settings=(), names=(5, 6, 7), keep=None):
+    """A line whose sessions are open."""
+    line = Line(osdp, settings)
+    for serial, name in enumerate(names[:count], 1):
+        line.add_reader(name, serial=serial)
+    line.add_panel(list(names[:count]), keep=keep)
+    asks(line.run(line.all_open, 30), f"{count} readers, {settings}: the sessions don't open")
+    return line
+
+
+def is_settled(line):
+    """All sessions are open, and no COMSET is on its way."""
+    return line.all_open() and not any(device.orders for device in line.panel.devices)
+
+
+def order_each(line, what, timer=[0]):
+    """Each device takes an order, once."""
+    for device in line.panel.devices:
+        timer[0] += 1
+        text = f"OUT 0:2:{timer[0]}"
+        line.order(f"{device.address} {text}")
+        asks(line.run(lambda: f"settled {device.address} {text} = ACK" in line.told, 10), f"{what}: {device.address} takes no order: {line.told[-4:]}")
+        took = sum(told.count(f"taken {text}") for told in line.acted.values())
+        asks(took == 1, f"{what}: an order was taken {took} times")
+
+
+def loses_once(line, count, settings, what, loses, addresses=(5, 6, 7)):
+    """A COMSET of the rate is given, and what `loses` says is lost until all orders have their ends. Then all are found."""
+    global runs
+    runs += 1
+    line.loses = loses
+    line.order("5 rate 19200")
+    what = f"{count} readers, {settings}, {what}"
+    asks(line.run(lambda: not any(device.orders for device in line.panel.devices), 60), f"{what}: an order has no end")
+    line.loses = lambda way, burst: False
+    began, told, reached = line.panel.rounds.number, len(line.told), set()
+
+    def looks():
+        reached.update(device.name for device in line.panel.devices
+                       if line.panel.rounds.is_reached(device) or any(each.startswith(f"opened {device.address} ") for each in line.told[told:]))
+        return len(reached) == count
+
+    asks(line.run(looks, 60), f"{what}: never reached: {set(addresses[:count]) - reached}")
+    asks(line.panel.rounds.number - began <= 2, f"{what}: reached after {line.panel.rounds.number - began} rounds")
+    asks(line.run(lambda: is_settled(line), 60), f"{what}: not all are reached at once: {line.told[-8:]}")
+    asks(line.panel.rounds.number - began <= TOGETHER, f"{what}: together after {line.panel.rounds.number - began} rounds")
+    rates = {reader.port.rate for reader in line.readers.values()}
+    asks(rates == {line.panel.port.rate}, f"{what}: the readers are at {rates}, the port at {line.panel.port.rate}")
+    order_each(line, what)
+    line.close()
+
+
+def lost_answers():
+    """Answers are lost, by the set of readers, one by one, and in rows."""
+    for count, settings in itertools.product((1, 2, 3), SETTINGS):
+        sets = [group for size in range(1, count + 1) for group in itertools.combinations((5, 6, 7)[:count], size)]
+        for group in sets:
+            for lost in (COM, COMSET):
+                loses_once(opened_line(count, settings), count, settings, f"{lost:02X} of {group} lost",
+                           lambda way, burst, group=group, lost=lost: burst[5] == lost and burst[1] & 0x7F in group)
+            loses_once(opened_line(count, settings), count, settings, f"COM of {group} lost, COMSET of the others",
+                       lambda way, burst, group=group: burst[5] == (COM if burst[1] & 0x7F in group else COMSET))
+        for at, length in itertools.product(range(2 * count), (1, 3) if settings in SETTINGS[:3] else ()):
+            seen = itertools.count()
+            loses_once(opened_line(count, settings), count, settings, f"answers {at} to {at + length - 1} lost",
+                       lambda way, burst, seen=seen, at=at, length=length: way == "in" and at <= next(seen) < at + length)
+
+
+def lost_at_random(seeds=30):
+    """Of all bursts a third is lost while the COMSETs go out."""
+    for seed in range(seeds):
+        count, settings, chance = 1 + seed % 3, SETTINGS[seed % len(SETTINGS)], random.Random(seed)
+        loses_once(opened_line(count, settings), count, settings, f"seed {seed}", lambda way, burst, chance=chance: chance.random() < 0.35)
+
+
+def new_addresses():
+    """A COMSET of address and rate at once, with all answers lost."""
+    line = opened_line(2)
+    line.loses = lambda way, burst: burst[5] == COM
+    line.order("5 move 9 19200")
+    line.run(lambda: sum(told.startswith("lost") for told in line.told) == 2, 20)
+    line.loses = lambda way, burst: False
+    asks(line.run(line.all_open, 20), "addresses: not found again")
+    asks([str(device.place) for device in line.panel.devices] == ["9 19200", "6 19200"], "addresses: another place")
+    order_each(line, "addresses")
+    line.close()
+    line = opened_line(2)  # an address alone: while it is in doubt the device is tried at both, and gets no order by either
+    line.loses = lambda way, burst: burst[1] & 0x7F in (5, 9) and way == "in"
+    line.order("5 move 9")
+    line.run(lambda: any(told.startswith("lost 5") for told in line.told), 20)
+    for word, why in (("9", "may be at 9"), ("6 move 5", "5")):
+        line.order(word if " " in word else f"{word} open")
+        asks("not taken" in line.told[-1] and why in line.told[-1], f"address: an order in doubt is answered {line.told[-1]}")
+    line.loses = lambda way, burst: False
+    asks(line.run(line.all_open, 20) and line.panel.devices[0].address == 9, "address: not found at 9")
+    asks(not any(told.startswith("lost 6") for told in line.told), "address: the other device was disturbed")
+    line.close()
+
+
+def refusing():
+    """One refuses the rate: the others come back to it, and all take orders."""
+    for count, refuser in ((2, 6), (2, 5), (3, 6), (3, 7)):
+        line = opened_line(count)
+        for reader in list(line.readers.values()):
+            write = reader.port.write
+
+            def refuses(burst, reader=reader, write=write):
+                if burst[1] & 0x7F == refuser and burst[5] == COM:
+                    burst = nak_of(burst)
+                write(burst)
+
+            if any(name.startswith(f"{refuser}.") and each is reader for name, each in line.readers.items()):
+                reader.port.write = refuses
+                reader.move = lambda place: None
+        line.order("5 rate 19200")
+        line.run(lambda: any(told.startswith(f"settled {refuser} COMSET") for told in line.told), 30)
+        asks(line.run(lambda: is_settled(line), 60), f"refusing {refuser} of {count}: {line.told[-6:]}")
+        asks(line.panel.port.rate == 9600 and line.panel.rounds.number <= 2 + TOGETHER, f"refusing {refuser} of {count}: at {line.panel.port.rate}")
+        order_each(line, f"refusing {refuser} of {count}")
+        line.close()
+
+
+def nak_of(burst):
+    """A NAK in the place of a reply with a CRC."""
+    body = bytes([0x53, burst[1], 9, 0, burst[4], NAK, 9])
+    crc = 0x1D0F
+    for byte in body:
+        crc ^= byte << 8
+        for _ in range(8):
+            crc = (crc << 1) ^ 0x1021 if crc & 0x8000 else crc << 1
+            crc &= 0xFFFF
+    return body + crc.to_bytes(2, "little")
+
+
+def gone():
+    """A device that is gone as its COMSET goes out: the others are served, and left for short rounds alone; it is found when it is back."""
+    line = opened_line(3)
+    line.loses = lambda way, burst: burst[1] & 0x7F == 6
+    line.order("5 rate 19200")
+    line.run(lambda: False, 200)
+    asks([line.panel.rounds.is_reached(device) for device in line.panel.devices] == [True, False, True], "gone: the others aren't served")
+    began, from_now = line.panel.rounds.number, line.now
+    line.run(lambda: False, 120)
+    asks(line.panel.rounds.number - began <= 2 * 120 / 30 + 2, f"gone: {line.panel.rounds.number - began} rounds in {line.now - from_now} ms")
+    line.loses = lambda way, burst: False
+    asks(line.run(line.all_open, 40), f"gone: it isn't found when it is back: {line.told[-6:]}")
+    order_each(line, "gone")
+    line.close()
+
+
+def swapped_places(folder):
+    """The wrong door: two devices change addresses, the panel is killed and started with the same words, and an order goes to the right one."""
+    keep = Path(folder) / "swapped"
+    line = opened_line(2, keep=keep)
+    for order, found in (("5 move 7", 7), ("6 move 5", 5), ("7 move 8", 8)):
+        line.order(order)
+        asks(line.run(lambda: line.all_open() and any(device.address == found for device in line.panel.devices), 10), f"swapped: {order} isn't done")
+    line.stop_panel()
+    line.add_panel([5, 6], keep=keep)
+    asks(line.run(line.all_open, 20), "swapped: the sessions don't open after the restart")
+    asks([device.address for device in line.panel.devices] == [8, 5], "swapped: the panel looks elsewhere")
+    line.order("5 OUT 0:5:30")
+    line.run(lambda: "settled 5 OUT 0:5:30 = ACK" in line.told, 5)
+    asks("taken OUT 0:5:30" in line.acted["6.1"] and "taken OUT 0:5:30" not in line.acted["5.0"], "swapped: the wrong door opens")
+    line.stop_panel()
+    for names in ([8, 6], [5], [5, 6, 8]):
+        try:
+            line.add_panel(names, keep=keep)
+            asks(names == [5], f"swapped: a panel starts with {names}")
+            line.stop_panel()
+        except Exception as error:
+            asks("may be the device that began as" in str(error), f"swapped: {names}: {error!r}")
+    line.close()
+
+
+def killed_in_doubt(folder):
+    """The panel is killed while a COMSET has no answer: its file has both places, and the device is found at either."""
+    for at, loses in enumerate((COM, COMSET)):
+        keep = Path(folder) / f"doubt{at}"
+        line = opened_line(2, keep=keep)
+        line.loses = lambda way, burst, loses=loses: burst[5] == loses
+        line.order("5 move 9 19200")
+        line.run(lambda: any(burst[5] == COMSET for _, burst in line.bursts), 5)
+        asks("5 at 5 9600 or 9 19200" in keep.read_text(), f"doubt: as the COMSET goes out the file has {keep.read_text()!r}")
+        line.run(lambda: False, 0.05)
+        line.stop_panel()
+        line.loses = lambda way, burst: False
+        line.add_panel([5, 6], keep=keep)
+        asks(line.run(line.all_open, 60), f"doubt: not found: {line.told[-6:]}")
+        order_each(line, "doubt")
+        asks(" or " not in keep.read_text(), "doubt: the file is still in doubt")
+        line.close()
+
+
+def another_device(folder):
+    """Another device stands where one was: it is told, and gets no order until it is accepted. The file knows it after a restart too."""
+    keep = Path(folder) / "another"
+    line = opened_line(1, keep=keep)
+    asks("is 000000 0 1" in keep.read_text(), f"another: the file has {keep.read_text()!r}")
+    line.stop_reader("5.0")
+    line.run(lambda: any(told.startswith("lost 5") for told in line.told), 10)
+    name = line.add_reader(5, serial=99)
+    for _ in range(2):
+        asks(line.run(line.all_open, 10), "another: no session")
+        line.order("5 open")
+        line.run(lambda: False, 1)
+        asks("another device stands at 5" in line.told[-1] and not any("OUT" in told for told in line.acted[name]), f"another: it got an order: {line.told[-2:]}")
+        line.stop_panel()
+        line.add_panel([5], keep=keep)
+    asks(line.run(line.all_open, 10), "another: no session")
+    line.order("5 accept")
+    order_each(line, "another")
+    asks("is 000000 0 99" in keep.read_text(), "another: it isn't kept")
+    line.close()
+
+
+def bad_files(folder):
+    """A file that keeps something else is refused, with its line."""
+    for at, text in enumerate(("5\n", "5 at 7\n", "5 at 7 x\n", "5 at 127 9600\n", "5 at 5 9600 is 1\n", "5 at 5 9600\n5 at 6 9600\n", "x at 5 9600\n")):
+        path = Path(folder) / f"bad{at}"
+        path.write_text(text)
+        try:
+            Line(osdp).add_panel([5], keep=path)
+            asks(False, f"a file with {text!r} is taken")
+        except Exception as error:
+            asks(f"{path}, line" in str(error), f"a file with {text!r}: {error!r}")
+
+
+def main(path):
+    global osdp
+    osdp = path
+    begun = time.monotonic()
+    lost_answers()
+    lost_at_random()
+    new_addresses()
+    refusing()
+    gone()
+    with tempfile.TemporaryDirectory() as folder:
+        swapped_places(folder)
+        killed_in_doubt(folder)
+        another_device(folder)
+        bad_files(folder)
+    print(f"port places: {runs} COMSETs, {len(faults)} faults in {time.monotonic() - begun:.1f} s", *faults[:40], sep="\n")
+    return 1 if faults else 0
+
+
+if __name__ == "__main__":
+    sys.exit(main(*sys.argv[1:]))

@@ -1,0 +1,425 @@
+"""The walk of an installer with `osdp-port`, over pseudo terminals. Takes the path of `osdp`, and the parts to run; all of them at the same time without.
+
+No reader, a wrong rate and address, an echo, two at one address, late answers, stolen bytes, a pulled adapter, a second panel, a COMSET whose answers
+are lost, 30 seconds of noise, Ctrl-C in each command, a reader and a panel that are killed, a trace, and bad words and ports."""
+import json
+import os
+import random
+import select
+import signal
+import subprocess
+import sys
+import tempfile
+import time
+import tty
+from concurrent.futures import ThreadPoolExecutor
+from pathlib import Path
+
+from port_line import ACK, COM, COMSET, ID, NAK, OUT, PANEL, PDID, POLL, PORT, Device, Line, asks, com, faults, has, opened, taken, tells
+from terminals import Script, Terminal, packet
+
+QUICK = "poll-interval 20 reply-wait 100 sends 2 quiet-wait 60 check sum".split()
+osdp = ""
+
+
+def no_reader():
+    """Nobody answers, or at another rate or address: what to do is said once, and Ctrl-C ends with status 1."""
+    for what, at in (("no reader", None), ("a wrong rate", (5, 19200)), ("a wrong address", (6, 9600))):
+        with Line(osdp) as line:
+            if at:
+                line.reader(0, at[0], rate=at[1])
+            panel = line.panel("5", *QUICK)
+            asks(line.run(tells(panel, "advice: device 5 doesn't answer: its power")), f"{what}: no advice: {panel.lines}")
+            line.rests(2.5)
+            asks(sum("advice" in each for each in panel.lines) == 1, f"{what}: the advice comes again")
+            asks(line.stops(panel) == 1, f"{what}: another status at Ctrl-C")
+
+
+def echo():
+    """An adapter that hands back what is sent does no harm, and is told."""
+    with Line(osdp) as line:
+        reader, panel = line.reader(0, 5), line.panel("5")
+        line.loses = lambda way, burst: way == "out" and os.write(line.panel_end.end, burst) < 0
+        asks(line.run(opened(panel, 5)), "echo: the session doesn't open")
+        panel.say("5 on")
+        asks(line.run(has(panel, "settled 5 OUT 0:2:0 = ACK")), "echo: no order is done")
+        asks(line.run(tells(panel, "the adapter hands back what is sent")), f"echo: it isn't told: {panel.lines}")
+        asks(taken(reader) == ["taken OUT 0:2:0"], f"echo: {taken(reader)}")
+
+
+def two_at_one_address():
+    """Two devices at one address damage each other's answers: it is told that bytes come, and what that may be."""
+    with Line(osdp) as line:
+        panel = line.panel("5", *QUICK)
+        device = Device(line.panel_end)
+        write = device.write
+        device.write = lambda whole: write(bytes(byte & other for byte, other in zip(whole, whole[3:] + b"\x53\x85\x07")))
+        asks(device.until([panel], tells(panel, "two devices at one address")), f"two: {panel.lines}")
+        asks(line.stops(panel) == 1, "two: another status")
+
+
+def late_answers():
+    """A device that answers later than its panel waits: half of all packets are repeats, and a longer wait is advised."""
+    with Line(osdp) as line:
+        line.delay = 0.15
+        line.reader(0, 5)
+        panel = line.panel("5", "poll-interval", "20", "reply-wait", "100", "sends", "5", "quiet-wait", "60", "check", "sum")
+        asks(line.run(tells(panel, "advice: device 5 answers late: half of all packets are repeated; try reply-wait 400")), f"late: {panel.lines[-5:]}")
+
+
+def stolen_bytes():
+    """A second program takes what comes: the panel goes on, tells what is lost, and takes orders again when the other one has ended."""
+    with Line(osdp) as line:
+        line.reader(0, 5)
+        panel = line.panel("5", *QUICK, stderr=subprocess.PIPE)
+        asks(line.run(opened(panel, 5)), "stolen: the session doesn't open")
+        thief = subprocess.Popen(["timeout", "3", "cat"], stdin=line.panel_end.other, stdout=subprocess.DEVNULL)
+        line.run(lambda: thief.poll() is not None)
+        line.rests(1)
+        asks(line.run(lambda: sum(each.startswith("opened") for each in panel.lines) == 1 + sum(each.startswith("lost") for each in panel.lines)), "stolen: no session")
+        panel.say("5 on")
+        asks(line.run(has(panel, "settled 5 OUT 0:2:0 = ACK")), f"stolen: no order is done: {panel.lines[-4:]}")
+
+
+class Adapter:
+    """A port by a name that stays, as an adapter has one, which can be pulled and put back."""
+
+    def __init__(self, line, folder):
+        self.line, self.name = line, Path(folder) / "ttyUSB0"
+        self.name.symlink_to(line.panel_end.path)
+        line.panel_end.path = str(self.name)
+
+    def pull(self):
+        end = self.line.panel_end
+        self.name.unlink()
+        os.close(end.end)
+        os.close(end.other)
+        end.end = None
+
+    def put_back(self):
+        made = Terminal()
+        self.name.symlink_to(made.path)
+        end = self.line.panel_end
+        end.end, end.other, end.held, end.rate = made.end, made.other, b"", None
+
+
+def pulled_adapter():
+    """An adapter that is pulled: the orders get their ends, and when it is back the session opens again by itself."""
+    with tempfile.TemporaryDirectory() as folder, Line(osdp) as line:
+        adapter = Adapter(line, folder)
+        reader, panel = line.reader(0, 5), line.panel("5", *QUICK)
+        asks(line.run(opened(panel, 5)), "pulled: the session doesn't open")
+        line.loses = lambda way, burst: burst[5] == OUT
+        panel.say("5 OUT 0:2:1\n5 OUT 0:2:2")
+        line.run(lambda: any(burst[5] == OUT for _, burst in line.bursts))
+        adapter.pull()
+        told = ["lost 5 no-reply OUT 0:2:1", "withdrawn 5 OUT 0:2:2"]
+        asks(line.run(has(panel, *told)), f"pulled: the orders have no end: {panel.lines[-5:]}")
+        asks(line.run(tells(panel, f"pulled {adapter.name}")), "pulled: it isn't told")
+        panel.say("5 on")
+        asks(line.run(tells(panel, "not taken 5 on: the port isn't there")), f"pulled: an order is answered {panel.lines[-1]}")
+        line.rests(1)
+        line.loses = lambda way, burst: False
+        adapter.put_back()
+        asks(line.run(lambda: tells(panel, f"back {adapter.name}")() and opened(panel, 5, 2)()), f"pulled: it doesn't come back: {panel.lines[-4:]}")
+        panel.say("5 OUT 0:2:3")
+        asks(line.run(has(panel, "settled 5 OUT 0:2:3 = ACK")), "pulled: no order is done")
+        asks(taken(reader) == ["taken OUT 0:2:3"], f"pulled: the reader has taken {taken(reader)}")
+
+
+def second_panel():
+    """A second program is refused, and says whose port it is."""
+    with Line(osdp) as line:
+        line.reader(0, 5)
+        panel = line.panel("5")
+        asks(line.run(opened(panel, 5)), "second: the session doesn't open")
+        for words in (["panel", "6"], ["reader", "6"], ["show"], ["monitor"], ["find"], ["trace", "/tmp/none"]):
+            second = subprocess.run([PORT, "--osdp", osdp, line.panel_end.path, "9600", *words], capture_output=True, text=True, timeout=60, stdin=subprocess.DEVNULL)
+            asks(second.returncode == 3 and f"{line.panel_end.path} is in use by" in second.stderr and f"process {panel.process.pid}" in second.stderr,
+                 f"second: {words}: {second}")
+        asks(not any(each.startswith("lost") for each in panel.lines), "second: the first one was disturbed")
+
+
+def new_rate():
+    """A COMSET of the rate whose answers are all lost: two devices are found again, at the new rate."""
+    with Line(osdp, 2) as line:
+        readers = [line.reader(0, 5), line.reader(1, 6)]
+        panel = line.panel("5,6", *QUICK)
+        asks(line.run(lambda: opened(panel, 5)() and opened(panel, 6)()), "rate: the sessions don't open")
+        line.loses = lambda way, burst: burst[5] == COM
+        panel.say("5 rate 19200")
+        asks(line.run(tells(panel, "no-reply COMSET", 2)), f"rate: the COMSETs aren't told lost: {panel.lines[-5:]}")
+        line.loses = lambda way, burst: False
+        asks(line.run(lambda: opened(panel, 5, 2)() and opened(panel, 6, 2)(), 20), f"rate: not found again: {panel.lines[-8:]}")
+        for address, reader in zip((5, 6), readers):
+            panel.say(f"{address} on")
+            asks(line.run(has(reader, "taken OUT 0:2:0")), f"rate: {address} takes no order")
+
+
+def noise():
+    """30 seconds of noise between and over packets: no order is done twice, none is without an end, and all goes on after it."""
+    with Line(osdp) as line:
+        chance = random.Random(7)
+        reader, panel = line.reader(0, 5), line.panel("5", *QUICK)
+        asks(line.run(opened(panel, 5)), "noise: the session doesn't open")
+        ends, number, due = time.monotonic() + 30, 0, time.monotonic()
+        while time.monotonic() < ends:
+            line.rests(0.03)
+            for end in (line.panel_end, line.reader_ends[0]):
+                if chance.random() < 0.5:
+                    os.write(end.end, bytes(chance.choice((0x53, 0x85, 0x05, 0xFF, chance.randrange(256))) for _ in range(chance.randrange(1, 12))))
+            if time.monotonic() >= due:
+                number, due = number + 1, due + 0.5
+                panel.say(f"5 OUT 0:2:{number}")
+        line.rests(1)
+        panel.say("5 OUT 1:2:0")
+        line.run(lambda: has(panel, "settled 5 OUT 1:2:0 = ACK")() or panel.say("5 OUT 1:2:0") or line.rests(1))
+        done = [each for each in taken(reader) if "OUT 0:2:" in each]
+        asks(len(done) == len(set(done)), "noise: an order was taken twice")
+        for order in [each.split(" ", 1)[1] for each in panel.lines if each.startswith("ordered")]:
+            ended = [each for each in panel.lines if order.split(" ", 1)[1] in each.split(" = ")[0] and each.startswith(("settled", "lost", "withdrawn", "unread", "not taken"))]
+            asks(len(ended) >= 1, f"noise: {order} has no end")
+        asks(panel.process.poll() is None and reader.process.poll() is None, "noise: a program has ended")
+
+
+def ctrl_c():
+    """Ctrl-C in each command: the table of the monitor comes out, the ends of orders are told, and nothing else is said."""
+    with Line(osdp) as line:
+        reader, panel = line.reader(0, 5), line.panel("5")
+        asks(line.run(opened(panel, 5)), "Ctrl-C: the session doesn't open")
+        line.loses = lambda way, burst: burst[5] == OUT
+        panel.say("5 OUT 0:2:1\n5 OUT 0:2:2")
+        line.run(lambda: any(burst[5] == OUT for _, burst in line.bursts))
+        asks(line.stops(panel) == 1, "Ctrl-C: a panel whose session was lost has another status")
+        asks(has(panel, "lost 5 no-reply OUT 0:2:1", "withdrawn 5 OUT 0:2:2")(), f"Ctrl-C: orders have no end: {panel.lines[-3:]}")
+        asks(line.stops(reader) == 0, "Ctrl-C: a reader has another status")
+    with Line(osdp) as line:
+        line.reader(0, 5)
+        panel = line.panel("5")
+        line.run(opened(panel, 5))
+        asks(line.stops(panel) == 0, "Ctrl-C: a panel that met nothing has another status")
+    with tempfile.TemporaryDirectory() as folder:
+        said = bytes.fromhex("530508000061003F") + packet(0x85, 0, PDID, bytes.fromhex("53494D010101000000010000")) + packet(5, 1, POLL) + packet(0x85, 1, ACK) + packet(5, 2, 0x68, bytes([0, 2, 0, 0]))
+        for words, status, wanted in ((["monitor"], 0, "device  asked"), (["show"], 0, "cmd 5 seq 0 sum ID 0"), (["trace", f"{folder}/trace"], 0, f"trace {folder}/trace: "),
+                                      (["find"], 1, "no device found")):
+            with Line(osdp) as line:
+                script = line.start(line.panel_end, 9600, *words, stderr=subprocess.PIPE)
+                asks(line.run(lambda: script.lines), f"Ctrl-C: {words} doesn't begin")
+                os.write(line.panel_end.end, said)
+                line.rests(0.6)
+                found = line.stops(script)
+                asks(found == status and tells(script, wanted)(), f"Ctrl-C: {words}: status {found}: {script.lines}")
+                asks(not tells(script, " POLL")() and not tells(script, "sum ACK")(), f"Ctrl-C: {words}: POLL and ACK are shown")
+                asks("Traceback" not in script.process.stderr.read().decode(), f"Ctrl-C: {words}: a traceback")
+
+
+def killed():
+    """A reader that is killed is found where it was, by its file; so does a panel find its devices by its own."""
+    with tempfile.TemporaryDirectory() as folder, Line(osdp, 2) as line:
+        kept = [Path(folder) / f"reader{at}" for at in range(2)]
+        places = Path(folder) / "panel"
+        readers = [line.reader(at, 5 + at, options=["--keep", kept[at]]) for at in range(2)]
+        panel = line.panel("5,6", *QUICK, options=["--keep", places])
+        asks(line.run(lambda: opened(panel, 5)() and opened(panel, 6)()), "killed: the sessions don't open")
+        panel.say("5 move 7 19200")
+        asks(line.run(lambda: opened(panel, 7)() and opened(panel, 6, 2)()), f"killed: not found at the new places: {panel.lines[-6:]}")
+        asks([each.read_text() for each in kept] == ["7 19200\n", "6 19200\n"], "killed: the readers keep other places")
+        readers[0].process.kill()
+        asks(line.run(tells(panel, "lost 7")), "killed: the reader isn't lost")
+        readers[0] = line.reader(0, 5, options=["--keep", kept[0]])
+        asks(line.run(opened(panel, 7, 2)), "killed: the reader isn't found again")
+        panel.process.kill()
+        panel.process.wait()
+        again = line.panel("5,6", *QUICK, options=["--keep", places])
+        asks(line.run(lambda: opened(again, 7)() and opened(again, 6)()), f"killed: the panel doesn't find them: {again.lines}")
+        again.say("7 on")
+        asks(line.run(has(readers[0], "taken OUT 0:2:0")), "killed: the order goes elsewhere")
+        asks(taken(readers[1]) == ["taken COMSET 6 19200"] or taken(readers[1]) == [], f"killed: the other one has taken {taken(readers[1])}")
+        line.stops(again)
+        refused = line.panel("7,6", *QUICK, options=["--keep", places], stderr=subprocess.PIPE)
+        refused.process.wait(timeout=60)
+        asks("may be the device that began as 5" in refused.process.stderr.read().decode(), "killed: a panel starts where another device may be")
+
+
+def finds():
+    """A bench with one device: its address, rate and check; another place for it, confirmed there. Two devices, and none."""
+    with Line(osdp, 2) as line:
+        reader = line.reader(0, 9, "serial", "77", rate=38400)
+        line.run(lambda: line.reader_ends[0].rate is not None and reader.lines)
+        script = line.start(line.panel_end, 9600, "find")
+        line.run(lambda: script.is_over)
+        asks(script.process.wait() == 0 and tells(script, "found address 9 rate 38400 check crc maker 53494D model 1 version 0 serial 77 firmware 0.0.0")(), f"find: {script.lines}")
+        asks(all(burst[5] in (ID,) for way, burst in line.bursts if way == "out"), "find: it sends more than ID")
+        script = line.start(line.panel_end, 9600, "find", options=["--set-address", "3", "--set-rate", "9600"])
+        line.run(lambda: script.is_over)
+        asks(script.process.wait() == 0 and has(script, "set: device is at address 3 rate 9600")(), f"find: {script.lines}")
+        other = line.reader(1, 12, "serial", "78")
+        line.run(lambda: line.reader_ends[1].rate is not None and other.lines)
+        script = line.start(line.panel_end, 9600, "find", options=["--set-address", "4"])
+        line.run(lambda: script.is_over)
+        asks(script.process.wait() == 1 and tells(script, "several devices answer")() and tells(script, "found address 3 rate 9600")()
+             and tells(script, "found address 12 rate 9600")() and tells(script, "nothing is set")(), f"find: two: {script.lines}")
+        asks(not tells(reader, "moved 4")(), "find: a device was changed though there are two")
+
+
+def traces():
+    """A trace has each burst and its moment; a full one is put aside; `osdp show` reads it. The same as a JSON object a line."""
+    with tempfile.TemporaryDirectory() as folder, Line(osdp) as line:
+        path = Path(folder) / "trace"
+        line.reader(0, 5)
+        panel = line.panel("5", options=["--trace", path, "--all"])
+        asks(line.run(opened(panel, 5)), "trace: the session doesn't open")
+        panel.say("5 on")
+        asks(line.run(has(panel, "settled 5 OUT 0:2:0 = ACK")), "trace: no order is done")
+        line.rests(0.5)
+        line.stops(panel)
+        shown = subprocess.run([osdp, "show"], input=path.read_text(), capture_output=True, text=True).stdout
+        asks(all(each in shown for each in ("cmd 5 seq 0 sum ID 0", "PDID 53494D", "OUT 0:2:0", "POLL", "ACK")), f"trace: shown is {shown[:400]}")
+        asks(tells(panel, "cmd 5 seq 1 sum POLL")() and tells(panel, " ACK")(), f"trace: --all doesn't show each packet: {panel.lines[:9]}")
+        for options in ([], ["--osdpcap"]):
+            file = Path(folder) / f"only{len(options)}"
+            script = line.start(line.panel_end, 9600, "trace", file, options=options)
+            line.run(lambda: script.lines)
+            os.write(line.panel_end.end, packet(5, 1, POLL))
+            line.rests(0.5)
+            line.stops(script)
+            asks(tells(script, "1 bursts, 7 bytes")(), f"trace: {script.lines}")
+            text = file.read_text()
+            data = json.loads(text)["data"].replace("-", "") if options else text.splitlines()[1]
+            asks(bytes.fromhex(data) == packet(5, 1, POLL), f"trace: {text}")
+        sys.path.insert(0, str(PORT.parent))
+        from osdp_port.trace import Trace
+        said = []
+        small = Trace(f"{folder}/small", 200, said.append)
+        for _ in range(20):
+            small.takes(0.0, "in", bytes(20))
+        asks(os.path.getsize(f"{folder}/small") < 300 and os.path.getsize(f"{folder}/small.1") < 300 and len(said) >= 3, f"trace: it isn't bounded: {said}")
+
+
+def wrong_rate_heard():
+    """A listener at another rate than the line's: after a thousand bytes without a packet it is told what that means."""
+    with Line(osdp) as line:
+        script = line.start(line.panel_end, 9600, "show", stderr=subprocess.PIPE)
+        line.run(lambda: script.lines)
+        chance = random.Random(3)
+        for _ in range(30):
+            os.write(line.panel_end.end, bytes(chance.randrange(0x54, 0xFF) for _ in range(40)))
+            line.rests(0.04)
+        line.rests(0.5)
+        line.stops(script)
+        asks("bytes and no packet: another rate" in script.process.stderr.read().decode(), "heard: it isn't told")
+
+
+def acts_first():
+    """A reader that is killed between its deed and its answer has done it; the panel's order isn't done a second time."""
+    with Line(osdp) as line:
+        end = line.reader_ends[0]
+        reader = line.reader(0, 5)
+        line.run(lambda: reader.lines)
+        os.write(end.end, packet(5, 0, ID, b"\0"))
+        asks(end.next_burst()[5:6] == bytes([PDID]), "acts first: the session doesn't open")
+        reader.process.stdout.close()
+        os.write(end.end, packet(5, 1, OUT, bytes([0, 2, 0, 0])))
+        reader.process.wait(timeout=60)
+        end.held += os.read(end.end, 100) if select.select([end.end], [], [], 0.2)[0] else b""
+        asks(packet(0x85, 1, ACK) not in end.held, "acts first: the answer has gone out before the deed was told")
+
+
+BAD_WORDS = (
+    [], ["PORT"], ["PORT", "9600"], ["PORT", "fast", "show"], ["PORT", "0", "show"], ["PORT", "-9600", "show"], ["PORT", "9600", "shows"],
+    ["PORT", "9600", "panel"], ["PORT", "9600", "panel", "127"], ["PORT", "9600", "panel", "5,5"], ["PORT", "9600", "panel", "5,"], ["PORT", "9600", "panel", "9-5"],
+    ["PORT", "9600", "panel", "x"], ["PORT", "9600", "panel", "0-16"], ["PORT", "9600", "panel", "5", "gap", "0"], ["PORT", "9600", "panel", "5", "gap"],
+    ["PORT", "9600", "reader"], ["PORT", "9600", "reader", "5,6"], ["PORT", "9600", "reader", "5", "model", "256"], ["PORT", "9600", "trace"],
+    ["PORT", "9600", "show", "more"], ["PORT", "9600", "find", "more"], ["PORT", "9600", "trace", "/tmp/a", "more"], ["--keep"], ["--keep", "file", "PORT", "9600", "show"],
+    ["--nonsense", "PORT", "9600", "show"], ["--address", "127", "PORT", "9600", "show"], ["--address", "x", "PORT", "9600", "show"], ["--every", "0", "PORT", "9600", "monitor"],
+    ["--size", "0", "PORT", "9600", "trace", "/tmp/a"], ["--set-rate", "12345", "PORT", "9600", "find"], ["PORT", "12345", "show"], ["--all", "PORT", "9600", "find"],
+)
+BAD_PORTS = (
+    ["/nowhere/port", "9600", "show"], ["/dev/null", "9600", "panel", "5"], ["/etc/passwd", "9600", "monitor"], ["/", "9600", "show"], ["nonsense://x", "9600", "show"],
+    ["socket://localhost:1", "9600", "show"], ["rfc2217://localhost:1", "9600", "panel", "5"], ["--trace", "/nowhere/file", "PORT", "9600", "panel", "5"], ["PORT", "9600", "trace", "/nowhere/file"],
+    ["--keep", "/dev", "PORT", "9600", "panel", "5"], ["--keep", "/dev", "PORT", "9600", "reader", "5"],
+)
+
+
+def bad_words():
+    """Bad words end with status 2, bad ports and files with 3, each with a sentence that names what is wrong, and no traceback."""
+    terminal = Terminal()
+
+    def ends(words, status):
+        words = [terminal.path if word == "PORT" else word for word in words]
+        done = subprocess.run([PORT, *(["--osdp", osdp] if words else []), *words], capture_output=True, text=True, timeout=60, stdin=subprocess.DEVNULL)
+        said = done.stderr + (done.stdout if not words else "")
+        is_told = not words or done.stderr.startswith(("osdp-port: ", "osdp: ")) and len(done.stderr.splitlines()) <= 3
+        asks(done.returncode == status and "Traceback" not in said and is_told, f"bad words {words}: status {done.returncode}: {said[:300]}")
+        named = [word for word in words if "/" in word and not word.startswith("/dev/pts") and word != "/tmp/a"]
+        asks(status != 3 or not named or any(word in said for word in named), f"bad words {words}: {said} doesn't name it")
+
+    for words in BAD_WORDS:
+        ends(words, 2)
+    for words in BAD_PORTS:
+        ends(words, 3)
+    for words, status, wanted in ((["--help"], 0, "usage: osdp-port"), (["--version"], 0, "osdp-port 0."), (["PORT", "9600", "show", "--help"], 0, "usage: osdp-port"),
+                                  (["--osdp", "/nowhere/osdp", terminal.path, "9600", "show"], 127, "/nowhere/osdp")):
+        done = subprocess.run([PORT, *words], capture_output=True, text=True, timeout=60, stdin=subprocess.DEVNULL)
+        asks(done.returncode == status and wanted in done.stdout + done.stderr, f"{words}: {done}")
+    script = subprocess.Popen([PORT, "--osdp", osdp, terminal.path, "9600", "show"], stdin=subprocess.DEVNULL, stdout=subprocess.PIPE, stderr=subprocess.PIPE)
+    script.stdout.readline()
+    script.stdout.close()
+    script.send_signal(signal.SIGINT)
+    script.wait(timeout=60)
+    asks(b"Traceback" not in script.stderr.read(), "a closed pipe: a traceback")
+    terminal.close()
+
+
+def bad_lines():
+    """Lines that aren't orders are told with the word that is wrong, and nothing ends by them."""
+    with Line(osdp) as line:
+        reader, panel = line.reader(0, 5), line.panel("5")
+        asks(line.run(opened(panel, 5)), "lines: the session doesn't open")
+        rows = (("9 open", "word 1, 9: the address of a device of this line: 5"), ("5 opne", "word 2, opne: one of open,"), ("5 led pink", "word 3, pink: a colour"),
+                ("5 open 3", "word 3, 3: a time"), ("5 move 127", "word 3, 127: the new address"), ("5 OUT 0:5", "osdp doesn't read this command"),
+                ("5 COMSET 7 12345", "the port has no rate 12345"), ("5", "word 2 is missing"), ("5 POLL", "word 2, POLL"), ("5 beep 0", "word 3, 0"), ("5 accept", "is the one that stood there"))
+        for order, why in rows:
+            panel.say(order)
+            asks(line.run(lambda: any(each.startswith(f"not taken {order}: ") and why in each for each in panel.lines), 10), f"lines: {order}: {panel.lines[-2:]}")
+        for each in (b"\xff\xfe 1\n", b"5 OUT 0:2:0\0\n", b"x" * 8193 + b"\n"):
+            panel.process.stdin.write(each)
+        panel.process.stdin.write(b"5 led green")  # without a line feed
+        panel.process.stdin.close()
+        asks(line.run(has(reader, "taken LED 0:0:0:0:0:0:0:0:1:1:0:2:0")), "lines: the last order isn't done")
+        asks(sum("refused line" in each for each in panel.lines) == 3, f"lines: {panel.lines[-6:]}")
+        for said, told in (("card 17 4386", "event RAW 0 1 26 88889100"), ("keys 12#", "event KEYPAD 0 313223"), ("nonsense", "refused nonsense: word 1"), ("bytes 00", "refused bytes 00")):
+            reader.say(said)
+            asks(line.run(tells(reader, told), 10), f"lines: {said}: {reader.lines[-2:]}")
+        asks(line.run(lambda: tells(panel, "facility 17 number 4386")() and tells(panel, "keys 12#")()), f"lines: the card is told as {panel.lines[-2:]}")
+
+
+PARTS = {part.__name__: part for part in (noise, no_reader, echo, two_at_one_address, late_answers, stolen_bytes, pulled_adapter, second_panel, new_rate, ctrl_c, killed,
+                                          finds, traces, wrong_rate_heard, acts_first, bad_words, bad_lines)}
+
+
+def run_part(name):
+    """Runs a part in a process of its own. What it has found."""
+    done = subprocess.run([sys.executable, "-B", __file__, osdp, name], capture_output=True, text=True, timeout=400)
+    return name, done.returncode, (done.stdout + done.stderr).strip()
+
+
+def main(path, *names):
+    global osdp
+    osdp, begun = path, time.monotonic()
+    if names:
+        for name in names:
+            PARTS[name]()
+        print(*faults, sep="\n")
+        return 1 if faults else 0
+    with ThreadPoolExecutor(4) as pool:
+        ended = list(pool.map(run_part, PARTS))
+    bad = [each for each in ended if each[1]]
+    for name, _, said in bad:
+        print(f"{name}:\n{said}")
+    print(f"port walk: {len(PARTS)} parts, {len(bad)} with faults, in {time.monotonic() - begun:.1f} s")
+    return 1 if bad else 0
+
+
+if __name__ == "__main__":
+    sys.exit(main(*sys.argv[1:]))

@@ -1,0 +1,146 @@
+"""The short examples in Python, by what a user sees: bytes that another program takes, a second program, a port that fails, bad words, and orders.
+Takes the path of the program."""
+import os
+import signal
+import subprocess
+import sys
+import time
+from pathlib import Path
+
+import port_line
+from port_line import ACK, OUT, PANEL, Device, asks, faults, has, opened, tells
+from terminals import Script, Terminal, commands, packet
+
+TOP = Path(__file__).resolve().parent.parent
+
+
+def started(words, terminal, *rest, **streams):
+    example, program = words
+    addresses, settings = rest[0], rest[1:]
+    return Script(*example, terminal.path, 9600, *addresses, *program, *settings, **streams)
+
+
+def ended(script, status, said, what):
+    """A program ends by itself, with a status and what it says on standard error."""
+    try:
+        found = script.process.wait(timeout=60)
+    except subprocess.TimeoutExpired:
+        script.process.kill()
+        found = script.process.wait()
+    told = script.process.stderr.read().decode()
+    asks(found == status and said in told and told.count("\n") <= 2 and "Traceback" not in told, f"{what}: status {found}, and it says {told!r}")
+
+
+def stolen_bytes(panel_words):
+    """Another program takes all that comes for two seconds: the session is lost and told, and then it opens again."""
+    terminal = Terminal()
+    device, panel = Device(terminal), started(panel_words, terminal, ["5"], *PANEL)
+    asks(device.until([panel], opened(panel, 1)), "stolen: the session doesn't open")
+    end = time.monotonic() + 3
+    thief = subprocess.Popen(["timeout", "3", "cat"], stdin=terminal.other, stdout=subprocess.DEVNULL)
+    while time.monotonic() < end:
+        device.answer()
+    thief.wait()
+    device.until([panel], lambda: False, 1)
+    is_open = lambda: sum(line.startswith("opened") for line in panel.lines) == 1 + sum(line.startswith("lost") for line in panel.lines)
+    asks(device.until([panel], is_open), "stolen: the panel doesn't go on")
+    panel.say("1 OUT 0:2:0")
+    asks(device.until([panel], has(panel, "settled 1 OUT 0:2:0 = ACK")), f"stolen: no order is done: {panel.lines[-4:]}")
+    panel.process.kill()
+    terminal.close()
+
+
+def second_program(words):
+    """A second program on the port is refused."""
+    panel_words, reader_words = words
+    terminal = Terminal()
+    device, panel = Device(terminal), started(panel_words, terminal, ["5"], *PANEL)
+    device.until([panel], opened(panel, 1))
+    for each, rest in ((panel_words, ["5"]), (reader_words, [])):
+        ended(started(each, terminal, rest, stderr=subprocess.PIPE), 3, "the port is in use by another program", "a second program")
+    panel.process.kill()
+    terminal.close()
+
+
+def ends_of_orders(panel_words):
+    """A port that fails, and Ctrl-C: each order that was taken has an end."""
+    for what in ("the port hangs up", "Ctrl-C"):
+        terminal = Terminal()
+        device, panel = Device(terminal, is_silent=lambda burst: burst[5] == OUT), started(panel_words, terminal, ["5"], *PANEL, stderr=subprocess.PIPE)
+        device.until([panel], opened(panel, 1))
+        panel.say("1 OUT 0:2:1\n1 OUT 0:2:2")
+        asks(device.until([panel], lambda: any(burst[5] == OUT for burst in device.asked)), f"{what}: the order doesn't go out")
+        if what == "Ctrl-C":
+            panel.process.send_signal(signal.SIGINT)
+        else:
+            os.close(terminal.end)
+        panel.process.wait(timeout=60)
+        panel.read()
+        asks(has(panel, "in doubt 1 OUT 0:2:1", "withdrawn 1 OUT 0:2:2")(), f"{what}: the orders have no end: {panel.lines[-4:]}")
+
+
+def bad_lists(panel_words):
+    """Two readers at one address, a 17th, and an order for a reader that isn't there, are told in sentences."""
+    terminal = Terminal()
+    for addresses, said in (("5,6,5", "bad address: 5 stands twice in the list"), (",".join(map(str, range(17))), "bad address: 16, a line has 16 readers at most"),
+                            ("127", "bad address: 127, an address is 0 to 126")):
+        ended(started(panel_words, terminal, [addresses], *PANEL, stderr=subprocess.PIPE), 2, said, f"the list {addresses}")
+    device, panel = Device(terminal), started(panel_words, terminal, ["5"], *PANEL)
+    device.until([panel], opened(panel, 1))
+    for order, why in (("9 OUT 0:2:0", "refused no reader 9: they are 1 to 1"), ("1 COMSET 7 9600", "refused COMSET: osdp-port does it"), ("1 OUT", "refused line")):
+        panel.say(order)
+        asks(device.until([panel], has(panel, f"not taken {order}")) and why in panel.lines, f"{order}: {panel.lines[-3:]}")
+    panel.process.kill()
+    terminal.close()
+
+
+def acts_first(reader_words):
+    """An OUT is done and told before its answer goes out: a reader whose output nobody reads, and which ends by that, has not answered."""
+    terminal = Terminal()
+    reader = started(reader_words, terminal, [], "address", "5", stderr=subprocess.DEVNULL)
+    os.write(terminal.end, packet(5, 0, 0x61, b"\0"))
+    terminal.next_burst()
+    reader.process.stdout.close()
+    os.write(terminal.end, packet(5, 1, OUT, bytes([0, 2, 0, 0])))
+    reader.process.wait(timeout=60)
+    terminal.held += os.read(terminal.end, 100) if port_line.select.select([terminal.end], [], [], 0.2)[0] else b""
+    asks(packet(0x85, 1, ACK) not in terminal.held, "acts first: the ACK has gone out before the deed was told")
+    terminal.close()
+
+
+def no_room(reader_words):
+    """An event for which there is no room is told in a sentence."""
+    terminal = Terminal()
+    reader = started(reader_words, terminal, [], "address", "5", "room", "1")
+    reader.say("event KEYPAD 0 31\nevent KEYPAD 0 32")
+    end = time.monotonic() + 30
+    while not tells(reader, "refused no room for another event")() and time.monotonic() < end:
+        time.sleep(0.05)
+        reader.read()
+    asks(reader.lines == ["event KEYPAD 0 31", "event KEYPAD 0 32", "refused no room for another event"], f"no room: {reader.lines}")
+    reader.process.kill()
+    terminal.close()
+
+
+def main(osdp):
+    words = list(commands(TOP, osdp, None))
+    begun = time.monotonic()
+    stolen_bytes(words[0])
+    second_program(words)
+    ends_of_orders(words[0])
+    bad_lists(words[0])
+    acts_first(words[1])
+    no_room(words[1])
+    for example in words:
+        name = example[0][-1]
+        shown = subprocess.run([*map(str, example[0]), "--help"], capture_output=True, text=True)
+        asks(shown.returncode == 0 and "Status: 2 bad words" in shown.stdout and not shown.stderr, f"{name}: --help is another text")
+    for name in ("panel", "reader", "port", "lines"):
+        length = len((TOP / f"examples/{name}.py").read_text().splitlines())
+        asks(length <= 100, f"examples/{name}.py has {length} lines: it is to stay a short one")
+    print(f"short examples: {len(faults)} faults in {time.monotonic() - begun:.1f} s", *faults, sep="\n")
+    return 1 if faults else 0
+
+
+if __name__ == "__main__":
+    sys.exit(main(*sys.argv[1:]))
