@@ -36,6 +36,7 @@ osdp_status add_door(osdp_panel *panel, struct door *door, const char *kept, uin
 static void note_door(struct door *door)
 {
     door->may_order = true;
+    door->is_other = false;
     door->stand->is_known = true;
     door->stand->id = door->seen;
     stands_at(door->stand, place_of(door->stand));
@@ -46,10 +47,11 @@ void heed_door(struct door *door, const struct osdp_report *report, uint64_t now
 {
     const uint8_t *com = report->reply.data; /* of a COM: the address, and the rate with its lowest byte first */
     if (report->kind == OSDP_REPORT_OPENED && osdp_pd_id_of(&report->reply, &door->seen) == OSDP_OK) {
-        if (is_same(door->stand, &door->seen)) {
-            note_door(door);
-        } else {
+        door->is_other = !is_same(door->stand, &door->seen);
+        if (door->is_other) {
             tell("another device: it gets no order until `accept`\n");
+        } else {
+            note_door(door);
         }
     } else if (report->kind == OSDP_REPORT_SETTLED && report->command.code == OSDP_COMSET) {
         note_door(door); /* it was refused */
@@ -58,7 +60,7 @@ void heed_door(struct door *door, const struct osdp_report *report, uint64_t now
         (void)keep_door();
     }
     if (report->kind == OSDP_REPORT_LOST || report->kind == OSDP_REPORT_MOVED) {
-        door->may_order = false;
+        door->may_order = door->is_other = false;
         door->begins = now + (report->kind == OSDP_REPORT_LOST ? PAUSE : 0);
     }
 }
@@ -86,15 +88,14 @@ void begin_door(osdp_panel *panel, struct door *door, int port, uint64_t now)
 
 void take_line(osdp_panel *panel, struct door *door, const char *line)
 {
-    static struct osdp_message command;
+    char comset[32];
     unsigned address, rate;
-    bool is_other = door->begins == UINT64_MAX && !door->may_order && !is_same(door->stand, &door->seen);
-    if (strcmp(line, "accept") == 0 && is_other) {
+    if (strcmp(line, "accept") == 0 && door->is_other) {
         note_door(door);
     } else if (sscanf(line, "move %3u %6u", &address, &rate) == 2 && address <= 126 && has_rate(rate) && door->may_order && door->stand->count == 1) {
         may_move(door->stand, (struct place){ address, rate });
-        osdp_comset((uint8_t)address, rate, &command);
-        if (!keep_door() || tell_refusal(osdp_panel_submit(panel, door->entry, command.code, command.data, command.length))) {
+        snprintf(comset, sizeof comset, "COMSET %u %u", address, rate);
+        if (!keep_door() || tell_refusal(osdp_panel_submit_text(panel, door->entry, comset, strlen(comset)))) {
             stands_at(door->stand, place_of(door->stand));
             (void)keep_door();
         }

@@ -1,8 +1,8 @@
 //! A panel's only device: where it is, what it is, and when its session begins. A file keeps the first two: a line such as
 //! `5 at 7 9600 or 5 9600 is 53494D 1 12345`, by the address at which the device was first. The panel in C keeps the same lines.
 #![allow(dead_code)] // a device's program has no use for it
-use super::Port;
-use osdp::{Command, Entry, Moment, Panel, PdId, Reply, Report};
+use super::{Port, RATES};
+use osdp::{Entry, Moment, Panel, PdId, Reply, Report};
 use std::error::Error;
 use std::fs::{self, File};
 use std::io::{self, Write};
@@ -195,7 +195,9 @@ impl Door {
         let places = &mut self.stands[self.at].places;
         places.rotate_left(1);
         let (address, rate) = places[places.len() - 1];
-        port.set_rate(rate)?;
+        if port.set_rate(rate).is_err() {
+            println!("no rate {rate}");
+        }
         panel.retarget(self.entry, address)?;
         panel.begin(self.entry, now)?;
         Ok(())
@@ -212,13 +214,14 @@ impl Door {
                 let (Ok(address), Ok(rate)) = (address.parse(), rate.parse()) else {
                     return Ok(false);
                 };
+                if address > 126 || !RATES.contains(&rate) {
+                    return Ok(false);
+                }
+                let comset = format!("COMSET {address} {rate}");
                 let place = self.stands[self.at].place();
                 self.stands[self.at].places = vec![(address, rate), place];
                 self.keep()?; // before it goes out: it may be there from then on
-                if panel
-                    .submit(self.entry, &Command::comset(address, rate))
-                    .is_err()
-                {
+                if panel.submit_text(self.entry, &comset).is_err() {
                     self.stands_at(place)?;
                     return Ok(false);
                 }

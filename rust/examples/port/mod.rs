@@ -24,6 +24,9 @@ const O_NONBLOCK_NOCTTY: i32 = 0o4400;
 const FIONBIO: c_ulong = 0x5421;
 const TIOCEXCL: c_ulong = 0x540C;
 
+/// Rates of lines, which a port has.
+pub const RATES: [u32; 6] = [9600, 19200, 38400, 57600, 115200, 230400];
+
 /// What has come.
 pub enum Came {
     Bytes(Vec<u8>),
