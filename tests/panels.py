@@ -17,18 +17,14 @@ from concurrent.futures import ProcessPoolExecutor
 from pathlib import Path
 
 import examples
-from examples import ACK, COM, COMSET, ID, PDID, READER, Device, Line, asks, com, has, opened, taken
+from examples import ACK, COM, COMSET, ID, NAK, PDID, Device, Line, asks, has, opened, taken
 from terminals import Script, Terminal, packet
 
 OUT = 0x68
 FAST = "check sum poll-interval 20 reply-wait 300 sends 2 quiet-wait 60".split()
 SETTINGS = {"fast": FAST, "the defaults": ["check", "sum"], "reply-wait 400": ["check", "sum", "reply-wait", "400"]}
-FOUND = 90.0  # after how many seconds readers that answer have not been found
+FOUND = 60.0  # after how many seconds readers that answer have not been found
 ROUNDS = 4  # in so many rounds each reader is tried at each of its places
-
-
-def words(c):
-    return [f"{c}/panel"], []
 
 
 def all_words(c):
@@ -170,18 +166,18 @@ def lost_answers(c, _, count, losers, kind, name):
         if kind == "each answer":
             line.run(lambda: False, 0.1)
         panel.say("1 COMSET 5 19200")
-        asks(line.run(lambda: all(lost(panel, number) for number in losers)), f"{what}: not all are lost: {panel.lines}")
+        asks(line.run(lambda: all(lost(panel, number) for number in losers)), f"{what}: not all are lost: {panel.lines[-12:]}")
         line.loses = lambda way, burst: False
         before = len(panel.lines)
         is_open = lambda: all(sum(each.startswith(f"opened {number} ") for each in panel.lines) >= 2 or not lost(panel, number) for number in numbers)
-        asks(line.run(lambda: is_open() and one_rate(line), FOUND), f"{what}: not all are found: {panel.lines}")
+        asks(line.run(lambda: is_open() and one_rate(line), FOUND), f"{what}: not all are found: {panel.lines[-12:]}")
         told = panel.lines[before:]
         asks(sum(each.startswith("rate ") for each in told) <= ROUNDS, f"{what}: the rounds are {told}")
         asks(sum(each.startswith("looks for ") for each in told) <= count, f"{what}: the searches are {told}")
         line.rests(0.5)
         for number, reader in zip(numbers, readers):
             line.run(lambda: f"settled {number} OUT 0:2:{number} = ACK" in panel.lines or not panel.say(f"{number} OUT 0:2:{number}") and line.rests(1) and False, 30)
-            asks(f"taken OUT 0:2:{number}" in reader.lines, f"{what}: reader {number} takes no order: {panel.lines}")
+            asks(f"taken OUT 0:2:{number}" in reader.lines, f"{what}: reader {number} takes no order: {panel.lines[-12:]}")
 
 
 def lost_burst(c, _, count, at):
@@ -200,7 +196,26 @@ def lost_burst(c, _, count, at):
         line.loses = loses
         panel.say("1 COMSET 5 19200")
         holds = lambda: line.panel_end.rate == termios.B19200 and one_rate(line) and all(opened(panel, number, 2)() for number in numbers)
-        asks(line.run(holds, FOUND), f"one answer, {at} of {count}: {panel.lines}")
+        asks(line.run(holds, FOUND), f"one answer, {at} of {count}: {panel.lines[-12:]}")
+
+
+class Stubborn:
+    """A device that refuses each COMSET, at the reader's side of a terminal."""
+
+    def __init__(self, terminal, address):
+        self.end, self.address, self.held = terminal.other, address, b""
+        attributes = termios.tcgetattr(self.end)
+        attributes[4] = attributes[5] = termios.B9600
+        termios.tcsetattr(self.end, termios.TCSANOW, attributes)
+
+    def answer(self):
+        if select.select([self.end], [], [], 0)[0]:
+            self.held += os.read(self.end, 4096)
+        while len(self.held) >= 4 and len(self.held) >= self.held[2]:
+            burst, self.held = self.held[:self.held[2]], self.held[self.held[2]:]
+            if burst[1] == self.address:
+                code, data = {ID: (PDID, examples.IDENTITY), COMSET: (NAK, b"\x09")}.get(burst[5], (ACK, b""))
+                os.write(self.end, packet(self.address | 0x80, burst[4] & 3, code, data))
 
 
 def refused_rate(c, _):
@@ -208,19 +223,19 @@ def refused_rate(c, _):
     with Line(all_words(c), 2) as line:
         panel = line.panel("5,6", *FAST)
         first = line.reader(0, 5)
-        second = Device(line.reader_ends[1], {})
+        second = Stubborn(line.reader_ends[1], 6)
         both = lambda: second.answer() or (opened(panel, 1)() and opened(panel, 2)())
         asks(line.run(both), "refusing: the sessions don't open")
         panel.say("1 COMSET 9 19200")
         told = ["moved 1 COMSET 9 19200 = COM 9 19200", "settled 2 COMSET 6 19200 = NAK 9", "looks for 1 at 9 19200", "ordered 1 COMSET 9 9600", "moved 1 COMSET 9 9600 = COM 9 9600"]
-        asks(line.run(lambda: second.answer() or (has(panel, *told)() and opened(panel, 1, 3)())), f"refusing: the panel tells {panel.lines}")
-        asks(not any(each.startswith(("rate ", "lost 2")) for each in panel.lines), f"refusing: the other session didn't stay: {panel.lines}")
+        asks(line.run(lambda: second.answer() or (has(panel, *told)() and opened(panel, 1, 3)())), f"refusing: the panel tells {panel.lines[-12:]}")
+        asks(not any(each.startswith(("rate ", "lost 2")) for each in panel.lines), f"refusing: the other session didn't stay: {panel.lines[-12:]}")
         panel.say("1 OUT 0:2:1")
         asks(line.run(lambda: second.answer() or "taken OUT 0:2:1" in first.lines), "refusing: the reader that was fetched takes no order")
 
 
 def swapped(c, _):
-    """Two readers change their addresses by a third one, and the panel starts again with the same words: each order goes to its own reader."""
+    """One reader moves away, and another takes its address. The panel starts again with the same words: each order goes to its own reader."""
     with tempfile.TemporaryDirectory() as folder, Line(all_words(c), 2) as line:
         kept = f"{folder}/panel"
         panel = line.panel("5,6", *FAST, options=["--keep", kept])
@@ -269,7 +284,7 @@ def kept_before(c, _):
             fcntl.ioctl(line.panel_end.other, termios.TIOCNXCL)
             line.loses = lambda way, burst: False
             again = line.panel("5", *FAST, options=["--keep", kept])
-            asks(line.run(opened(again, 1)), f"kept: the reader isn't found again: {again.lines}")
+            asks(line.run(opened(again, 1)), f"kept: the reader isn't found again: {again.lines[-12:]}")
             line.rests(0.1)
             asks(kept.read_text() == f"5 at {where} is 53494D 1 0\n", f"kept: in the end the file has {kept.read_text()!r}")
     for text in ("5\n", "5 at 7\n", "5 at 7 9600 6\n", "5 at 7 9600 is 5\n", "5 at 127 9600\n", "5 at 7 9600\n6 at 7 9600\n", "5 at 7 9600 or 6 9600\n6 at 6 9600\n"):
@@ -326,7 +341,7 @@ def small_panel(c, rust, language):
         asks(kept.read_text() == "5 at 5 9600 is 000000 0 1\n", f"{language}: at first the file has {kept.read_text()!r}")
         line.loses = lambda way, burst: burst[5] == COM
         panel.say("move 7 19200")
-        asks(line.run(lambda: any(burst[5] == COM for _, burst in line.bursts)), f"{language}: no COMSET goes out: {panel.lines}")
+        asks(line.run(lambda: any(burst[5] == COM for _, burst in line.bursts)), f"{language}: no COMSET goes out: {panel.lines[-12:]}")
         asks(kept.read_text() == "5 at 7 19200 or 5 9600 is 000000 0 1\n", f"{language}: as the COMSET goes out the file has {kept.read_text()!r}")
         stop(panel)
         line.loses = lambda way, burst: False
@@ -339,7 +354,7 @@ def small_panel(c, rust, language):
         stop(device)
         device = reader(2)
         told = lambda: any(each.startswith("another device") for each in panel.lines)
-        asks(line.run(told), f"{language}: another device isn't told: {panel.lines}")
+        asks(line.run(told), f"{language}: another device isn't told: {panel.lines[-12:]}")
         device.say(card)
         line.rests(1.5)
         asks(taken(device) == [], f"{language}: another device has taken {taken(device)}")

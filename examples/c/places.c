@@ -221,7 +221,13 @@ void rate_set(void)
 
 const struct place *next_place(const struct known *reader, uint32_t rate)
 {
-    return reader->state == CLOSED ? first_place(reader, rate, true) : NULL;
+    bool is_over = reader->is_tried && !any_open() && rate_after(rate) != rate; /* it waits for the others, and then for its turn at the next rate */
+    return reader->state == CLOSED && !is_over ? first_place(reader, rate, true) : NULL;
+}
+
+const struct place *place_at(const struct known *reader, uint32_t rate)
+{
+    return first_place(reader, rate, true);
 }
 
 const struct place *place_elsewhere(const struct known *reader, uint32_t rate)

@@ -71,8 +71,12 @@ uint32_t next_rate(uint32_t rate);
 /* The port has another rate. */
 void rate_set(void);
 
-/* Where a closed session can begin by this rate: at the first of its places that has it; NULL where none has. */
+/* Where a closed session can begin by this rate: at the first of its places that has it; NULL where none has. While no session is open, and another rate is
+ * to have its turn, each reader begins once: so the round is over once the last one has ended. */
 const struct place *next_place(const struct known *reader, uint32_t rate);
+
+/* The first place of a reader that has this rate, whether or not its session can begin; NULL where none has. */
+const struct place *place_at(const struct known *reader, uint32_t rate);
 
 /* The first place of a reader that has another rate; NULL where none has. */
 const struct place *place_elsewhere(const struct known *reader, uint32_t rate);

@@ -95,7 +95,7 @@ void begin_search(uint32_t rate, uint64_t now)
 /* A reader is found: it is to come to the rate of the others, at its address there. Whether it was told so. */
 static bool fetch(struct known *reader)
 {
-    const struct place *back = next_place(&(struct known){ .stand = reader->stand, .state = CLOSED }, home);
+    const struct place *back = place_at(reader, home);
     struct place to = back != NULL ? *back : (struct place){ there.address, home };
     stands_at(reader->stand, there);
     if (!comset_goes(reader, to)) {
