@@ -36,7 +36,7 @@ for name in panel reader; do
 done
 # a copy of a small program in C, as c/README.md says, and of one in Rust, as rust/README.md says
 mkdir "$work/mine" && cp "$there/share/osdp/examples/c/"*.[ch] "$work/mine/" && cp "$work/mine/door_panel.c" "$work/mine/my_panel.c"
-(cd "$work/mine" && passes "$CC" -o my_panel my_panel.c port.c words.c trace.c settings.c $(pkg-config --cflags --libs osdp)) || fail 'a copy of a panel in C is not built'
+(cd "$work/mine" && passes "$CC" -o my_panel my_panel.c {door,kept,owner,port,settings,trace,words}.c $(pkg-config --cflags --libs osdp)) || fail 'a copy of a panel in C is not built'
 (
   ln -s "$there/share/osdp" "$work/osdp" && cd "$work" && unset OSDP_C_LIB_DIR && export CARGO_NET_OFFLINE=true
   passes cargo new --quiet --vcs none my_door && cd my_door || exit 1

@@ -20,7 +20,7 @@ examples/c/build "$work" -Werror || exit 1
 cargo build --quiet --offline --locked --examples --manifest-path rust/Cargo.toml --target-dir "$work/target" || exit 1
 for name in door_panel door_device; do
   said=$("$work/target/debug/examples/$name" 2>&1)
-  [ $? -eq 2 ] && [ "$said" = "usage: $name PORT RATE" ] || { echo "pairs.sh: $name in Rust says of no words: $said"; failed=1; }
+  [ $? -eq 2 ] && [ "$said" = "usage: $name [--keep FILE] PORT RATE" ] || { echo "pairs.sh: $name in Rust says of no words: $said"; failed=1; }
 done
 timeout 200 python3 tests/pairs.py "$work" "$work/target/debug/examples" "$crates" || failed=1
 exit "$failed"

@@ -34,11 +34,11 @@ static void take_out(const struct osdp_message *out, uint32_t order)
     }
 }
 
-/* What the device says goes out, and then it does what it is to do. */
+/* The device does what it is to do, and then what it says goes out: so an order that is answered was done, also where power is lost in between. */
 static void take_answer(const struct osdp_answer *answer)
 {
-    write_all(port, &answer->burst);
     take_out(&answer->command, answer->order);
+    write_all(port, &answer->burst);
 }
 
 /* Hands bytes to the device, until nothing is said to them. */

@@ -1,10 +1,10 @@
-/* A panel that opens a door for two cards: `door_panel PORT RATE`. The door is the device at address 5. What it reports is printed. */
+/* A panel that opens a door for two cards: `door_panel [--keep FILE] PORT RATE`. The door is the device at address 5. What it reports is printed. A line
+ * `move 7 9600` gives the device another address and rate, which FILE keeps: a panel that starts again finds it there. */
 #include <string.h>
 
+#include "door.h"
 #include "port.h"
 #include "words.h"
-
-#define PAUSE 1000 /* from a lost session to the next one, in milliseconds */
 
 /* Whether a card opens the door: two cards of 26 bits do. */
 static bool may_enter(const struct osdp_raw *card)
@@ -23,8 +23,7 @@ int main(void)
 }
 #else
 static osdp_panel panel;
-static size_t door;
-static uint64_t begins; /* when the door's next session begins; UINT64_MAX while one goes on */
+static struct door door;
 
 /* Orders the door's strike, its output 0, on for three seconds. Where as many orders wait as may, the door stays closed. */
 static void open_door(void)
@@ -32,7 +31,7 @@ static void open_door(void)
     static struct osdp_message command;
     const struct osdp_output strike = { .output = 0, .control = 5, .timer = 30 };
     (void)osdp_out(&strike, 1, &command);
-    (void)osdp_panel_submit(&panel, door, command.code, command.data, command.length);
+    (void)osdp_panel_submit(&panel, door.entry, command.code, command.data, command.length);
 }
 
 /* Takes what the panel reports, and does what is to be done about it. */
@@ -42,24 +41,19 @@ static void take_reports(uint64_t now)
     static struct osdp_raw card;
     while (osdp_panel_next_report(&panel, &report) == OSDP_OK && report.kind != OSDP_REPORT_NONE) {
         tell_report(&report);
-        if (report.kind == OSDP_REPORT_EVENT && osdp_raw_of(&report.reply, &card) == OSDP_OK && may_enter(&card)) {
+        heed_door(&door, &report, now);
+        if (report.kind == OSDP_REPORT_EVENT && door.may_order && osdp_raw_of(&report.reply, &card) == OSDP_OK && may_enter(&card)) {
             open_door();
-        } else if (report.kind == OSDP_REPORT_LOST || report.kind == OSDP_REPORT_MOVED) {
-            begins = now + (report.kind == OSDP_REPORT_LOST ? PAUSE : 0);
         }
     }
 }
 
-/* Begins a session whose moment has come. The orders that waited are stale. */
-static void begin(uint64_t now)
+/* The moment up to which there is nothing to do. */
+static uint64_t next_moment(void)
 {
-    static struct osdp_message command;
-    if (begins <= now) {
-        begins = UINT64_MAX;
-        while (osdp_panel_withdraw(&panel, door, &command) == OSDP_OK && command.present) {
-        }
-        (void)osdp_panel_begin(&panel, door, now);
-    }
+    struct osdp_moment due = { 0, 0 };
+    bool is_due = osdp_panel_next_deadline(&panel, &due) == OSDP_OK && due.present;
+    return is_due && due.moment < door.begins ? due.moment : door.begins;
 }
 
 int main(int count, char **words)
@@ -68,26 +62,28 @@ int main(int count, char **words)
     static struct osdp_burst burst;
     struct osdp_panel_config config;
     uint8_t bytes[4096];
-    words = take_words(&count, words, 2, "door_panel PORT RATE\n", NULL);
+    const char *kept = NULL;
+    words = take_words(&count, words, 2, "door_panel [--keep FILE] PORT RATE\n", &kept);
+    uint32_t rate = number(words[1], "rate");
     osdp_panel_defaults(&config);
     osdp_status status = osdp_panel_new(&panel, &config);
-    if (status != OSDP_OK || osdp_panel_add(&panel, 5, &door) != OSDP_OK) {
+    status = status == OSDP_OK ? add_door(&panel, &door, kept, 5, rate) : status;
+    if (status != OSDP_OK) {
         stop(OUT_OF_MEMORY, "%s", osdp_status_text(status));
     }
-    int port = open_port(words[0], number(words[1], "rate"));
+    int port = open_port(words[0], rate);
     for (;;) {
-        struct osdp_moment due = { 0, 0 };
-        uint64_t now = moment(), next = begins;
-        if (osdp_panel_next_deadline(&panel, &due) == OSDP_OK && due.present && due.moment < next) {
-            next = due.moment;
-        }
+        uint64_t now = moment(), next = next_moment();
         size_t length = read_port(port, &lines, next > now ? next - now : 0, bytes, sizeof bytes);
         now = moment(); /* after the read: not before it */
         if (osdp_panel_bytes(&panel, bytes, length, now) == OSDP_MOMENT_TOO_FAR) {
             (void)osdp_panel_set_moment(&panel, now); /* the program was stopped for more than a day */
         }
         take_reports(now);
-        begin(now);
+        for (const char *line = next_line(&lines); line != NULL; line = next_line(&lines)) {
+            take_line(&panel, &door, line);
+        }
+        begin_door(&panel, &door, port, now);
         (void)osdp_panel_tick(&panel, now, &burst);
         write_all(port, &burst);
         take_reports(now);

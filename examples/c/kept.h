@@ -1,15 +1,53 @@
-/* The file that keeps a reader's address and rate while it has no power: one line with both numbers. */
+/* Files that keep where devices are while there is no power, or while a program doesn't run: a reader's own place, and the stands of a panel's devices.
+ * A file is written whole to the disk, and put in the place of the one before, so that a loss of power leaves one of both. */
 #ifndef KEPT_H
 #define KEPT_H
 
-#include <stdbool.h>
-#include <stdint.h>
+#include "osdp.h"
 
-/* What the file keeps; false where nothing was kept yet, or no file is named. Ends the program where the file is another one. */
+/* A reader's address and rate: what the file keeps; false where nothing was kept yet, or no file is named. Ends the program where the file is another one. */
 bool read_kept(const char *path, uint32_t *address, uint32_t *rate);
 
-/* Writes the whole line to the disk, and puts it in the place of the one before, so that a loss of power leaves one of both. Tells where that can't be
- * done. Nothing is done where no file is named. */
+/* Keeps them. Tells where that can't be done. Nothing is done where no file is named. */
 void keep(const char *path, uint32_t address, uint32_t rate);
+
+struct place {
+    uint32_t address, rate;
+};
+
+/* Where a panel's device is, and what it is. */
+struct stand {
+    uint32_t name;          /* its address in the panel's words, wherever it has gone since */
+    size_t count;           /* of places: 2 while a COMSET isn't answered, else 1 */
+    struct place places[2]; /* the one to be tried next stands first, and the one in use last */
+    bool is_known;          /* whether it has told what it is: */
+    struct osdp_pd_id id;   /* vendor, model and serial number count */
+};
+
+/* The stands that a file keeps, of which there are at most so many; none where there is no file yet, or none is named. Ends the program where the file is
+ * another one, or has two devices at one address. */
+size_t read_stands(const char *path, struct stand *stands, size_t most);
+
+/* Keeps these stands. Whether that was done; it is where no file is named. */
+bool keep_stands(const char *path, const struct stand *stands, size_t count);
+
+/* The stand of this name, which joins the others at a place if it isn't among them. Ends the program where another device may be at its address, or the
+ * others are as many as there may be. */
+struct stand *stand_of(struct stand *stands, size_t *count, size_t most, uint32_t name, uint32_t rate);
+
+/* A COMSET goes out to a device: it may be at this place too. */
+void may_move(struct stand *stand, struct place place);
+
+/* A device is at this place. */
+void stands_at(struct stand *stand, struct place place);
+
+/* The place of a device that is in use. */
+struct place place_of(const struct stand *stand);
+
+/* Takes the place that is in use after the others: of two places each is tried in its turn. */
+void try_place(struct stand *stand, struct place place);
+
+/* Whether a device is the one that stood here before, as far as that is known. */
+bool is_same(const struct stand *stand, const struct osdp_pd_id *id);
 
 #endif

@@ -20,12 +20,72 @@ static bool is_comset(const char *text, struct place *place)
     return true;
 }
 
-/* Why an order isn't submitted, where it would be stale, or leave a reader where nobody finds it; else NULL. */
+/* An order that has had no end yet. */
+struct given {
+    struct given *next;
+    char text[];
+};
+
+static struct given *given[MOST]; /* of each reader, the first one first */
+
+/* An order was taken. Nothing is told of its end where there is no memory to note it. */
+static void order_given(size_t entry, const char *text)
+{
+    struct given **last = &given[entry];
+    struct given *order = malloc(sizeof *order + strlen(text) + 1);
+    if (order == NULL) {
+        return;
+    }
+    order->next = NULL;
+    strcpy(order->text, text);
+    while (*last != NULL) {
+        last = &(*last)->next;
+    }
+    *last = order;
+}
+
+void order_ended(size_t entry)
+{
+    struct given *first = given[entry];
+    if (first != NULL) {
+        given[entry] = first->next;
+        free(first);
+    }
+}
+
+/* How many orders of a reader have had no end. */
+static size_t given_count(size_t entry)
+{
+    size_t count = 0;
+    for (const struct given *each = given[entry]; each != NULL; each = each->next) {
+        count++;
+    }
+    return count;
+}
+
+void tell_ends(struct osdp_panel *panel, const char *cause)
+{
+    size_t waiting;
+    for (size_t i = 0; known_reader(i) != NULL && osdp_panel_waiting(panel, i, &waiting) == OSDP_OK; i++) {
+        for (; given[i] != NULL; order_ended(i)) {
+            if (given_count(i) > waiting) {
+                tell("lost %zu %s %s\n", i + 1, cause, given[i]->text);
+            } else {
+                tell("withdrawn %zu %s\n", i + 1, given[i]->text);
+            }
+        }
+    }
+}
+
+/* Why an order isn't submitted, where it would be stale, or be for another device, or leave a reader where nobody finds it; else NULL. */
 static const char *refusal(const struct known *reader, const char *text)
 {
     struct place place;
     if (reader->state != OPEN) {
         return "session not open";
+    }
+    if (reader->is_other) {
+        return "another device answers there";
     }
     if (!is_comset(text, &place)) {
         return NULL;
@@ -33,16 +93,40 @@ static const char *refusal(const struct known *reader, const char *text)
     return has_rate(place.rate) ? comset_refusal() : "no such rate";
 }
 
-/* Hands the panel an order. Whether it was taken. */
+/* Says why the panel has refused an order, by what its user knows: the readers' addresses. */
+static void tell_why(osdp_status status, size_t entry, const char *text)
+{
+    unsigned address = (unsigned)place_of(known_reader(entry)->stand).address;
+    struct place place;
+    if (status == OSDP_ADDRESS_TAKEN && is_comset(text, &place) && reader_at(place.address) > 0) {
+        tell("refused address %u is that of device %zu\n", (unsigned)place.address, reader_at(place.address));
+    } else if (status == OSDP_COMMANDS_FULL) {
+        tell("refused as many orders wait for device %zu at %u as there is room for\n", entry + 1, address);
+    } else {
+        (void)tell_refusal(status);
+    }
+}
+
+/* Hands the panel an order. Whether it was taken. Where a COMSET leads is kept before it can go out. */
 static bool submit(struct osdp_panel *panel, size_t entry, const char *text)
 {
+    struct known *reader = known_reader(entry);
     struct place place;
-    if (tell_refusal(osdp_panel_submit_text(panel, entry, text, strlen(text)))) {
+    bool moves = is_comset(text, &place) && reader->stand->count == 1;
+    if (moves && !comset_goes(reader, place)) {
+        comset_over(reader);
+        tell("refused its place can't be kept\n");
         return false;
     }
-    if (is_comset(text, &place)) {
-        comset_taken(known_reader(entry), place);
+    osdp_status status = osdp_panel_submit_text(panel, entry, text, strlen(text));
+    if (status != OSDP_OK) {
+        if (moves) {
+            comset_over(reader);
+        }
+        tell_why(status, entry, text);
+        return false;
     }
+    order_given(entry, text + strspn(text, " "));
     return true;
 }
 
@@ -51,9 +135,8 @@ static void move_others(struct osdp_panel *panel, size_t entry, uint32_t rate)
 {
     char text[32];
     for (size_t i = 0; known_reader(i) != NULL; i++) {
-        const struct known *reader = known_reader(i);
         if (i != entry) {
-            snprintf(text, sizeof text, "COMSET %u %u", (unsigned)reader->places[reader->count - 1].address, (unsigned)rate);
+            snprintf(text, sizeof text, "COMSET %u %u", (unsigned)place_of(known_reader(i)->stand).address, (unsigned)rate);
             tell("ordered %zu %s\n", i + 1, text);
             if (!submit(panel, i, text)) {
                 tell("not taken %zu %s\n", i + 1, text);
@@ -62,19 +145,44 @@ static void move_others(struct osdp_panel *panel, size_t entry, uint32_t rate)
     }
 }
 
+/* An order for a reader that isn't there. */
+static void tell_readers(size_t entry)
+{
+    tell("refused no device %zu: the list has", entry + 1);
+    for (size_t i = 0; known_reader(i) != NULL; i++) {
+        tell("%s %zu at %u", i > 0 ? "," : "", i + 1, (unsigned)place_of(known_reader(i)->stand).address);
+    }
+    tell("\n");
+}
+
+/* Takes an order for a reader, or refuses it. Whether it was taken. */
+static bool take(struct osdp_panel *panel, size_t entry, const char *text)
+{
+    struct known *reader = known_reader(entry);
+    const char *why = reader != NULL ? refusal(reader, text) : NULL;
+    if (reader == NULL) {
+        tell_readers(entry);
+        return false;
+    }
+    if (strcmp(text + strspn(text, " "), "accept") == 0 && reader->is_other) {
+        allow_other(reader);
+        return true;
+    }
+    if (why != NULL) {
+        tell("refused %s\n", why);
+        return false;
+    }
+    return submit(panel, entry, text);
+}
+
 void order(struct osdp_panel *panel, uint32_t rate, const char *line)
 {
     const char *first = line + strspn(line, " ");
     char *text = (char *)first;
     size_t entry = *first >= '1' && *first <= '9' ? strtoul(first, &text, 10) - 1 : SIZE_MAX;
-    const struct known *reader = *text == ' ' ? known_reader(entry) : NULL;
-    const char *why = reader != NULL ? refusal(reader, text) : NULL;
     struct place place;
     tell("ordered %s\n", line);
-    if (why != NULL) {
-        tell("refused %s\n", why);
-    }
-    if (why != NULL || (*text == ' ' ? !submit(panel, entry, text) : tell_refusal(OSDP_BAD_TEXT))) {
+    if (*text == ' ' && text != first ? !take(panel, entry, text) : tell_refusal(OSDP_BAD_TEXT)) {
         tell("not taken %s\n", line);
     } else if (is_comset(text, &place) && place.rate != rate) {
         move_others(panel, entry, place.rate);

@@ -4,23 +4,28 @@
 #include "orders.h"
 #include "places.h"
 #include "port.h"
+#include "search.h"
 #include "words.h"
 
-#define PAUSE 1000 /* from a lost session to the next one, in milliseconds */
-
 static const char usage[] =
-    "panel [--trace FILE] PORT RATE ADDRESS,ADDRESS.. [SETTING VALUE]..\n"
+    "panel [--trace FILE] [--keep FILE] PORT RATE ADDRESS,ADDRESS.. [SETTING VALUE]..\n"
     "\n"
     "Each line of standard input is an order: a reader's number and a command, as `1 OUT 0:5:30`. The number is the place of\n"
     "its ADDRESS in the list, from 1. docs/PROTOCOL.md has the texts of all commands. Each line of standard output is what\n"
     "was ordered, or what the panel reports: `opened`, `settled`, `event`, `lost` and others.\n"
     "Where no session opens, docs/INSTALLING.md tells the causes: \"A device that doesn't answer\".\n"
     "A reader whose session isn't open takes no order. Where a session is lost or moved, the orders that wait are taken\n"
-    "back, and told `withdrawn`. A lost session begins again after a second.\n"
-    "A COMSET is taken where every session is open. One with another rate is given to each reader, and the port gets that\n"
-    "rate after the last one has moved. One that refuses it keeps the port at the old rate, and those that moved are told\n"
-    "`out of reach`. Where the answer is lost, the new place and the old one are tried in turn.\n"
-    "FILE gets each burst, both ways, as `osdp show` reads it.\n"
+    "back, and told `withdrawn`. A lost session begins again after a second. Where the program ends, at Ctrl-C or since its\n"
+    "port is gone, they are told so too, and an order that is under way is told `lost` and `stopped` or `port-gone`.\n"
+    "A COMSET is taken where every session is open. One with another rate is given to each reader. While no session is\n"
+    "open the port goes through the rates at which readers may be, told `rate`, and tries each reader there once. Readers\n"
+    "whose sessions are open keep the port at their rate. One that may be at another rate is looked for there, told\n"
+    "`looks for`, and gets a COMSET that brings it to the others. While none is found, it is told `out of reach`, and the\n"
+    "next search comes after 1 s, 2 s and so on up to 64 s.\n"
+    "The file of `--keep` keeps where each reader is, before a COMSET goes out and after its end, and what it is. A panel\n"
+    "that starts again with the same words takes each reader there. A device that isn't the one which stood there is told\n"
+    "`another device`, and gets no order until a line such as `1 accept` allows it.\n"
+    "FILE of `--trace` gets each burst, both ways, as `osdp show` reads it.\n"
     "\n"
     "Settings: check sum or crc; reply-wait, poll-interval, busy-wait, quiet-wait and gap in milliseconds; sends,\n"
     "busy-limit and capacity.\n"
@@ -29,7 +34,7 @@ static const char usage[] =
 
 static struct osdp_panel panel;
 static int port;
-static uint32_t rate; /* of the port */
+static uint32_t rate; /* of the port, while no reader is looked for at another one */
 
 /* A session has ended: the orders that wait are stale, and are taken back. */
 static void close_reader(size_t entry, struct known *reader, uint64_t pause)
@@ -38,21 +43,29 @@ static void close_reader(size_t entry, struct known *reader, uint64_t pause)
     reader_closed(reader, moment() + pause);
     while (osdp_panel_withdraw(&panel, entry, &command) == OSDP_OK && command.present) {
         tell("withdrawn %zu %s\n", entry + 1, command_text(&command));
+        order_ended(entry);
         if (command.code == OSDP_COMSET) {
             comset_over(reader);
         }
     }
 }
 
-/* A reader has moved to where its COM says: an address, and a rate with its lowest byte first. */
-static void move_reader(struct known *reader, const uint8_t *com)
+/* Does what a report asks for. */
+static void heed(const struct osdp_report *report)
 {
-    struct place place = { com[0], com[1] | (uint32_t)com[2] << 8 | (uint32_t)com[3] << 16 | (uint32_t)com[4] << 24 };
-    if (!has_rate(place.rate)) {
-        tell("no rate %u\n", (unsigned)place.rate);
-        place.rate = rate;
+    struct known *reader = known_reader(report->entry);
+    if (report->kind == OSDP_REPORT_OPENED) {
+        reader_opened(reader, report);
+    } else if (report->kind == OSDP_REPORT_SETTLED && report->command.code == OSDP_COMSET) {
+        comset_over(reader);
+    } else if (report->kind == OSDP_REPORT_MOVED) {
+        comset_done(reader, place_told(&report->reply, rate));
+        close_reader(report->entry, reader, 0);
+    } else if (report->kind == OSDP_REPORT_LOST) {
+        close_reader(report->entry, reader, PAUSE);
+    } else if (report->kind == OSDP_REPORT_UNREAD) {
+        reader->is_moving = false; /* if it has moved, its session is lost */
     }
-    comset_done(reader, place);
 }
 
 /* Takes what the panel tells, and does what is to be done about it. */
@@ -60,18 +73,11 @@ static void take_reports(void)
 {
     static struct osdp_report report;
     while (osdp_panel_next_report(&panel, &report) == OSDP_OK && report.kind != OSDP_REPORT_NONE) {
-        struct known *reader = known_reader(report.entry);
         tell_report(&report);
-        if (report.kind == OSDP_REPORT_OPENED) {
-            reader_opened(reader);
-        } else if (report.kind == OSDP_REPORT_SETTLED && report.command.code == OSDP_COMSET) {
-            comset_over(reader);
-        } else if (report.kind == OSDP_REPORT_MOVED) {
-            move_reader(reader, report.reply.data);
-            close_reader(report.entry, reader, 0);
-        } else if (report.kind == OSDP_REPORT_LOST) {
-            close_reader(report.entry, reader, PAUSE);
+        if (report.command.present) {
+            order_ended(report.entry);
         }
+        heed(&report);
     }
 }
 
@@ -83,76 +89,94 @@ static void take_orders(struct lines *lines)
     }
 }
 
+/* The earlier of two moments. */
+static uint64_t earlier(uint64_t one, uint64_t other)
+{
+    return one < other ? one : other;
+}
+
 /* How many milliseconds nothing is to be done, if nothing comes. */
-static uint64_t until_due(void)
+static uint64_t until_due(osdp_panel *speaks)
 {
     struct osdp_moment due;
-    uint64_t now = moment(), first = next_begin(rate);
-    if (osdp_panel_next_deadline(&panel, &due) == OSDP_OK && due.present && due.moment < first) {
-        first = due.moment;
+    uint64_t now = moment(), first = NEVER;
+    if (speaks == &panel) {
+        first = next_rate(rate) != rate ? now : earlier(next_begin(rate), next_search(rate));
+    }
+    if (osdp_panel_next_deadline(speaks, &due) == OSDP_OK && due.present) {
+        first = earlier(first, due.moment);
     }
     return first > now ? first - now : 0;
 }
 
-/* Begins a session at a place of the reader, with the port at its rate. */
-static void begin(size_t entry, struct known *reader, struct place place, uint64_t now)
-{
-    if (place.rate != rate) {
-        (void)set_rate(port, place.rate);
-        rate = place.rate;
-        tell("rate %u\n", (unsigned)rate);
-    }
-    begin_at(reader, place);
-    (void)osdp_panel_retarget(&panel, entry, place.address);
-    (void)osdp_panel_begin(&panel, entry, now);
-}
-
-/* Begins the sessions whose moment has come. */
+/* Sets the port to the rate that it is to have, and begins the sessions whose moment has come. */
 static void begin_sessions(uint64_t now)
 {
+    uint32_t next = next_rate(rate);
+    if (next != rate) {
+        (void)set_rate(port, next);
+        rate = next;
+        rate_set();
+        tell("rate %u\n", (unsigned)rate);
+    }
     for (size_t i = 0; known_reader(i) != NULL; i++) {
         struct known *reader = known_reader(i);
         const struct place *place = next_place(reader, rate);
         if (place != NULL && reader->begins <= now) {
-            begin(i, reader, *place, now);
-        } else if (reader->state == CLOSED && reader->begins + PAUSE <= now && !reader->is_told) {
-            reader->is_told = true;
-            tell("out of reach %zu at %u\n", i + 1, (unsigned)reader->places[0].rate);
+            begin_at(reader, *place);
+            (void)osdp_panel_retarget(&panel, i, place_of(reader->stand).address);
+            (void)osdp_panel_begin(&panel, i, now);
         }
     }
 }
 
-/* Waits for bytes, for orders or for what is due, and hands it to the panel. */
+/* Waits for bytes, for orders or for what is due, and hands it to the panel that speaks: that of the line, or that which looks for a reader. */
 static void turn(struct lines *lines)
 {
     static struct osdp_burst burst;
     uint8_t bytes[4096];
-    size_t count = read_port(port, lines, until_due(), bytes, sizeof bytes);
+    osdp_panel *speaks = searching() != NULL ? searching() : &panel;
+    size_t count = read_port(port, lines, until_due(speaks), bytes, sizeof bytes);
     uint64_t now = moment(); /* after the read: not before it */
-    if (osdp_panel_bytes(&panel, bytes, count, now) == OSDP_MOMENT_TOO_FAR) {
-        (void)osdp_panel_set_moment(&panel, now); /* the program was stopped for more than a day */
+    if (osdp_panel_bytes(speaks, bytes, count, now) == OSDP_MOMENT_TOO_FAR) {
+        (void)osdp_panel_set_moment(speaks, now); /* the program was stopped for more than a day */
     }
+    take_found(now);
     take_reports();
     take_orders(lines);
-    begin_sessions(now);
-    (void)osdp_panel_tick(&panel, now, &burst);
+    if (searching() == NULL) {
+        begin_search(rate, now);
+    }
+    speaks = searching();
+    if (speaks == NULL) {
+        begin_sessions(now);
+        speaks = &panel;
+    }
+    (void)osdp_panel_tick(speaks, now, &burst);
     write_all(port, &burst);
+    take_found(now);
     take_reports();
 }
 
-/* Adds a reader at an address. */
+/* The program ends: what becomes of the orders is told. */
+static void tell_last_ends(const char *cause)
+{
+    tell_search_end(cause);
+    tell_ends(&panel, cause);
+}
+
+/* Adds a reader, by the address that its word is. */
 static void add_reader(const char *word)
 {
     size_t entry;
-    uint32_t address = number(word, "address");
-    osdp_status status = osdp_panel_add(&panel, address, &entry);
-    if (status == OSDP_PANEL_NO_MEMORY) {
-        stop(OUT_OF_MEMORY, "out of memory");
+    uint32_t name = number(word, "address");
+    if (name > 126) {
+        stop(BAD_WORDS, "bad address: %s is above 126", word);
     }
+    osdp_status status = osdp_panel_add(&panel, join_reader(name, rate), &entry);
     if (status != OSDP_OK) {
-        stop(BAD_WORDS, "bad address: %s", word);
+        stop(status == OSDP_PANEL_NO_MEMORY ? OUT_OF_MEMORY : BAD_WORDS, "device %s: %s", word, osdp_status_text(status));
     }
-    join_reader((struct place){ address, rate });
 }
 
 /* Adds a reader at each address of a word, which has commas between them. */
@@ -170,8 +194,9 @@ int main(int count, char **words)
 {
     static struct lines lines;
     struct osdp_panel_config config;
+    const char *kept = NULL;
     osdp_panel_defaults(&config);
-    words = take_words(&count, words, 3, usage, NULL);
+    words = take_words(&count, words, 3, usage, &kept);
     for (int i = 3; i < count; i += 2) {
         set_panel(&config, words[i], words[i + 1]);
     }
@@ -183,8 +208,11 @@ int main(int count, char **words)
     if (status != OSDP_OK) {
         stop(BAD_WORDS, "a setting is out of its range");
     }
+    read_places(kept);
     add_readers(words[2]);
     port = open_port(words[0], rate);
+    prepare_search(&config, port);
+    before_end(tell_last_ends);
     for (;;) {
         turn(&lines);
     }

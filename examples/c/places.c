@@ -1,14 +1,54 @@
 /* What a panel knows of its readers. */
 #include "places.h"
 
+#include "port.h"
+#include "words.h"
+
+#define KEPT 64 /* how many stands a file keeps at most: those of readers that aren't in the list too, which may be on the line still */
+
+static const char *kept;
+static struct stand stands[KEPT];
+static size_t stand_count;
 static struct known readers[MOST];
 static size_t known_count;
 
-void join_reader(struct place place)
+void read_places(const char *path)
 {
-    if (known_count < MOST) {
-        readers[known_count++] = (struct known){ .places = { place }, .count = 1, .state = CLOSED, .begins = 0 };
+    kept = path;
+    stand_count = read_stands(path, stands, KEPT);
+}
+
+bool keep_places(void)
+{
+    return keep_stands(kept, stands, stand_count);
+}
+
+/* Writes where the readers are, and tells where that can't be done. */
+static void try_keep(void)
+{
+    if (!keep_places()) {
+        tell("not kept\n");
     }
+}
+
+uint32_t join_reader(uint32_t name, uint32_t rate)
+{
+    if (known_count == MOST) {
+        stop(BAD_WORDS, "device %u is one too many: a panel has %d at most", (unsigned)name, MOST);
+    }
+    for (size_t i = 0; i < known_count; i++) {
+        if (readers[i].stand->name == name) {
+            stop(BAD_WORDS, "device %u is in the list twice", (unsigned)name);
+        }
+    }
+    struct stand *stand = stand_of(stands, &stand_count, KEPT, name, rate);
+    for (size_t i = 0; i < stand->count; i++) {
+        if (!has_rate(stand->places[i].rate)) {
+            stop(FAILED, "the port has no such rate");
+        }
+    }
+    readers[known_count++] = (struct known){ .stand = stand, .state = CLOSED };
+    return place_of(stand).address;
 }
 
 struct known *known_reader(size_t entry)
@@ -16,35 +56,89 @@ struct known *known_reader(size_t entry)
     return entry < known_count ? &readers[entry] : NULL;
 }
 
-void comset_done(struct known *reader, struct place place)
+size_t reader_at(uint32_t address)
 {
-    reader->places[0] = place;
-    reader->count = 1;
+    for (size_t i = 0; i < known_count; i++) {
+        const struct stand *stand = readers[i].stand;
+        if (stand->places[0].address == address || place_of(stand).address == address) {
+            return i + 1;
+        }
+    }
+    return 0;
 }
 
-void comset_over(struct known *reader)
+/* The reader is this device. */
+static void note_device(struct stand *stand, const struct osdp_pd_id *id)
 {
-    comset_done(reader, reader->places[reader->count - 1]);
+    stand->is_known = true;
+    stand->id = *id;
 }
 
-void comset_taken(struct known *reader, struct place place)
+bool tell_other(struct known *reader, const struct osdp_report *opened)
 {
-    reader->places[1] = reader->places[reader->count - 1];
-    reader->places[0] = place;
-    reader->count = 2;
+    struct stand *stand = reader->stand;
+    (void)osdp_pd_id_of(&opened->reply, &reader->other);
+    reader->is_other = !is_same(stand, &reader->other);
+    if (reader->is_other) {
+        tell("another device %zu at %u: it gets no order until `%zu accept`\n", opened->entry + 1, (unsigned)place_of(stand).address, opened->entry + 1);
+    } else if (!stand->is_known) {
+        note_device(stand, &reader->other);
+        try_keep();
+    }
+    return reader->is_other;
 }
 
-void reader_opened(struct known *reader)
+void reader_opened(struct known *reader, const struct osdp_report *opened)
 {
-    comset_over(reader);
     reader->state = OPEN;
+    reader->refuses = reader->is_told = false;
+    if (!tell_other(reader, opened) && reader->stand->count > 1) {
+        comset_over(reader);
+    }
+}
+
+void allow_other(struct known *reader)
+{
+    reader->is_other = false;
+    note_device(reader->stand, &reader->other);
+    comset_over(reader);
 }
 
 void reader_closed(struct known *reader, uint64_t begins)
 {
     reader->state = CLOSED;
     reader->begins = begins;
-    reader->is_told = false;
+    reader->is_other = reader->is_moving = false;
+}
+
+bool comset_goes(struct known *reader, struct place place)
+{
+    may_move(reader->stand, place);
+    reader->is_moving = true;
+    return keep_places();
+}
+
+void comset_done(struct known *reader, struct place place)
+{
+    stands_at(reader->stand, place);
+    reader->is_moving = false;
+    try_keep();
+}
+
+void comset_over(struct known *reader)
+{
+    comset_done(reader, place_of(reader->stand));
+}
+
+struct place place_told(const struct osdp_message *com, uint32_t rate)
+{
+    const uint8_t *data = com->data; /* an address, and a rate with its lowest byte first */
+    struct place place = { data[0], data[1] | (uint32_t)data[2] << 8 | (uint32_t)data[3] << 16 | (uint32_t)data[4] << 24 };
+    if (!has_rate(place.rate)) {
+        tell("no rate %u\n", (unsigned)place.rate);
+        place.rate = rate;
+    }
+    return place;
 }
 
 const char *comset_refusal(void)
@@ -53,44 +147,98 @@ const char *comset_refusal(void)
         if (readers[i].state != OPEN) {
             return "another session not open";
         }
+        if (readers[i].is_other) {
+            return "another device at a reader's place";
+        }
     }
     for (size_t i = 0; i < known_count; i++) {
-        if (readers[i].count > 1) {
+        if (readers[i].stand->count > 1) {
             return "another COMSET not answered";
         }
     }
     return NULL;
 }
 
-/* Whether no session has begun. */
-static bool is_free(void)
+bool comset_waits(void)
 {
     for (size_t i = 0; i < known_count; i++) {
-        if (readers[i].state != CLOSED) {
-            return false;
+        if (readers[i].state == OPEN && readers[i].is_moving) {
+            return true;
         }
     }
-    return true;
+    return false;
 }
 
-const struct place *next_place(const struct known *reader, uint32_t rate)
+bool any_open(void)
 {
-    bool free = is_free();
-    for (size_t i = 0; i < reader->count && reader->state == CLOSED; i++) {
-        if (free || reader->places[i].rate == rate) {
-            return &reader->places[i];
+    for (size_t i = 0; i < known_count; i++) {
+        if (readers[i].state == OPEN) {
+            return true;
+        }
+    }
+    return false;
+}
+
+/* The rate after this one, of those at which readers may be: the next greater one, and after the greatest the least. */
+static uint32_t rate_after(uint32_t rate)
+{
+    uint32_t next = 0, least = rate;
+    for (size_t i = 0; i < known_count * 2; i++) {
+        uint32_t each = readers[i / 2].stand->places[i % 2 < readers[i / 2].stand->count ? i % 2 : 0].rate;
+        next = each > rate && (next == 0 || each < next) ? each : next;
+        least = each < least ? each : least;
+    }
+    return next != 0 ? next : least;
+}
+
+/* The first place of a reader that has this rate, or hasn't it; NULL where there is none. */
+static const struct place *first_place(const struct known *reader, uint32_t rate, bool has_it)
+{
+    for (size_t i = 0; i < reader->stand->count; i++) {
+        if ((reader->stand->places[i].rate == rate) == has_it) {
+            return &reader->stand->places[i];
         }
     }
     return NULL;
 }
 
+uint32_t next_rate(uint32_t rate)
+{
+    for (size_t i = 0; i < known_count; i++) {
+        if (readers[i].state != CLOSED || (!readers[i].is_tried && first_place(&readers[i], rate, true) != NULL)) {
+            return rate;
+        }
+    }
+    return rate_after(rate);
+}
+
+void rate_set(void)
+{
+    for (size_t i = 0; i < known_count; i++) {
+        readers[i].is_tried = readers[i].refuses = false;
+    }
+}
+
+const struct place *next_place(const struct known *reader, uint32_t rate)
+{
+    bool is_over = reader->is_tried && !any_open() && rate_after(rate) != rate; /* it waits for the others, and then for its turn at the next rate */
+    return reader->state == CLOSED && !is_over ? first_place(reader, rate, true) : NULL;
+}
+
+const struct place *place_at(const struct known *reader, uint32_t rate)
+{
+    return first_place(reader, rate, true);
+}
+
+const struct place *place_elsewhere(const struct known *reader, uint32_t rate)
+{
+    return reader->state == OPEN || reader->refuses ? NULL : first_place(reader, rate, false);
+}
+
 void begin_at(struct known *reader, struct place place)
 {
-    struct place *last = &reader->places[reader->count - 1];
-    if (last->address != place.address || last->rate != place.rate) {
-        reader->places[0] = *last;
-        *last = place;
-    }
+    try_place(reader->stand, place);
+    reader->is_tried = true;
     reader->state = BEGUN;
 }
 

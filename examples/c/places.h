@@ -1,49 +1,85 @@
-/* What a panel knows of its readers: where each one is, and how its session stands. */
+/* What a panel knows of its readers: where each one is, what it is, and how its session stands. A line has one rate at a time. */
 #ifndef PLACES_H
 #define PLACES_H
 
+#include "kept.h"
 #include "osdp.h"
 
 #define MOST 16 /* readers of a panel */
+#define PAUSE 1000 /* from a lost session to the next one, in milliseconds */
 #define NEVER UINT64_MAX
 
-struct place {
-    uint32_t address, rate;
-};
-
-enum state { CLOSED, BEGUN, OPEN };
+enum state { CLOSED, BEGUN, OPEN, SOUGHT };
 
 struct known {
-    struct place places[2]; /* where it may be; the last one is used. There are two while a COMSET isn't answered */
-    size_t count;
+    struct stand *stand; /* where it may be, and what it is */
     enum state state;
     uint64_t begins; /* the moment at which a closed session begins */
+    bool is_tried;   /* whether it was tried since the port has its rate */
+    bool refuses;    /* whether it has refused the rate of the others */
+    bool is_moving;  /* whether a COMSET to it waits or is under way */
     bool is_told;    /* whether it was told out of reach */
+    bool is_other;   /* whether another device than before answers there: it gets no order */
+    struct osdp_pd_id other;
 };
 
-/* A reader joins those that are known, at this place. */
-void join_reader(struct place place);
+/* Reads where the readers are from a file, if one is named: each one that isn't kept joins those that are, at its address and this rate. Ends the program
+ * where two would be at one address. Gives the address at which the reader is. */
+void read_places(const char *path);
+uint32_t join_reader(uint32_t name, uint32_t rate);
+
+/* Writes where they are to that file. Whether that was done. */
+bool keep_places(void);
 
 /* The reader of this number, from 0; NULL where there is none. */
 struct known *known_reader(size_t entry);
 
-/* Its session is open: it is where it was found. */
-void reader_opened(struct known *reader);
+/* Who has an address, or may have it: a reader's number, from 1; 0 where nobody has. */
+size_t reader_at(uint32_t address);
+
+/* Whether another device than the reader has answered its opening, which is told: it gets no order, unless it is allowed. Else the device is the reader. */
+bool tell_other(struct known *reader, const struct osdp_report *opened);
+void allow_other(struct known *reader);
+
+/* Its session is open: it is where it was found, if it is no other device. */
+void reader_opened(struct known *reader, const struct osdp_report *opened);
 
 /* Its session has ended, and begins again at a moment. */
 void reader_closed(struct known *reader, uint64_t begins);
 
-/* A COMSET was taken for it, to this place; it was not done; it was. */
-void comset_taken(struct known *reader, struct place place);
+/* A COMSET goes out to it, to this place: false where that can't be kept. It was not done; it was. */
+bool comset_goes(struct known *reader, struct place place);
 void comset_over(struct known *reader);
 void comset_done(struct known *reader, struct place place);
+
+/* The place that a COM tells. Where the port hasn't that rate, which is told, the reader is taken to be at this one. */
+struct place place_told(const struct osdp_message *com, uint32_t rate);
 
 /* Why a COMSET would leave a reader where nobody finds it; NULL where it wouldn't. */
 const char *comset_refusal(void);
 
-/* Where a closed session can begin: at the first place that the port's rate reaches. Another rate is set only where no session has begun, so that no
- * reader which is reached is cut off. NULL where there is no such place. */
+/* Whether the session of a reader is open to which a COMSET is under way. */
+bool comset_waits(void);
+
+/* Whether any session is open. */
+bool any_open(void);
+
+/* The rate that the port is to have. It has another one where no session is open, and each reader that may be at this one has been tried: then the next
+ * of the rates at which readers may be. So the rates take turns until a reader is found, and no reader that is reached is cut off. */
+uint32_t next_rate(uint32_t rate);
+
+/* The port has another rate. */
+void rate_set(void);
+
+/* Where a closed session can begin by this rate: at the first of its places that has it; NULL where none has. While no session is open, and another rate is
+ * to have its turn, each reader begins once: so the round is over once the last one has ended. */
 const struct place *next_place(const struct known *reader, uint32_t rate);
+
+/* The first place of a reader that has this rate, whether or not its session can begin; NULL where none has. */
+const struct place *place_at(const struct known *reader, uint32_t rate);
+
+/* The first place of a reader that has another rate; NULL where none has. */
+const struct place *place_elsewhere(const struct known *reader, uint32_t rate);
 
 /* A session begins at a place of the reader. Of two places each is tried in its turn. */
 void begin_at(struct known *reader, struct place place);

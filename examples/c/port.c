@@ -1,5 +1,5 @@
 /* A serial port, a clock and lines, by POSIX calls. */
-#define _DEFAULT_SOURCE
+#define _GNU_SOURCE
 #include "port.h"
 
 #include <errno.h>
@@ -8,10 +8,13 @@
 #include <signal.h>
 #include <stdlib.h>
 #include <string.h>
+#include <sys/file.h>
+#include <sys/ioctl.h>
 #include <termios.h>
 #include <time.h>
 #include <unistd.h>
 
+#include "owner.h"
 #include "words.h"
 
 static const struct {
@@ -58,27 +61,94 @@ bool set_rate(int port, uint32_t rate)
 }
 
 static volatile sig_atomic_t stopped; /* the signal that ends the program */
+static sigset_t while_waiting;        /* the signals that are held back while the program waits: not those that end it */
+static void (*last_words)(const char *cause);
 
 static void note_signal(int number)
 {
     stopped = number;
 }
 
-int open_port(const char *path, uint32_t rate)
+void before_end(void (*tells)(const char *cause))
+{
+    last_words = tells;
+}
+
+/* What is left to be told before the program ends. */
+static void tell_last(const char *cause)
+{
+    void (*tells)(const char *) = last_words;
+    last_words = NULL;
+    if (tells != NULL) {
+        tells(cause);
+    }
+}
+
+/* The port has failed. */
+static _Noreturn void fail(const char *why)
+{
+    tell_last("port-gone");
+    stop(FAILED, "%s", why);
+}
+
+/* Waits so many milliseconds at most, and ends the program at Ctrl-C. The signals that end it come here alone, so that none is missed. */
+static int wait_for(struct pollfd *ready, nfds_t count, uint64_t wait)
+{
+    const struct timespec most = { (time_t)(wait / 1000), (long)(wait % 1000) * 1000000 };
+    int found = ppoll(ready, count, &most, &while_waiting);
+    if (stopped != 0) {
+        tell_last("stopped");
+        exit(128 + stopped);
+    }
+    return found;
+}
+
+/* Holds back the signals that end the program, but while it waits. */
+static void take_signals(void)
 {
     const struct sigaction ends = { .sa_handler = note_signal };
-    int port = open(path, O_RDWR | O_NOCTTY);
+    sigset_t held;
+    sigemptyset(&held);
+    sigaddset(&held, SIGINT);
+    sigaddset(&held, SIGTERM);
+    sigprocmask(SIG_BLOCK, &held, &while_waiting);
+    sigdelset(&while_waiting, SIGINT);
+    sigdelset(&while_waiting, SIGTERM);
+    sigaction(SIGINT, &ends, NULL);
+    sigaction(SIGTERM, &ends, NULL);
+}
+
+/* Another program has the port. */
+static _Noreturn void refuse_taken(const char *path)
+{
+    char owner[128];
+    find_owner(path, owner, sizeof owner);
+    stop(FAILED, "another program has the port %s%s%s", path, owner[0] != '\0' ? ": " : "", owner);
+}
+
+int open_port(const char *path, uint32_t rate)
+{
+    if (!has_rate(rate)) {
+        stop(FAILED, "the port has no such rate");
+    }
+    int port = open(path, O_RDWR | O_NOCTTY | O_NONBLOCK | O_CLOEXEC);
+    if (port < 0 && errno == EBUSY) {
+        refuse_taken(path);
+    }
     if (port < 0) {
         stop(FAILED, "the port can't be opened: %s", strerror(errno));
     }
     if (!isatty(port)) {
         stop(FAILED, "the port is no serial port");
     }
-    if (!set_rate(port, rate)) {
-        stop(FAILED, "the port has no such rate");
+    if (flock(port, LOCK_EX | LOCK_NB) != 0 && errno == EWOULDBLOCK) {
+        refuse_taken(path); /* the lock holds for programs of root too, which TIOCEXCL lets through */
     }
-    sigaction(SIGINT, &ends, NULL);
-    sigaction(SIGTERM, &ends, NULL);
+    if (!set_rate(port, rate)) {
+        stop(FAILED, "the port can't be set");
+    }
+    (void)ioctl(port, TIOCEXCL); /* no other program opens it, but for one of root */
+    take_signals();
     return port;
 }
 
@@ -87,8 +157,10 @@ void write_all(int port, const struct osdp_burst *burst)
     size_t at = 0;
     while (at < burst->length) {
         ssize_t count = write(port, burst->bytes + at, burst->length - at);
-        if (count < 0 && errno != EINTR) {
-            stop(FAILED, "the port can't be written");
+        if (count < 0 && errno == EAGAIN) {
+            (void)wait_for(&(struct pollfd){ port, POLLOUT, 0 }, 1, 1000); /* what was written before has not gone out yet */
+        } else if (count < 0 && errno != EINTR) {
+            fail("the port can't be written");
         }
         at += count > 0 ? (size_t)count : 0;
     }
@@ -122,18 +194,16 @@ size_t read_port(int port, struct lines *lines, uint64_t wait, uint8_t *bytes, s
 {
     struct pollfd ready[] = { { port, POLLIN, 0 }, { lines->ended || port == STDIN_FILENO ? -1 : STDIN_FILENO, POLLIN, 0 } };
     ssize_t count = 0;
-    int found = poll(ready, 2, wait < 60000 ? (int)wait : 60000);
-    if (stopped != 0) {
-        exit(128 + stopped);
-    }
+    int found = wait_for(ready, 2, wait < 60000 ? wait : 60000);
     if (found > 0 && ready[1].revents != 0) {
         read_lines(lines);
     }
     if (found > 0 && ready[0].revents != 0) {
         count = read(port, bytes, room);
-        if (count <= 0) {
-            stop(FAILED, "the port can't be read");
+        if (count == 0 || (count < 0 && errno != EAGAIN && errno != EINTR)) {
+            fail("the port can't be read");
         }
+        count = count > 0 ? count : 0; /* none where another program has taken them away */
     }
     trace_came(bytes, (size_t)count);
     return (size_t)count;

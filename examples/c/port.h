@@ -14,8 +14,11 @@ struct lines {
 /* Milliseconds of a clock that never goes backwards. */
 uint64_t moment(void);
 
-/* Opens a port; ends the program where it can't. Ctrl-C ends the program without a word. */
+/* Opens a port, which no other program may open then; ends the program where it can't, or where another program has it. At Ctrl-C the program ends. */
 int open_port(const char *path, uint32_t rate);
+
+/* What is to be told before the program ends at Ctrl-C (`stopped`) or since its port has failed (`port-gone`). */
+void before_end(void (*tells)(const char *cause));
 
 /* Whether a port may have this rate, in bits for a second. */
 bool has_rate(uint32_t rate);
@@ -27,7 +30,7 @@ bool set_rate(int port, uint32_t rate);
 /* Writes a burst whole. */
 void write_all(int port, const struct osdp_burst *burst);
 
-/* Waits so many milliseconds at most for bytes and lines. How many bytes came from the port. */
+/* Waits so many milliseconds at most for bytes and lines. How many bytes came from the port: none where another program has taken them away. */
 size_t read_port(int port, struct lines *lines, uint64_t wait, uint8_t *bytes, size_t room);
 
 /* The next line, without its end; NULL where none has come whole. It stays until the next read. The last line needs no line feed. A line that is too long,

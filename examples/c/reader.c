@@ -86,20 +86,21 @@ static void move_to(uint32_t address, uint32_t new_rate)
     }
 }
 
-/* Sends what the reader says, and does what it is to do. Where it is from now on is kept before the panel is told. */
+/* Does what the reader is to do, and then sends what it says: so an order that is answered was done, also where power is lost in between. Where the reader
+ * is from now on is kept before the panel is told. */
 static void act(const struct osdp_answer *answer, uint64_t now)
 {
+    static const char *const names[] = { "", "taken", "again", "refused" };
     if (answer->moved) {
         keep(kept, answer->address, has_rate(answer->baud_rate) ? answer->baud_rate : rate);
     }
-    write_all(port, &answer->burst);
-    static const char *const names[] = { "", "taken", "again", "refused" };
     if (answer->order != OSDP_ORDER_NONE && answer->order != OSDP_ORDER_PENDING) { /* what is pending is answered as it was set beforehand */
         tell("%s %s\n", names[answer->order & 3], command_text(&answer->command));
     }
     if (answer->order == OSDP_ORDER_ONCE && answer->command.code == OSDP_OUT) {
         switch_outputs(&answer->command, now);
     }
+    write_all(port, &answer->burst);
     if (answer->moved) {
         move_to(answer->address, answer->baud_rate);
     }
@@ -149,7 +150,12 @@ static void take_lines(struct lines *lines)
 {
     for (const char *line = next_line(lines); line != NULL; line = next_line(lines)) {
         tell("%s\n", line);
-        tell_refusal(call(line));
+        osdp_status status = call(line);
+        if (status == OSDP_EVENTS_FULL) {
+            tell("refused as many events wait at this device as there is room for\n");
+        } else {
+            (void)tell_refusal(status);
+        }
     }
 }
 

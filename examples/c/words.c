@@ -82,8 +82,8 @@ bool tell_refusal(osdp_status status)
 {
     if (status == OSDP_BAD_TEXT) {
         tell("refused line\n");
-    } else if (status > 10) {
-        tell("refused %c%u\n", "-MBCN"[status / 10 % 5], (unsigned)(status % 10));
+    } else if (status != OSDP_OK) {
+        tell("refused %s\n", osdp_status_text(status));
     }
     return status != OSDP_OK;
 }

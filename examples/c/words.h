@@ -38,7 +38,7 @@ void tell_report(const struct osdp_report *report);
 /* Prints a part of a line, and lets it go at once. Where nobody reads it any more the program ends without a word. */
 void tell(const char *format, ...);
 
-/* Prints why a call was refused, as `refused C3`. Whether it was. */
+/* Prints why a call was refused, as `refused line`. Whether it was. */
 bool tell_refusal(osdp_status status);
 
 /* Ends the program with one line on standard error. */

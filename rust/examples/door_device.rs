@@ -1,7 +1,9 @@
 //! A device with two outputs: `door_device PORT RATE`, at address 5. A line `card 12345640` is a card. Each output that is switched on is printed.
 mod port;
 
-use osdp::{Command, Device, DeviceAnswer, DeviceConfig, Moment, NakReason, Order, Output, Step};
+use osdp::{
+    Answer, Command, Device, DeviceAnswer, DeviceConfig, Moment, NakReason, Order, Output, Step,
+};
 use port::{Came, Port, run_on_port};
 use std::error::Error;
 use std::process::ExitCode;
@@ -29,19 +31,17 @@ fn switch(record: Output) {
 
 type Done = Result<(), Box<dyn Error>>;
 
-/// What the device does about a command, once what is said to it has gone out.
-fn act(device: &mut Device, order: Option<Order>) -> Done {
-    match order {
-        Some(Order::Pending(command)) => {
-            decide(&command).map_or(Ok(()), |said| device.answer_next(said))?
-        }
-        Some(Order::Once(command)) => command
-            .outputs()
-            .filter(|r| r.control == 5)
-            .for_each(switch),
-        _ => {}
+/// Does what the device is to do, and then sends what it says: so an order that is answered was done, also where power is lost in between. What is to be said
+/// to the next command, where one waits for that.
+fn obey(answer: Answer<'_>, port: &mut Port) -> std::io::Result<Option<DeviceAnswer<'static>>> {
+    if let Some(Order::Once(command)) = answer.order() {
+        let opens = |record: &Output| record.control == 5;
+        command.outputs().filter(opens).for_each(switch);
     }
-    Ok(())
+    match answer.send(|burst| port.write(burst))? {
+        Some(Order::Pending(command)) => Ok(decide(&command)),
+        _ => Ok(None),
+    }
 }
 
 /// Hands bytes to the device, until nothing is said to them.
@@ -51,8 +51,8 @@ fn hear(device: &mut Device, port: &mut Port, mut bytes: &[u8], now: Moment) -> 
         bytes = &bytes[taken..];
         match answer {
             Some(answer) => {
-                let order = answer.send(|burst| port.write(burst))?;
-                act(device, order)?;
+                let said = obey(answer, port)?;
+                said.map_or(Ok(()), |said| device.answer_next(said))?;
             }
             None if bytes.is_empty() => return Ok(()),
             None => {}
@@ -77,8 +77,8 @@ fn run(mut port: Port) -> Done {
             Came::Nothing => {}
         }
         if let Some(answer) = device.tick(now)?.answer {
-            let order = answer.send(|burst| port.write(burst))?;
-            act(&mut device, order)?;
+            let said = obey(answer, &mut port)?;
+            said.map_or(Ok(()), |said| device.answer_next(said))?;
             hear(&mut device, &mut port, &[], now)?;
         }
     }

@@ -1,13 +1,12 @@
-//! A panel that opens a door for two cards: `door_panel PORT RATE`. The door is the device at address 5. What it reports is printed.
+//! A panel that opens a door for two cards: `door_panel [--keep FILE] PORT RATE`. The door is the device at address 5. What it reports is printed. A line
+//! `move 7 9600` gives the device another address and rate, which FILE keeps: a panel that starts again finds it there.
 mod port;
 
-use osdp::{Card, Command, Entry, Error, Moment, Output, Panel, PanelConfig, Reply, Report};
+use osdp::{Card, Command, Error, Moment, Output, Panel, PanelConfig, Reply, Report};
+use port::door::Door;
 use port::{Came, Port, run_on_port};
 use std::process::ExitCode;
 use std::time::Duration;
-
-/// From a lost session to the next one.
-const PAUSE: Duration = Duration::from_secs(1);
 
 /// How long it waits at most.
 const TURN: Duration = Duration::from_millis(100);
@@ -25,46 +24,29 @@ fn may_enter(card: &Card) -> bool {
     card.bits() == 26 && cards.iter().any(|known| card.bytes() == known)
 }
 
-/// The door, and when its next session begins.
-struct Door {
-    entry: Entry,
-    begins: Option<Moment>,
-}
+type Done = Result<(), Box<dyn std::error::Error>>;
 
 /// Takes what the panel reports, and does what is to be done about it.
-fn take_reports(panel: &mut Panel, door: &mut Door, now: Moment) -> Result<(), Error> {
+fn take_reports(panel: &mut Panel, door: &mut Door, now: Moment) -> Done {
     while let Some((_, report)) = panel.next_report() {
         println!("{report:?}");
-        match report {
-            Report::Event(Reply::Raw(card)) if may_enter(&card) => {
-                match panel.submit(door.entry, &Command::out(&[STRIKE])?) {
-                    Err(Error::Full) => {} // as many orders wait as may: the door stays closed
-                    done => done?,
-                }
+        door.heed(&report, now)?;
+        if let Report::Event(Reply::Raw(card)) = report
+            && door.may_order
+            && may_enter(&card)
+        {
+            match panel.submit(door.entry, &Command::out(&[STRIKE])?) {
+                Err(Error::Full) => {} // as many orders wait as may: the door stays closed
+                done => done?,
             }
-            Report::Lost(..) => door.begins = Some(now + PAUSE),
-            Report::Moved(..) => door.begins = Some(now),
-            _ => {}
         }
     }
     Ok(())
 }
 
-/// Begins a session whose moment has come. The orders that waited are stale.
-fn begin(panel: &mut Panel, door: &mut Door, now: Moment) -> Result<(), Error> {
-    if door.begins.is_some_and(|begins| begins <= now) {
-        door.begins = None;
-        while panel.withdraw(door.entry)?.is_some() {}
-        panel.begin(door.entry, now)?;
-    }
-    Ok(())
-}
-
-fn run(mut port: Port) -> Result<(), Box<dyn std::error::Error>> {
+fn run(mut port: Port) -> Done {
     let mut panel = Panel::new(&PanelConfig::default())?;
-    let entry = panel.add(5)?;
-    let begins = Some(port.now());
-    let mut door = Door { entry, begins };
+    let mut door = Door::add(&mut panel, &port, 5)?;
     loop {
         let moments = [panel.next_deadline(), door.begins];
         let latest = port.now() + TURN;
@@ -73,11 +55,12 @@ fn run(mut port: Port) -> Result<(), Box<dyn std::error::Error>> {
         let now = port.now(); // after the read: not before it
         match &came {
             Came::Bytes(bytes) => panel.on_bytes(bytes, now)?,
+            Came::Line(line) if door.take_line(&mut panel, line)? => {}
             Came::Line(line) => println!("refused line {line}"),
             Came::Nothing => {}
         }
         take_reports(&mut panel, &mut door, now)?;
-        begin(&mut panel, &mut door, now)?;
+        door.begin(&mut panel, &mut port, now)?;
         panel.tick(now)?.send(|burst| port.write(burst))?;
         take_reports(&mut panel, &mut door, now)?;
     }

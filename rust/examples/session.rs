@@ -30,7 +30,7 @@ impl Line {
     }
 }
 
-/// Hands bytes to the device, puts its answers on the line, and counts how often the door was opened.
+/// Hands bytes to the device, counts how often the door is opened, and then puts the answer on the line.
 fn device_hears(
     device: &mut Device,
     mut bytes: &[u8],
@@ -47,9 +47,10 @@ fn device_hears(
             }
             continue;
         };
-        if let Some(Order::Once(command)) = answer.send(|burst| line.carry(burst))? {
+        if let Some(Order::Once(command)) = answer.order() {
             opened += usize::from(command.outputs().eq([STRIKE]));
         }
+        answer.send(|burst| line.carry(burst))?;
     }
 }
 

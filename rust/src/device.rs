@@ -109,6 +109,12 @@ pub struct Answer<'a> {
 }
 
 impl Answer<'_> {
+    /// What came of a command, before the burst is sent. A deed that is quick is done first, and then the answer is sent: so an order that is answered was
+    /// done, also where power is lost in between. `send` tells the same: act on one of the two, and not on both.
+    pub fn order(&self) -> Option<&Order> {
+        self.order.as_ref()
+    }
+
     /// Hands the burst, where there is one, to what writes it to the line. Then it tells what came of a command: whether the device is to do it, or the reader
     /// has refused it.
     ///
@@ -384,9 +390,10 @@ impl Device {
     /// }
     ///
     /// fn obey(answer: Answer<'_>) -> Result<(), Error> {
-    ///     if let Some(Order::Once(command)) = answer.send(|burst| write(burst))? {
-    ///         act(&command);
+    ///     if let Some(Order::Once(command)) = answer.order() {
+    ///         act(command);
     ///     }
+    ///     answer.send(|burst| write(burst))?;
     ///     Ok(())
     /// }
     /// ```

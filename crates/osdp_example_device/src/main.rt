@@ -7,7 +7,6 @@ use osdp_device::{
     Reader, ReaderConfig, Response, Turn, order_of, ordered,
 };
 use osdp_example_lines::{Line, read_line, send};
-use std::alloc::Global;
 use std::io;
 
 /// A device whose program decides what is said to an OUT.
@@ -19,8 +18,7 @@ fn may_be_done(output: u8, control: u8) -> bool {
 }
 
 /// A device to which nothing has come. None where there is no memory.
-fn new_device(alloc: Global) -> Option<Doors> {
-    let (address, capabilities) = (Address::new(5)?, ArrayVec::new());
+fn new_device(alloc: std::alloc::Global) -> Option<Doors> {
     let id = PdId {
         vendor: [0x53, 0x49, 0x4D],
         model: 0,
@@ -30,10 +28,10 @@ fn new_device(alloc: Global) -> Option<Doors> {
         firmware_minor: 0,
         firmware_build: 0,
     };
-    let caps = PdCap { capabilities };
-    let config = ReaderConfig { address, id, caps };
-    let mut program = ProgramAnswers::new();
+    let (capabilities, mut program) = (ArrayVec::new(), ProgramAnswers::new());
     let _ = program.status.outputs.try_extend_from_slice(&[0, 0]);
+    let (address, caps) = (Address::new(5)?, PdCap { capabilities });
+    let config = ReaderConfig { address, id, caps };
     Device::new(Reader::new(alloc, config, program, 64).ok()?, 20)
 }
 
@@ -48,7 +46,7 @@ fn decide(device: &mut Doors, command: &Command) {
     }
 }
 
-/// Does what the device is to do.
+/// Does what the device is to do: before the answer is sent, so that an order that is answered was done, also where power is lost in between.
 fn act(rt: &HostRuntime, response: &Response) -> io::Result<()> {
     if let (Order::Once, Some(Command::Output(out))) = (order_of(response), ordered(response)) {
         for record in out.records().iter().filter(|record| record.control == 5) {
@@ -58,20 +56,22 @@ fn act(rt: &HostRuntime, response: &Response) -> io::Result<()> {
     Ok(())
 }
 
-/// Bytes have come up to a moment, or none. A turn says one thing; a line has 4,096 bytes at most, so that there are fewer than 10,000.
+/// Bytes have come up to a moment. A turn says one thing; a line has 4,096 bytes at most, so that there are fewer than 10,000.
 fn hear(rt: &HostRuntime, device: &mut Doors, mut bytes: &[u8], now: u64) -> io::Result<()> {
     let mut turn = Turn::new();
     device.tick(now);
     for _ in 0..10_000 {
-        if let Some(unsent) = device.turn(bytes, now, &mut turn) {
+        let unsent = device.turn(bytes, now, &mut turn);
+        let acted = turn.response.as_ref().map(|response| act(rt, response));
+        if let Some(unsent) = unsent {
             send(rt, unsent.bytes(&turn))?;
         }
+        acted.unwrap_or(Ok(()))?;
         bytes = &bytes[turn.taken..];
         match (&turn.pending, &turn.response) {
             (Some(command), _) => decide(device, command),
-            (None, Some(response)) => act(rt, response)?,
             (None, None) if bytes.is_empty() => break,
-            (None, None) => {}
+            (None, _) => {}
         }
     }
     Ok(())

@@ -1,26 +1,26 @@
-//! A panel that opens a door for two cards, called by lines (`osdp_example_lines`). The door is the device at address 5. A turn is answered by
-//! `send` and the bytes that go out, where there are some, by what the panel reports, and last by `due` and the moment of the next turn, or `due none`.
+//! A panel that opens a door for two cards, called by lines (`osdp_example_lines`). The door is the device at address 5, at 9600. A turn is answered by
+//! `send` and the bytes that go out, where there are some, by what the panel reports, and last by `due` and the moment of the next turn, or `due none`. A line
+//! `move 7 9600` gives the door another place. `keep` and where it is comes before anything more is sent: when the program starts again, it is told so by
+//! `kept` and the same words. `rate` is the one that the port is to have from now on.
 #![tactic(auto)]
 
+mod door;
+mod kept;
+
+use door::{DOOR, Door, FIRST};
 use osdp_example_lines::{Line, read_line, send, tell_due};
 use osdp_panel::{
-    Address, BusConfig, CheckKind, Command, Entry, Event, OutputRecord, Outputs, Panel, Raw,
-    Report, Turn,
+    Address, BusConfig, CheckKind, Command, Event, OutputRecord, Outputs, Panel, Raw, Report, Turn,
 };
 use std::alloc::Global;
 use std::io;
 
-/// The door: the first device of the panel.
-const DOOR: Entry = 0;
-/// Its strike, output 0, is on for three seconds.
+/// The door's strike, output 0, is on for three seconds.
 const STRIKE: OutputRecord = OutputRecord {
     output: 0,
     control: 5,
     timer: 30,
 };
-
-/// From a lost session to the next one, in milliseconds.
-const PAUSE: u64 = 1000;
 
 /// Whether a card opens the door: two cards of 26 bits do.
 fn may_enter(card: &Raw) -> bool {
@@ -31,7 +31,7 @@ fn may_enter(card: &Raw) -> bool {
 /// A panel with its door. None where there is no memory.
 fn new_panel(alloc: Global) -> Option<Panel> {
     let mut panel = Panel::new(alloc, BusConfig::new(CheckKind::Crc, 16)).ok()?;
-    panel.add(Address::new(5)?).ok()?;
+    panel.add(Address::new(FIRST.address)?).ok()?;
     Some(panel)
 }
 
@@ -42,52 +42,42 @@ fn open(panel: &mut Panel) {
     }
 }
 
-/// Begins the door's session. The orders that waited are stale.
-fn begin(panel: &mut Panel, now: u64) {
-    for _ in 0..panel.waiting(DOOR).unwrap_or(0) {
-        let _ = panel.withdraw(DOOR);
-    }
-    let _ = panel.begin(DOOR, now);
-}
-
-/// Does what is to be done about a report. The moment at which the door's session is to begin again, if it has ended.
-fn decide(panel: &mut Panel, report: &Report, now: u64) -> Option<u64> {
-    match report {
-        Report::Event(Event::Raw(card)) if may_enter(card) => open(panel),
-        Report::Lost(..) => return Some(now.saturating_add(PAUSE)),
-        Report::Moved(..) => return Some(now),
-        _ => {}
-    }
-    None
-}
-
-/// Takes a turn, and tells what comes of it. The moment at which the door's session is to begin again, if it has ended.
-fn turn(rt: &HostRuntime, panel: &mut Panel, bytes: &[u8], now: u64) -> io::Result<Option<u64>> {
-    let (mut turn, mut begins) = (Turn::new(), None);
+/// Takes a turn, and tells what comes of it. A card opens nothing where another device has told it.
+fn turn(
+    rt: &HostRuntime,
+    panel: &mut Panel,
+    door: &mut Door,
+    bytes: &[u8],
+    now: u64,
+) -> io::Result<()> {
+    let mut turn = Turn::new();
+    door.begin(rt, panel, now)?;
     if let Some(unsent) = panel.turn(bytes, now, &mut turn) {
         send(rt, unsent.bytes(&turn))?;
     }
     for (_, report) in [&turn.heard, &turn.ticked].into_iter().flatten() {
-        begins = decide(panel, report, now).or(begins);
         println!(rt; "report {report:?}")?;
+        door.heed(rt, report, now)?;
+        if let Report::Event(Event::Raw(card)) = report
+            && door.may_order()
+            && may_enter(card)
+        {
+            open(panel);
+        }
     }
-    Ok(begins)
+    Ok(())
 }
 
 fn main(rt: HostRuntime) -> io::Result<()> {
     let mut panel = new_panel(rt.alloc()).ok_or(io::ErrorKind::OutOfMemory)?;
-    let mut begins = Some(0);
+    let mut door = Door::new();
     for line in rt.lines(rt.alloc()) {
-        let Line::Turn(now, bytes) = read_line(rt.alloc(), line?.as_str())? else {
-            println!(rt; "refused line")?;
-            continue;
-        };
-        if begins.is_some_and(|begins| begins <= now) {
-            begins = None;
-            begin(&mut panel, now);
+        let line = line?;
+        match read_line(rt.alloc(), line.as_str())? {
+            Line::Turn(now, bytes) => turn(&rt, &mut panel, &mut door, bytes.as_slice(), now)?,
+            Line::Card(_) | Line::Other => door.call(&rt, &mut panel, line.as_str())?,
         }
-        begins = turn(&rt, &mut panel, bytes.as_slice(), now)?.or(begins);
-        tell_due(&rt, [panel.next_deadline(), begins])?;
+        tell_due(&rt, [panel.next_deadline(), door.begins])?;
     }
     Ok(())
 }

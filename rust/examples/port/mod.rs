@@ -1,12 +1,31 @@
-//! A serial port, a clock, and lines of standard input, by `std` alone: `stty` sets the port, and a thread reads it.
+//! A serial port, a clock, and lines of standard input, by `std` and two calls of the system: `stty` sets the port, and a thread reads it.
+pub mod door;
+
 use osdp::Moment;
 use std::error::Error;
-use std::fs::{File, OpenOptions};
+use std::ffi::{c_int, c_ulong};
+use std::fs::{File, OpenOptions, TryLockError};
 use std::io::{self, BufRead, Read, Write};
+use std::os::fd::AsRawFd;
+use std::os::unix::fs::{MetadataExt, OpenOptionsExt};
 use std::process::{Command, ExitCode};
 use std::sync::mpsc::{Receiver, RecvTimeoutError, Sender, channel};
 use std::thread::spawn;
-use std::time::{Duration, Instant};
+use std::time::Instant;
+
+unsafe extern "C" {
+    /// Of the C library.
+    fn ioctl(file: c_int, request: c_ulong, ...) -> c_int;
+}
+
+// Numbers of Linux: not to wait for a carrier at the opening, nor to take the port as the terminal of the program; to wait at each read again; and to let no
+// other program open the port.
+const O_NONBLOCK_NOCTTY: i32 = 0o4400;
+const FIONBIO: c_ulong = 0x5421;
+const TIOCEXCL: c_ulong = 0x540C;
+
+/// Rates of lines, which a port has.
+pub const RATES: [u32; 6] = [9600, 19200, 38400, 57600, 115200, 230400];
 
 /// What has come.
 pub enum Came {
@@ -17,36 +36,63 @@ pub enum Came {
 
 pub struct Port {
     file: File,
-    came: Receiver<Came>,
+    came: Receiver<io::Result<Came>>,
     started: Instant,
+    /// The rate that the words of the program have, and the file that they name by `--keep`.
+    pub rate: u32,
+    pub kept: Option<String>,
 }
 
 impl Port {
-    /// Opens a port raw, at a rate: 8 bits, no parity, 1 stop bit.
-    pub fn open(path: &str, rate: &str) -> io::Result<Port> {
-        let set = "raw -echo cs8 -parenb -cstopb -crtscts clocal";
-        let done = Command::new("stty")
-            .args(["-F", path, rate])
-            .args(set.split(' '))
-            .status()?;
-        if !done.success() {
-            return Err(io::Error::other("the port can't be set"));
+    /// Opens a port raw, at a rate: 8 bits, no parity, 1 stop bit. No other program may open it then. An error where another one has it.
+    pub fn open(path: &str, rate: u32, kept: Option<String>) -> io::Result<Port> {
+        let options = OpenOptions::new()
+            .read(true)
+            .write(true)
+            .custom_flags(O_NONBLOCK_NOCTTY)
+            .clone();
+        let file = match options.open(path) {
+            Err(error) if error.kind() == io::ErrorKind::ResourceBusy => return Err(taken(path)),
+            file => file?,
+        };
+        match file.try_lock() {
+            Err(TryLockError::WouldBlock) => return Err(taken(path)),
+            Err(TryLockError::Error(error)) => return Err(error),
+            Ok(()) => {}
         }
-        let file = OpenOptions::new().read(true).write(true).open(path)?;
+        set(&file, rate)?;
+        // SAFETY: both calls get an open file, and what each of them asks for: nothing, and a number. One that fails leaves the port as it was.
+        let waits = unsafe {
+            ioctl(file.as_raw_fd(), TIOCEXCL);
+            ioctl(file.as_raw_fd(), FIONBIO, &0 as *const c_int)
+        };
+        if waits != 0 {
+            return Err(io::Error::last_os_error());
+        }
         let (sender, came) = channel();
         let (mut reading, lines) = (file.try_clone()?, sender.clone());
         spawn(move || read_bytes(&mut reading, &sender));
         spawn(move || {
             for line in io::stdin().lock().lines().map_while(Result::ok) {
-                let _ = lines.send(Came::Line(line));
+                let _ = lines.send(Ok(Came::Line(line)));
             }
         });
-        let started = Instant::now();
         Ok(Port {
             file,
             came,
-            started,
+            started: Instant::now(),
+            rate,
+            kept,
         })
+    }
+
+    /// Sets another rate, once what was written has gone out.
+    pub fn set_rate(&mut self, rate: u32) -> io::Result<()> {
+        if rate != self.rate {
+            set(&self.file, rate)?;
+            self.rate = rate;
+        }
+        Ok(())
     }
 
     pub fn now(&self) -> Moment {
@@ -56,7 +102,7 @@ impl Port {
     /// Waits for bytes or a line, up to a moment. An error where the port is gone.
     pub fn wait(&self, until: Moment) -> io::Result<Came> {
         match self.came.recv_timeout(until.since(self.now())) {
-            Ok(came) => Ok(came),
+            Ok(came) => came,
             Err(RecvTimeoutError::Timeout) => Ok(Came::Nothing),
             Err(RecvTimeoutError::Disconnected) => Err(io::ErrorKind::UnexpectedEof.into()),
         }
@@ -67,14 +113,66 @@ impl Port {
     }
 }
 
+/// Sets an open port: `stty` waits until what was written has gone out.
+fn set(file: &File, rate: u32) -> io::Result<()> {
+    let set = "raw -echo cs8 -parenb -cstopb -crtscts clocal";
+    let done = Command::new("stty")
+        .stdin(file.try_clone()?)
+        .arg(rate.to_string())
+        .args(set.split(' '))
+        .status()?;
+    match done.success() {
+        true => Ok(()),
+        false => Err(io::Error::other("the port can't be set")),
+    }
+}
+
+/// Another program has the port: which one, as far as /proc tells who has locked it.
+fn taken(path: &str) -> io::Error {
+    let owner = std::fs::metadata(path).ok().and_then(|port| {
+        let inode = format!(":{}", port.ino());
+        let locks = std::fs::read_to_string("/proc/locks").ok()?;
+        let words = |line: &str| {
+            line.split_whitespace()
+                .map(String::from)
+                .collect::<Vec<_>>()
+        };
+        let found = locks.lines().map(words).find(|words| {
+            words.get(5).is_some_and(|file| {
+                file.ends_with(&inode) && file.starts_with(&device_of(port.dev()))
+            })
+        })?;
+        let name = std::fs::read_to_string(format!("/proc/{}/comm", found[4])).unwrap_or_default();
+        Some(format!(": {}, process {}", name.trim(), found[4]))
+    });
+    let owner = owner.unwrap_or_default();
+    io::Error::other(format!("another program has the port {path}{owner}"))
+}
+
+/// A device's two numbers, as /proc/locks has them.
+fn device_of(number: u64) -> String {
+    format!("{:02x}:{:02x}:", number >> 8 & 0xFFF, number & 0xFF)
+}
+
 /// Runs a program on the port that its words name, at their rate. An error is told, with status 1; other words have status 2.
 pub fn run_on_port(name: &str, run: impl FnOnce(Port) -> Result<(), Box<dyn Error>>) -> ExitCode {
     let words: Vec<String> = std::env::args().skip(1).collect();
-    let [path, rate] = &words[..] else {
-        eprintln!("usage: {name} PORT RATE");
+    let (kept, words) = match &words[..] {
+        [option, file, rest @ ..] if option == "--keep" => (Some(file.clone()), rest),
+        rest => (None, rest),
+    };
+    let [path, rate] = words else {
+        eprintln!("usage: {name} [--keep FILE] PORT RATE");
         return ExitCode::from(2);
     };
-    match Port::open(path, rate).map_err(Into::into).and_then(run) {
+    let Ok(rate) = rate.parse() else {
+        eprintln!("{name}: bad rate: {rate}");
+        return ExitCode::from(2);
+    };
+    match Port::open(path, rate, kept)
+        .map_err(Into::into)
+        .and_then(run)
+    {
         Ok(()) => ExitCode::SUCCESS,
         Err(error) => {
             eprintln!("{name}: {error}");
@@ -83,12 +181,17 @@ pub fn run_on_port(name: &str, run: impl FnOnce(Port) -> Result<(), Box<dyn Erro
     }
 }
 
-fn read_bytes(port: &mut File, came: &Sender<Came>) {
+/// Hands on what comes, until the port is gone, which is told. Where another program takes bytes away, this thread alone waits for others.
+fn read_bytes(port: &mut File, came: &Sender<io::Result<Came>>) {
     let mut bytes = [0; 4096];
-    while let Ok(count) = port.read(&mut bytes) {
-        if count == 0 {
-            std::thread::sleep(Duration::from_millis(1));
-        } else if came.send(Came::Bytes(bytes[..count].to_vec())).is_err() {
+    loop {
+        let read = match port.read(&mut bytes) {
+            Ok(0) => Err(io::Error::other("the port is gone")),
+            Ok(count) => Ok(Came::Bytes(bytes[..count].to_vec())),
+            Err(error) => Err(error),
+        };
+        let is_gone = read.is_err();
+        if came.send(read).is_err() || is_gone {
             return;
         }
     }

@@ -1,0 +1,145 @@
+//! The door: where it is, what it is, and when its session begins. What is to be kept of it is told by a line `keep ..` before anything more is sent.
+
+use super::kept::{Call, Identity, Place, Stand, comset, read_call};
+use osdp_panel::{Address, Command, Entry, Panel, Report};
+use std::io;
+
+/// The first device of the panel.
+pub const DOOR: Entry = 0;
+/// Where it is at first.
+pub const FIRST: Place = Place {
+    address: 5,
+    rate: 9600,
+};
+/// From a lost session to the next one, in milliseconds.
+const PAUSE: u64 = 1000;
+
+/// Where the door is, the rate of the port, the device that has answered the opening, and when the next session begins.
+#[derive(Drop)]
+pub struct Door {
+    stand: Stand,
+    rate: u32,
+    answered: Option<Identity>,
+    pub begins: Option<u64>,
+}
+
+impl Door {
+    /// At first it is where it was made to be.
+    pub fn new() -> Door {
+        Door {
+            stand: Stand::new(FIRST),
+            rate: FIRST.rate,
+            answered: None,
+            begins: Some(0),
+        }
+    }
+
+    /// Whether the session is open, and the device is the door.
+    pub fn may_order(&self) -> bool {
+        match self.answered {
+            Some(answered) => self.stand.may_be(answered),
+            None => false,
+        }
+    }
+
+    /// Tells where the door is, for the program beside this one to keep.
+    fn keep(&self, rt: &HostRuntime) -> io::Result<()> {
+        println!(rt; "keep {}", self.stand)
+    }
+
+    /// Begins a session whose moment has come, at each of its places in turn. The orders that waited are stale.
+    pub fn begin(&mut self, rt: &HostRuntime, panel: &mut Panel, now: u64) -> io::Result<()> {
+        if !self.begins.is_some_and(|begins| begins <= now) {
+            return Ok(());
+        }
+        self.begins = None;
+        for _ in 0..panel.waiting(DOOR).unwrap_or(0) {
+            let _ = panel.withdraw(DOOR);
+        }
+        self.stand.take_turn();
+        let Place { address, rate } = self.stand.place;
+        if let Some(address) = Address::device(address) {
+            let _ = panel.retarget(DOOR, address);
+        }
+        let _ = panel.begin(DOOR, now);
+        if rate != self.rate {
+            self.rate = rate;
+            println!(rt; "rate {rate}")?;
+        }
+        Ok(())
+    }
+
+    /// The door is this device, at the place in use.
+    fn note(&mut self, rt: &HostRuntime, identity: Identity) -> io::Result<()> {
+        let before = self.stand;
+        self.stand.is_at(before.place);
+        self.stand.identity = Some(identity);
+        if self.stand == before {
+            Ok(())
+        } else {
+            self.keep(rt)
+        }
+    }
+
+    /// The session has ended, and begins again at a moment.
+    fn close(&mut self, begins: u64) {
+        self.answered = None;
+        self.begins = Some(begins);
+    }
+
+    /// Does what a report asks for about the door's place and its session.
+    pub fn heed(&mut self, rt: &HostRuntime, report: &Report, now: u64) -> io::Result<()> {
+        match report {
+            Report::Opened(id) => {
+                let identity = Identity::of(id);
+                self.answered = Some(identity);
+                if !self.stand.may_be(identity) {
+                    return println!(rt; "another device: it gets no order until accept");
+                }
+                self.note(rt, identity)
+            }
+            Report::Settled(Command::Comset(_), _) => {
+                self.stand.is_at(self.stand.place); // it was refused
+                self.keep(rt)
+            }
+            Report::Moved(_, com) => {
+                let (address, rate) = (com.address, com.baud_rate);
+                self.stand.is_at(Place { address, rate });
+                self.close(now);
+                self.keep(rt)
+            }
+            Report::Lost(..) => {
+                self.close(now.saturating_add(PAUSE));
+                Ok(())
+            }
+            _ => Ok(()),
+        }
+    }
+
+    /// Gives the door another place: both are kept before the order can go out. Where it is refused the door stays where it is.
+    fn go(&mut self, rt: &HostRuntime, panel: &mut Panel, place: Place) -> io::Result<()> {
+        if !self.may_order() || self.stand.other.is_some() {
+            return println!(rt; "refused line");
+        }
+        self.stand.other = Some(place);
+        self.keep(rt)?;
+        if panel.submit(DOOR, Command::Comset(comset(place))).is_ok() {
+            return Ok(());
+        }
+        self.stand.other = None;
+        self.keep(rt)
+    }
+
+    /// Does what a line says that is no turn.
+    pub fn call(&mut self, rt: &HostRuntime, panel: &mut Panel, line: &str) -> io::Result<()> {
+        match (read_call(line), self.answered) {
+            (Some(Call::Kept(stand)), None) => {
+                self.stand = stand;
+                Ok(())
+            }
+            (Some(Call::Move(place)), Some(_)) => self.go(rt, panel, place),
+            (Some(Call::Accept), Some(identity)) => self.note(rt, identity),
+            _ => println!(rt; "refused line"),
+        }
+    }
+}

@@ -1,0 +1,105 @@
+/* A panel's only device, whose place is kept. */
+#include "door.h"
+
+#include <stdio.h>
+#include <string.h>
+
+#include "port.h"
+#include "words.h"
+
+#define PAUSE 1000 /* from a lost session to the next one, in milliseconds */
+#define KEPT 64    /* how many stands a file keeps at most */
+
+static const char *path;
+static struct stand stands[KEPT];
+static size_t count;
+
+/* Writes where the device is. Whether that was done. */
+static bool keep_door(void)
+{
+    bool is_kept = keep_stands(path, stands, count);
+    if (!is_kept) {
+        tell("not kept\n");
+    }
+    return is_kept;
+}
+
+osdp_status add_door(osdp_panel *panel, struct door *door, const char *kept, uint32_t name, uint32_t rate)
+{
+    path = kept;
+    count = read_stands(path, stands, KEPT);
+    *door = (struct door){ .stand = stand_of(stands, &count, KEPT, name, rate) };
+    return osdp_panel_add(panel, place_of(door->stand).address, &door->entry);
+}
+
+/* The device is there, and is the one that has answered. */
+static void note_door(struct door *door)
+{
+    door->may_order = true;
+    door->is_other = false;
+    door->stand->is_known = true;
+    door->stand->id = door->seen;
+    stands_at(door->stand, place_of(door->stand));
+    (void)keep_door();
+}
+
+void heed_door(struct door *door, const struct osdp_report *report, uint64_t now)
+{
+    const uint8_t *com = report->reply.data; /* of a COM: the address, and the rate with its lowest byte first */
+    if (report->kind == OSDP_REPORT_OPENED && osdp_pd_id_of(&report->reply, &door->seen) == OSDP_OK) {
+        door->is_other = !is_same(door->stand, &door->seen);
+        if (door->is_other) {
+            tell("another device: it gets no order until `accept`\n");
+        } else {
+            note_door(door);
+        }
+    } else if (report->kind == OSDP_REPORT_SETTLED && report->command.code == OSDP_COMSET) {
+        note_door(door); /* it was refused */
+    } else if (report->kind == OSDP_REPORT_MOVED) {
+        stands_at(door->stand, (struct place){ com[0], com[1] | (uint32_t)com[2] << 8 | (uint32_t)com[3] << 16 | (uint32_t)com[4] << 24 });
+        (void)keep_door();
+    }
+    if (report->kind == OSDP_REPORT_LOST || report->kind == OSDP_REPORT_MOVED) {
+        door->may_order = door->is_other = false;
+        door->begins = now + (report->kind == OSDP_REPORT_LOST ? PAUSE : 0);
+    }
+}
+
+void begin_door(osdp_panel *panel, struct door *door, int port, uint64_t now)
+{
+    static struct osdp_message command;
+    if (door->begins > now) {
+        return;
+    }
+    while (osdp_panel_withdraw(panel, door->entry, &command) == OSDP_OK && command.present) {
+        if (command.code == OSDP_COMSET) {
+            stands_at(door->stand, place_of(door->stand));
+        }
+    }
+    struct place place = door->stand->places[0];
+    try_place(door->stand, place);
+    if (!set_rate(port, place.rate)) {
+        tell("no rate %u\n", (unsigned)place.rate);
+    }
+    door->begins = UINT64_MAX;
+    (void)osdp_panel_retarget(panel, door->entry, place.address);
+    (void)osdp_panel_begin(panel, door->entry, now);
+}
+
+void take_line(osdp_panel *panel, struct door *door, const char *line)
+{
+    char comset[32];
+    unsigned address, rate;
+    if (strcmp(line, "accept") == 0 && door->is_other) {
+        note_door(door);
+    } else if (sscanf(line, "move %3u %6u", &address, &rate) == 2 && address <= 126 && has_rate(rate) && door->may_order && door->stand->count == 1) {
+        may_move(door->stand, (struct place){ address, rate });
+        snprintf(comset, sizeof comset, "COMSET %u %u", address, rate);
+        if (!keep_door() || tell_refusal(osdp_panel_submit_text(panel, door->entry, comset, strlen(comset)))) {
+            stands_at(door->stand, place_of(door->stand));
+            (void)keep_door();
+        }
+    } else {
+        tell("refused line %s\n", line);
+    }
+}

@@ -1,0 +1,30 @@
+/* A panel's only device, whose place is kept: where it is, what it is, and when its session begins. */
+#ifndef DOOR_H
+#define DOOR_H
+
+#include "kept.h"
+#include "osdp.h"
+
+struct door {
+    size_t entry;
+    struct stand *stand;
+    bool may_order;         /* whether its session is open, and it is the device that stood there before */
+    bool is_other;          /* whether another device than that one answers there */
+    uint64_t begins;        /* when its next session begins; UINT64_MAX while one goes on */
+    struct osdp_pd_id seen; /* what the device is that has answered the last opening */
+};
+
+/* Adds the device that was at an address when it was first used, where the file has it, if one is named, or else at that address and this rate. Ends the
+ * program where the file has another device there. */
+osdp_status add_door(osdp_panel *panel, struct door *door, const char *kept, uint32_t name, uint32_t rate);
+
+/* Does what a report asks for about its place and its session. */
+void heed_door(struct door *door, const struct osdp_report *report, uint64_t now);
+
+/* Begins a session whose moment has come, at each of its places in turn. The orders that waited are stale. */
+void begin_door(osdp_panel *panel, struct door *door, int port, uint64_t now);
+
+/* Does what a line says: `move 7 9600` gives the device another address and rate, and `accept` takes another device for it. */
+void take_line(osdp_panel *panel, struct door *door, const char *line);
+
+#endif

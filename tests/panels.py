@@ -1,0 +1,441 @@
+"""Panels and readers in C and in Rust, by what their users see where something goes wrong: a port that another program reads or has, an adapter that is pulled,
+Ctrl-C, answers to a COMSET that are lost, a panel that starts again, another device at a reader's place, and power that is lost between a deed and its answer.
+
+Takes the folder of the examples in C and that of those in Rust. Each case has pseudo terminals of its own, and the cases run beside each other.
+"""
+import fcntl
+import os
+import re
+import select
+import signal
+import subprocess
+import sys
+import tempfile
+import termios
+import time
+from concurrent.futures import ProcessPoolExecutor
+from pathlib import Path
+
+import examples
+from examples import ACK, COM, COMSET, ID, NAK, PDID, Device, Line, asks, has, opened, taken
+from terminals import Script, Terminal, packet
+
+OUT = 0x68
+FAST = "check sum poll-interval 20 reply-wait 300 sends 2 quiet-wait 60".split()
+SETTINGS = {"fast": FAST, "the defaults": ["check", "sum"], "reply-wait 400": ["check", "sum", "reply-wait", "400"]}
+FOUND = 60.0  # after how many seconds readers that answer have not been found
+ROUNDS = 4  # in so many rounds each reader is tried at each of its places
+
+
+def all_words(c):
+    return [([f"{c}/panel"], []), ([f"{c}/reader"], [])]
+
+
+def lost(panel, number):
+    return any(line.startswith(f"lost {number} ") for line in panel.lines)
+
+
+def answered(device, script, seconds):
+    """Plays a device for some seconds."""
+    device.until(script, lambda: False, seconds)
+
+
+def stolen(c, _):
+    """A second program reads the port for a while: it is refused, or the panel goes on when it has ended."""
+    with Line(all_words(c)) as line:
+        panel, device = line.panel("5", *FAST), Device(line.panel_end, {})
+        asks(device.until(panel, opened(panel, 1)), "stolen: the session doesn't open")
+        thieves = [subprocess.Popen(["cat", line.panel_end.path], stdout=subprocess.DEVNULL, stderr=subprocess.DEVNULL) for _ in range(2)]
+        answered(device, panel, 3)
+        for thief in thieves:
+            thief.kill()
+            thief.wait()
+        device.asked.clear()
+        asks(device.until(panel, lambda: len(device.asked) > 5, 20), "stolen: the panel polls no more")
+        times = sum(each.startswith("opened 1 ") for each in panel.lines)
+        asks(device.until(panel, lambda: not lost(panel, 1) or opened(panel, 1, max(times, 2))(), 20), "stolen: the session doesn't open again")
+        panel.say("1 OUT 0:2:1")
+        asks(device.until(panel, lambda: any("OUT 0:2:1" in each and not each.startswith("ordered") for each in panel.lines), 20), "stolen: an order has no end")
+
+
+def taken_port(c, rust):
+    """A second program is told whose port it is, in both languages and from each to the other. The lock goes with the program that has it."""
+    for first in ([f"{c}/panel", "{}", 9600, 5], [f"{rust}/door_panel", "{}", 9600]):
+        terminal = Terminal()
+        holder = Script(*[terminal.path if word == "{}" else word for word in first])
+        select.select([terminal.end], [], [], 20)  # it has sent its first packet
+        name = Path(first[0]).name
+        for program, status in (([f"{c}/panel", terminal.path, 9600, 5], 3), ([f"{c}/door_device", terminal.path, 9600], 3), ([f"{rust}/door_device", terminal.path, 9600], 1)):
+            done = subprocess.run([str(word) for word in program], stdin=subprocess.DEVNULL, capture_output=True, text=True, timeout=20)
+            said = f"another program has the port {terminal.path}: {name}, process {holder.process.pid}\n"
+            asks(done.returncode == status and done.stderr.endswith(said), f"taken: {program} ends with {done.returncode}, {done.stderr!r}")
+        flags = fcntl.fcntl(terminal.other, fcntl.F_GETFL)
+        asks(not flags & os.O_NONBLOCK, "taken: another program's port has become non-blocking")
+        holder.process.terminate()
+        holder.process.wait()
+        terminal.close()
+
+
+def ends_of_orders(c, _):
+    """Where the program ends by Ctrl-C, or by its port, what is under way and what waits is told, and Ctrl-C says nothing else."""
+    for how, status, said, cause in (("Ctrl-C", 130, "", "stopped"), ("the port is gone", 3, r"the port can't be (read|written)\n", "port-gone")):
+        with Line(all_words(c)) as line:
+            panel = line.panel("5", *FAST, stderr=subprocess.PIPE)
+            device = Device(line.panel_end, {})
+            asks(device.until(panel, opened(panel, 1)), f"{how}: the session doesn't open")
+            panel.say("1 OUT 0:2:1\n1 OUT 0:2:2\n1 OUT 0:2:3")
+            end = time.monotonic() + 20
+            while time.monotonic() < end and not any(burst[5] == OUT for burst in line.panel_end.bursts()):
+                select.select([line.panel_end.end], [], [], 1)  # the first order goes out, and isn't answered
+            if how == "Ctrl-C":
+                panel.process.send_signal(signal.SIGINT)
+            else:
+                os.close(line.panel_end.end)
+                line.panel_end.end = os.open("/dev/null", os.O_RDONLY)
+            found = panel.process.wait(timeout=20)
+            panel.read()
+            told = [f"lost 1 {cause} OUT 0:2:1", "withdrawn 1 OUT 0:2:2", "withdrawn 1 OUT 0:2:3"]
+            asks(panel.lines[-3:] == told, f"{how}: the ends of orders are {panel.lines[-4:]}")
+            stderr = panel.process.stderr.read().decode()
+            asks(found == status and re.fullmatch(said, stderr), f"{how}: status {found}, {stderr!r}")
+
+
+def many_stops(c, _):
+    """Ctrl-C at many moments, also while another program takes bytes away."""
+    for at in range(12):
+        with Line(all_words(c)) as line:
+            panel, device = line.panel("5", *FAST, stderr=subprocess.PIPE), Device(line.panel_end, {})
+            device.until(panel, opened(panel, 1))
+            thief = subprocess.Popen(["cat", line.panel_end.path], stdout=subprocess.DEVNULL, stderr=subprocess.DEVNULL)
+            answered(device, panel, 0.1 + at * 0.013)
+            panel.process.send_signal(signal.SIGINT)
+            try:
+                found = panel.process.wait(timeout=5)
+            except subprocess.TimeoutExpired:
+                found = None
+                panel.process.kill()
+            stderr = panel.process.stderr.read().decode()
+            asks((found, stderr) == (130, ""), f"Ctrl-C: status {found}, {stderr!r}")
+            thief.kill()
+            thief.wait()
+
+
+def sentences(c, _):
+    """What the list, an order or an event is refused for is said in words, by addresses."""
+    terminal = Terminal()
+    many = ",".join(map(str, range(17)))
+    for addresses, said in (("5,6,5", "device 5 is in the list twice\n"), (many, "device 16 is one too many: a panel has 16 at most\n"), ("5,127", "bad address: 127 is above 126\n")):
+        done = subprocess.run([f"{c}/panel", terminal.path, "9600", addresses], stdin=subprocess.DEVNULL, capture_output=True, text=True, timeout=20)
+        asks((done.returncode, done.stderr) == (2, said), f"sentences: {addresses} ends with {done.returncode}, {done.stderr!r}")
+    terminal.close()
+    with Line(all_words(c), 2) as line:
+        panel = line.panel("5,6", *FAST, "capacity", 1)
+        readers = [line.reader(0, 5), line.reader(1, 6)]
+        asks(line.run(lambda: opened(panel, 1)() and opened(panel, 2)()), "sentences: the sessions don't open")
+        for order, why in (("3 OUT 0:2:0", "no device 3: the list has 1 at 5, 2 at 6"), ("1 COMSET 6 9600", "address 6 is that of device 2")):
+            panel.say(order)
+            asks(line.run(has(panel, f"ordered {order}", f"refused {why}", f"not taken {order}")), f"sentences: {order} is told {panel.lines[-3:]}")
+        panel.say("1 OUT 0:2:1\n1 OUT 0:2:2\n1 OUT 0:2:3")
+        asks(line.run(has(panel, "refused as many orders wait for device 1 at 5 as there is room for")), f"sentences: a full queue is told {panel.lines[-5:]}")
+    with Line(all_words(c)) as line:
+        reader = Script(f"{c}/reader", line.reader_ends[0].path, 9600, "address", 5, "room", 1)
+        line.scripts.append(reader)
+        reader.say("event KEYPAD 0 31\nevent KEYPAD 0 32")
+        asks(line.run(has(reader, "refused as many events wait at this device as there is room for")), f"sentences: a full queue of events is told {reader.lines}")
+
+
+def one_rate(line):
+    return len({end.rate for end in (line.panel_end, *line.reader_ends)}) == 1
+
+
+def lost_answers(c, _, count, losers, kind, name):
+    """Of so many readers these lose answers to a COMSET of the rate: all are found again, at one rate, and each takes an order."""
+    what = f"{count} readers, {kind} of {losers} lost, {name}"
+    with Line(all_words(c), count) as line:
+        panel = line.panel(",".join(str(5 + at) for at in range(count)), *SETTINGS[name])
+        readers = [line.reader(at, 5 + at) for at in range(count)]
+        numbers = range(1, count + 1)
+        asks(line.run(lambda: all(opened(panel, number)() for number in numbers)), f"{what}: the sessions don't open")
+        addresses = {4 + number for number in losers}
+        loses = {
+            "COM": lambda way, burst: burst[5] == COM and burst[1] & 0x7F in addresses,
+            "COMSET": lambda way, burst: burst[5] == COMSET and burst[1] in addresses,
+            "each answer": lambda way, burst: way == "in" and burst[1] & 0x7F in addresses,
+        }
+        line.loses = loses[kind]
+        if kind == "each answer":
+            line.run(lambda: False, 0.1)
+        panel.say("1 COMSET 5 19200")
+        asks(line.run(lambda: all(lost(panel, number) for number in losers)), f"{what}: not all are lost: {panel.lines[-12:]}")
+        line.loses = lambda way, burst: False
+        before = len(panel.lines)
+        is_open = lambda: all(sum(each.startswith(f"opened {number} ") for each in panel.lines) >= 2 or not lost(panel, number) for number in numbers)
+        asks(line.run(lambda: is_open() and one_rate(line), FOUND), f"{what}: not all are found: {panel.lines[-12:]}")
+        told = panel.lines[before:]
+        asks(sum(each.startswith("rate ") for each in told) <= ROUNDS, f"{what}: the rounds are {told}")
+        asks(sum(each.startswith("looks for ") for each in told) <= count, f"{what}: the searches are {told}")
+        line.rests(0.5)
+        for number, reader in zip(numbers, readers):
+            line.run(lambda: f"settled {number} OUT 0:2:{number} = ACK" in panel.lines or not panel.say(f"{number} OUT 0:2:{number}") and line.rests(1) and False, 30)
+            asks(f"taken OUT 0:2:{number}" in reader.lines, f"{what}: reader {number} takes no order: {panel.lines[-12:]}")
+
+
+def lost_burst(c, _, count, at):
+    """Of so many readers a COMSET of the rate loses one answer, the one at this place: all are found again."""
+    with Line(all_words(c), count) as line:
+        panel = line.panel(",".join(str(5 + each) for each in range(count)), *FAST)
+        readers = [line.reader(each, 5 + each) for each in range(count)]
+        numbers = range(1, count + 1)
+        asks(line.run(lambda: all(opened(panel, number)() for number in numbers)), f"one answer: the sessions of {count} don't open")
+        answers = []
+
+        def loses(way, burst):
+            answers.extend([burst] if way == "in" else [])
+            return way == "in" and len(answers) == at + 1
+
+        line.loses = loses
+        panel.say("1 COMSET 5 19200")
+        holds = lambda: line.panel_end.rate == termios.B19200 and one_rate(line) and all(opened(panel, number, 2)() for number in numbers)
+        asks(line.run(holds, FOUND), f"one answer, {at} of {count}: {panel.lines[-12:]}")
+
+
+class Stubborn:
+    """A device that refuses each COMSET, at the reader's side of a terminal."""
+
+    def __init__(self, terminal, address):
+        self.end, self.address, self.held = terminal.other, address, b""
+        attributes = termios.tcgetattr(self.end)
+        attributes[4] = attributes[5] = termios.B9600
+        termios.tcsetattr(self.end, termios.TCSANOW, attributes)
+
+    def answer(self):
+        if select.select([self.end], [], [], 0)[0]:
+            self.held += os.read(self.end, 4096)
+        while len(self.held) >= 4 and len(self.held) >= self.held[2]:
+            burst, self.held = self.held[:self.held[2]], self.held[self.held[2]:]
+            if burst[1] == self.address:
+                code, data = {ID: (PDID, examples.IDENTITY), COMSET: (NAK, b"\x09")}.get(burst[5], (ACK, b""))
+                os.write(self.end, packet(self.address | 0x80, burst[4] & 3, code, data))
+
+
+def refused_rate(c, _):
+    """Of two readers one refuses the rate to which the other has moved: the other is fetched back, and the session of the one that refuses stays."""
+    with Line(all_words(c), 2) as line:
+        panel = line.panel("5,6", *FAST)
+        first = line.reader(0, 5)
+        second = Stubborn(line.reader_ends[1], 6)
+        both = lambda: second.answer() or (opened(panel, 1)() and opened(panel, 2)())
+        asks(line.run(both), "refusing: the sessions don't open")
+        panel.say("1 COMSET 9 19200")
+        told = ["moved 1 COMSET 9 19200 = COM 9 19200", "settled 2 COMSET 6 19200 = NAK 9", "looks for 1 at 9 19200", "ordered 1 COMSET 9 9600", "moved 1 COMSET 9 9600 = COM 9 9600"]
+        asks(line.run(lambda: second.answer() or (has(panel, *told)() and opened(panel, 1, 3)())), f"refusing: the panel tells {panel.lines[-12:]}")
+        asks(not any(each.startswith(("rate ", "lost 2")) for each in panel.lines), f"refusing: the other session didn't stay: {panel.lines[-12:]}")
+        panel.say("1 OUT 0:2:1")
+        asks(line.run(lambda: second.answer() or "taken OUT 0:2:1" in first.lines), "refusing: the reader that was fetched takes no order")
+
+
+def swapped(c, _):
+    """One reader moves away, and another takes its address. The panel starts again with the same words: each order goes to its own reader."""
+    with tempfile.TemporaryDirectory() as folder, Line(all_words(c), 2) as line:
+        kept = f"{folder}/panel"
+        panel = line.panel("5,6", *FAST, options=["--keep", kept])
+        readers = [Script(f"{c}/reader", "--keep", f"{folder}/{at}", line.reader_ends[at].path, 9600, "address", 5 + at, "serial", 100 + at, "gap", 300) for at in range(2)]
+        line.scripts += readers
+        asks(line.run(lambda: opened(panel, 1)() and opened(panel, 2)()), "swapped: the sessions don't open")
+        line.rests(0.1)
+        asks(Path(kept).read_text() == "5 at 5 9600 is 000000 0 100\n6 at 6 9600 is 000000 0 101\n", f"swapped: at first the file has {Path(kept).read_text()!r}")
+        panel.say("1 COMSET 7 9600")
+        asks(line.run(opened(panel, 1, 2)), "swapped: the first reader doesn't move")
+        panel.say("2 COMSET 5 9600")
+        asks(line.run(opened(panel, 2, 2)), "swapped: the second reader doesn't move")
+        asks(Path(kept).read_text() == "5 at 7 9600 is 000000 0 100\n6 at 5 9600 is 000000 0 101\n", f"swapped: the file has {Path(kept).read_text()!r}")
+        panel.process.kill()
+        panel.process.wait()
+        fcntl.ioctl(line.panel_end.other, termios.TIOCNXCL)
+        line.scripts.remove(panel)
+        again = line.panel("5,6", *FAST, options=["--keep", kept])
+        asks(line.run(lambda: opened(again, 1)() and opened(again, 2)()), "swapped: the sessions don't open again")
+        again.say("1 OUT 0:5:30")
+        asks(line.run(has(again, "settled 1 OUT 0:5:30 = ACK")), "swapped: the order isn't done")
+        line.rests(0.2)
+        asks(taken(readers[0])[-1:] == ["taken OUT 0:5:30"] and not any("OUT" in each for each in taken(readers[1])), "swapped: the wrong reader has taken the order")
+        again.process.kill()
+        again.process.wait()
+        fcntl.ioctl(line.panel_end.other, termios.TIOCNXCL)
+        refused = subprocess.run([f"{c}/panel", "--keep", kept, line.panel_end.path, "9600", "5,6,7"], capture_output=True, text=True, timeout=20, stdin=subprocess.DEVNULL)
+        said = "no device can start at address 7: device 5, which is kept, may be there\n"
+        asks((refused.returncode, refused.stderr) == (2, said), f"swapped: a third device ends with {refused.returncode}, {refused.stderr!r}")
+
+
+def kept_before(c, _):
+    """Before a COMSET goes out the file has both places, and a panel that is killed then finds the reader at either, also at another rate."""
+    for loses, where in ((COM, "7 19200"), (COMSET, "5 9600")):
+        with tempfile.TemporaryDirectory() as folder, Line(all_words(c)) as line:
+            kept = Path(folder) / "panel"
+            panel = line.panel("5", *FAST, options=["--keep", kept])
+            line.reader(0, 5)
+            asks(line.run(opened(panel, 1)), "kept: the session doesn't open")
+            line.loses = lambda way, burst: burst[5] == loses
+            panel.say("1 COMSET 7 19200")
+            asks(line.run(lambda: any(burst[5] == loses for _, burst in line.bursts)), "kept: the COMSET doesn't go out")
+            asks(kept.read_text() == "5 at 7 19200 or 5 9600 is 53494D 1 0\n", f"kept: as the COMSET goes out the file has {kept.read_text()!r}")
+            panel.process.kill()
+            panel.process.wait()
+            fcntl.ioctl(line.panel_end.other, termios.TIOCNXCL)
+            line.loses = lambda way, burst: False
+            again = line.panel("5", *FAST, options=["--keep", kept])
+            asks(line.run(opened(again, 1)), f"kept: the reader isn't found again: {again.lines[-12:]}")
+            line.rests(0.1)
+            asks(kept.read_text() == f"5 at {where} is 53494D 1 0\n", f"kept: in the end the file has {kept.read_text()!r}")
+    for text in ("5\n", "5 at 7\n", "5 at 7 9600 6\n", "5 at 7 9600 is 5\n", "5 at 127 9600\n", "5 at 7 9600\n6 at 7 9600\n", "5 at 7 9600 or 6 9600\n6 at 6 9600\n"):
+        with tempfile.TemporaryDirectory() as folder, Line(all_words(c)) as line:
+            Path(f"{folder}/kept").write_text(text)
+            done = subprocess.run([f"{c}/panel", "--keep", f"{folder}/kept", line.panel_end.path, "9600", "5"], capture_output=True, text=True, timeout=20, stdin=subprocess.DEVNULL)
+            asks((done.returncode, done.stderr) == (3, f"the kept places can't be read: {folder}/kept\n"), f"kept: {text!r} ends with {done.returncode}, {done.stderr!r}")
+
+
+def another_device(c, _):
+    """Another device at a reader's place gets no order until a line allows it; what it is, is kept then."""
+    with tempfile.TemporaryDirectory() as folder, Line(all_words(c)) as line:
+        kept = Path(folder) / "panel"
+        kept.write_text("5 at 5 9600 is 53494D 1 77\n9 at 9 9600\n")
+        panel, reader = line.panel("5", *FAST, options=["--keep", kept]), line.reader(0, 5)
+        asks(line.run(has(panel, "another device 1 at 5: it gets no order until `1 accept`")), "another: it isn't told")
+        panel.say("1 OUT 0:2:1")
+        asks(line.run(has(panel, "refused another device answers there", "not taken 1 OUT 0:2:1")), "another: its order isn't refused")
+        asks(kept.read_text().startswith("5 at 5 9600 is 53494D 1 77\n"), "another: it was kept before it was allowed")
+        panel.say("1 accept\n1 OUT 0:2:2")
+        asks(line.run(has(panel, "settled 1 OUT 0:2:2 = ACK")), "another: after the word it gets no order")
+        asks(kept.read_text() == "5 at 5 9600 is 53494D 1 0\n9 at 9 9600\n", f"another: the file has {kept.read_text()!r}")
+        asks(taken(reader) == ["taken OUT 0:2:2"], f"another: the reader has taken {taken(reader)}")
+
+
+def small_panel(c, rust, language):
+    """A small panel keeps where its door is: it is found there by a panel that starts again, and another device opens no door."""
+    program = {"C": c, "Rust": rust}[language] + "/door_panel"
+    card = "event RAW 0 0 26 12345640"
+    with tempfile.TemporaryDirectory() as folder, Line(all_words(c)) as line:
+        kept = Path(folder) / "panel"
+
+        def start():
+            fcntl.ioctl(line.panel_end.other, termios.TIOCNXCL)
+            script = Script(program, "--keep", kept, line.panel_end.path, 9600)
+            line.scripts.append(script)
+            return script
+
+        def reader(serial):
+            words = [f"{c}/reader", "--keep", f"{folder}/reader", line.reader_ends[0].path, 9600, "address", 5, "serial", serial, "gap", 300]
+            line.scripts.append(Script(*words))
+            return line.scripts[-1]
+
+        def stop(script):
+            script.process.kill()
+            script.process.wait()
+            line.scripts.remove(script)
+            fcntl.ioctl(line.reader_ends[0].other, termios.TIOCNXCL)
+
+        is_open = lambda script, times: lambda: sum(each.lower().startswith("opened") for each in script.lines) >= times
+        panel, device = start(), reader(1)
+        asks(line.run(is_open(panel, 1)), f"{language}: the session doesn't open")
+        line.rests(0.2)
+        asks(kept.read_text() == "5 at 5 9600 is 000000 0 1\n", f"{language}: at first the file has {kept.read_text()!r}")
+        line.loses = lambda way, burst: burst[5] == COM
+        panel.say("move 7 19200")
+        asks(line.run(lambda: any(burst[5] == COM for _, burst in line.bursts)), f"{language}: no COMSET goes out: {panel.lines[-12:]}")
+        asks(kept.read_text() == "5 at 7 19200 or 5 9600 is 000000 0 1\n", f"{language}: as the COMSET goes out the file has {kept.read_text()!r}")
+        stop(panel)
+        line.loses = lambda way, burst: False
+        panel = start()
+        asks(line.run(is_open(panel, 1)), f"{language}: the door isn't found again")
+        line.rests(0.2)
+        asks(kept.read_text() == "5 at 7 19200 is 000000 0 1\n", f"{language}: in the end the file has {kept.read_text()!r}")
+        device.say(card)
+        asks(line.run(has(device, "taken OUT 0:5:30")), f"{language}: the card opens nothing")
+        stop(device)
+        device = reader(2)
+        told = lambda: any(each.startswith("another device") for each in panel.lines)
+        asks(line.run(told), f"{language}: another device isn't told: {panel.lines[-12:]}")
+        device.say(card)
+        line.rests(1.5)
+        asks(taken(device) == [], f"{language}: another device has taken {taken(device)}")
+        panel.say("accept")
+        line.rests(0.3)
+        device.say(card)
+        asks(line.run(has(device, "taken OUT 0:5:30")), f"{language}: after the word the card opens nothing")
+        asks(kept.read_text() == "5 at 7 19200 is 000000 0 2\n", f"{language}: after the word the file has {kept.read_text()!r}")
+        stop(panel)
+        kept.write_text("6 at 5 9600\n")
+        done = subprocess.run([program, "--keep", kept, line.panel_end.path, "9600"], stdin=subprocess.DEVNULL, capture_output=True, text=True, timeout=20)
+        asks(done.returncode in (1, 2) and "device 6, which is kept, may be" in done.stderr, f"{language}: at a place of another device it ends with {done.returncode}, {done.stderr!r}")
+
+
+def deed_first(c, rust, name):
+    """An order is answered after its deed: while what a device does can't be done, here to print it, its answer doesn't go out."""
+    program = {"reader in C": [f"{c}/reader", "{}", 9600, "address", 5], "door_device in C": [f"{c}/door_device", "{}", 9600], "door_device in Rust": [f"{rust}/door_device", "{}", 9600]}[name]
+    terminal, (read, write) = Terminal(), os.pipe()
+    process = subprocess.Popen([str(terminal.path if word == "{}" else word) for word in program], stdin=subprocess.PIPE, stdout=write)
+    deadline = time.monotonic() + 20
+    while termios.tcgetattr(terminal.other)[5] != termios.B9600 and time.monotonic() < deadline:
+        time.sleep(0.01)
+    time.sleep(0.2)
+    os.write(terminal.end, packet(5, 0, ID, b"\0"))
+    asks(terminal.next_burst()[5:6] == bytes([PDID]), f"deed: {name} doesn't answer the opening")
+    full = os.open(f"/proc/self/fd/{write}", os.O_WRONLY | os.O_NONBLOCK)
+    try:
+        while True:
+            os.write(full, b"x")
+    except BlockingIOError:
+        pass
+    os.write(terminal.end, packet(5, 1, OUT, bytes([0, 5, 30, 0])))
+    asks(not select.select([terminal.end], [], [], 0.5)[0], f"deed: {name} has answered before it has acted")
+    text = b""
+    while b"0" not in text and select.select([read], [], [], 5)[0]:
+        text += os.read(read, 65536).replace(b"x", b"")
+    asks(terminal.next_burst()[5:6] == bytes([ACK]), f"deed: {name} doesn't answer the order")
+    process.kill()
+    process.wait()
+    for end in (read, write, full):
+        os.close(end)
+    terminal.close()
+
+
+def run(case, c, rust, more):
+    """The faults of one case."""
+    examples.faults.clear()
+    examples.LIMIT = 60.0
+    try:
+        globals()[case](c, rust, *more)
+    except Exception as error:
+        examples.faults.append(f"{case} {more}: {error!r}")
+    return list(examples.faults)
+
+
+def cases():
+    for name in ("stolen", "taken_port", "ends_of_orders", "many_stops", "sentences", "refused_rate", "swapped", "kept_before", "another_device"):
+        yield name, ()
+    for language in ("C", "Rust"):
+        yield "small_panel", (language,)
+    for name in ("reader in C", "door_device in C", "door_device in Rust"):
+        yield "deed_first", (name,)
+    for settings in SETTINGS:
+        for kind in ("COM", "COMSET", "each answer"):
+            for count, losers in ((1, (1,)), (2, (1,)), (2, (2,)), (2, (1, 2)), (3, (1,)), (3, (2,)), (3, (3,)), (3, (1, 3)), (3, (1, 2, 3))):
+                if settings == "fast" or (count, len(losers)) in ((2, 2), (3, 1), (3, 3)):
+                    yield "lost_answers", (count, losers, kind, settings)
+    for count in (1, 2, 3):
+        for at in range(2 * count + 1):
+            yield "lost_burst", (count, at)
+
+
+def main(c, rust, *names):
+    begun = time.monotonic()
+    wanted = [(name, more) for name, more in cases() if not names or name in names]
+    with ProcessPoolExecutor(max_workers=8) as pool:
+        running = [pool.submit(run, name, c, rust, more) for name, more in wanted]
+        faults = [fault for each in running for fault in each.result()]
+    print(f"panels: {len(wanted)} cases, {len(faults)} faults in {time.monotonic() - begun:.1f} s", *faults, sep="\n")
+    return 1 if faults else 0
+
+
+if __name__ == "__main__":
+    sys.exit(main(*sys.argv[1:]))
