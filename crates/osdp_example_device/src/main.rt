@@ -34,7 +34,7 @@ fn new_device(alloc: Global) -> Option<Doors> {
     let config = ReaderConfig { address, id, caps };
     let mut program = ProgramAnswers::new();
     let _ = program.status.outputs.try_extend_from_slice(&[0, 0]);
-    Device::new(Reader::new(alloc, config, program, 64).ok()?, 20)
+    Device::new(alloc, Reader::new(alloc, config, program, 64).ok()?, 20).ok()
 }
 
 /// An OUT that may not be done is refused before it is answered. All else is answered as it was set.

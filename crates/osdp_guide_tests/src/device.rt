@@ -78,35 +78,40 @@ pub fn new_device(
     program.status.inputs = all_off(inputs);
     program.status.outputs = all_off(outputs);
     let reader = Reader::new(alloc, new_config(address, inputs, outputs), program, 64).ok()?;
-    Device::new(reader, 20)
+    Device::new(alloc, reader, 20).ok()
 }
 
-/// A card was read: it waits until a POLL has taken it.
-pub fn card_was_read(device: &mut Device<ProgramAnswers>) {
+/// A card was read at a moment: it waits until a POLL has taken it.
+pub fn card_was_read(device: &mut Device<ProgramAnswers>, now: u64) {
     if let Some(card) = Raw::new(0, 0, 26, &[0x12, 0x34, 0x56, 0x40]) {
         // where there is no room the event comes back, and the device may beep
-        let _ = device.reader.submit_event(Event::Raw(card));
+        let _ = device.submit_event(Event::Raw(card), now);
     }
 }
 
 /// Keys were pressed, each a byte in ASCII.
-pub fn keys_were_pressed(device: &mut Device<ProgramAnswers>, keys: &[u8]) {
+pub fn keys_were_pressed(device: &mut Device<ProgramAnswers>, keys: &[u8], now: u64) {
     let mut digits = ArrayVec::new();
     if digits.try_extend_from_slice(keys).is_ok() {
         let pressed = Keypad { reader: 0, digits };
-        let _ = device.reader.submit_event(Event::Keypad(pressed));
+        let _ = device.submit_event(Event::Keypad(pressed), now);
     }
 }
 
 /// An input is on or off: ISTAT is answered so from now on, and an event tells the states of all inputs.
-pub fn input_was_switched(device: &mut Device<ProgramAnswers>, input: usize, is_on: bool) {
-    let inputs = &mut device.reader.handler_mut().status.inputs;
+pub fn input_was_switched(
+    device: &mut Device<ProgramAnswers>,
+    input: usize,
+    is_on: bool,
+    now: u64,
+) {
+    let inputs = &mut device.handler_mut().status.inputs;
     if let Some(state) = inputs.get_mut(input) {
         *state = u8::from(is_on);
     }
     let mut states = ArrayVec::new();
     if states.try_extend_from_slice(inputs.as_slice()).is_ok() {
-        let _ = device.reader.submit_event(Event::Inputs(states));
+        let _ = device.submit_event(Event::Inputs(states), now);
     }
 }
 
@@ -133,7 +138,7 @@ fn act(relays: &mut Relays, response: &Response, now: u64) {
 
 /// Time passes: that of an output may be over. OSTAT is answered by what is set here.
 fn pass(device: &mut Device<ProgramAnswers>, relays: &mut Relays, now: u64) {
-    let states = device.reader.handler_mut().status.outputs.as_mut_slice();
+    let states = device.handler_mut().status.outputs.as_mut_slice();
     for (state, until) in states.iter_mut().zip(relays.until.iter_mut()) {
         if until.is_some_and(|until| until <= now) {
             *until = None;

@@ -80,8 +80,8 @@ fn a_refused_order_does_nothing(rt: HostRuntime) {
 #[test]
 fn events_are_told_in_order(rt: HostRuntime) {
     let (mut device, mut relays) = new_one(&rt, rt.alloc(), 1, 1);
-    keys_were_pressed(&mut device, &[0x31, 0x32]);
-    input_was_switched(&mut device, 0, true);
+    keys_were_pressed(&mut device, &[0x31, 0x32], 0);
+    input_was_switched(&mut device, 0, true, 0);
     let keys = (100, "53050700016040", "53850B0001530002313264");
     let inputs = (200, "5305070002603F", "53850800024901D4");
     let ack = (300, "5305070003603E", "538507000340DE");
@@ -118,7 +118,7 @@ fn two_outputs_are_switched(rt: HostRuntime) {
 fn two_inputs_are_told(rt: HostRuntime) {
     let (mut device, mut relays) = new_one(&rt, rt.alloc(), 2, 2);
     are_answered(&rt, &mut device, &mut relays, &[OPENING]);
-    input_was_switched(&mut device, 1, true);
+    input_was_switched(&mut device, 1, true, 0);
     let event = (100, "53050700016040", "5385090001490001D4");
     let istat = (200, "5305070002653A", "5385090002490001D3");
     are_answered(&rt, &mut device, &mut relays, &[event, istat]);
