@@ -647,7 +647,8 @@ osdp_status osdp_device_set_busy(osdp_device *device, uint32_t busy);
 
 /*
  * Puts an event after those that wait: it is told when the panel polls. Its code and data are those of the reply that tells it: LSTATR, ISTATR, OSTATR,
- * RSTATR, RAW, FMT or KEYPAD. It came at the greatest moment that the device has seen, from which its age counts.
+ * RSTATR, RAW, FMT or KEYPAD. It came at the greatest moment that any call has handed in, from which its age counts; one that comes before any
+ * was handed in is never too old.
  *
  * OSDP_NO_MACHINE. OSDP_UNKNOWN_CODE (M1), OSDP_BAD_LENGTH (M2), OSDP_BAD_COUNT (M3): the code and data stand for no reply. OSDP_NO_EVENT: for one that
  * tells no event. OSDP_EVENTS_FULL (N2).

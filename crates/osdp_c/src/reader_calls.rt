@@ -127,12 +127,15 @@ pub(crate) fn set_local(machine: &mut ReaderMachine, tamper: u8, power: u8)
     status.power = power;
 }
 
-/// Puts an event after those that wait, as of the greatest moment seen.
+/// Puts an event after those that wait, as of the greatest moment seen. One that comes before any was seen is never too old.
 fn submit(machine: &mut ReaderMachine, event: Event) -> Status
     ensures status { result ≡ (submits event machine.old).status }
     ensures machine { machine.new ≡ (submits event machine.old).machine }
 {
-    let now = machine.device.line.greatest();
+    let now = match machine.clock.greatest() {
+        Some(greatest) => greatest,
+        None => u64::MAX,
+    };
     match machine.device.submit_event(event, now) {
         Ok(()) => Status::Done,
         Err(_) => Status::EventsFull,

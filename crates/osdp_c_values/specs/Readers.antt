@@ -148,12 +148,16 @@ sets_busy busy m = does (sets (after_set_busy (not (busy == 0)) m.device.reader)
 abbrev pub is_full : ReaderState ProgramAnswers → Bool
 is_full r = length r.queue.events == r.queue.capacity
 
--- an event came at the greatest moment that the device has seen
+-- an event came at the greatest moment that was seen; one that came before any was is never too old
+abbrev pub arrival : Option ℕ → ℕ
+arrival (Some greatest) = greatest
+arrival None = 18446744073709551615
+
 abbrev pub arrived : Event → ReaderMachine → ReaderMachine
 arrived event m = record m {
   device = record m.device {
     reader = after_submit event m.device.reader;
-    ages = after_arrival m.device.line.greatest (length m.device.reader.queue.events) m.device.ages;
+    ages = after_arrival (arrival m.clock.greatest) (length m.device.reader.queue.events) m.device.ages;
   };
 }
 

@@ -2,13 +2,17 @@
 
 use arrayvec::ArrayVec;
 use osdp_device::{
-    Address, Capability, Command, Device, Event, Keypad, MAX_DATA, Order, OutputRecord, PdCap,
-    PdId, ProgramAnswers, Raw, Reader, ReaderConfig, Response, Turn, Unsent, order_of, ordered,
+    Address, Capability, Command, Device, Event, Expired, Keypad, MAX_DATA, Order, OutputRecord,
+    PdCap, PdId, ProgramAnswers, Raw, Reader, ReaderConfig, Response, Turn, Unsent, order_of,
+    ordered,
 };
 use std::alloc::Global;
 
 /// For how many outputs there is room.
 const ROOM: usize = 8;
+
+/// For how many milliseconds an event may wait where no panel is there.
+const TOO_OLD: u64 = 30_000;
 
 /// The outputs: each is on until a moment, or off.
 #[derive(Drop)]
@@ -147,6 +151,19 @@ fn pass(device: &mut Device<ProgramAnswers>, relays: &mut Relays, now: u64) {
     }
 }
 
+/// Where no panel is there, events that have waited too long leave: a card of long ago opens no door.
+fn let_go(device: &mut Device<ProgramAnswers>, now: u64) {
+    for _ in 0..64 {
+        match device.expire_event(now, TOO_OLD) {
+            // no answer has told it: the device may beep
+            Some(Expired::Withdrawn(_)) => {}
+            // its answer may be lost: the panel may have it or not
+            Some(Expired::InDoubt(_)) => {}
+            None => break,
+        }
+    }
+}
+
 /// The device's loop, once: it reads, answers, and acts. What it sends is told as unsent.
 pub fn device_turn(
     device: &mut Device<ProgramAnswers>,
@@ -156,6 +173,7 @@ pub fn device_turn(
     turn: &mut Turn,
 ) -> Option<Unsent> {
     pass(device, relays, now);
+    let_go(device, now);
     device.tick(now);
     let unsent = match device.turn(bytes, now, turn) {
         // nothing else is set for the command, so the status answers it

@@ -1,6 +1,8 @@
 //! A device by packets: what it answers, byte for byte, that an order which comes again is done once, and its events.
 
-use crate::device::{Relays, device_turn, input_was_switched, keys_were_pressed, new_device};
+use crate::device::{
+    Relays, card_was_read, device_turn, input_was_switched, keys_were_pressed, new_device,
+};
 use osdp_device::{Address, Device, ProgramAnswers, Turn};
 use std::alloc::Global;
 use std::process::Abort;
@@ -122,4 +124,17 @@ fn two_inputs_are_told(rt: HostRuntime) {
     let event = (100, "53050700016040", "5385090001490001D4");
     let istat = (200, "5305070002653A", "5385090002490001D3");
     are_answered(&rt, &mut device, &mut relays, &[event, istat]);
+}
+
+/// The panel is stopped, a card is held, and the panel comes back 45 s later: the card is told to nobody.
+#[test]
+fn a_card_of_long_ago_opens_no_door(rt: HostRuntime) {
+    let (mut device, mut relays) = new_one(&rt, rt.alloc(), 1, 1);
+    are_answered(&rt, &mut device, &mut relays, &[OPENING]);
+    card_was_read(&mut device, 1000);
+    are_answered(&rt, &mut device, &mut relays, &[(31_001, "", "")]);
+    assert_eq!(rt; device.reader().waiting(), 0);
+    let opening = (46_000, OPENING.1, OPENING.2);
+    let ack = (46_100, "53050700016040", "538507000140E0");
+    are_answered(&rt, &mut device, &mut relays, &[opening, ack]);
 }
