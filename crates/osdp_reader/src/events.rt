@@ -48,6 +48,20 @@ impl EventQueue {
         self.events.len()
     }
 
+    /// How many may wait.
+    pub fn capacity(&self) -> usize
+        ensures { result ≡ self.now.capacity }
+    {
+        self.events.capacity()
+    }
+
+    /// Whether the front was ever offered, in this session or in one before.
+    pub fn is_in_doubt(&self) -> bool
+        ensures { result ≡ self.now.ever_offered }
+    {
+        self.ever_offered
+    }
+
     /// Puts an event after the others. A full queue gives it back, and nothing changes.
     pub fn submit(&mut self, event: Event) -> Result<(), Event>
         ensures ok { OnOk result (self.new ≡ queued event self.old) }
@@ -67,8 +81,8 @@ impl EventQueue {
     {
         if self.offered {
             let _ = self.events.pop_front();
-            self.ever_offered = false;
         }
+        self.ever_offered = !self.offered && self.ever_offered;
         self.offered = false;
     }
 
@@ -103,12 +117,12 @@ impl EventQueue {
         ensures event { result ≡ in_doubt self.old }
         ensures queue { self.new ≡ lapsed self.old }
     {
-        if !self.ever_offered {
-            return None;
+        if self.ever_offered {
+            self.stop_offering();
+            self.ever_offered = false;
+            return self.events.pop_front();
         }
-        self.offered = false;
-        self.ever_offered = false;
-        self.events.pop_front()
+        None
     }
 
     /// The event that is told: the front, where the command is a POLL and an event waits.
