@@ -10,3 +10,4 @@ pub mod Sequences
 pub mod Addresses
 pub mod Handlers
 pub mod FittingReplies
+pub mod Withdrawing

@@ -6,6 +6,7 @@ use Rattle.osdp_reader_laws.proofs.Keeping.{keeps_reply, none_is_some}
 use Rattle.osdp_reader_laws.proofs.Offering.{lapse_offer, none_offered, offer_stays, outcome_offer, submit_offer, withdraw_offer}
 use Rattle.osdp_reader_laws.proofs.Outcomes.{outcome_keeps}
 use Rattle.osdp_reader_laws.proofs.Room.{keeps_room, lapse_room, submit_room, withdraw_room}
+use Rattle.osdp_reader_laws.proofs.Withdrawing.{lapse_knows, never_true, outcome_knows, submit_knows, withdraw_knows}
 use Rattle.osdp_reader_laws.proofs.reader_stays_well.Goals as goal
 
 pub returns-clause-reply : goal.returns-clause-reply
@@ -31,6 +32,19 @@ returns-clause-offer g c = (
     (λ r handler tells. offer_stays r r.busy handler tells),
     (λ r tells. withdraw_offer r tells),
     (λ r tells. lapse_offer r tells),
+  ),
+)
+
+pub returns-clause-ever : goal.returns-clause-ever
+returns-clause-ever g c = (
+  (λ config handler capacity ever. absurd (never_true ever)),
+  (
+    (λ r p knows. outcome_knows g.H.Handler.answer_of g.H.Handler.after (kind_of r p) r p knows),
+    (λ r event free knows. submit_knows r event knows),
+    (λ r busy knows. knows),
+    (λ r handler knows. knows),
+    (λ r knows. withdraw_knows r knows),
+    (λ r knows. lapse_knows r knows),
   ),
 )
 
