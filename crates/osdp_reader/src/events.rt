@@ -67,8 +67,8 @@ impl EventQueue {
     {
         if self.offered {
             let _ = self.events.pop_front();
-            self.ever_offered = false;
         }
+        self.ever_offered = !self.offered && self.ever_offered;
         self.offered = false;
     }
 
@@ -103,12 +103,12 @@ impl EventQueue {
         ensures event { result ≡ in_doubt self.old }
         ensures queue { self.new ≡ lapsed self.old }
     {
-        if !self.ever_offered {
-            return None;
+        if self.ever_offered {
+            self.stop_offering();
+            self.ever_offered = false;
+            return self.events.pop_front();
         }
-        self.offered = false;
-        self.ever_offered = false;
-        self.events.pop_front()
+        None
     }
 
     /// The event that is told: the front, where the command is a POLL and an event waits.

@@ -10,4 +10,5 @@ pub mod Sequences
 pub mod Addresses
 pub mod Handlers
 pub mod FittingReplies
+pub mod QueuedOnce
 pub mod Withdrawing

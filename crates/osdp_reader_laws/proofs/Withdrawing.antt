@@ -1,18 +1,15 @@
 -- What a reader says of an event that it was given once: where it was said to a POLL, it is the front, and was ever offered.
-use Rattle.std.proofs.Common.{◌≡◌, ◌≢◌, ◌⊎◌, ◌≤◌, ◌||◌, ◌==◌, ℕ, zero, suc, Bool, true, false, cond, eqb, List, [], ◌∷◌, ◌++◌, drop, take, length, Option, Some, None, Result, Ok, Err, refl, ap, sym, subst, ◌∙◌, inl, inr, is_some, option_map, slice_get}
+use Rattle.std.proofs.Common.{◌≡◌, ◌≢◌, ◌⊎◌, ◌==◌, ℕ, Bool, true, false, cond, List, [], ◌∷◌, ◌++◌, drop, take, length, Option, Some, None, Result, Ok, Err, refl, ap, sym, subst, ◌∙◌, inl, inr, is_some, option_map, slice_get}
 use Rattle.osdp_frame.specs.Packet.{Packet}
 use Rattle.osdp_msg.specs.declared.command.Command.{Command}
 use Rattle.osdp_msg.specs.declared.command.Command.TheVariants as command
 use Rattle.osdp_msg.specs.declared.event.Event.{Event}
-use Rattle.osdp_msg.specs.declared.event.Event.TheVariants as events
 use Rattle.osdp_msg.specs.declared.fault.MsgFault.{MsgFault}
-use Rattle.osdp_msg.specs.declared.reply.Reply.{Reply}
-use Rattle.osdp_msg.specs.declared.reply.Reply.TheVariants as reply
-use Rattle.osdp_msg.specs.Events.{event_in, event_reply}
+use Rattle.osdp_msg.specs.Events.{event_reply}
 use Rattle.osdp_reader.specs.declared.handler.Answer.{Answer}
 use Rattle.osdp_reader.specs.declared.kind.Kind.{Kind}
 use Rattle.osdp_reader.specs.declared.kind.Kind.TheVariants.{Silent, Secured, Zero, Repeat, Taken, Busy, Wrong}
-use Rattle.osdp_reader.specs.Queue.{Queue, event_for, in_doubt, lapsed, never_offered, offering, released, unoffered, withdrawn}
+use Rattle.osdp_reader.specs.Queue.{Queue, in_doubt, never_offered, offering, released}
 use Rattle.osdp_reader.specs.Replies.{reply_packet}
 use Rattle.osdp_reader.specs.declared.config.ReaderConfig.{ReaderConfig}
 use Rattle.osdp_reader.specs.State.{ReaderState, after_lapse_event, after_submit, after_withdraw_event, new_reader}
@@ -21,140 +18,7 @@ use Rattle.osdp_reader_laws.specs.Runs.{HasNone, Hear, IsTold, LapseEvent, Reade
 use Rattle.osdp_reader_laws.specs.Withdrawing.{KnowsItsOffer, WithdrawsOne}
 use Rattle.osdp_reader_laws.proofs.Outcomes.{IsKeptByEffects, after_next, after_zero, by_kind, by_move, outcome_keeps}
 use Rattle.osdp_reader_laws.proofs.Offering.{front_stays}
-
--- ---- an event and the reply that tells it
-
-told_event : (e : Event) → event_in (event_reply e) ≡ Some e
-told_event (events.LocalState s) = refl
-told_event (events.Inputs s) = refl
-told_event (events.Outputs s) = refl
-told_event (events.Readers s) = refl
-told_event (events.Raw r) = refl
-told_event (events.Formatted f) = refl
-told_event (events.Keypad k) = refl
-
-same_some : {A : Type 0} (a b : A) → Some a ≡ Some b → a ≡ b
-same_some a b e = cc
-
-same_event : (a b : Event) → event_reply a ≡ event_reply b → a ≡ b
-same_event a b e = same_some a b (sym (told_event a) ∙ (ap event_in e ∙ told_event b))
-
-ack_is_no_event : (e : Event) → Some reply.Ack ≡ Some (event_reply e) → ⊥
-ack_is_no_event e is =
-    let both : None ≡ Some e = ap event_in (same_some reply.Ack (event_reply e) is) ∙ told_event e in cc
-
--- ---- lists that have no such event, or have it once at most
-
-abbrev once : Event → List Event → Type 0
-once e [] = Unit {0}
-once e (x ∷ xs) = (x ≡ e → HasNone e xs) × once e xs
-
-none_append : (e : Event) (xs ys : List Event) → HasNone e xs → HasNone e ys → HasNone e (xs ++ ys)
-none_append e [] ys h k = k
-none_append e (x ∷ xs) ys h k = (h.0, none_append e xs ys h.1 k)
-
-none_drop : (e : Event) (xs : List Event) → HasNone e xs → HasNone e (drop 1 xs)
-none_drop e [] h = tt
-none_drop e (x ∷ xs) h = h.1
-
-none_rest : (e : Event) (x : Event) (xs : List Event) → HasNone e (drop 1 xs) → x ≢ e → HasNone e (drop 1 (xs ++ x ∷ []))
-none_rest e x [] h other = tt
-none_rest e x (y ∷ ys) h other = none_append e ys (x ∷ []) h (other, tt)
-
-none_there : (e : Event) (xs : List Event) (k : ℕ) → HasNone e xs → slice_get xs k ≡ Some e → ⊥
-none_there e [] k h is = absurd cc
-none_there e (x ∷ xs) zero h is = h.0 (same_some x e is)
-none_there e (x ∷ xs) (suc k) h is = none_there e xs k h.1 is
-
-once_none : (e : Event) (xs : List Event) → HasNone e xs → once e xs
-once_none e [] h = tt
-once_none e (x ∷ xs) h = ((λ is. h.1), once_none e xs h.1)
-
-once_drop : (e : Event) (xs : List Event) → once e xs → once e (drop 1 xs)
-once_drop e [] h = tt
-once_drop e (x ∷ xs) h = h.1
-
-once_append : (e : Event) (x : Event) (xs : List Event) → once e xs → x ≢ e → once e (xs ++ x ∷ [])
-once_append e x [] h other = ((λ is. tt), tt)
-once_append e x (y ∷ ys) h other = ((λ is. none_append e ys (x ∷ []) (h.0 is) (other, tt)), once_append e x ys h.1 other)
-
-once_last : (e : Event) (x : Event) (xs : List Event) → HasNone e xs → once e (xs ++ x ∷ [])
-once_last e x [] h = ((λ is. tt), tt)
-once_last e x (y ∷ ys) h = ((λ is. absurd (h.0 is)), once_last e x ys h.1)
-
-none_withdrawn : (e : Event) (xs : List Event) → HasNone e xs → HasNone e (take 1 xs ++ drop 2 xs)
-none_withdrawn e [] h = tt
-none_withdrawn e (x ∷ []) h = h
-none_withdrawn e (x ∷ y ∷ ys) h = (h.0, h.1.1)
-
-once_withdrawn : (e : Event) (xs : List Event) → once e xs → once e (take 1 xs ++ drop 2 xs)
-once_withdrawn e [] h = tt
-once_withdrawn e (x ∷ []) h = h
-once_withdrawn e (x ∷ y ∷ ys) h = ((λ is. (h.0 is).1), h.1.1)
-
-rest_withdrawn : (e : Event) (xs : List Event) → HasNone e (drop 1 xs) → HasNone e (drop 1 (take 1 xs ++ drop 2 xs))
-rest_withdrawn e [] h = tt
-rest_withdrawn e (x ∷ []) h = tt
-rest_withdrawn e (x ∷ y ∷ ys) h = h.1
-
--- the front is this event, or the one after it is: it is none of the others
-gone_front : (e : Event) (xs : List Event) → once e xs → slice_get xs 0 ≡ Some e → HasNone e (drop 1 xs)
-gone_front e [] h is = absurd cc
-gone_front e (x ∷ xs) h is = h.0 (same_some x e is)
-
-gone_second : (e : Event) (xs : List Event) → once e xs → slice_get xs 1 ≡ Some e → HasNone e (take 1 xs ++ drop 2 xs)
-gone_second e [] h is = absurd cc
-gone_second e (x ∷ []) h is = absurd cc
-gone_second e (x ∷ y ∷ ys) h is =
-    let same = same_some y e is in
-    ((λ front. (h.0 front).0 same), h.1.0 same)
-
--- ---- the events of a queue that were never offered
-
-abbrev fresh : Bool → List Event → List Event
-fresh ever xs = cond ever (drop 1 xs) xs
-
-by_cond : {X : Type 0} (P : X → Type 0) (test : Bool) (x y : X) → P x → P y → P (cond test x y)
-by_cond P true x y h k = h
-by_cond P false x y h k = k
-
-past_released : (e : Event) (offered ever : Bool) (xs : List Event) → HasNone e (fresh ever xs)
-    → HasNone e (fresh (cond offered false ever) (cond offered (drop 1 xs) xs))
-past_released e true true xs h = h
-past_released e true false xs h = none_drop e xs h
-past_released e false ever xs h = h
-
-past_offering : (e : Event) (told ever : Bool) (xs : List Event) → HasNone e (fresh ever xs) → HasNone e (fresh (told || ever) xs)
-past_offering e true true xs h = h
-past_offering e true false xs h = none_drop e xs h
-past_offering e false ever xs h = h
-
-past_queued : (e x : Event) (ever : Bool) (xs : List Event) → HasNone e (fresh ever xs) → x ≢ e → HasNone e (fresh ever (xs ++ x ∷ []))
-past_queued e x true xs h other = none_rest e x xs h other
-past_queued e x false xs h other = none_append e xs (x ∷ []) h (other, tt)
-
-past_withdrawn : (e : Event) (ever : Bool) (xs : List Event) → HasNone e (fresh ever xs)
-    → HasNone e (fresh ever (cond ever (take 1 xs ++ drop 2 xs) (drop 1 xs)))
-past_withdrawn e true xs h = rest_withdrawn e xs h
-past_withdrawn e false xs h = none_drop e xs h
-
-past_lapsed : (e : Event) (q : Queue) (ever : Bool) → HasNone e (fresh ever q.events)
-    → let l = cond ever (record { events = drop 1 q.events; capacity = q.capacity; offered = false; ever_offered = false }) (record q { ever_offered = ever }) in
-    HasNone e (fresh l.ever_offered l.events)
-past_lapsed e q true h = h
-past_lapsed e q false h = h
-
-past_there : (e : Event) (ever : Bool) (xs : List Event) → HasNone e (fresh ever xs) → slice_get xs (cond ever 1 0) ≡ Some e → ⊥
-past_there e true [] h is = absurd cc
-past_there e true (x ∷ xs) h is = none_there e xs 0 h is
-past_there e false xs h is = none_there e xs 0 h is
-
-doubt_past : (e : Event) (ever : Bool) (xs : List Event) (k : ℕ) → HasNone e (fresh ever xs) → slice_get xs k ≡ Some e
-    → cond ever (slice_get xs 0) None ≡ Some e
-doubt_past e false xs k h is = absurd (none_there e xs k h is)
-doubt_past e true [] k h is = absurd cc
-doubt_past e true (x ∷ xs) zero h is = is
-doubt_past e true (x ∷ xs) (suc k) h is = absurd (none_there e xs k h is)
+use Rattle.osdp_reader_laws.proofs.QueuedOnce.{ack_is_no_event, by_cond, doubt_lapsed, doubt_past, doubt_queued, doubt_released, doubt_withdrawn, fresh, gone_front, lapsed_gone, none_append, none_drop, none_there, none_withdrawn, once, once_append, once_drop, once_last, once_none, once_withdrawn, past_lapsed, past_offering, past_queued, past_released, past_there, past_withdrawn, same_event, same_some, waits_offering, waits_released, waits_withdrawn, withdrawn_gone}
 
 module _ {H : Type 0} where
   abbrev HasNoSuch : Event → ReaderState H → Type 0
@@ -189,28 +53,6 @@ module _ {H : Type 0} where
         past_offering e (is_some told) (cond r.queue.offered false r.queue.ever_offered) (cond r.queue.offered (drop 1 r.queue.events) r.queue.events)
         (past_released e r.queue.offered r.queue.ever_offered r.queue.events h);
   }
-
-  -- ---- what was ever offered waits
-
-  pub never_true : false ≡ true → ⊥
-  never_true is = cc
-
-  waits_released : (offered ever : Bool) (xs : List Event) → (ever ≡ true → (event : Event) × (slice_get xs 0 ≡ Some event))
-      → cond offered false ever ≡ true → (event : Event) × (slice_get (cond offered (drop 1 xs) xs) 0 ≡ Some event)
-  waits_released true ever xs h is = absurd cc
-  waits_released false ever xs h is = h is
-
-  waits_offering : (front : Option Event) (q : Queue) → slice_get q.events 0 ≡ front
-      → (q.ever_offered ≡ true → (event : Event) × (slice_get q.events 0 ≡ Some event))
-      → (is_some (option_map event_reply front) || q.ever_offered) ≡ true → (event : Event) × (slice_get q.events 0 ≡ Some event)
-  waits_offering None q is h ever = h ever
-  waits_offering (Some x) q is h ever = (x, is)
-
-  waits_withdrawn : (ever : Bool) (xs : List Event) → (ever ≡ true → (event : Event) × (slice_get xs 0 ≡ Some event))
-      → ever ≡ true → (event : Event) × (slice_get (cond ever (take 1 xs ++ drop 2 xs) (drop 1 xs)) 0 ≡ Some event)
-  waits_withdrawn false xs h is = absurd cc
-  waits_withdrawn true [] h is = h refl
-  waits_withdrawn true (x ∷ xs) h is = (x, refl)
 
   pub submit_knows : (r : ReaderState H) (x : Event) → KnowsItsOffer r → KnowsItsOffer (after_submit x r)
   submit_knows r x h ever = ((h ever).0, front_stays r.queue.events (x ∷ []) (h ever).0 (h ever).1)
@@ -352,7 +194,7 @@ module _ {H : Type 0} where
     gone_untold e (c ∷ cs) r none h told =
         let next = call_keeps e (HasNoSuch e) c r (none_besides e) (first_none e c cs none) h in
         elim told [
-          inl now ↦ none_there e (after_call answer_of after c r).queue.events 0 next (call_tells c r e now).0
+          | inl now ↦ none_there e (after_call answer_of after c r).queue.events 0 next (call_tells c r e now).0
           | inr later ↦ gone_untold e cs (after_call answer_of after c r) (rest_none e c cs none) next later
         ]
 
@@ -367,7 +209,7 @@ module _ {H : Type 0} where
         let next = call_keeps e (HasOnce e) c r (once_besides e) (first_none e c cs none) h in
         let s = after_call answer_of after c r in
         elim told [
-          inl now ↦ calls_keep e (IsPast e) cs s (past_besides e) (rest_none e c cs none) (front_past e s.queue (call_tells c r e now) next)
+          | inl now ↦ calls_keep e (IsPast e) cs s (past_besides e) (rest_none e c cs none) (front_past e s.queue (call_tells c r e now) next)
           | inr later ↦ told_past e cs s (rest_none e c cs none) next later
         ]
 
@@ -376,7 +218,7 @@ module _ {H : Type 0} where
     told_in_parts e [] ds r told = inr told
     told_in_parts e (c ∷ cs) ds r told =
         elim told [
-          inl now ↦ inl (inl now)
+          | inl now ↦ inl (inl now)
           | inr later ↦ elim (told_in_parts e cs ds (after_call answer_of after c r) later) [ inl first ↦ inl (inr first) | inr rest ↦ inr rest ]
         ]
 
@@ -415,29 +257,6 @@ module _ {H : Type 0} where
 
     -- ---- what is in doubt was told
 
-    doubt_released : (e : Event) (offered ever : Bool) (xs : List Event)
-        → cond (cond offered false ever) (slice_get (cond offered (drop 1 xs) xs) 0) None ≡ Some e → cond ever (slice_get xs 0) None ≡ Some e
-    doubt_released e true ever xs is = absurd cc
-    doubt_released e false ever xs is = is
-
-    doubt_queued : (e x : Event) (ever : Bool) (xs : List Event) → (ever ≡ true → (event : Event) × (slice_get xs 0 ≡ Some event))
-        → cond ever (slice_get (xs ++ x ∷ []) 0) None ≡ Some e → cond ever (slice_get xs 0) None ≡ Some e
-    doubt_queued e x false xs h is = is
-    doubt_queued e x true [] h is = let none : None ≡ Some (h refl).0 = (h refl).1 in absurd cc
-    doubt_queued e x true (y ∷ ys) h is = is
-
-    doubt_withdrawn : (e : Event) (ever : Bool) (xs : List Event)
-        → cond ever (slice_get (cond ever (take 1 xs ++ drop 2 xs) (drop 1 xs)) 0) None ≡ Some e → cond ever (slice_get xs 0) None ≡ Some e
-    doubt_withdrawn e false xs is = is
-    doubt_withdrawn e true [] is = is
-    doubt_withdrawn e true (x ∷ xs) is = is
-
-    doubt_lapsed : (e : Event) (ever : Bool) (q : Queue)
-        → in_doubt (cond ever (record { events = drop 1 q.events; capacity = q.capacity; offered = false; ever_offered = false }) q) ≡ Some e
-        → in_doubt q ≡ Some e
-    doubt_lapsed e true q is = let none : None ≡ Some e = is in absurd cc
-    doubt_lapsed e false q is = is
-
     abbrev Doubts : Event → ReaderState H → Type 0
     Doubts e r = in_doubt r.queue ≡ Some e
 
@@ -462,8 +281,8 @@ module _ {H : Type 0} where
     taken_doubt (Ok (command.Comset asked)) r p e is =
         let a = answer_to answer_of after r.config r.handler (command.Comset asked) in
         let there : in_doubt (offering None (released r.queue)) ≡ Some e =
-            subst (λ (q : Queue). in_doubt q ≡ Some e)
-            (moved_queue (new_address (command.Comset asked)) (after_next p.sequence (reply_packet p p.sequence a.reply) None a.handler r)) is in
+        subst (λ (q : Queue). in_doubt q ≡ Some e)
+        (moved_queue (new_address (command.Comset asked)) (after_next p.sequence (reply_packet p p.sequence a.reply) None a.handler r)) is in
         inl (doubt_released e r.queue.offered r.queue.ever_offered r.queue.events there)
     taken_doubt (Ok c) r p e is = inl (doubt_released e r.queue.offered r.queue.ever_offered r.queue.events is)
 
@@ -495,7 +314,7 @@ module _ {H : Type 0} where
     calls_doubt [] r e h is = inl is
     calls_doubt (c ∷ cs) r e h is =
         elim (calls_doubt cs (after_call answer_of after c r) e (call_knows c r h) is) [
-          inl doubts ↦ elim (call_doubt c r e h doubts) [ inl before ↦ inl before | inr now ↦ inr (inl now) ]
+          | inl doubts ↦ elim (call_doubt c r e h doubts) [ inl before ↦ inl before | inr now ↦ inr (inl now) ]
           | inr later ↦ inr (inr later)
         ]
 
@@ -504,7 +323,7 @@ module _ {H : Type 0} where
         → IsTold answer_of after e cs (new_reader config handler capacity)
     told_what_is_in_doubt config handler capacity e cs is =
         elim (calls_doubt cs (new_reader config handler capacity) e (λ never. absurd cc) is) [
-          inl none ↦ let nothing : None ≡ Some e = none in absurd cc
+          | inl none ↦ let nothing : None ≡ Some e = none in absurd cc
           | inr told ↦ told
         ]
 
@@ -541,28 +360,22 @@ module _ {H : Type 0} where
       told_since : IsTold answer_of after e calls r → IsTold answer_of after e more put
       told_since told =
           elim (told_in_parts e first (SubmitEvent e ∷ more) r told) [
-            inl before ↦ absurd (gone_untold e first r none_first fresh_one before)
+            | inl before ↦ absurd (gone_untold e first r none_first fresh_one before)
             | inr since ↦ elim since [ inl now ↦ absurd now | inr later ↦ later ]
           ]
 
       last_past : IsTold answer_of after e calls r → IsPast e last
       last_past told = told_past e more put none_more put_once (told_since told)
 
-      -- taken back, it waits no more
-      withdrawn_gone : (ever : Bool) (xs : List Event) → once e xs → slice_get xs (cond ever 1 0) ≡ Some e
-          → HasNone e (cond ever (take 1 xs ++ drop 2 xs) (drop 1 xs))
-      withdrawn_gone true xs h is = gone_second e xs h is
-      withdrawn_gone false xs h is = gone_front e xs h is
-
       last_untold : (later : List (ReaderCall H)) → SubmitsNone e later → never_offered last.queue ≡ Some e
           → IsTold answer_of after e (calls ++ WithdrawEvent ∷ later) r → ⊥
       last_untold later none is told =
           elim (told_in_parts e calls (WithdrawEvent ∷ later) r told) [
-            inl before ↦ past_there e last.queue.ever_offered last.queue.events (last_past before) is
+            | inl before ↦ past_there e last.queue.ever_offered last.queue.events (last_past before) is
             | inr since ↦ elim since [
-              inl now ↦ now
+              | inl now ↦ now
               | inr afterwards ↦ gone_untold e later (after_withdraw_event last) none
-                  (withdrawn_gone last.queue.ever_offered last.queue.events last_once is)
+                  (withdrawn_gone e last.queue.ever_offered last.queue.events last_once is)
                   (subst (λ (s : ReaderState H). IsTold answer_of after e later (after_withdraw_event s)) last_is afterwards)
             ]
           ]
@@ -588,16 +401,11 @@ module _ {H : Type 0} where
         let s = after_calls answer_of after (first ++ SubmitEvent e ∷ more) r in
         doubt_past e s.queue.ever_offered s.queue.events k past is
 
-    lapsed_gone : (e : Event) (ever : Bool) (q : Queue) → cond ever (slice_get q.events 0) None ≡ Some e → HasNone e (drop 1 q.events)
-        → HasNone e (cond ever (record { events = drop 1 q.events; capacity = q.capacity; offered = false; ever_offered = false }) q).events
-    lapsed_gone e true q is h = h
-    lapsed_gone e false q is h = absurd cc
-
     pub tells_no_more : (r : ReaderState H) (e : Event) (later : List (ReaderCall H)) → in_doubt r.queue ≡ Some e
         → HasNone e (drop 1 r.queue.events) → SubmitsNone e later → IsTold answer_of after e (LapseEvent ∷ later) r → ⊥
     tells_no_more r e later is h none told =
         elim told [
-          inl now ↦ now
+          | inl now ↦ now
           | inr afterwards ↦ gone_untold e later (after_lapse_event r) none (lapsed_gone e r.queue.ever_offered r.queue is h) afterwards
         ]
 
@@ -630,6 +438,6 @@ pub withdraws_one : (H : Type 0) → WithdrawsOne H
 withdraws_one H r =
     let with = λ (events : List Event). record r { queue = record r.queue { events = events } } in
     elim (withdrawn_either r.queue.ever_offered r.queue.events) [
-      inl none ↦ inl (none.0, ap with none.1)
+      | inl none ↦ inl (none.0, ap with none.1)
       | inr some ↦ inr (some.0, (some.1.0, (some.1.1.0, some.1.1.1, some.1.1.2, some.1.1.3, ap with some.1.1.4)))
     ]

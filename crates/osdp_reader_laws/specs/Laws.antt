@@ -16,7 +16,8 @@ use Rattle.osdp_reader.specs.declared.kind.Kind.TheVariants.{Zero, Taken}
 use Rattle.osdp_reader_laws.specs.Answering.{answers, handler_after_commands}
 use Rattle.osdp_reader.specs.Replies.{reply_packet}
 use Rattle.osdp_reader.specs.Spelled.{IsSpelled}
-use Rattle.osdp_reader.specs.State.{ReaderState, after_lapse_event, after_set_busy, after_set_handler, after_submit, after_withdraw_event, new_reader}
+use Rattle.osdp_reader.specs.State.{ReaderState, after_set_busy, after_set_handler, after_submit, new_reader}
+use Rattle.osdp_reader.specs.State.{after_lapse_event, after_withdraw_event}
 use Rattle.osdp_reader.specs.Table.{answer_to, command_in, hears, kind_of}
 
 -- neither BUSY nor a NAK 1 or 4, which say that the command wasn't taken

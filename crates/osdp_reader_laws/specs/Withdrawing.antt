@@ -1,11 +1,11 @@
 -- Events that the device takes back or lets go. A reader compares no events, so what holds of an event that no other one equals holds of each.
-use Rattle.std.specs.Prelude.{◌≡◌, ◌⊎◌, ◌++◌, ◌∷◌, ℕ, true, List, drop, length, slice_get, Option, Some, None, if◌then◌else◌}
+use Rattle.std.specs.Prelude.{◌≡◌, ◌⊎◌, ◌++◌, ◌∷◌, ℕ, true, List, drop, length, slice_get, Some, None, if◌then◌else◌}
 use Rattle.osdp_msg.specs.declared.command.Command.{Command}
 use Rattle.osdp_msg.specs.declared.event.Event.{Event}
 use Rattle.osdp_reader.specs.declared.config.ReaderConfig.{ReaderConfig}
 use Rattle.osdp_reader.specs.declared.handler.Answer.{Answer}
 use Rattle.osdp_reader.specs.Queue.{in_doubt, never_offered}
-use Rattle.osdp_reader.specs.State.{ReaderState, after_lapse_event, after_withdraw_event, new_reader}
+use Rattle.osdp_reader.specs.State.{ReaderState, after_withdraw_event, new_reader}
 use Rattle.osdp_reader_laws.specs.Runs.{HasNone, IsTold, LapseEvent, ReaderCall, SubmitEvent, SubmitsNone, WithdrawEvent, after_calls}
 
 -- an event that is taken back leaves alone, from the place of the front or from the one after it; where there is none nothing changes

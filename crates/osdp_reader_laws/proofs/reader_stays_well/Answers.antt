@@ -6,7 +6,8 @@ use Rattle.osdp_reader_laws.proofs.Keeping.{keeps_reply, none_is_some}
 use Rattle.osdp_reader_laws.proofs.Offering.{lapse_offer, none_offered, offer_stays, outcome_offer, submit_offer, withdraw_offer}
 use Rattle.osdp_reader_laws.proofs.Outcomes.{outcome_keeps}
 use Rattle.osdp_reader_laws.proofs.Room.{keeps_room, lapse_room, submit_room, withdraw_room}
-use Rattle.osdp_reader_laws.proofs.Withdrawing.{lapse_knows, never_true, outcome_knows, submit_knows, withdraw_knows}
+use Rattle.osdp_reader_laws.proofs.Withdrawing.{lapse_knows, outcome_knows, submit_knows, withdraw_knows}
+use Rattle.osdp_reader_laws.proofs.QueuedOnce.{never_true}
 use Rattle.osdp_reader_laws.proofs.reader_stays_well.Goals as goal
 
 pub returns-clause-reply : goal.returns-clause-reply
