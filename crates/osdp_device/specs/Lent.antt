@@ -31,3 +31,9 @@ abbrev pub settled_said : Settled → Heard → Option Said
 settled_said said h = Some (heard_in h)
 settled_said Nothing h = None
 settled_said Pending h = None
+
+-- .. and whether something is
+abbrev pub is_said : Settled → Bool
+is_said said = true
+is_said Nothing = false
+is_said Pending = false

@@ -2,6 +2,7 @@ pub mod Saying
 pub mod Telling
 pub mod Hearing
 pub mod Status
+pub mod Ages
 pub mod Program
 pub mod Moments
 pub mod Lent

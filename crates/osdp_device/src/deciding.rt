@@ -1,6 +1,7 @@
 //! A device whose program decides what is said to each command that the reader doesn't answer by itself.
 
-ghost use Rattle.std.specs.Prelude.{◌≡◌, ◌↔◌, IfErr, IsOk, IsSome, None, OnOk, true};
+ghost use Rattle.std.specs.Prelude.{◌≡◌, ◌↔◌, is_some, IfErr, IsOk, IsSome, None, OnOk, true};
+ghost use Rattle.osdp_device.specs.Ages.{after_saying};
 ghost use Rattle.std.specs.Option.{option_map};
 ghost use Rattle.osdp_device.specs.Deciding.{is_asked, passed, pending_of, settles, turned, with_question};
 ghost use Rattle.osdp_device.specs.Program.{program_after, program_answer};
@@ -46,6 +47,7 @@ impl<H: Handler> Device<H> {
         ensures pending { result ≡ pending_of self.old.reader self.old.line.held }
         ensures reader { self.new.reader ≡ self.old.reader }
         ensures line { self.new.line ≡ record self.old.line { held = passed self.old.reader self.old.line.held } }
+        ensures ages { self.new.ages ≡ self.old.ages }
         ensures told { next_told H.answer_of H.after self.old.reader (passed self.old.reader self.old.line.held) ≡ next_told H.answer_of H.after self.old.reader self.old.line.held }
     {
         let mut command = None;
@@ -64,6 +66,7 @@ impl Device<ProgramAnswers> {
         ensures asked { IsOk result ↔ (is_asked self.old.reader.handler.question ≡ true) }
         ensures set { OnOk result (self.new.reader ≡ with_question (Answered answer) self.old.reader) }
         ensures back { IfErr result (λ back. (back ≡ answer) × (self.new.reader ≡ self.old.reader)) }
+        ensures ages { self.new.ages ≡ self.old.ages }
         ensures line { self.new.line ≡ self.old.line }
     {
         let program = self.reader.handler_mut();
@@ -82,6 +85,7 @@ impl Device<ProgramAnswers> {
     pub fn turn(&mut self, bytes: &[u8], now: u64, turn: &mut Turn) -> Option<Unsent>
         ensures unsent { IsSome result ↔ IsSome turn.new.response }
         ensures taken { turn.new.taken ≡ count_taken bytes.now now self.old.line }
+        ensures ages { self.new.ages ≡ after_saying (is_some turn.new.response) (after_take bytes.now now self.old.line).greatest self.old.ages }
         ensures pending { turn.new.pending ≡ (turned self.old.reader (after_take bytes.now now self.old.line).held).pending }
         ensures said { option_map said_in turn.new.response ≡ (turned self.old.reader (after_take bytes.now now self.old.line).held).said }
         ensures reader { self.new.reader ≡ (turned self.old.reader (after_take bytes.now now self.old.line).held).reader }
@@ -98,6 +102,7 @@ impl Device<ProgramAnswers> {
         ensures reader { self.new.reader ≡ (settles (next_told program_answer program_after self.old.reader self.old.line.held)).reader }
         ensures line { self.new.line ≡ record self.old.line { held = (next_told program_answer program_after self.old.reader self.old.line.held).held } }
         ensures turn { turn.new ≡ record turn.old { response = turn.new.response } }
+        ensures ages { self.new.ages ≡ after_saying (is_some turn.new.response) self.old.line.greatest self.old.ages }
     {
         turn.response = self.next();
         self.reader.handler_mut().question = Question::NotAsked;
@@ -113,6 +118,7 @@ impl Device<ProgramAnswers> {
         ensures reader { self.new.reader ≡ (turned self.old.reader self.old.line.held).reader }
         ensures line { self.new.line ≡ record self.old.line { held = (turned self.old.reader self.old.line.held).held } }
         ensures taken { turn.new.taken ≡ turn.old.taken }
+        ensures ages { self.new.ages ≡ after_saying (is_some turn.new.response) self.old.line.greatest self.old.ages }
     {
         match self.pending() {
             Some(command) => {
@@ -131,6 +137,7 @@ impl Device<ProgramAnswers> {
         ensures reader { self.new.reader ≡ (turned self.old.reader self.old.line.held).reader }
         ensures line { self.new.line ≡ record self.old.line { held = (turned self.old.reader self.old.line.held).held } }
         ensures taken { turn.new.taken ≡ turn.old.taken }
+        ensures ages { self.new.ages ≡ after_saying (is_some turn.new.response) self.old.line.greatest self.old.ages }
     {
         turn.pending = None;
         turn.response = None;

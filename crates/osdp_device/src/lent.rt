@@ -8,7 +8,8 @@ ghost use Rattle.osdp_frame.specs.Receiving.{after_take, count_taken};
 ghost use Rattle.osdp_reader.specs.Table.{command_in};
 ghost use Rattle.osdp_reader.specs.declared.config.ReaderConfig.{ReaderConfig as Configured};
 ghost use Rattle.osdp_device.specs.Deciding.{handled, passed, pending_at, pending_of, settles, turned, with_question};
-ghost use Rattle.osdp_device.specs.Lent.{heard_in, heard_if, pending_if, settled_pending, settled_said};
+ghost use Rattle.osdp_device.specs.Ages.{after_saying};
+ghost use Rattle.osdp_device.specs.Lent.{heard_in, heard_if, is_said, pending_if, settled_pending, settled_said};
 ghost use Rattle.osdp_device.specs.Program.{program_after, program_answer};
 ghost use Rattle.osdp_device.specs.Saying.{after_item, answers_first, is_answered, said_of};
 ghost use Rattle.osdp_device.specs.Telling.{next_told};
@@ -92,6 +93,7 @@ impl<H: Handler> Device<H> {
         ensures pending { pending_if result command.new ≡ pending_of self.old.reader self.old.line.held }
         ensures reader { self.new.reader ≡ self.old.reader }
         ensures line { self.new.line ≡ record self.old.line { held = passed self.old.reader self.old.line.held } }
+        ensures ages { self.new.ages ≡ self.old.ages }
         ensures told { next_told H.answer_of H.after self.old.reader (passed self.old.reader self.old.line.held) ≡ next_told H.answer_of H.after self.old.reader self.old.line.held }
     {
         if !self.pass_over() {
@@ -108,6 +110,7 @@ impl<H: Handler> Device<H> {
     fn hear_first(&mut self, heard: &mut Heard)
         requires { answers_first self.old.reader (decided self.old.line.held.ended self.old.line.held.bytes) ≡ true }
         ensures said { Some (heard_in heard.new) ≡ (next_told H.answer_of H.after self.old.reader self.old.line.held).said }
+        ensures ages { self.new.ages ≡ after_saying true self.old.line.greatest self.old.ages }
         ensures reader { self.new.reader ≡ (next_told H.answer_of H.after self.old.reader self.old.line.held).reader }
         ensures line { self.new.line ≡ record self.old.line { held = (next_told H.answer_of H.after self.old.reader self.old.line.held).held } }
     {
@@ -116,6 +119,7 @@ impl<H: Handler> Device<H> {
         };
         hear(&mut self.reader, &packet, heard);
         self.line.advance();
+        self.ages.hear(self.line.greatest());
     }
 
     /// As `next`, but what the reader says is put in place of what stands in `heard`. Whether it says something; where it doesn't, `heard` is
@@ -126,6 +130,7 @@ impl<H: Handler> Device<H> {
         ensures reader { self.new.reader ≡ (next_told H.answer_of H.after self.old.reader self.old.line.held).reader }
         ensures line { self.new.line ≡ record self.old.line { held = (next_told H.answer_of H.after self.old.reader self.old.line.held).held } }
         ensures stays { result ≡ false → heard.new ≡ heard.old }
+        ensures ages { self.new.ages ≡ after_saying result self.old.line.greatest self.old.ages }
     {
         if !self.pass_over() {
             return false;
@@ -151,6 +156,7 @@ impl Device<ProgramAnswers> {
     fn forget_question(&mut self)
         ensures reader { self.new.reader ≡ with_question NotAsked self.old.reader }
         ensures line { self.new.line ≡ self.old.line }
+        ensures ages { self.new.ages ≡ self.old.ages }
     {
         match self.reader.handler().question {
             Question::NotAsked => {}
@@ -163,6 +169,7 @@ impl Device<ProgramAnswers> {
     /// Answers the next packet. What was asked and set is gone with it.
     fn answer_packet_into(&mut self, heard: &mut Heard) -> Settled
         ensures pending { settled_pending result heard.new ≡ None }
+        ensures ages { self.new.ages ≡ after_saying (is_said result) self.old.line.greatest self.old.ages }
         ensures said { settled_said result heard.new ≡ (settles (next_told program_answer program_after self.old.reader self.old.line.held)).said }
         ensures reader { self.new.reader ≡ (settles (next_told program_answer program_after self.old.reader self.old.line.held)).reader }
         ensures line { self.new.line ≡ record self.old.line { held = (next_told program_answer program_after self.old.reader self.old.line.held).held } }
@@ -181,6 +188,7 @@ impl Device<ProgramAnswers> {
     fn ask_into(&mut self, heard: &mut Heard) -> Settled
         requires { self.old.reader.handler.question ≡ NotAsked }
         ensures pending { settled_pending result heard.new ≡ (turned self.old.reader self.old.line.held).pending }
+        ensures ages { self.new.ages ≡ after_saying (is_said result) self.old.line.greatest self.old.ages }
         ensures said { settled_said result heard.new ≡ (turned self.old.reader self.old.line.held).said }
         ensures reader { self.new.reader ≡ (turned self.old.reader self.old.line.held).reader }
         ensures line { self.new.line ≡ record self.old.line { held = (turned self.old.reader self.old.line.held).held } }
@@ -198,6 +206,7 @@ impl Device<ProgramAnswers> {
         }
         hear(&mut self.reader, &first, heard);
         self.line.advance();
+        self.ages.hear(self.line.greatest());
         self.forget_question();
         Settled::Said
     }
@@ -206,6 +215,7 @@ impl Device<ProgramAnswers> {
     /// command alone counts there; where nothing comes of the turn, anything may stand there.
     pub fn settle_into(&mut self, heard: &mut Heard) -> Settled
         ensures pending { settled_pending result heard.new ≡ (turned self.old.reader self.old.line.held).pending }
+        ensures ages { self.new.ages ≡ after_saying (is_said result) self.old.line.greatest self.old.ages }
         ensures said { settled_said result heard.new ≡ (turned self.old.reader self.old.line.held).said }
         ensures reader { self.new.reader ≡ (turned self.old.reader self.old.line.held).reader }
         ensures line { self.new.line ≡ record self.old.line { held = (turned self.old.reader self.old.line.held).held } }
@@ -226,6 +236,7 @@ impl Device<ProgramAnswers> {
         ensures some { result ≡ true → 0 < length bytes.now }
         ensures empty { result ≡ true → (length self.old.line.held.bytes == 0) ≡ true }
         ensures stays { result ≡ false → self.new.reader ≡ self.old.reader }
+        ensures ages { self.new.ages ≡ self.old.ages }
         ensures line { self.new.line ≡ self.old.line }
     {
         if !self.line.is_empty() || !self.is_unasked() {
@@ -253,6 +264,7 @@ impl Device<ProgramAnswers> {
     #[tactic(auto, using(crate::proofs::Whole::whole_taken))]
     pub fn step_into(&mut self, bytes: &[u8], now: u64, heard: &mut Heard) -> (usize, Settled)
         ensures count { result.0 ≡ count_taken bytes.now now self.old.line }
+        ensures ages { self.new.ages ≡ after_saying (is_said result.1) (after_take bytes.now now self.old.line).greatest self.old.ages }
         ensures pending { settled_pending result.1 heard.new ≡ (turned self.old.reader (after_take bytes.now now self.old.line).held).pending }
         ensures said { settled_said result.1 heard.new ≡ (turned self.old.reader (after_take bytes.now now self.old.line).held).said }
         ensures reader { self.new.reader ≡ (turned self.old.reader (after_take bytes.now now self.old.line).held).reader }
@@ -260,6 +272,7 @@ impl Device<ProgramAnswers> {
     {
         if self.answer_whole(bytes, heard) {
             self.line.see(now);
+            self.ages.hear(self.line.greatest());
             self.line.see_bytes();
             return (bytes.len(), Settled::Said);
         }

@@ -3,11 +3,11 @@
 //! Nothing here reads or writes. The device's program reads from its port, takes the moment after the read, and hands both
 //! in; then it asks for answers until there is none. No bytes, as of a read that timed out or would block, end no run: a
 //! run is over where no byte came for the gap, by the moments of `take` and `tick` alone, or where the program saw the line
-//! silent. None of it takes memory, but `Reader::new`.
+//! silent. None of it takes memory, but `Reader::new` and `Device::new`.
 //!
 //! ```text
 //! let reader = Reader::new(alloc, config, DeviceStatus::new(), 64)?;
-//! let mut device = Device::new(reader, 20)?;
+//! let mut device = Device::new(alloc, reader, 20)?;
 //! loop {
 //!     .. the port is read, for some milliseconds at most ..
 //!     let now = clock.now();
@@ -23,15 +23,18 @@
 //!     }
 //!     device.tick(now);
 //!     while let Some(response) = device.next() { .. the same .. }
-//!     .. device.reader.submit_event(..), device.reader.handler_mut().outputs = .. ..
+//!     .. device.submit_event(.., now), device.handler_mut().outputs = .. ..
+//!     while let Some(expired) = device.expire_event(now, 30_000) { .. the event is told to nobody any more .. }
 //! }
 //! ```
 //!
 //! `DeviceStatus` is the handler for programs that set beforehand what is to be told.
 #![tactic(auto)]
 
+mod ages;
 mod deciding;
 mod device;
+mod events;
 pub mod laws;
 mod lent;
 mod order;
@@ -39,8 +42,10 @@ mod program;
 mod status;
 mod unsent;
 
+pub use ages::Ages;
 pub use deciding::Turn;
 pub use device::{Device, again, taken};
+pub use events::{Expired, OFFLINE_AFTER};
 pub use lent::Settled;
 pub use order::{Order, order_of, order_of_heard, ordered, ordered_heard};
 pub use osdp_frame::{Address, Burst, Receiver};

@@ -48,6 +48,20 @@ impl EventQueue {
         self.events.len()
     }
 
+    /// How many may wait.
+    pub fn capacity(&self) -> usize
+        ensures { result ≡ self.now.capacity }
+    {
+        self.events.capacity()
+    }
+
+    /// Whether the front was ever offered, in this session or in one before.
+    pub fn is_in_doubt(&self) -> bool
+        ensures { result ≡ self.now.ever_offered }
+    {
+        self.ever_offered
+    }
+
     /// Puts an event after the others. A full queue gives it back, and nothing changes.
     pub fn submit(&mut self, event: Event) -> Result<(), Event>
         ensures ok { OnOk result (self.new ≡ queued event self.old) }

@@ -125,6 +125,21 @@ impl<H: Handler> Reader<H> {
         self.queue.len()
     }
 
+    /// How many events may wait.
+    pub fn capacity(&self) -> usize
+        ensures { result ≡ self.now.queue.capacity }
+    {
+        self.queue.capacity()
+    }
+
+    /// Whether the oldest event was ever offered, in this session or in one before: its answer may be lost, so the panel may have it or
+    /// not.
+    pub fn is_in_doubt(&self) -> bool
+        ensures { result ≡ self.now.queue.ever_offered }
+    {
+        self.queue.is_in_doubt()
+    }
+
     /// The stored reply as it was sent; empty where there is none.
     pub fn stored(&self) -> &[u8]
         ensures { IsSpelled self.now.stored result.now }

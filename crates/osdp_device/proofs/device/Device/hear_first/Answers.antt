@@ -1,4 +1,5 @@
-use Rattle.std.proofs.Common.{◌≡◌, refl, sym, ap, Some, ◌∙◌}
+use Rattle.osdp_frame.specs.Receiving.{Received}
+use Rattle.std.proofs.Common.{ℕ, ◌≡◌, refl, sym, ap, Some, ◌∙◌}
 use Rattle.osdp_frame.specs.Held.{Held, after_advance, decided}
 use Rattle.osdp_frame.specs.Reading.{PacketItem}
 use Rattle.osdp_frame.specs.Shown.{item_of}
@@ -18,4 +19,6 @@ returns g c =
       reader = ap (λ t. t.reader) (sym told);
       line =
           c.advance.ensures ∙ ap (λ (h : Held). record c.args.self.now.line { held = h }) (ap (λ t. t.held) (sym told));
+      ages = c.hear-2.ensures ∙ ap (λ (n : ℕ). record c.args.self.now.ages { last_packet = Some n })
+          (c.greatest.ensures.greatest ∙ ap (λ (l : Received). l.greatest) c.advance.ensures);
     }

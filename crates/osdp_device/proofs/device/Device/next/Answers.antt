@@ -15,10 +15,13 @@ returns g c =
     (after_advance c.pass_over.new.self.line.held) (PacketItem c.in-Some-Packet.packet) (Some (said_in c.answer-response.result)) here
     refl c.answer-response.ensures.said c.answer-response.ensures.reader refl in
     let whole = sym told ∙ c.pass_over.ensures.told in
+    let moment : c.greatest.result ≡ c.args.self.now.line.greatest =
+    c.greatest.ensures.greatest ∙ ap (λ (l : Received). l.greatest) c.advance.ensures ∙ ap (λ (l : Received). l.greatest) c.pass_over.ensures.line in
     record {
       said = ap (λ t. t.said) whole;
       reader = ap (λ t. t.reader) whole;
       line =
           c.advance.ensures ∙ ap (λ (l : Received). record l { held = after_advance c.pass_over.new.self.line.held }) c.pass_over.ensures.line
           ∙ ap (λ (h : Held). record c.args.self.now.line { held = h }) (ap (λ t. t.held) whole);
+      ages = c.hear.ensures ∙ (λ i. record (c.pass_over.ensures.ages i) { last_packet = Some (moment i) });
     }

@@ -12,6 +12,7 @@ invariant-items g l = record {
   passed : passed l.self.reader l.self.line.held ≡ passed l.initial.self.reader l.initial.self.line.held;
   reader : l.self.reader ≡ l.initial.self.reader;
   line : l.self.line ≡ record l.initial.self.line { held = l.self.line.held };
+  ages : l.self.ages ≡ l.initial.self.ages;
 }
 
 abbrev pub decreases-items : goal.decreases-items

@@ -1,6 +1,6 @@
-use Rattle.std.proofs.Common.{max, refl, sym, subst, ap, ◌∙◌}
+use Rattle.std.proofs.Common.{◌≡◌, max, Some, refl, sym, subst, ap, ◌∙◌}
 use Rattle.osdp_frame.specs.Held.{Held}
-use Rattle.osdp_frame.specs.Receiving.{IsReceived, Received, seen}
+use Rattle.osdp_frame.specs.Receiving.{IsReceived, Received, after_take, seen}
 use Rattle.osdp_device.specs.Deciding.{Turned, turned}
 use Rattle.osdp_device.proofs.Whole.{WholeTaken, whole_taken}
 use Rattle.osdp_device.proofs.lent.Device+ProgramAnswers.step_into.Goals as goal
@@ -24,3 +24,20 @@ returns-then-answer_whole-clause-line c =
     ∙ ap (λ (h : Held). record { gap = l.gap; held = h; last = moment; greatest = moment })
     (all.held ∙ sym (ap (λ (t : Turned). t.held) (c.if-answer_whole.ensures.turned refl)))
     ∙ sym (ap (λ (x : Received). record x { held = (turned c.args.self.now.reader x.held).held }) all.line)
+
+pub returns-then-answer_whole-clause-ages : goal.returns-then-answer_whole-clause-ages
+returns-then-answer_whole-clause-ages c =
+    let moment : c.greatest.result ≡ (after_take c.args.bytes.now c.args.now c.args.self.now.line).greatest =
+    c.greatest.ensures.greatest ∙ ap (λ (l : Received). l.greatest) (c.see.ensures.line ∙ ap (seen c.args.now) c.answer_whole.ensures.line)
+    ∙ sym (ap (λ (l : Received). l.greatest) (whole c).line) in
+    c.hear.ensures ∙ (λ i. record (c.answer_whole.ensures.ages i) { last_packet = Some (moment i) })
+
+pub returns-then-answer_whole-clause-pending : goal.returns-then-answer_whole-clause-pending
+returns-then-answer_whole-clause-pending c =
+    sym (ap (λ (t : Turned). t.pending) (c.if-answer_whole.ensures.turned refl))
+    ∙ sym (ap (λ (x : Received). (turned c.args.self.now.reader x.held).pending) (whole c).line)
+
+pub returns-then-answer_whole-clause-said : goal.returns-then-answer_whole-clause-said
+returns-then-answer_whole-clause-said c =
+    sym (ap (λ (t : Turned). t.said) (c.if-answer_whole.ensures.turned refl))
+    ∙ sym (ap (λ (x : Received). (turned c.args.self.now.reader x.held).said) (whole c).line)
