@@ -13,6 +13,7 @@ use Rattle.osdp_frame.specs.Receiving.{after_silence, after_take, after_tick}
 use Rattle.osdp_link_laws.specs.Headline.{EachIsOnce, IsBeginning, IsWithout}
 use Rattle.osdp_link_laws.specs.Link as link
 use Rattle.osdp_link_laws.specs.Link.{Account, Link, Move}
+use Rattle.osdp_link_laws.specs.Withdrawn.{OfferAmong}
 use Rattle.osdp_link_laws.specs.Sessions as sessions
 use Rattle.osdp_link_laws.specs.Sessions.{AreInARow, HaveLeft, IsAmong, LastsOrLeaves, Leaves, all_submitted, all_taken, ended_commands, queued, submitted, unsettled_in, withdrawn_in}
 use Rattle.osdp_link_laws.proofs.Lines.{each_append, each_map, each_of}
@@ -261,6 +262,8 @@ module _ {H : Type 0} (answer_of : H → Command → Answer) (after : H → Comm
         events = subst (λ (p : List Event × Account × List Account). (gone : List Event) × HaveLeft p.0 p.2 gone
             × IsWithout (withdrawn_in (p.1 ∷ p.2)) p.0 (gone ++ p.1.stayed))
             (λ i. (events i, s.account i, s.earlier i)) rows.events;
+        withdrawn = subst (λ (p : List Event × Account × List Account). (others : List Event)
+            × IsWithout (withdrawn_in (p.1 ∷ p.2)) p.0 others × OfferAmong others (p.1 ∷ p.2)) (λ i. (events i, s.account i, s.earlier i)) rows.withdrawn;
         taken = subst (λ (p : List Command × Account × List Account). (left_out : List Command) × (others : List Command)
             × IsAmong left_out (unsettled_in (p.1 ∷ p.2))
             × IsWithout left_out p.0 others

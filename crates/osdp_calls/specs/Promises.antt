@@ -9,6 +9,7 @@ use Rattle.osdp_bus.specs.declared.device.Device.{Device}
 use Rattle.osdp_link_laws.specs.Headline.{EachIsOnce, IsBeginning, IsWithout}
 use Rattle.osdp_link_laws.specs.Link.{Link}
 use Rattle.osdp_link_laws.specs.Sessions.{AreInARow, HaveLeft, IsAmong, LastsOrLeaves, all_taken, ended_commands, unsettled_in, withdrawn_in}
+use Rattle.osdp_link_laws.specs.Withdrawn.{OfferAmong}
 use Rattle.osdp_reader.specs.declared.handler.Answer.{Answer}
 use Rattle.osdp_shared_line.specs.Line.{site_at}
 use Rattle.osdp_calls.specs.Accepted.{all_accepted, all_queued}
@@ -39,7 +40,7 @@ module _ {H : Type 0} where
   -- Within each of its sessions commands are taken once and in order, settled with the answers that the device gave, and events are reported
   -- once and in order. What a session leaves the next one begins with. Each of the commands has one place: with a session in which it has ended, or
   -- after all of these among the commands of the last one; and each event: it was withdrawn, or it is with a session in which it has left the queue,
-  -- or among the events of the last one. Over all sessions no command is taken twice: those taken are a beginning of all of these, with some left out that ended without
+  -- or among the events of the last one. No session offers an event that is withdrawn, in it or in another one. Over all sessions no command is taken twice: those taken are a beginning of all of these, with some left out that ended without
   -- being settled. While the last session lasts it has told no command unsettled, and none is forgotten or removed; where it has ended it leaves
   -- what the next one begins with.
   pub record HoldsPromises (accepted : List Command) (queued : List Event) (entry : Option Device) (t : Station H) : Type 0 where
@@ -47,6 +48,7 @@ module _ {H : Type 0} where
     pub row : AreInARow t.account t.earlier
     pub commands : accepted ≡ ended_commands t.earlier ++ t.account.issued
     pub events : (gone : List Event) × HaveLeft queued t.earlier gone × IsWithout (withdrawn_in (t.account ∷ t.earlier)) queued (gone ++ t.account.stayed)
+    pub withdrawn : (others : List Event) × IsWithout (withdrawn_in (t.account ∷ t.earlier)) queued others × OfferAmong others (t.account ∷ t.earlier)
     pub taken : (left_out : List Command) × (others : List Command)
         × IsAmong left_out (unsettled_in (t.account ∷ t.earlier))
         × IsWithout left_out accepted others

@@ -11,7 +11,7 @@ use Rattle.osdp_reader.specs.declared.handler.Answer.{Answer}
 use Rattle.osdp_shared_line.specs.Line.{changed, site_at}
 use Rattle.osdp_shared_line.proofs.Sites.{at_changed, at_other, some_same}
 use Rattle.osdp_calls.specs.Accepted.{all_accepted, all_queued}
-use Rattle.osdp_calls.specs.Calls.{Call, NewDevice, NewPanel, Next, OfPanel, Pending, SetBusy, SetHandler, Silence, Step, SubmitEvent, Take, TickDevice, after_call, after_calls}
+use Rattle.osdp_calls.specs.Calls.{Call, NewDevice, NewPanel, Next, OfPanel, Pending, SetBusy, SetHandler, Silence, Step, SubmitEvent, Take, TickDevice, after_call, after_calls, WithdrawEvent}
 use Rattle.osdp_calls.specs.Ends.{GoByTheirOwn, Held, KeepsPanel, device_after, device_after_all, held_by, is_of_device, panel_calls}
 use Rattle.osdp_calls.specs.Lines.{InUse}
 use Rattle.osdp_calls.specs.Promises.{CallsHoldOnce, HoldsPromises}
@@ -77,6 +77,7 @@ module _ {H : Type 0} where
       bus_is (SubmitEvent i event) places l = keeps_bus (SubmitEvent i event) places l tt
       bus_is (SetBusy i busy) places l = keeps_bus (SetBusy i busy) places l tt
       bus_is (SetHandler i handler) places l = keeps_bus (SetHandler i handler) places l tt
+      bus_is (WithdrawEvent i) places l = keeps_bus (WithdrawEvent i) places l tt
       bus_is (Take i bytes now) places l = keeps_bus (Take i bytes now) places l tt
       bus_is (TickDevice i now) places l = keeps_bus (TickDevice i now) places l tt
       bus_is (Silence i now) places l = keeps_bus (Silence i now) places l tt
@@ -98,6 +99,7 @@ module _ {H : Type 0} where
   other_device k j (SubmitEvent i event) differ is = is_other i k j is differ
   other_device k j (SetBusy i busy) differ is = is_other i k j is differ
   other_device k j (SetHandler i handler) differ is = is_other i k j is differ
+  other_device k j (WithdrawEvent i) differ is = is_other i k j is differ
   other_device k j (Take i bytes now) differ is = is_other i k j is differ
   other_device k j (TickDevice i now) differ is = is_other i k j is differ
   other_device k j (Silence i now) differ is = is_other i k j is differ
@@ -112,6 +114,7 @@ module _ {H : Type 0} where
   no_device k (SubmitEvent i event) is = absurd is
   no_device k (SetBusy i busy) is = absurd is
   no_device k (SetHandler i handler) is = absurd is
+  no_device k (WithdrawEvent i) is = absurd is
   no_device k (Take i bytes now) is = absurd is
   no_device k (TickDevice i now) is = absurd is
   no_device k (Silence i now) is = absurd is
@@ -125,6 +128,7 @@ module _ {H : Type 0} where
   no_panel k (SubmitEvent i event) b is = refl
   no_panel k (SetBusy i busy) b is = refl
   no_panel k (SetHandler i handler) b is = refl
+  no_panel k (WithdrawEvent i) b is = refl
   no_panel k (Take i bytes now) b is = refl
   no_panel k (TickDevice i now) b is = refl
   no_panel k (Silence i now) b is = refl

@@ -23,7 +23,7 @@ use Rattle.osdp_sim.specs.declared.step.SimStep.TheVariants.{Busy, Issue, Queue,
 use Rattle.osdp_sim_bus.specs.Runs.{FitAlong, is_well}
 use Rattle.osdp_sim_bus.specs.State.{Given, LineState, ReaderSite, set_up}
 use Rattle.osdp_sim_bus.specs.Steps.{StepFits, after_step, fault_of, is_there}
-use Rattle.osdp_calls.specs.Calls.{Call, NewDevice, NewPanel, Next, OfPanel, Pending, SetBusy, SetHandler, Silence, Step, SubmitEvent, Take, TickDevice, after_call, after_calls, read_up_to}
+use Rattle.osdp_calls.specs.Calls.{Call, NewDevice, NewPanel, Next, OfPanel, Pending, SetBusy, SetHandler, Silence, Step, SubmitEvent, Take, TickDevice, after_call, after_calls, read_up_to, WithdrawEvent}
 use Rattle.osdp_calls.specs.Ends.{GoByTheirOwn, Held, device_after, held_by}
 use Rattle.osdp_calls.specs.Lines.{InUse, Station}
 use Rattle.osdp_calls.specs.Premises.{InRange, NextInRange}
@@ -82,6 +82,7 @@ module _ {H : Type 0} (answer_of : H → Command → Answer) (after : H → Comm
   device_range k (SubmitEvent i event) t d l own at is fits = tt
   device_range k (SetBusy i busy) t d l own at is fits = tt
   device_range k (SetHandler i handler) t d l own at is fits = tt
+  device_range k (WithdrawEvent i) t d l own at is fits = tt
   device_range k (Take i bytes now) t d l own at is fits = tt
   device_range k (TickDevice i now) t d l own at is fits = tt
   device_range k (Silence i now) t d l own at is fits = tt

@@ -13,7 +13,7 @@ use Rattle.osdp_reader.specs.State.{ReaderState}
 use Rattle.osdp_reader.specs.declared.handler.Answer.{Answer}
 use Rattle.osdp_shared_line.specs.Line.{site_at}
 use Rattle.osdp_shared_line.proofs.Sites.{at_changed, at_other, some_same}
-use Rattle.osdp_calls.specs.Calls.{Call, NewDevice, NewPanel, Next, OfPanel, Pending, SetBusy, SetHandler, Silence, Step, SubmitEvent, Take, TickDevice, after_call, after_calls, after_next, answers, by_device, changes_at, first_answered, last_of, nexts, on_station, queues, read_by, read_up_to}
+use Rattle.osdp_calls.specs.Calls.{Call, NewDevice, NewPanel, Next, OfPanel, Pending, SetBusy, SetHandler, Silence, Step, SubmitEvent, Take, TickDevice, after_call, after_calls, after_next, answers, by_device, changes_at, first_answered, last_of, nexts, on_station, queues, read_by, read_up_to, WithdrawEvent}
 use Rattle.osdp_calls.specs.Ends.{GoByTheirOwn, Held, device_after, held_by}
 use Rattle.osdp_calls.specs.Lines.{Burst, InUse, Opening, Station, is_before, is_past_for_device, is_past_for_panel}
 use Rattle.osdp_calls.specs.Premises.{AreNotPast, AreSaid, InOrder, NextInOrder, QuietOpening}
@@ -257,6 +257,8 @@ module _ {H : Type 0} where
         (on_one k i (λ (x : Station H). queues (length x.reader.queue.events == x.reader.queue.capacity) event x) l t at (queue_begun full event t) (queue_place full event t))
     one_spoke k i (SetBusy j busy) l t Good own good at =
         subst (λ (m : ℕ). SpokeBy k i [] l (after_call answer_of after (SetBusy m busy) [] l)) (sym (same_number j k own)) (on_one k i _ l t at refl refl)
+    one_spoke k i (WithdrawEvent j) l t Good own good at =
+        subst (λ (m : ℕ). SpokeBy k i [] l (after_call answer_of after (WithdrawEvent m) [] l)) (sym (same_number j k own)) (on_one k i _ l t at refl refl)
     one_spoke k i (SetHandler j handler) l t Good own good at =
         subst (λ (m : ℕ). SpokeBy k i [] l (after_call answer_of after (SetHandler m handler) [] l)) (sym (same_number j k own)) (on_one k i _ l t at refl refl)
     one_spoke k i (Take j bytes now) l t Good own good at =
@@ -282,6 +284,7 @@ module _ {H : Type 0} where
     one_ordered packets k i (NewPanel config addresses) l t own good at source since = absurd good
     one_ordered packets k i (SubmitEvent j event) l t own good at source since = nothing_read (SubmitEvent j event) l (tt, tt)
     one_ordered packets k i (SetBusy j busy) l t own good at source since = nothing_read (SetBusy j busy) l (tt, tt)
+    one_ordered packets k i (WithdrawEvent j) l t own good at source since = nothing_read (WithdrawEvent j) l (tt, tt)
     one_ordered packets k i (SetHandler j handler) l t own good at source since = nothing_read (SetHandler j handler) l (tt, tt)
     one_ordered packets k i (Take j bytes now) l t own good at source since = nothing_read (Take j bytes now) l (tt, tt)
     one_ordered packets k i (TickDevice j now) l t own good at source since = nothing_read (TickDevice j now) l (tt, tt)

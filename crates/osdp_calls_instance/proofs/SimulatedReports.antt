@@ -19,7 +19,7 @@ use Rattle.osdp_reader.specs.declared.handler.Answer.{Answer}
 use Rattle.osdp_reader.specs.declared.kind.Kind.{Kind}
 use Rattle.osdp_reader.specs.declared.kind.Kind.TheVariants as kind
 use Rattle.osdp_shared_line.specs.Line.{site_at}
-use Rattle.osdp_calls.specs.Calls.{Call, NewDevice, NewPanel, Next, OfPanel, Pending, SetBusy, SetHandler, Silence, Step, SubmitEvent, Take, TickDevice, after_call, after_calls, after_next, after_panel, answers, begins_session, change_at, changes_at, first_answered, hears_of, nexts, queues, read_up_to}
+use Rattle.osdp_calls.specs.Calls.{Call, NewDevice, NewPanel, Next, OfPanel, Pending, SetBusy, SetHandler, Silence, Step, SubmitEvent, Take, TickDevice, after_call, after_calls, after_next, after_panel, answers, begins_session, change_at, changes_at, first_answered, hears_of, nexts, queues, read_up_to, WithdrawEvent}
 use Rattle.osdp_calls.specs.Ends.{KeepsPanel, one_panel_call, panel_calls}
 use Rattle.osdp_calls.specs.Lines.{InUse, Station}
 use Rattle.osdp_device.specs.Telling.{items_of}
@@ -146,6 +146,7 @@ module _ {H : Type 0} where
         keep_told k i (λ t. queues (length t.reader.queue.events == t.reader.queue.capacity) event t) y l.stations
         (λ t. queue_told (length t.reader.queue.events == t.reader.queue.capacity) event t) is
     step_told k (SetBusy i busy) places y l keeps is = keep_told k i _ y l.stations (λ t. refl) is
+    step_told k (WithdrawEvent i) places y l keeps is = keep_told k i _ y l.stations (λ t. refl) is
     step_told k (SetHandler i handler) places y l keeps is = keep_told k i _ y l.stations (λ t. refl) is
     step_told k (Take i bytes now) places y l keeps is = keep_told k i _ y l.stations (λ t. refl) is
     step_told k (TickDevice i now) places y l keeps is = keep_told k i _ y l.stations (λ t. refl) is

@@ -14,7 +14,7 @@ use Rattle.osdp_link_laws.proofs.Stages.{Each}
 use Rattle.osdp_reader.specs.State.{after_set_busy, after_set_handler}
 use Rattle.osdp_reader.specs.declared.handler.Answer.{Answer}
 use Rattle.osdp_shared_line.specs.Line.{site_at}
-use Rattle.osdp_calls.specs.Calls.{Call, NewDevice, NewPanel, Next, OfPanel, Pending, SetBusy, SetHandler, Silence, Step, SubmitEvent, Take, TickDevice, after_call, after_calls, answers, begins_session, change_at, first_answered, hears_of, made_anew, nexts, queues, read_up_to}
+use Rattle.osdp_calls.specs.Calls.{Call, NewDevice, NewPanel, Next, OfPanel, Pending, SetBusy, SetHandler, Silence, Step, SubmitEvent, Take, TickDevice, after_call, after_calls, answers, begins_session, change_at, first_answered, hears_of, made_anew, nexts, queues, read_up_to, WithdrawEvent, withdraws_event}
 use Rattle.osdp_calls.specs.Ends.{Held, KeepsPanel, device_after, held_by, is_of_device}
 use Rattle.osdp_calls.specs.Lines.{InUse, Station}
 use Rattle.osdp_calls.specs.Sayings.{SaysWhatGoesOut, acted_on}
@@ -96,6 +96,8 @@ module _ {H : Type 0} where
       step_takes k (SetBusy i busy) places d y l keeps is =
           change_one k i (λ t. record t { reader = after_set_busy busy t.reader }) (device_after answer_of after (SetBusy i busy)) (λ x. []) d y l.stations
           (λ t. refl) (λ t at. silent t _ refl) is
+      step_takes k (WithdrawEvent i) places d y l keeps is =
+          change_one k i withdraws_event (device_after answer_of after (WithdrawEvent i)) (λ x. []) d y l.stations (λ t. refl) (λ t at. silent t _ refl) is
       step_takes k (SetHandler i handler) places d y l keeps is =
           change_one k i (λ t. record t { reader = after_set_handler handler t.reader }) (device_after answer_of after (SetHandler i handler)) (λ x. []) d y
           l.stations (λ t. refl) (λ t at. silent t _ refl) is

@@ -107,12 +107,17 @@ none_withdrawn : (earlier : List Account) → AreUndisturbed earlier → withdra
 none_withdrawn [] so = refl
 none_withdrawn (t ∷ earlier) (so, rest) = ap (λ es. es ++ t.withdrawn) (none_withdrawn earlier rest) ∙ so.withdrawn
 
+-- so all events are those that have left and those queued
+pub queued_so : (all gone : List Event) (t : Account) (earlier : List Account) → AreUndisturbed (t ∷ earlier)
+    → IsWithout (withdrawn_in (t ∷ earlier)) all (gone ++ t.stayed) → all ≡ gone ++ t.queued
+queued_so all gone t earlier so stays =
+    sym (without_nothing all (gone ++ t.stayed) (subst (λ out. IsWithout out all (gone ++ t.stayed)) (none_withdrawn (t ∷ earlier) so) stays))
+    ∙ ap (λ es. gone ++ es) so.0.stayed
+
 stands_so : (all : List Event) (t : Account) (earlier : List Account) (before until : List Event) → IsUndisturbed t → AreUndisturbed earlier
     → IsBeginning until all → IsWithout (withdrawn_in (t ∷ earlier)) until (before ++ t.stayed) → IsBeginning (before ++ t.queued) all
 stands_so all t earlier before until so rest begins stays =
-    subst (λ es. IsBeginning es all)
-    (sym (without_nothing until (before ++ t.stayed) (subst (λ out. IsWithout out until (before ++ t.stayed)) (none_withdrawn (t ∷ earlier) (so, rest)) stays))
-    ∙ ap (λ es. before ++ es) so.stayed) begins
+    subst (λ es. IsBeginning es all) (queued_so until before t earlier (so, rest) stays) begins
 
 have_left_so : (all : List Event) (earlier : List Account) (gone : List Event) → AreUndisturbed earlier → HaveLeft all earlier gone
     → HaveLeftUndisturbed all earlier gone

@@ -3,6 +3,7 @@
 #![tactic(auto)]
 
 ghost use Rattle.osdp_reader_laws.specs.Laws.{ActsAtZero, ActsOnce, AnswersByWhatCame, AnswersInOrder, AnswersPlainly, AnswersTaken, AnswersTheSameAgain, AnswersTheSameStill, AnswersWhereverItIs, ChangesAnswersAlone, ForgetsWhereItMoves, HasOneSpelling, HasRoom, HearsItsAddress, IsKept, KeepsReply, KeepsWhatItTook, LosesNoEvent, RefusesBlocks, RefusesNumbers, RepeatsItsReply, RepliesToItsCommand, SaysBusy, SendsWhatItSays, StaysADevice, TakesNext, TellsItsOffer};
+ghost use Rattle.osdp_reader_laws.specs.Withdrawing.{DoubtsWhatItTold, KnowsItsOffer, NeverTellsWhatIsTakenBack, TellsNoMoreWhatLapsed, ToldWhatIsInDoubt, WithdrawsOne};
 ghost use Rattle.osdp_reader_laws.specs.Steps.{AnswersPolls, AnswersWhatFits, BeginsAnew, ChangesByActing, KeepsItsSettings, LetsItsOfferGo, MovesByComsetAlone, OffersToPollsAlone, RefusesUnread, SaysWhatFits, TellsItsCommand, TellsItsComset};
 
 use osdp_reader::Handler;
@@ -92,6 +93,7 @@ pub fn sends_what_it_says<H: Handler>()
 pub fn reader_stays_well<H: Handler>()
     ensures reply { IsKept H.answer_of H.after KeepsReply }
     ensures offer { IsKept H.answer_of H.after TellsItsOffer }
+    ensures ever { IsKept H.answer_of H.after KnowsItsOffer }
     ensures room { IsKept H.answer_of H.after HasRoom }
     ensures address { StaysADevice H.answer_of H.after }
 {}
@@ -127,4 +129,18 @@ pub fn moves_by_comset_alone<H: Handler>()
     ensures alone { MovesByComsetAlone H.answer_of H.after }
     ensures forgets { ForgetsWhereItMoves H.answer_of H.after }
     ensures told { TellsItsComset H.answer_of H.after }
+{}
+
+/// The event that a device takes back leaves alone, and no answer has told it or will. So a device may do with it as if it had not been there.
+pub fn takes_back_what_was_never_told<H: Handler>()
+    ensures one { WithdrawsOne H }
+    ensures untold { NeverTellsWhatIsTakenBack H.answer_of H.after }
+{}
+
+/// The event in doubt is the one that waits and was told: the panel may have it or not. Once a device lets it go, no answer but a repeat tells
+/// it.
+pub fn lets_go_what_is_in_doubt<H: Handler>()
+    ensures waits { DoubtsWhatItTold H.answer_of H.after }
+    ensures told { ToldWhatIsInDoubt H.answer_of H.after }
+    ensures gone { TellsNoMoreWhatLapsed H.answer_of H.after }
 {}

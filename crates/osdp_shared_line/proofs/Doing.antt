@@ -7,10 +7,10 @@ use Rattle.osdp_controller.specs.Machine as controllers
 use Rattle.osdp_controller.specs.declared.fault.ControllerFault.{ControllerFault}
 use Rattle.osdp_reader.specs.declared.handler.Answer.{Answer}
 use Rattle.osdp_link_laws.specs.Effects as effects
-use Rattle.osdp_link_laws.specs.Effects.{AnswersBy, HasAddress, HasHandler, HasNewController, HasNewReader, HasTakenBack}
+use Rattle.osdp_link_laws.specs.Effects.{AnswersBy, HasAddress, HasHandler, HasNewController, HasNewReader, HasTakenBack, HasWithdrawn}
 use Rattle.osdp_link_laws.specs.Link as link
 use Rattle.osdp_link_laws.specs.Link.{Link, Move, after_move}
-use Rattle.osdp_shared_line.specs.Effects.{ChangesNoOther, EachDoesAsOnALink, EachRetargets, EachWithdraws, IsChanged}
+use Rattle.osdp_shared_line.specs.Effects.{ChangesNoOther, EachDoesAsOnALink, EachRetargets, EachWithdraws, EachWithdrawsEvents, IsChanged}
 use Rattle.osdp_shared_line.specs.Line as line
 use Rattle.osdp_shared_line.specs.Line.{LoseToPanel, LoseToReader, Net, NetMove, Queue, Reopen, RestartPanel, RestartReader, Retarget, SetBusy, SetHandler, Site, Submit, Tick, ToPanel, ToReader, Withdraw, WithdrawEvent, after_net, calls, is_comset_refused, is_retarget_accepted, is_retarget_refused, site_at}
 use Rattle.osdp_shared_line.specs.Views.{OpensQuietly, move_of, one_if, view}
@@ -53,6 +53,14 @@ module _ {H : Type 0} (answer_of : H → Command → Answer) (after : H → Comm
     none = λ n k s t h why. one_after n (Withdraw k) k s t link.Withdraw h tt refl ∙ withdraws.none (view k s n) why;
   }
 
+  each_withdraws_events : effects.WithdrawsEvents answer_of after → EachWithdrawsEvents answer_of after
+  each_withdraws_events withdraws = record {
+    first = λ n k front event rest s t h is few.
+        subst (HasWithdrawn front event rest (view k s n)) (sym (one_after n (WithdrawEvent k) k s t link.WithdrawEvent h tt refl))
+        (withdraws.first (view k s n) front event rest is few);
+    none = λ n k s t h few. one_after n (WithdrawEvent k) k s t link.WithdrawEvent h tt refl ∙ withdraws.none (view k s n) few;
+  }
+
   each_retargets : effects.Retargets answer_of after → EachRetargets answer_of after
   each_retargets retargets = record {
     set = λ n k address s t h accepted.
@@ -79,6 +87,7 @@ module _ {H : Type 0} (answer_of : H → Command → Answer) (after : H → Comm
         subst (λ (v : Link H). HasHandler handler (view k s n) v × AnswersBy answer_of after handler s.reader v.reader)
         (sym (one_after n (SetHandler k handler) k s t (link.SetHandler handler) h tt refl)) (does.handler (view k s n) handler);
     withdraws = each_withdraws does.withdraw;
+    events = each_withdraws_events does.event;
     retargets = each_retargets does.retarget;
     reader = λ n k address handler room s t h.
         subst (HasNewReader answer_of after address handler room (view k s n))

@@ -14,6 +14,7 @@ use Rattle.osdp_link_laws.specs.Peers.{ReadsWhatIsAsked}
 use Rattle.osdp_link_laws.specs.Refusals.{IsNoRefusal, RefusesNoNumber, told_by}
 use Rattle.osdp_link_laws.specs.Sessions.{AreInARow, HaveLeft, IsAmong, LastsOrLeaves, SessionsInARow, all_queued, all_submitted, all_taken, ended_commands, unsettled_in, withdrawn_in}
 use Rattle.osdp_link_laws.proofs.Lines.{both}
+use Rattle.osdp_link_laws.specs.Withdrawn.{NeverOffersWhatIsWithdrawn, OfferAmong}
 use Rattle.osdp_shared_line.specs.Addresses.{NetMoveFits, NetMovesFit, in_front}
 use Rattle.osdp_shared_line.specs.Line.{LoseToPanel, LoseToReader, Net, NetMove, Queue, Reopen, RestartPanel, RestartReader, Retarget, SetBusy, SetHandler, Site, Submit, Tick, ToPanel, ToReader, Withdraw, WithdrawEvent, address_of, after_net, is_comset_refused, is_retarget_refused, run, site_at}
 use Rattle.osdp_shared_line.specs.Runs.{EachHasSessionsInARow, EachHoldsOnce, EachIsALink, EachRefusesNoNumber, IsItsLink, moves_at, moves_of}
@@ -168,8 +169,8 @@ module _ {H : Type 0} (answer_of : H → Command → Answer) (after : H → Comm
         subst (λ (v : Link H). IfSome (told_by move v) IsNoRefusal) (sym same)
         (none (view k s n) (moves_of answer_of after k moves n) move (up.begins k s is) h.fits (sym (ap (λ (v : Link H). v.account.restarts) same) ∙ never))
 
-    pub each_stays_in_a_row : SessionsInARow answer_of after → EachHasSessionsInARow answer_of after
-    each_stays_in_a_row each n moves up fits k s last is there =
+    pub each_stays_in_a_row : SessionsInARow answer_of after → NeverOffersWhatIsWithdrawn answer_of after → EachHasSessionsInARow answer_of after
+    each_stays_in_a_row each never n moves up fits k s last is there =
         let h = links n moves up fits k s is in
         let ms = moves_of answer_of after k moves n in
         let l = view k s n in
@@ -183,6 +184,9 @@ module _ {H : Type 0} (answer_of : H → Command → Answer) (after : H → Comm
           events = subst (λ (v : Link H). let all = s.reader.queue.events ++ all_queued answer_of after ms l in
               (gone : List Event) × HaveLeft all v.earlier gone
               × IsWithout (withdrawn_in (v.account ∷ v.earlier)) all (gone ++ v.account.stayed)) same (each.events l ms begins h.fits);
+          withdrawn = subst (λ (v : Link H). (others : List Event)
+              × IsWithout (withdrawn_in (v.account ∷ v.earlier)) (s.reader.queue.events ++ all_queued answer_of after ms l) others
+              × OfferAmong others (v.account ∷ v.earlier)) same (never l ms begins h.fits);
           taken = subst (λ (v : Link H). (left_out : List Command) × (others : List Command)
               × IsAmong left_out (unsettled_in (v.account ∷ v.earlier))
               × IsWithout left_out (s.controller.waiting ++ all_submitted answer_of after ms l) others

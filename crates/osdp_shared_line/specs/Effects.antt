@@ -1,10 +1,11 @@
 -- What each move of a program or of a power failure does to the site that it speaks of, and that no other site changes.
-use Rattle.std.specs.Prelude.{◌≡◌, ◌≢◌, ◌⊎◌, ℕ, true, false, List, [], ◌∷◌, Some, None}
+use Rattle.std.specs.Prelude.{◌≡◌, ◌≢◌, ◌≤◌, ◌⊎◌, ℕ, true, false, if◌then◌else◌, List, [], ◌∷◌, ◌++◌, length, Some, None}
 use Rattle.osdp_msg.specs.declared.command.Command.{Command}
+use Rattle.osdp_msg.specs.declared.event.Event.{Event}
 use Rattle.osdp_controller.specs.declared.config.ControllerConfig.{ControllerConfig}
 use Rattle.osdp_controller.specs.declared.state.State.TheVariants.{Closed}
 use Rattle.osdp_reader.specs.declared.handler.Answer.{Answer}
-use Rattle.osdp_link_laws.specs.Effects.{AnswersBy, HasAddress, HasHandler, HasNewController, HasNewReader, HasTakenBack}
+use Rattle.osdp_link_laws.specs.Effects.{AnswersBy, HasAddress, HasHandler, HasNewController, HasNewReader, HasTakenBack, HasWithdrawn}
 use Rattle.osdp_shared_line.specs.Line.{LoseToReader, Net, NetMove, Queue, Reopen, RestartPanel, RestartReader, Retarget, SetBusy, SetHandler, Site, Submit, Withdraw, WithdrawEvent, after_net, is_retarget_accepted, site_at}
 use Rattle.osdp_shared_line.specs.Views.{HeardByOwn, view}
 
@@ -37,6 +38,14 @@ module _ {H : Type 0} where
       pub none : (n : Net H) (k : ℕ) (s t : Site H) → IsChanged n (Withdraw k) k s t
           → (s.controller.session.state ≢ Closed) ⊎ (s.controller.waiting ≡ []) → view k t (after_net answer_of after (Withdraw k) n) ≡ view k s n
 
+    pub record EachWithdrawsEvents : Type 0 where
+      pub first : (n : Net H) (k : ℕ) (front : List Event) (event : Event) (rest : List Event) (s t : Site H) → IsChanged n (WithdrawEvent k) k s t
+          → s.reader.queue.events ≡ front ++ event ∷ rest → length front ≡ (if s.reader.queue.ever_offered then 1 else 0)
+          → HasWithdrawn front event rest (view k s n) (view k t (after_net answer_of after (WithdrawEvent k) n))
+      pub none : (n : Net H) (k : ℕ) (s t : Site H) → IsChanged n (WithdrawEvent k) k s t
+          → length s.reader.queue.events ≤ (if s.reader.queue.ever_offered then 1 else 0)
+          → view k t (after_net answer_of after (WithdrawEvent k) n) ≡ view k s n
+
     -- where neither the bus nor the controller refuses it, and only there
     pub record EachRetargets : Type 0 where
       pub set : (n : Net H) (k address : ℕ) (s t : Site H) → IsChanged n (Retarget k address) k s t
@@ -51,6 +60,7 @@ module _ {H : Type 0} where
           → HasHandler handler (view k s n) (view k t (after_net answer_of after (SetHandler k handler) n))
           × AnswersBy answer_of after handler s.reader t.reader
       pub withdraws : EachWithdraws
+      pub events : EachWithdrawsEvents
       pub retargets : EachRetargets
       pub reader : (n : Net H) (k address : ℕ) (handler : H) (room : ℕ) (s t : Site H) → IsChanged n (RestartReader k address handler room) k s t
           → HasNewReader answer_of after address handler room (view k s n)

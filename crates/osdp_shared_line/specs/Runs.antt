@@ -7,6 +7,7 @@ use Rattle.osdp_link_laws.specs.Headline.{EachIsOnce, IsBeginning, IsWithout, Mo
 use Rattle.osdp_link_laws.specs.Link.{Move}
 use Rattle.osdp_link_laws.specs.Refusals.{IsNoRefusal, told_by}
 use Rattle.osdp_link_laws.specs.Sessions.{AreInARow, HaveLeft, IsAmong, LastsOrLeaves, all_queued, all_submitted, all_taken, ended_commands, unsettled_in, withdrawn_in}
+use Rattle.osdp_link_laws.specs.Withdrawn.{OfferAmong}
 use Rattle.osdp_shared_line.specs.Addresses.{IsSetUp, NetMovesFit}
 use Rattle.osdp_shared_line.specs.Line.{Net, NetMove, Site, after_net, run, site_at}
 use Rattle.osdp_shared_line.specs.Views.{IsMoved, move_of, view}
@@ -46,7 +47,8 @@ module _ {H : Type 0} (answer_of : H → Command → Answer) (after : H → Comm
       → (k : ℕ) (first last : Site H) → site_at k n.sites ≡ Some first → site_at k (run answer_of after moves n).sites ≡ Some last
       → last.account.restarts ≡ 0 → (move : Move H) → IfSome (told_by move (view k last (run answer_of after moves n))) IsNoRefusal
 
-  -- the sessions of each site are in a row; its commands and events have their places in them; and over all of them no command is taken
+  -- the sessions of each site are in a row; its commands and events have their places in them; no session offers an event that is withdrawn, in it
+  -- or in another one; and over all of them no command is taken
   -- twice: those taken are a beginning of those accepted, but for some of those that have ended without being settled
   pub record AreItsSessions (k : ℕ) (first last : Site H) (moves : List (NetMove H)) (n : Net H) : Type 0 where
     pub row : AreInARow last.account last.earlier
@@ -56,6 +58,8 @@ module _ {H : Type 0} (answer_of : H → Command → Answer) (after : H → Comm
     pub events : let all = first.reader.queue.events ++ all_queued answer_of after (moves_of k moves n) (view k first n) in
         (gone : List Event) × HaveLeft all last.earlier gone
         × IsWithout (withdrawn_in (last.account ∷ last.earlier)) all (gone ++ last.account.stayed)
+    pub withdrawn : let all = first.reader.queue.events ++ all_queued answer_of after (moves_of k moves n) (view k first n) in
+        (others : List Event) × IsWithout (withdrawn_in (last.account ∷ last.earlier)) all others × OfferAmong others (last.account ∷ last.earlier)
     pub taken : (left_out : List Command) × (others : List Command)
         × IsAmong left_out (unsettled_in (last.account ∷ last.earlier))
         × IsWithout left_out (first.controller.waiting ++ all_submitted answer_of after (moves_of k moves n) (view k first n)) others

@@ -18,7 +18,7 @@ use Rattle.osdp_link_laws.specs.Progress.{SetsNoAddress}
 use Rattle.osdp_link_laws.specs.Addresses.{StayWhereTheyAre}
 use Rattle.osdp_link_laws.specs.Sessions.{HaveLeft, all_queued, all_submitted, ended_commands}
 use Rattle.osdp_link_laws.proofs.Lines.{each_all, each_append, each_front, each_of}
-use Rattle.osdp_link_laws.proofs.Ordinary.{moves_so}
+use Rattle.osdp_link_laws.proofs.Ordinary.{moves_so, queued_so}
 use Rattle.osdp_link_laws.proofs.OrdinaryRuns.{begins_so, set_no_other, steady_ordinary}
 use Rattle.osdp_link_laws.proofs.Stages.{Each}
 use Rattle.osdp_link_laws.specs.Ends.{count}
@@ -146,13 +146,14 @@ module _ {H : Type 0} (answer_of : H → Command → Answer) (after : H → Comm
       let tells = carried.tells in
       let begun = begins config handler device in
       let events = given.sessions.events l ms begun follows.moves in
+      let so = moves_so answer_of after ms l (steady_ordinary ms follows.ordinary) (begins_so l begun) in
       let gone : events.0 ≡ [] = subst (λ e. HaveLeft (all_queued answer_of after ms l) e events.0) none events.1 in
       record {
         settled = ap length (tells.settled ∙ ap (λ e. all_in (λ t. t.settled) (later.account ∷ e)) none);
         reported = ap length (tells.reported ∙ ap (λ e. all_in (λ t. t.reported) (later.account ∷ e)) none);
         issued = carried.issued ∙ given.sessions.commands l ms begun follows.moves ∙ ap (λ e. ended_commands e ++ later.account.issued) none;
-        queued = ap length (carried.queued ∙ events.2 ∙ ap (λ e. e ++ later.account.queued) gone);
-        kept = (moves_so answer_of after ms l (steady_ordinary ms follows.ordinary) (begins_so l begun)).0.kept;
+        queued = ap length (carried.queued ∙ queued_so (all_queued answer_of after ms l) events.0 later.account later.earlier so events.2 ∙ ap (λ e. e ++ later.account.queued) gone);
+        kept = so.0.kept;
       }
 
   -- ---- steps, and more of them, as moves of the link
