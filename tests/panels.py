@@ -58,6 +58,22 @@ def stolen(c, _):
         asks(device.until(panel, lambda: any("OUT 0:2:1" in each and not each.startswith("ordered") for each in panel.lines), 20), "stolen: an order has no end")
 
 
+def stolen_from_rust(_, rust):
+    """The same of the panel in Rust: it polls on."""
+    with Line([([f"{rust}/door_panel"], []), ([], [])]) as line:
+        panel = Script(f"{rust}/door_panel", line.panel_end.path, 9600)
+        line.scripts.append(panel)
+        device = Device(line.panel_end, {})
+        is_open = lambda: any(each.startswith("Opened") for each in panel.lines)
+        asks(device.until(panel, is_open), "stolen from Rust: the session doesn't open")
+        thief = subprocess.Popen(["cat", line.panel_end.path], stdout=subprocess.DEVNULL, stderr=subprocess.DEVNULL)
+        answered(device, panel, 2)
+        thief.kill()
+        thief.wait()
+        device.asked.clear()
+        asks(device.until(panel, lambda: len(device.asked) > 5, 20), "stolen from Rust: the panel polls no more")
+
+
 def taken_port(c, rust):
     """A second program is told whose port it is, in both languages and from each to the other. The lock goes with the program that has it."""
     for first in ([f"{c}/panel", "{}", 9600, 5], [f"{rust}/door_panel", "{}", 9600]):
@@ -411,7 +427,7 @@ def run(case, c, rust, more):
 
 
 def cases():
-    for name in ("stolen", "taken_port", "ends_of_orders", "many_stops", "sentences", "refused_rate", "swapped", "kept_before", "another_device"):
+    for name in ("stolen", "stolen_from_rust", "taken_port", "ends_of_orders", "many_stops", "sentences", "refused_rate", "swapped", "kept_before", "another_device"):
         yield name, ()
     for language in ("C", "Rust"):
         yield "small_panel", (language,)
