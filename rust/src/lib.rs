@@ -75,6 +75,7 @@ mod fields;
 #[cfg(feature = "heap")]
 mod heap;
 mod message;
+mod named;
 mod numbered;
 mod panel;
 pub mod sys;
@@ -83,9 +84,10 @@ mod time;
 pub use device::{Answer, Device, DeviceAnswer, DeviceConfig, Moved, Order, Said, Step};
 pub use error::Error;
 pub use fields::{
-    Buzzer, Bytes, Capabilities, Capability, Card, Led, LedState, NakReason, Output, PdId, Product,
-    Reply, Text,
+    Buzzer, Bytes, Capabilities, Capability, Card, Led, LedState, Nak, NakReason, Output, PdId,
+    Product, Reply, Text,
 };
 pub use message::{Command, RawReply, Unsent};
+pub use named::{card, color, function, led, output, reader, state, text, tone};
 pub use panel::{Check, Entry, LostCause, Panel, PanelConfig, Report};
 pub use time::Moment;
