@@ -81,8 +81,15 @@ extern "C" {
 
 /* ---- Statuses ---- */
 
+/* In C23 and C++17, where a program defines OSDP_CHECK_RESULTS before this page is read, the compiler warns of each call whose status isn't looked at. */
+#if defined OSDP_CHECK_RESULTS && ((defined __cplusplus && __cplusplus >= 201703L) || (defined __STDC_VERSION__ && __STDC_VERSION__ > 201710L))
+#define OSDP_CHECKED [[nodiscard]]
+#else
+#define OSDP_CHECKED
+#endif
+
 /* What became of a call. The two digits from 11 on are those of the machines' own refusals: 1 for M, 2 for B, 3 for C, 4 for N. */
-typedef enum osdp_status {
+typedef enum OSDP_CHECKED osdp_status {
     /* The call was done. */
     OSDP_OK = 0,
     /* The handle holds no machine. */
