@@ -215,6 +215,33 @@ def lost_burst(c, _, count, at):
         asks(line.run(holds, FOUND), f"one answer, {at} of {count}: {panel.lines[-12:]}")
 
 
+def one_is_dead(c, _):
+    """Of three readers, which have lost the answers to a COMSET of the rate, one has no power any more: the others are found, and their sessions stay while it is
+    looked for. When it has power again it is found too, at the place that it has kept."""
+    with tempfile.TemporaryDirectory() as folder, Line(all_words(c), 3) as line:
+        panel = line.panel("5,6,7", *FAST)
+        readers = [line.reader(at, 5 + at, options=["--keep", f"{folder}/{at}"]) for at in range(3)]
+        asks(line.run(lambda: all(opened(panel, number)() for number in (1, 2, 3))), "dead: the sessions don't open")
+        line.loses = lambda way, burst: burst[5] == COM or burst[1] == 7 and burst[5] == COMSET
+        panel.say("1 COMSET 5 19200")
+        asks(line.run(lambda: all(lost(panel, number) for number in (1, 2, 3))), "dead: not all are lost")
+        line.loses = lambda way, burst: False
+        readers[2].process.kill()
+        readers[2].process.wait()
+        line.scripts.remove(readers[2])
+        fcntl.ioctl(line.reader_ends[2].other, termios.TIOCNXCL)
+        asks(line.run(lambda: opened(panel, 1, 2)() and opened(panel, 2, 2)(), FOUND), f"dead: the others aren't found: {panel.lines[-12:]}")
+        before = len(panel.lines)
+        asks(line.run(has(panel, "looks for 3 at 7 9600", "out of reach 3 at 9600")), f"dead: it isn't looked for: {panel.lines[-12:]}")
+        asks(line.run(lambda: panel.lines.count("looks for 3 at 7 9600") > 2), f"dead: it isn't looked for again: {panel.lines[-12:]}")
+        panel.say("1 OUT 0:2:1")
+        asks(line.run(has(panel, "settled 1 OUT 0:2:1 = ACK")), "dead: another reader takes no order")
+        told = [each for each in panel.lines[before:] if each.startswith(("rate ", "lost 1", "lost 2"))]
+        asks(told == [], f"dead: the search has cost {told}")
+        line.reader(2, 7, options=["--keep", f"{folder}/2"])
+        asks(line.run(lambda: opened(panel, 3, 3)() and one_rate(line), FOUND), f"dead: it isn't found again: {panel.lines[-12:]}")
+
+
 class Stubborn:
     """A device that refuses each COMSET, at the reader's side of a terminal."""
 
@@ -427,7 +454,7 @@ def run(case, c, rust, more):
 
 
 def cases():
-    for name in ("stolen", "stolen_from_rust", "taken_port", "ends_of_orders", "many_stops", "sentences", "refused_rate", "swapped", "kept_before", "another_device"):
+    for name in ("stolen", "stolen_from_rust", "taken_port", "ends_of_orders", "many_stops", "sentences", "one_is_dead", "refused_rate", "swapped", "kept_before", "another_device"):
         yield name, ()
     for language in ("C", "Rust"):
         yield "small_panel", (language,)
