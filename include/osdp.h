@@ -81,8 +81,15 @@ extern "C" {
 
 /* ---- Statuses ---- */
 
+/* In C23 and C++17, where a program defines OSDP_CHECK_RESULTS before this page is read, the compiler warns of each call whose status isn't looked at. */
+#if defined OSDP_CHECK_RESULTS && ((defined __cplusplus && __cplusplus >= 201703L) || (defined __STDC_VERSION__ && __STDC_VERSION__ > 201710L))
+#define OSDP_CHECKED [[nodiscard]]
+#else
+#define OSDP_CHECKED
+#endif
+
 /* What became of a call. The two digits from 11 on are those of the machines' own refusals: 1 for M, 2 for B, 3 for C, 4 for N. */
-typedef enum osdp_status {
+typedef enum OSDP_CHECKED osdp_status {
     /* The call was done. */
     OSDP_OK = 0,
     /* The handle holds no machine. */
@@ -240,7 +247,7 @@ static inline osdp_status osdp_reply_text(uint8_t code, const uint8_t *data, siz
 struct osdp_raw {
     /* Which reader of the device, counted from 0. */
     uint8_t reader;
-    /* How the bits are to be understood. */
+    /* How the bits are to be understood: OSDP_CARD_RAW or OSDP_CARD_WIEGAND. */
     uint8_t format;
     /* How many bits there are. */
     uint16_t bits;
@@ -302,16 +309,13 @@ struct osdp_output {
     uint16_t timer;
     /* The output of the device, counted from 0. */
     uint8_t output;
-    /*
-     * 0 no change; 1 off for good and 2 on for good, and a timed operation ends; 3 off for good and 4 on for good, and a timed operation goes on to its
-     * end; 5 on for a time; 6 off for a time.
-     */
+    /* OSDP_OUTPUT_NO_CHANGE to OSDP_OUTPUT_OFF_FOR_A_TIME. */
     uint8_t control;
 };
 
-/* How an LED blinks. Times are in 100 ms. Colors: 0 off, 1 red, 2 green, 3 amber, 4 blue, 5 magenta, 6 cyan, 7 white. 5 bytes. */
+/* How an LED blinks. Times are in 100 ms. Colors are OSDP_COLOR_OFF to OSDP_COLOR_WHITE. 5 bytes. */
 struct osdp_led_state {
-    /* 0 nothing is set; of a temporary state 1 cancel, 2 set; of the permanent state 1 set. */
+    /* OSDP_LED_NOTHING; of a temporary state OSDP_LED_CANCEL_TEMPORARY or OSDP_LED_SET_TEMPORARY; of the permanent state OSDP_LED_SET_PERMANENT. */
     uint8_t control;
     uint8_t on_time;
     uint8_t off_time;
@@ -332,7 +336,7 @@ struct osdp_led {
 /* How the buzzer of a reader sounds: a BUZ. Times are in 100 ms. 5 bytes. */
 struct osdp_buzzer {
     uint8_t reader;
-    /* 0 none, 1 off, 2 default. */
+    /* OSDP_TONE_NONE to OSDP_TONE_DEFAULT. */
     uint8_t tone;
     uint8_t on_time;
     uint8_t off_time;
@@ -343,7 +347,7 @@ struct osdp_buzzer {
 /* What the display of a reader shows: a TEXT. 261 bytes. */
 struct osdp_text {
     uint8_t reader;
-    /* 1 permanent, 2 permanent with wrap, 3 temporary, 4 temporary with wrap. */
+    /* OSDP_TEXT_PERMANENT to OSDP_TEXT_TEMPORARY_WRAPPED. */
     uint8_t command;
     /* In seconds, of a temporary text. */
     uint8_t time;
@@ -389,6 +393,152 @@ static inline osdp_status osdp_led(const struct osdp_led *leds, size_t count, st
 void osdp_buzzer(const struct osdp_buzzer *buzzer, struct osdp_message *command);
 void osdp_text(const struct osdp_text *text, struct osdp_message *command);
 void osdp_comset(uint8_t address, uint32_t baud_rate, struct osdp_message *command);
+
+/* ---- Numbers in the fields ---- */
+
+/* What an output is to do: the control of a record of an OUT. */
+enum {
+    /* Nothing changes. */
+    OSDP_OUTPUT_NO_CHANGE = 0,
+    /* Off for good; a timed operation ends. */
+    OSDP_OUTPUT_OFF = 1,
+    /* On for good; a timed operation ends. */
+    OSDP_OUTPUT_ON = 2,
+    /* Off for good; a timed operation goes on to its end. */
+    OSDP_OUTPUT_OFF_AFTER = 3,
+    /* On for good; a timed operation goes on to its end. */
+    OSDP_OUTPUT_ON_AFTER = 4,
+    /* On for a time, and then as it was set for good. */
+    OSDP_OUTPUT_ON_FOR_A_TIME = 5,
+    /* Off for a time, and then as it was set for good. */
+    OSDP_OUTPUT_OFF_FOR_A_TIME = 6
+};
+
+/* What becomes of a state of an LED: the control of its temporary state and of its permanent one. */
+enum {
+    /* Nothing is set. */
+    OSDP_LED_NOTHING = 0,
+    /* Of the temporary state: it ends. */
+    OSDP_LED_CANCEL_TEMPORARY = 1,
+    /* Of the temporary state: it begins, and its timer. */
+    OSDP_LED_SET_TEMPORARY = 2,
+    /* Of the permanent state: it is set. */
+    OSDP_LED_SET_PERMANENT = 1
+};
+
+/* The colors of an LED. */
+enum {
+    /* No light. */
+    OSDP_COLOR_OFF = 0,
+    /* Red. */
+    OSDP_COLOR_RED = 1,
+    /* Green. */
+    OSDP_COLOR_GREEN = 2,
+    /* Amber. */
+    OSDP_COLOR_AMBER = 3,
+    /* Blue. */
+    OSDP_COLOR_BLUE = 4,
+    /* Magenta. */
+    OSDP_COLOR_MAGENTA = 5,
+    /* Cyan. */
+    OSDP_COLOR_CYAN = 6,
+    /* White. */
+    OSDP_COLOR_WHITE = 7
+};
+
+/* The tones of a buzzer. */
+enum {
+    /* No tone. */
+    OSDP_TONE_NONE = 0,
+    /* It is silent. */
+    OSDP_TONE_OFF = 1,
+    /* The tone that the reader has. */
+    OSDP_TONE_DEFAULT = 2
+};
+
+/* How a text is shown: the command of a TEXT. */
+enum {
+    /* For good, on one row. */
+    OSDP_TEXT_PERMANENT = 1,
+    /* For good, and it goes on in the next row. */
+    OSDP_TEXT_PERMANENT_WRAPPED = 2,
+    /* For a time, on one row. */
+    OSDP_TEXT_TEMPORARY = 3,
+    /* For a time, and it goes on in the next row. */
+    OSDP_TEXT_TEMPORARY_WRAPPED = 4
+};
+
+/* The state of an input, of the device's case and of its power: bytes of an ISTATR and an LSTATR. */
+enum {
+    /* Of an input: it isn't active. Of an output: it is off. */
+    OSDP_STATE_INACTIVE = 0,
+    /* Of an input: it is active. Of an output: it is on. */
+    OSDP_STATE_ACTIVE = 1,
+    /* Of the case and of the power: all is well. */
+    OSDP_STATE_NORMAL = 0,
+    /* Of the case: the device is tampered with. */
+    OSDP_STATE_TAMPERED = 1,
+    /* Of the power: it fails. */
+    OSDP_STATE_POWER_FAILS = 1
+};
+
+/* The state of a reader of the device: a byte of an RSTATR. */
+enum {
+    /* It works. */
+    OSDP_READER_NORMAL = 0,
+    /* It isn't connected. */
+    OSDP_READER_NOT_CONNECTED = 1,
+    /* It is tampered with. */
+    OSDP_READER_TAMPERED = 2
+};
+
+/* How the bits of a card are to be understood: the format of a RAW; and how a card was drawn: the direction of a FMT. */
+enum {
+    /* The format isn't told. */
+    OSDP_CARD_RAW = 0,
+    /* A parity bit, data and a parity bit. */
+    OSDP_CARD_WIEGAND = 1,
+    /* Of a FMT: it was drawn forward. */
+    OSDP_CARD_FORWARD = 0,
+    /* Of a FMT: it was drawn backward. */
+    OSDP_CARD_REVERSE = 1
+};
+
+/* What a capability is about: the function of each record of a PDCAP. */
+enum {
+    /* Inputs. */
+    OSDP_FUNCTION_CONTACT_STATUS = 1,
+    /* Outputs. */
+    OSDP_FUNCTION_OUTPUT_CONTROL = 2,
+    /* How cards are told. */
+    OSDP_FUNCTION_CARD_DATA_FORMAT = 3,
+    /* LEDs. */
+    OSDP_FUNCTION_LED_CONTROL = 4,
+    /* The buzzer. */
+    OSDP_FUNCTION_AUDIBLE_OUTPUT = 5,
+    /* The display. */
+    OSDP_FUNCTION_TEXT_OUTPUT = 6,
+    /* The clock. */
+    OSDP_FUNCTION_TIME_KEEPING = 7,
+    /* Whether CRC is spoken. */
+    OSDP_FUNCTION_CHECK_CHARACTERS = 8,
+    /* Secure Channel. */
+    OSDP_FUNCTION_COMMUNICATION_SECURITY = 9,
+    /* The longest packet that it takes. */
+    OSDP_FUNCTION_RECEIVE_BUFFER = 10,
+    /* The longest message of several parts. */
+    OSDP_FUNCTION_LARGEST_MESSAGE = 11,
+    /* Smart cards. */
+    OSDP_FUNCTION_SMART_CARDS = 12,
+    /* Its readers. */
+    OSDP_FUNCTION_READERS = 13,
+    /* Biometrics. */
+    OSDP_FUNCTION_BIOMETRICS = 14,
+    /* Secure PIN entry. */
+    OSDP_FUNCTION_SECURE_PIN_ENTRY = 15,
+    /* The version of OSDP. */
+    OSDP_FUNCTION_VERSION = 16
+};
 
 /* ---- A panel: the controller's end of a line with up to sixteen readers ---- */
 
@@ -613,8 +763,8 @@ struct osdp_device_config {
 /*
  * A reader to which nothing has come. The handle is none before.
  *
- * `capabilities` is what it answers to CAP: three bytes for each, of which the first is the function, the second the level and the third the
- * count; `length` is how many bytes there are. It has no inputs, outputs and readers, no tamper and no failure of power until it is told of them.
+ * `capabilities` is what it answers to CAP: three bytes for each, of which the first is the function (OSDP_FUNCTION_CONTACT_STATUS and others), the second the
+ * level and the third the count; `length` is how many bytes there are. It has no inputs, outputs and readers, no tamper and no failure of power until it is told of them.
  *
  * Before each command but POLL, ID, CAP and COMSET `osdp_device_step` stops, and the program may set what is said to it (`osdp_device_answer_done` and the
  * others). Where it sets nothing, LED, BUZ and TEXT are answered ACK, and so is an OUT whose outputs are all there, whatever its controls are; each other OUT

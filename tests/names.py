@@ -4,7 +4,8 @@
 - The functions that the header declares, those that rust/ declares, and those that the archive has are the same.
 - What the archive needs from outside is what the header says: its heap, and three calls of C.
 - The constants of both have the same names and values, and the structs the same fields, in their order and of the same types.
-- Each constant has the number that a definition of crates/osdp_c_values/specs, or of the crates below, gives it, and each such number has a constant.
+- Each constant has the number that a definition of crates/osdp_c_values/specs, or of the crates below, gives it, and each such number has a constant. Those of
+  fields, for which there is no definition, have the number of the standard's tables.
 - The functions of both have the same parameters, by names and types."""
 import re
 import subprocess
@@ -55,6 +56,18 @@ OTHERWISE = {
     "reader.OutOfRange": "DEVICE_OUT_OF_RANGE", "check": "CRC", "PollAnswered": "ANSWERED", "Silent": "NONE",
     "Nothing": "NONE",
 }
+# Numbers in the fields of messages, from the tables of OSDP 2.2: no definition names them, since a message with any other number is read and written too
+STANDARD = {
+    "OUTPUT": "NO_CHANGE=0 OFF=1 ON=2 OFF_AFTER=3 ON_AFTER=4 ON_FOR_A_TIME=5 OFF_FOR_A_TIME=6",
+    "LED": "NOTHING=0 CANCEL_TEMPORARY=1 SET_TEMPORARY=2 SET_PERMANENT=1",
+    "COLOR": "OFF=0 RED=1 GREEN=2 AMBER=3 BLUE=4 MAGENTA=5 CYAN=6 WHITE=7",
+    "TONE": "NONE=0 OFF=1 DEFAULT=2",
+    "TEXT": "PERMANENT=1 PERMANENT_WRAPPED=2 TEMPORARY=3 TEMPORARY_WRAPPED=4",
+    "STATE": "INACTIVE=0 ACTIVE=1 NORMAL=0 TAMPERED=1 POWER_FAILS=1",
+    "READER": "NORMAL=0 NOT_CONNECTED=1 TAMPERED=2",
+    "CARD": "RAW=0 WIEGAND=1 FORWARD=0 REVERSE=1",
+    "FUNCTION": "CONTACT_STATUS=1 OUTPUT_CONTROL=2 CARD_DATA_FORMAT=3 LED_CONTROL=4 AUDIBLE_OUTPUT=5 TEXT_OUTPUT=6 TIME_KEEPING=7 CHECK_CHARACTERS=8 COMMUNICATION_SECURITY=9 RECEIVE_BUFFER=10 LARGEST_MESSAGE=11 SMART_CARDS=12 READERS=13 BIOMETRICS=14 SECURE_PIN_ENTRY=15 VERSION=16",
+}
 faults = []
 
 
@@ -76,6 +89,7 @@ def defined():
         folder = TOP / "crates" if file.startswith("/") else TOP / SPECS
         for each in re.finditer(line, (folder / (file.lstrip("/") + ("" if file.endswith(".rt") else ".antt"))).read_text(), re.M):
             found[front + constant(each["name"])] = int(each["number"], 0)
+    found.update({f"OSDP_{group}_{name}": int(number) for group, row in STANDARD.items() for name, number in re.findall(r"(\w+)=(\d+)", row)})
     return found
 
 

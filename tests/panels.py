@@ -58,6 +58,22 @@ def stolen(c, _):
         asks(device.until(panel, lambda: any("OUT 0:2:1" in each and not each.startswith("ordered") for each in panel.lines), 20), "stolen: an order has no end")
 
 
+def stolen_from_rust(_, rust):
+    """The same of the panel in Rust: it polls on."""
+    with Line([([f"{rust}/door_panel"], []), ([], [])]) as line:
+        panel = Script(f"{rust}/door_panel", line.panel_end.path, 9600)
+        line.scripts.append(panel)
+        device = Device(line.panel_end, {})
+        is_open = lambda: any(each.startswith("Opened") for each in panel.lines)
+        asks(device.until(panel, is_open), "stolen from Rust: the session doesn't open")
+        thief = subprocess.Popen(["cat", line.panel_end.path], stdout=subprocess.DEVNULL, stderr=subprocess.DEVNULL)
+        answered(device, panel, 2)
+        thief.kill()
+        thief.wait()
+        device.asked.clear()
+        asks(device.until(panel, lambda: len(device.asked) > 5, 20), "stolen from Rust: the panel polls no more")
+
+
 def taken_port(c, rust):
     """A second program is told whose port it is, in both languages and from each to the other. The lock goes with the program that has it."""
     for first in ([f"{c}/panel", "{}", 9600, 5], [f"{rust}/door_panel", "{}", 9600]):
@@ -197,6 +213,33 @@ def lost_burst(c, _, count, at):
         panel.say("1 COMSET 5 19200")
         holds = lambda: line.panel_end.rate == termios.B19200 and one_rate(line) and all(opened(panel, number, 2)() for number in numbers)
         asks(line.run(holds, FOUND), f"one answer, {at} of {count}: {panel.lines[-12:]}")
+
+
+def one_is_dead(c, _):
+    """Of three readers, which have lost the answers to a COMSET of the rate, one has no power any more: the others are found, and their sessions stay while it is
+    looked for. When it has power again it is found too, at the place that it has kept."""
+    with tempfile.TemporaryDirectory() as folder, Line(all_words(c), 3) as line:
+        panel = line.panel("5,6,7", *FAST)
+        readers = [line.reader(at, 5 + at, options=["--keep", f"{folder}/{at}"]) for at in range(3)]
+        asks(line.run(lambda: all(opened(panel, number)() for number in (1, 2, 3))), "dead: the sessions don't open")
+        line.loses = lambda way, burst: burst[5] == COM or burst[1] == 7 and burst[5] == COMSET
+        panel.say("1 COMSET 5 19200")
+        asks(line.run(lambda: all(lost(panel, number) for number in (1, 2, 3))), "dead: not all are lost")
+        line.loses = lambda way, burst: False
+        readers[2].process.kill()
+        readers[2].process.wait()
+        line.scripts.remove(readers[2])
+        fcntl.ioctl(line.reader_ends[2].other, termios.TIOCNXCL)
+        asks(line.run(lambda: opened(panel, 1, 2)() and opened(panel, 2, 2)(), FOUND), f"dead: the others aren't found: {panel.lines[-12:]}")
+        before = len(panel.lines)
+        asks(line.run(has(panel, "looks for 3 at 7 9600", "out of reach 3 at 9600")), f"dead: it isn't looked for: {panel.lines[-12:]}")
+        asks(line.run(lambda: panel.lines.count("looks for 3 at 7 9600") > 2), f"dead: it isn't looked for again: {panel.lines[-12:]}")
+        panel.say("1 OUT 0:2:1")
+        asks(line.run(has(panel, "settled 1 OUT 0:2:1 = ACK")), "dead: another reader takes no order")
+        told = [each for each in panel.lines[before:] if each.startswith(("rate ", "lost 1", "lost 2"))]
+        asks(told == [], f"dead: the search has cost {told}")
+        line.reader(2, 7, options=["--keep", f"{folder}/2"])
+        asks(line.run(lambda: opened(panel, 3, 3)() and one_rate(line), FOUND), f"dead: it isn't found again: {panel.lines[-12:]}")
 
 
 class Stubborn:
@@ -411,7 +454,7 @@ def run(case, c, rust, more):
 
 
 def cases():
-    for name in ("stolen", "taken_port", "ends_of_orders", "many_stops", "sentences", "refused_rate", "swapped", "kept_before", "another_device"):
+    for name in ("stolen", "stolen_from_rust", "taken_port", "ends_of_orders", "many_stops", "sentences", "one_is_dead", "refused_rate", "swapped", "kept_before", "another_device"):
         yield name, ()
     for language in ("C", "Rust"):
         yield "small_panel", (language,)

@@ -8,7 +8,7 @@
 /* Whether an output may be switched so: for a time, or off. A door may not stand open for good. */
 static bool may_be_done(const struct osdp_output *record)
 {
-    return record->output < 2 && (record->control == 1 || record->control == 5);
+    return record->output < 2 && (record->control == OSDP_OUTPUT_OFF || record->control == OSDP_OUTPUT_ON_FOR_A_TIME);
 }
 
 #ifdef UNIT_TEST
@@ -28,7 +28,7 @@ static void take_out(const struct osdp_message *out, uint32_t order)
     for (size_t i = 0; osdp_output_of(out, i, &record) == OSDP_OK; i++) {
         if (order == OSDP_ORDER_PENDING && !may_be_done(&record)) {
             (void)osdp_device_answer_refused(&device, OSDP_NAK_RECORD_NOT_PROCESSED);
-        } else if (order == OSDP_ORDER_ONCE && record.control == 5) {
+        } else if (order == OSDP_ORDER_ONCE && record.control == OSDP_OUTPUT_ON_FOR_A_TIME) {
             tell("on %u\n", (unsigned)record.output);
         }
     }

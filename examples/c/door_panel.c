@@ -29,7 +29,7 @@ static struct door door;
 static void open_door(void)
 {
     static struct osdp_message command;
-    const struct osdp_output strike = { .output = 0, .control = 5, .timer = 30 };
+    const struct osdp_output strike = { .output = 0, .control = OSDP_OUTPUT_ON_FOR_A_TIME, .timer = 30 };
     (void)osdp_out(&strike, 1, &command);
     (void)osdp_panel_submit(&panel, door.entry, command.code, command.data, command.length);
 }

@@ -50,18 +50,17 @@ static void tell_outputs(uint64_t now)
     (void)osdp_device_set_outputs(&reader, states, OUTPUTS);
 }
 
-/* Does what one record of an OUT says. 1 and 2 are off and on for good, at once. 3 and 4 are the same, but a time that runs goes on. 5 and 6 are on and
- * off for a time. Other controls ask for nothing, though the reader confirms them too. */
+/* Does what one record of an OUT says. Controls that aren't named here ask for nothing, though the reader confirms them too. */
 static void switch_output(const uint8_t *record, uint64_t now)
 {
     struct output *output = &outputs[record[0]];
     uint8_t control = record[1];
-    if (control == 5 || control == 6) {
-        output->for_a_time = control == 5;
+    if (control == OSDP_OUTPUT_ON_FOR_A_TIME || control == OSDP_OUTPUT_OFF_FOR_A_TIME) {
+        output->for_a_time = control == OSDP_OUTPUT_ON_FOR_A_TIME;
         output->until = now + 100 * (record[2] + 256 * (uint64_t)record[3]);
-    } else if (1 <= control && control <= 4) {
-        output->for_good = control == 2 || control == 4;
-        output->until = control <= 2 ? 0 : output->until;
+    } else if (control == OSDP_OUTPUT_ON || control == OSDP_OUTPUT_OFF || control == OSDP_OUTPUT_ON_AFTER || control == OSDP_OUTPUT_OFF_AFTER) {
+        output->for_good = control == OSDP_OUTPUT_ON || control == OSDP_OUTPUT_ON_AFTER;
+        output->until = control == OSDP_OUTPUT_ON || control == OSDP_OUTPUT_OFF ? 0 : output->until; /* else a time that runs goes on */
     }
 }
 

@@ -3,6 +3,7 @@ mod port;
 
 use osdp::{
     Answer, Command, Device, DeviceAnswer, DeviceConfig, Moment, NakReason, Order, Output, Step,
+    output,
 };
 use port::{Came, Port, run_on_port};
 use std::error::Error;
@@ -14,7 +15,7 @@ const TURN: Duration = Duration::from_millis(10);
 
 /// Whether an output may be switched so: for a time, or off. A door may not stand open for good.
 fn may_be_done(record: &Output) -> bool {
-    record.output < 2 && (record.control == 1 || record.control == 5)
+    record.output < 2 && matches!(record.control, output::OFF | output::ON_FOR_A_TIME)
 }
 
 /// What is said to a command, where it isn't answered as it was set.
@@ -31,11 +32,10 @@ fn switch(record: Output) {
 
 type Done = Result<(), Box<dyn Error>>;
 
-/// Does what the device is to do, and then sends what it says: so an order that is answered was done, also where power is lost in between. What is to be said
-/// to the next command, where one waits for that.
+/// Acts, and then sends the answer: so what is answered was done, also where power is lost in between. What is to be said to a command that waits for it.
 fn obey(answer: Answer<'_>, port: &mut Port) -> std::io::Result<Option<DeviceAnswer<'static>>> {
     if let Some(Order::Once(command)) = answer.order() {
-        let opens = |record: &Output| record.control == 5;
+        let opens = |record: &Output| record.control == output::ON_FOR_A_TIME;
         command.outputs().filter(opens).for_each(switch);
     }
     match answer.send(|burst| port.write(burst))? {

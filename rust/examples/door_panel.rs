@@ -2,7 +2,7 @@
 //! `move 7 9600` gives the device another address and rate, which FILE keeps: a panel that starts again finds it there.
 mod port;
 
-use osdp::{Card, Command, Error, Moment, Output, Panel, PanelConfig, Reply, Report};
+use osdp::{Card, Command, Error, Moment, Output, Panel, PanelConfig, Reply, Report, output};
 use port::door::Door;
 use port::{Came, Port, run_on_port};
 use std::process::ExitCode;
@@ -14,7 +14,7 @@ const TURN: Duration = Duration::from_millis(100);
 /// The door's strike, its output 0, on for three seconds.
 const STRIKE: Output = Output {
     output: 0,
-    control: 5,
+    control: output::ON_FOR_A_TIME,
     timer: 30,
 };
 

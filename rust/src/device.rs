@@ -4,9 +4,10 @@ use crate::error::{Error, check};
 use crate::fields::{NakReason, PdId, Product, Reply};
 use crate::message::{Command, Unsent, no_burst, no_message};
 use crate::numbered::numbered;
-use crate::panel::milliseconds;
+use crate::panel::{limit, milliseconds};
 use crate::sys;
 use crate::time::Moment;
+use core::cell::UnsafeCell;
 use core::ptr::null_mut;
 use core::time::Duration;
 
@@ -19,7 +20,7 @@ pub struct DeviceConfig<'a> {
     pub capacity: u32,
     /// After how long a silence a run of bytes is over: 1 ms to an hour, in whole milliseconds.
     pub gap: Duration,
-    /// How far a moment may lie after the greatest one seen, up to 49 days; no time stands for a day.
+    /// How far a moment may lie after the greatest one seen, 1 ms to 49 days; no time stands for a day.
     pub clock_limit: Duration,
     /// What is answered to ID.
     pub id: PdId,
@@ -191,7 +192,7 @@ fn no_answer() -> sys::osdp_answer {
 ///
 /// With the feature `heap` it may be moved to another thread, as a panel may.
 #[derive(Debug)]
-pub struct Device(sys::osdp_device);
+pub struct Device(UnsafeCell<sys::osdp_device>);
 
 // SAFETY: as of a panel: the handle is owned, nothing else points to what it holds, and its memory is that of the global allocator.
 #[cfg(feature = "heap")]
@@ -219,23 +220,23 @@ impl Device {
     ///
     /// `BadLength` for more than 477 capabilities, `OutOfRange`, `NoMemory`.
     pub fn new(config: &DeviceConfig<'_>) -> Result<Device, Error> {
-        let mut reader = Device(sys::osdp_device {
+        let reader = Device(UnsafeCell::new(sys::osdp_device {
             device: null_mut(),
             device_live: 0,
-        });
+        }));
         let raw = sys::osdp_device_config {
             address: config.address.into(),
             capacity: config.capacity,
             gap: milliseconds(config.gap),
             serial: config.id.serial,
-            clock_limit: milliseconds(config.clock_limit),
+            clock_limit: limit(config.clock_limit)?,
             product: config.id.product,
         };
         let capabilities = config.capabilities.as_flattened();
         // SAFETY: the handle is none, and the pointers are good for as much as the call is told.
         check(unsafe {
             sys::osdp_device_new_nonnull(
-                &mut reader.0,
+                reader.0.get(),
                 &raw,
                 capabilities.as_ptr(),
                 capabilities.len(),
@@ -252,7 +253,7 @@ impl Device {
     pub fn set_inputs(&mut self, states: &[u8]) -> Result<(), Error> {
         // SAFETY: the handle is ours alone, and so many states are there.
         check(unsafe {
-            sys::osdp_device_set_inputs_nonnull(&mut self.0, states.as_ptr(), states.len())
+            sys::osdp_device_set_inputs_nonnull(self.0.get(), states.as_ptr(), states.len())
         })
     }
 
@@ -264,7 +265,7 @@ impl Device {
     pub fn set_outputs(&mut self, states: &[u8]) -> Result<(), Error> {
         // SAFETY: the handle is ours alone, and so many states are there.
         check(unsafe {
-            sys::osdp_device_set_outputs_nonnull(&mut self.0, states.as_ptr(), states.len())
+            sys::osdp_device_set_outputs_nonnull(self.0.get(), states.as_ptr(), states.len())
         })
     }
 
@@ -276,20 +277,20 @@ impl Device {
     pub fn set_readers(&mut self, states: &[u8]) -> Result<(), Error> {
         // SAFETY: the handle is ours alone, and so many states are there.
         check(unsafe {
-            sys::osdp_device_set_readers_nonnull(&mut self.0, states.as_ptr(), states.len())
+            sys::osdp_device_set_readers_nonnull(self.0.get(), states.as_ptr(), states.len())
         })
     }
 
     /// Sets what LSTAT is answered: whether the device is tampered with, and whether its power fails.
     pub fn set_local(&mut self, tamper: bool, power: bool) {
         // SAFETY: the handle is ours alone. It holds a machine, so the call isn't refused.
-        let _ = unsafe { sys::osdp_device_set_local(&mut self.0, tamper.into(), power.into()) };
+        let _ = unsafe { sys::osdp_device_set_local(self.0.get(), tamper.into(), power.into()) };
     }
 
     /// Sets whether the reader is busy. A busy reader takes nothing, but repeats its last reply.
     pub fn set_busy(&mut self, busy: bool) {
         // SAFETY: the handle is ours alone. It holds a machine, so the call isn't refused.
-        let _ = unsafe { sys::osdp_device_set_busy(&mut self.0, busy.into()) };
+        let _ = unsafe { sys::osdp_device_set_busy(self.0.get(), busy.into()) };
     }
 
     /// Puts an event, by the code and data of the reply that tells it, after those that wait. It came at the greatest moment that any call has handed in,
@@ -301,7 +302,7 @@ impl Device {
     pub fn event(&mut self, code: u8, data: &[u8]) -> Result<(), Error> {
         // SAFETY: the handle is ours alone, and the data have so many bytes.
         check(unsafe {
-            sys::osdp_device_event_nonnull(&mut self.0, code, data.as_ptr(), data.len())
+            sys::osdp_device_event_nonnull(self.0.get(), code, data.as_ptr(), data.len())
         })
     }
 
@@ -313,23 +314,23 @@ impl Device {
     pub fn event_text(&mut self, text: &str) -> Result<(), Error> {
         // SAFETY: the handle is ours alone, and the text has so many bytes.
         check(unsafe {
-            sys::osdp_device_event_text_nonnull(&mut self.0, text.as_ptr().cast(), text.len())
+            sys::osdp_device_event_text_nonnull(self.0.get(), text.as_ptr().cast(), text.len())
         })
     }
 
     /// How many events wait, the one that is offered included.
-    pub fn waiting(&mut self) -> usize {
+    pub fn waiting(&self) -> usize {
         let mut count = 0;
         // SAFETY: the handle is ours alone, and the count is one. It holds a machine, so the call isn't refused.
-        let _ = unsafe { sys::osdp_device_waiting(&mut self.0, &mut count) };
+        let _ = unsafe { sys::osdp_device_waiting(self.0.get(), &mut count) };
         count
     }
 
     /// Whether its session is closed: it refuses each number but 0, as one that is new or has moved.
-    pub fn is_closed(&mut self) -> bool {
+    pub fn is_closed(&self) -> bool {
         let mut closed = 0;
         // SAFETY: the handle is ours alone, and the number is one. It holds a machine, so the call isn't refused.
-        let _ = unsafe { sys::osdp_device_is_closed(&mut self.0, &mut closed) };
+        let _ = unsafe { sys::osdp_device_is_closed(self.0.get(), &mut closed) };
         closed != 0
     }
 
@@ -398,18 +399,18 @@ impl Device {
     }
 
     /// The address that the device has now.
-    pub fn address(&mut self) -> u8 {
+    pub fn address(&self) -> u8 {
         let mut address = 0;
         // SAFETY: the handle is ours alone, and the address is one. It holds a machine, so the call isn't refused.
-        let _ = unsafe { sys::osdp_device_address(&mut self.0, &mut address) };
+        let _ = unsafe { sys::osdp_device_address(self.0.get(), &mut address) };
         address as u8
     }
 
     /// The command that the next packet will have acted on, where the reader doesn't answer it by itself. None while the device is busy.
-    pub fn pending(&mut self) -> Option<Command> {
+    pub fn pending(&self) -> Option<Command> {
         let mut command = no_message();
         // SAFETY: the handle is ours alone, and the command is one. It holds a machine, so the call isn't refused.
-        let _ = unsafe { sys::osdp_device_pending(&mut self.0, &mut command) };
+        let _ = unsafe { sys::osdp_device_pending(self.0.get(), &mut command) };
         Command::from_sys(&command)
     }
 
@@ -420,7 +421,7 @@ impl Device {
     ///
     /// `NotAsked`: no call has stopped before a command since the last answer. `BadLength`: the list or the bytes are too long.
     pub fn answer_next(&mut self, answer: DeviceAnswer<'_>) -> Result<(), Error> {
-        let device = &mut self.0;
+        let device = self.0.get();
         // SAFETY: the handle is ours alone, and each pointer is to as much as the call is told.
         check(unsafe {
             match answer {
@@ -505,7 +506,7 @@ impl Device {
         // SAFETY: the handle is ours alone, and what is written is apart.
         check(unsafe {
             sys::osdp_device_step_nonnull(
-                &mut self.0,
+                self.0.get(),
                 bytes.as_ptr(),
                 bytes.len(),
                 now.as_millis(),
@@ -525,7 +526,7 @@ impl Device {
     pub fn tick(&mut self, now: Moment) -> Result<Step<'_>, Error> {
         let mut answer = no_answer();
         // SAFETY: the handle is ours alone, and the answer is one.
-        check(unsafe { sys::osdp_device_tick(&mut self.0, now.as_millis(), &mut answer) })?;
+        check(unsafe { sys::osdp_device_tick(self.0.get(), now.as_millis(), &mut answer) })?;
         Ok(step_of(0, &answer))
     }
 
@@ -537,20 +538,20 @@ impl Device {
     pub fn silence(&mut self, now: Moment) -> Result<Step<'_>, Error> {
         let mut answer = no_answer();
         // SAFETY: the handle is ours alone, and the answer is one.
-        check(unsafe { sys::osdp_device_silence(&mut self.0, now.as_millis(), &mut answer) })?;
+        check(unsafe { sys::osdp_device_silence(self.0.get(), now.as_millis(), &mut answer) })?;
         Ok(step_of(0, &answer))
     }
 
     /// A moment is seen, however far it lies after the greatest one: of a host that slept.
     pub fn set_moment(&mut self, now: Moment) {
         // SAFETY: the handle is ours alone. It holds a machine, so the call isn't refused.
-        let _ = unsafe { sys::osdp_device_set_moment(&mut self.0, now.as_millis()) };
+        let _ = unsafe { sys::osdp_device_set_moment(self.0.get(), now.as_millis()) };
     }
 }
 
 impl Drop for Device {
     fn drop(&mut self) {
         // SAFETY: the handle is ours alone. One that is none is refused, which changes nothing.
-        let _ = unsafe { sys::osdp_device_free(&mut self.0) };
+        let _ = unsafe { sys::osdp_device_free(self.0.get()) };
     }
 }

@@ -80,6 +80,37 @@ numbered! {
     }
 }
 
+/// A command wasn't done: the reason, and what else the device tells of it.
+#[derive(Clone, Copy, Debug, PartialEq, Eq)]
+pub struct Nak {
+    number: u8,
+    detail: Bytes,
+}
+
+impl Nak {
+    /// One for a reason, with these bytes of detail. None where there are more than 1,431.
+    pub fn new(reason: NakReason, detail: &[u8]) -> Option<Nak> {
+        let number = reason.number() as u8;
+        let detail = Bytes::new(detail).filter(|detail| detail.len() < detail.bytes.len())?;
+        Some(Nak { number, detail })
+    }
+
+    /// The reason; none where it is another than 1 to 9.
+    pub fn reason(&self) -> Option<NakReason> {
+        NakReason::of(self.number.into())
+    }
+
+    /// The number of the reason.
+    pub fn number(&self) -> u8 {
+        self.number
+    }
+
+    /// What else is told of it; mostly nothing.
+    pub fn detail(&self) -> &[u8] {
+        &self.detail
+    }
+}
+
 /// A card's bits, as a reader of the device has read them.
 #[derive(Clone, Copy)]
 pub struct Card(sys::osdp_raw);
@@ -226,8 +257,8 @@ impl Capabilities {
 pub enum Reply {
     /// Done, or nothing to tell.
     Ack,
-    /// Not done, and why: a NAK for a reason from 1 to 9, without detail. Each other NAK is `Other`.
-    Nak(NakReason),
+    /// Not done, and why.
+    Nak(Nak),
     /// What the device is.
     PdId(PdId),
     /// What the device can do.
@@ -252,7 +283,7 @@ pub enum Reply {
     Busy,
     /// The maker's own: his code, and his bytes.
     Maker([u8; 3], Bytes),
-    /// Another reply. A NAK with detail, or for a reason beyond 9, is here too: its `code()` is 0x41, and the command wasn't done.
+    /// Another reply.
     Other(RawReply),
 }
 
@@ -284,10 +315,10 @@ impl Reply {
             sys::OSDP_BUSY => Reply::Busy,
             sys::OSDP_NAK => {
                 let nak = read(reply, sys::osdp_nak_of)?;
-                match nak.length {
-                    0 => Reply::Nak(NakReason::of(nak.reason.into())?),
-                    _ => return None,
-                }
+                Reply::Nak(Nak {
+                    number: nak.reason,
+                    detail: Bytes::new(&nak.detail[..nak.length.into()])?,
+                })
             }
             sys::OSDP_PDID => Reply::PdId(read(reply, sys::osdp_pd_id_of)?),
             sys::OSDP_PDCAP => Reply::PdCap(Capabilities(Bytes::new(reply.data())?)),

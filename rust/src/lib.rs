@@ -75,6 +75,7 @@ mod fields;
 #[cfg(feature = "heap")]
 mod heap;
 mod message;
+mod named;
 mod numbered;
 mod panel;
 pub mod sys;
@@ -85,9 +86,10 @@ pub use device::{
 };
 pub use error::Error;
 pub use fields::{
-    Buzzer, Bytes, Capabilities, Capability, Card, Led, LedState, NakReason, Output, PdId, Product,
-    Reply, Text,
+    Buzzer, Bytes, Capabilities, Capability, Card, Led, LedState, Nak, NakReason, Output, PdId,
+    Product, Reply, Text,
 };
 pub use message::{Command, RawReply, Unsent};
+pub use named::{card, color, function, led, output, reader, state, text, tone};
 pub use panel::{Check, Entry, LostCause, Panel, PanelConfig, Report};
 pub use time::Moment;

@@ -6,6 +6,7 @@ use crate::message::{Command, Unsent, no_burst, no_message};
 use crate::numbered::numbered;
 use crate::sys;
 use crate::time::Moment;
+use core::cell::UnsafeCell;
 use core::mem::MaybeUninit;
 use core::ptr::null_mut;
 use core::sync::atomic::{AtomicU32, Ordering};
@@ -34,7 +35,7 @@ pub struct PanelConfig {
     pub gap: Duration,
     /// How many commands may wait for each device, 1 to 1,024.
     pub capacity: u32,
-    /// How far a moment may lie after the greatest one seen, up to 49 days; no time stands for a day.
+    /// How far a moment may lie after the greatest one seen, 1 ms to 49 days; no time stands for a day.
     pub clock_limit: Duration,
 }
 
@@ -43,9 +44,17 @@ pub(crate) fn milliseconds(time: Duration) -> u32 {
     u32::try_from(time.as_millis()).unwrap_or(u32::MAX)
 }
 
+/// A clock limit, as the archive takes it: one under a millisecond would stand for a day there.
+pub(crate) fn limit(time: Duration) -> Result<u32, Error> {
+    match milliseconds(time) {
+        0 if !time.is_zero() => Err(Error::OutOfRange),
+        limit => Ok(limit),
+    }
+}
+
 impl PanelConfig {
-    fn to_sys(self) -> sys::osdp_panel_config {
-        sys::osdp_panel_config {
+    fn to_sys(self) -> Result<sys::osdp_panel_config, Error> {
+        Ok(sys::osdp_panel_config {
             check: self.check,
             reply_wait: milliseconds(self.reply_wait),
             poll_interval: milliseconds(self.poll_interval),
@@ -55,8 +64,8 @@ impl PanelConfig {
             quiet_wait: milliseconds(self.quiet_wait),
             gap: milliseconds(self.gap),
             capacity: self.capacity,
-            clock_limit: milliseconds(self.clock_limit),
-        }
+            clock_limit: limit(self.clock_limit)?,
+        })
     }
 }
 
@@ -165,9 +174,12 @@ fn report_of(panel: u32, raw: &sys::osdp_report) -> Option<(Entry, Report)> {
 ///
 /// With the feature `heap` it may be moved to another thread: its memory is that of the program's global allocator, which every thread may use. Without
 /// it the program's own heap may be one of a single thread, so there it stays on the thread that made it.
+///
+/// What is only asked takes `&self`. A call takes the machine out of its handle while it runs: the handle is of one thread at a time, since a `Panel` isn't `Sync`,
+/// and no call makes another one.
 #[derive(Debug)]
 pub struct Panel {
-    handle: sys::osdp_panel,
+    handle: UnsafeCell<sys::osdp_panel>,
     number: u32,
 }
 
@@ -183,15 +195,16 @@ impl Panel {
     ///
     /// `OutOfRange` for a setting, `NoMemory`.
     pub fn new(config: &PanelConfig) -> Result<Panel, Error> {
-        let mut panel = Panel {
-            handle: sys::osdp_panel {
+        let settings = config.to_sys()?;
+        let panel = Panel {
+            handle: UnsafeCell::new(sys::osdp_panel {
                 panel: null_mut(),
                 panel_live: 0,
-            },
+            }),
             number: PANELS.fetch_add(1, Ordering::Relaxed),
         };
         // SAFETY: the handle is none, and both pointers are good.
-        check(unsafe { sys::osdp_panel_new(&mut panel.handle, &config.to_sys()) })?;
+        check(unsafe { sys::osdp_panel_new(panel.handle.get(), &settings) })?;
         Ok(panel)
     }
 
@@ -211,7 +224,7 @@ impl Panel {
     pub fn add(&mut self, address: u8) -> Result<Entry, Error> {
         let mut entry = 0;
         // SAFETY: the handle is ours alone, and the entry is written.
-        check(unsafe { sys::osdp_panel_add(&mut self.handle, address.into(), &mut entry) })?;
+        check(unsafe { sys::osdp_panel_add(self.handle.get(), address.into(), &mut entry) })?;
         Ok(Entry {
             panel: self.number,
             index: entry,
@@ -226,7 +239,7 @@ impl Panel {
     pub fn begin(&mut self, entry: Entry, now: Moment) -> Result<(), Error> {
         let index = self.index(entry)?;
         // SAFETY: the handle is ours alone.
-        check(unsafe { sys::osdp_panel_begin(&mut self.handle, index, now.as_millis()) })
+        check(unsafe { sys::osdp_panel_begin(self.handle.get(), index, now.as_millis()) })
     }
 
     /// Puts a command after those that wait for a device.
@@ -239,7 +252,13 @@ impl Panel {
         let (code, data) = (command.code(), command.data());
         // SAFETY: the handle is ours alone, and the data have so many bytes.
         check(unsafe {
-            sys::osdp_panel_submit_nonnull(&mut self.handle, index, code, data.as_ptr(), data.len())
+            sys::osdp_panel_submit_nonnull(
+                self.handle.get(),
+                index,
+                code,
+                data.as_ptr(),
+                data.len(),
+            )
         })
     }
 
@@ -253,7 +272,7 @@ impl Panel {
         // SAFETY: the handle is ours alone, and the text has so many bytes.
         check(unsafe {
             sys::osdp_panel_submit_text_nonnull(
-                &mut self.handle,
+                self.handle.get(),
                 index,
                 text.as_ptr().cast(),
                 text.len(),
@@ -270,7 +289,7 @@ impl Panel {
         let index = self.index(entry)?;
         let mut command = no_message();
         // SAFETY: the handle is ours alone, and the command is one.
-        check(unsafe { sys::osdp_panel_withdraw(&mut self.handle, index, &mut command) })?;
+        check(unsafe { sys::osdp_panel_withdraw(self.handle.get(), index, &mut command) })?;
         Ok(Command::from_sys(&command))
     }
 
@@ -282,15 +301,15 @@ impl Panel {
     pub fn retarget(&mut self, entry: Entry, address: u8) -> Result<(), Error> {
         let index = self.index(entry)?;
         // SAFETY: the handle is ours alone.
-        check(unsafe { sys::osdp_panel_retarget(&mut self.handle, index, address.into()) })
+        check(unsafe { sys::osdp_panel_retarget(self.handle.get(), index, address.into()) })
     }
 
     /// The devices, in the order of adding.
-    pub fn entries(&mut self) -> impl Iterator<Item = Entry> + use<> {
+    pub fn entries(&self) -> impl Iterator<Item = Entry> + use<> {
         let panel = self.number;
         let mut count = 0;
         // SAFETY: the handle is ours alone, and the count is one. It holds a machine, so the call isn't refused.
-        let _ = unsafe { sys::osdp_panel_entries(&mut self.handle, &mut count) };
+        let _ = unsafe { sys::osdp_panel_entries(self.handle.get(), &mut count) };
         (0..count).map(move |index| Entry { panel, index })
     }
 
@@ -299,11 +318,11 @@ impl Panel {
     /// # Errors
     ///
     /// `NoEntry`.
-    pub fn address(&mut self, entry: Entry) -> Result<u8, Error> {
+    pub fn address(&self, entry: Entry) -> Result<u8, Error> {
         let index = self.index(entry)?;
         let mut address = 0;
         // SAFETY: the handle is ours alone, and the address is one.
-        check(unsafe { sys::osdp_panel_address(&mut self.handle, index, &mut address) })?;
+        check(unsafe { sys::osdp_panel_address(self.handle.get(), index, &mut address) })?;
         Ok(address as u8)
     }
 
@@ -312,11 +331,11 @@ impl Panel {
     /// # Errors
     ///
     /// `NoEntry`.
-    pub fn waiting(&mut self, entry: Entry) -> Result<usize, Error> {
+    pub fn waiting(&self, entry: Entry) -> Result<usize, Error> {
         let index = self.index(entry)?;
         let mut count = 0;
         // SAFETY: the handle is ours alone, and the count is one.
-        check(unsafe { sys::osdp_panel_waiting(&mut self.handle, index, &mut count) })?;
+        check(unsafe { sys::osdp_panel_waiting(self.handle.get(), index, &mut count) })?;
         Ok(count)
     }
 
@@ -325,11 +344,11 @@ impl Panel {
     /// # Errors
     ///
     /// `NoEntry`.
-    pub fn is_closed(&mut self, entry: Entry) -> Result<bool, Error> {
+    pub fn is_closed(&self, entry: Entry) -> Result<bool, Error> {
         let index = self.index(entry)?;
         let mut closed = 0;
         // SAFETY: the handle is ours alone, and the number is one.
-        check(unsafe { sys::osdp_panel_is_closed(&mut self.handle, index, &mut closed) })?;
+        check(unsafe { sys::osdp_panel_is_closed(self.handle.get(), index, &mut closed) })?;
         Ok(closed != 0)
     }
 
@@ -342,7 +361,7 @@ impl Panel {
         let (start, length) = (bytes.as_ptr(), bytes.len());
         // SAFETY: the handle is ours alone, and so many bytes are there.
         check(unsafe {
-            sys::osdp_panel_bytes_nonnull(&mut self.handle, start, length, now.as_millis())
+            sys::osdp_panel_bytes_nonnull(self.handle.get(), start, length, now.as_millis())
         })
     }
 
@@ -353,7 +372,7 @@ impl Panel {
     /// `MomentTooFar`.
     pub fn on_silence(&mut self, now: Moment) -> Result<(), Error> {
         // SAFETY: the handle is ours alone.
-        check(unsafe { sys::osdp_panel_silence(&mut self.handle, now.as_millis()) })
+        check(unsafe { sys::osdp_panel_silence(self.handle.get(), now.as_millis()) })
     }
 
     /// What is due at a moment: a burst to send. While a report waits, none.
@@ -395,24 +414,24 @@ impl Panel {
     pub fn tick(&mut self, now: Moment) -> Result<Unsent<'_>, Error> {
         let mut burst = no_burst();
         // SAFETY: the handle is ours alone, and the burst is one.
-        check(unsafe { sys::osdp_panel_tick(&mut self.handle, now.as_millis(), &mut burst) })?;
+        check(unsafe { sys::osdp_panel_tick(self.handle.get(), now.as_millis(), &mut burst) })?;
         Ok(Unsent::from_sys(&burst))
     }
 
     /// A moment is seen, however far it lies after the greatest one: of a host that slept.
     pub fn set_moment(&mut self, now: Moment) {
         // SAFETY: the handle is ours alone. It holds a machine, so the call isn't refused.
-        let _ = unsafe { sys::osdp_panel_set_moment(&mut self.handle, now.as_millis()) };
+        let _ = unsafe { sys::osdp_panel_set_moment(self.handle.get(), now.as_millis()) };
     }
 
     /// The moment at which `tick` is to be called next, if no call comes before.
-    pub fn next_deadline(&mut self) -> Option<Moment> {
+    pub fn next_deadline(&self) -> Option<Moment> {
         let mut deadline = sys::osdp_moment {
             moment: 0,
             present: 0,
         };
         // SAFETY: the handle is ours alone, and the moment is one. It holds a machine, so the call isn't refused.
-        let _ = unsafe { sys::osdp_panel_next_deadline(&mut self.handle, &mut deadline) };
+        let _ = unsafe { sys::osdp_panel_next_deadline(self.handle.get(), &mut deadline) };
         (deadline.present != 0).then_some(Moment::from_millis(deadline.moment))
     }
 
@@ -426,7 +445,7 @@ impl Panel {
             reply: no_message(),
         };
         // SAFETY: the handle is ours alone, and the report is one. It holds a machine, so the call isn't refused.
-        let _ = unsafe { sys::osdp_panel_next_report(&mut self.handle, &mut report) };
+        let _ = unsafe { sys::osdp_panel_next_report(self.handle.get(), &mut report) };
         report_of(self.number, &report)
     }
 }
@@ -434,6 +453,6 @@ impl Panel {
 impl Drop for Panel {
     fn drop(&mut self) {
         // SAFETY: the handle is ours alone. One that is none is refused, which changes nothing.
-        let _ = unsafe { sys::osdp_panel_free(&mut self.handle) };
+        let _ = unsafe { sys::osdp_panel_free(self.handle.get()) };
     }
 }

@@ -1,7 +1,7 @@
 //! A moment that lies too far after the greatest one seen is refused, and changes nothing; one that is set outright is seen.
 mod settings;
 
-use osdp::{Device, Error, Moment, Panel, PanelConfig, Step};
+use osdp::{Device, DeviceConfig, Error, Moment, Panel, PanelConfig, Step};
 use settings::DEVICE;
 use std::time::Duration;
 
@@ -43,4 +43,36 @@ fn a_device_too() {
     device.set_moment(late);
     let Step { taken, answer } = device.step(&[0x53], late).unwrap();
     assert!(taken == 1 && answer.is_none());
+}
+
+#[test]
+fn a_limit_of_less_than_a_millisecond_is_refused() {
+    let clock_limit = Duration::from_micros(999);
+    let config = PanelConfig {
+        clock_limit,
+        ..PanelConfig::default()
+    };
+    assert_eq!(Panel::new(&config).err(), Some(Error::OutOfRange));
+    let config = DeviceConfig {
+        clock_limit,
+        ..DEVICE
+    };
+    assert_eq!(Device::new(&config).err(), Some(Error::OutOfRange));
+}
+
+/// Nothing is changed by a question, so it takes no more than a reference.
+#[test]
+fn what_is_asked_changes_nothing() {
+    let mut panel = Panel::new(&PanelConfig::default()).unwrap();
+    let door = panel.add(5).unwrap();
+    let asked: &Panel = &panel;
+    assert_eq!((asked.address(door), asked.waiting(door)), (Ok(5), Ok(0)));
+    assert_eq!(
+        (asked.is_closed(door), asked.next_deadline()),
+        (Ok(true), None)
+    );
+    assert_eq!(asked.entries().count(), 1);
+    let device = &Device::new(&DEVICE).unwrap();
+    assert_eq!((device.waiting(), device.is_closed()), (0, true));
+    assert!(device.pending().is_none());
 }

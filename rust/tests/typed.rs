@@ -1,5 +1,5 @@
 //! Each reply with fields, by its code and data as the standard has them.
-use osdp::{Bytes, Capabilities, Capability, Card, NakReason, Reply};
+use osdp::{Bytes, Capabilities, Capability, Card, Nak, NakReason, Reply};
 
 fn read(code: u8, data: &[u8]) -> Reply {
     Reply::read(code, data).expect("a reply")
@@ -45,6 +45,19 @@ fn what_cards_and_makers_tell_is_typed() {
     assert_eq!(read(0x90, &[1, 2, 3, 9]), maker);
     let card = Card::new(1, 2, 4, &[0xF0]).map(Reply::Raw);
     assert_eq!(Some(read(0x50, &[1, 2, 4, 0, 0xF0])), card);
-    let refused = Reply::Nak(NakReason::RecordNotProcessed);
+    let refused = Reply::Nak(Nak::new(NakReason::RecordNotProcessed, &[]).unwrap());
     assert_eq!(read(0x41, &[9]), refused);
+}
+
+#[test]
+fn each_nak_is_one() {
+    let detailed = Nak::new(NakReason::RecordNotProcessed, &[1, 2]).unwrap();
+    assert_eq!(read(0x41, &[9, 1, 2]), Reply::Nak(detailed));
+    assert_eq!((detailed.number(), detailed.detail()), (9, &[1, 2][..]));
+    let Reply::Nak(unknown) = read(0x41, &[12]) else {
+        panic!("a NAK for another reason is another reply");
+    };
+    assert_eq!((unknown.number(), unknown.reason()), (12, None));
+    assert!(Nak::new(NakReason::UnknownCommand, &[0; 1431]).is_some());
+    assert!(Nak::new(NakReason::UnknownCommand, &[0; 1432]).is_none());
 }
