@@ -7,15 +7,19 @@ import os
 import random
 import select
 import signal
+import socket
 import subprocess
 import sys
 import tempfile
+import threading
 import time
-import tty
 from concurrent.futures import ThreadPoolExecutor
 from pathlib import Path
 
-from port_line import ACK, COM, COMSET, ID, NAK, OUT, PANEL, PDID, POLL, PORT, Device, Line, asks, com, faults, has, opened, taken, tells
+import serial
+import serial.rfc2217
+
+from port_line import ACK, COM, ID, OUT, PANEL, PDID, POLL, PORT, Device, Line, asks, faults, has, opened, taken, tells
 from terminals import Script, Terminal, packet
 
 QUICK = "poll-interval 20 reply-wait 100 sends 2 quiet-wait 60 check sum".split()
@@ -223,7 +227,7 @@ def killed():
         asks(line.run(lambda: opened(panel, 5)() and opened(panel, 6)()), "killed: the sessions don't open")
         panel.say("5 move 7 19200")
         asks(line.run(lambda: opened(panel, 7)() and opened(panel, 6, 2)()), f"killed: not found at the new places: {panel.lines[-6:]}")
-        asks([each.read_text() for each in kept] == ["7 19200\n", "6 19200\n"], "killed: the readers keep other places")
+        asks([each.read_text() if each.exists() else "" for each in kept] == ["7 19200\n", "6 19200\n"], "killed: the readers keep other places")
         readers[0].process.kill()
         asks(line.run(tells(panel, "lost 7")), "killed: the reader isn't lost")
         readers[0] = line.reader(0, 5, options=["--keep", kept[0]])
@@ -325,6 +329,53 @@ def acts_first():
         asks(packet(0x85, 1, ACK) not in end.held, "acts first: the answer has gone out before the deed was told")
 
 
+def serves(kind, path, ready):
+    """A server on the network that has a port: of bytes alone, or by RFC 2217."""
+    listener = socket.create_server(("127.0.0.1", 0))
+    ready.append(listener.getsockname()[1])
+    client, _ = listener.accept()
+    port = serial.Serial(path, 9600, timeout=0.01)
+    manager = None
+    if kind == "rfc2217":
+        made = type(port)  # a pseudo terminal has no lines of a modem
+        made.cts = made.dsr = made.ri = made.cd = property(lambda _: False)
+        made._update_dtr_state = made._update_rts_state = lambda _: None
+        manager = serial.rfc2217.PortManager(port, type("Answers", (), {"write": staticmethod(client.sendall)}))
+
+    def hands_up():
+        while True:
+            try:
+                read = port.read(max(1, port.in_waiting))
+                client.sendall(b"".join(manager.escape(read)) if manager else read)
+            except (OSError, TypeError):
+                return  # the line, or the client, is gone
+
+    threading.Thread(target=hands_up, daemon=True).start()
+    while read := client.recv(1024):
+        port.write(b"".join(manager.filter(read)) if manager else read)
+    client.close()
+
+
+def over_the_network():
+    """A port that a server on the network has, by its bytes alone and by RFC 2217; only the second one has another rate."""
+    for kind in ("socket", "rfc2217"):
+        with Line(osdp) as line:
+            ready = []
+            threading.Thread(target=serves, args=(kind, line.panel_end.path, ready), daemon=True).start()
+            while not ready:
+                time.sleep(0.01)
+            reader = line.reader(0, 5)
+            line.scripts.append(panel := Script(PORT, "--plain", "--osdp", osdp, f"{kind}://127.0.0.1:{ready[0]}", 9600, "panel", "5", *PANEL))
+            asks(line.run(opened(panel, 5)), f"{kind}: the session doesn't open: {panel.lines}")
+            panel.say("5 rate 19200")
+            if kind == "socket":
+                asks(line.run(tells(panel, "not taken 5 rate 19200: the port has no rate 19200")), f"{kind}: {panel.lines[-3:]}")
+            else:
+                asks(line.run(opened(panel, 5, 2)), f"{kind}: not found at the new rate: {panel.lines[-5:]}")
+            panel.say("5 on")
+            asks(line.run(has(reader, "taken OUT 0:2:0")), f"{kind}: no order is done")
+
+
 BAD_WORDS = (
     [], ["PORT"], ["PORT", "9600"], ["PORT", "fast", "show"], ["PORT", "0", "show"], ["PORT", "-9600", "show"], ["PORT", "9600", "shows"],
     ["PORT", "9600", "panel"], ["PORT", "9600", "panel", "127"], ["PORT", "9600", "panel", "5,5"], ["PORT", "9600", "panel", "5,"], ["PORT", "9600", "panel", "9-5"],
@@ -388,14 +439,14 @@ def bad_lines():
         panel.process.stdin.close()
         asks(line.run(has(reader, "taken LED 0:0:0:0:0:0:0:0:1:1:0:2:0")), "lines: the last order isn't done")
         asks(sum("refused line" in each for each in panel.lines) == 3, f"lines: {panel.lines[-6:]}")
-        for said, told in (("card 17 4386", "event RAW 0 1 26 88889100"), ("keys 12#", "event KEYPAD 0 313223"), ("nonsense", "refused nonsense: word 1"), ("bytes 00", "refused bytes 00")):
+        for said, told in (("card 17 4386", "event RAW 0 1 26 88889100"), ("keys 12#", "event KEYPAD 0 313223"), ("nonsense", "refused osdp doesn't read this line"), ("bytes 00", "refused bytes 00")):
             reader.say(said)
             asks(line.run(tells(reader, told), 10), f"lines: {said}: {reader.lines[-2:]}")
         asks(line.run(lambda: tells(panel, "facility 17 number 4386")() and tells(panel, "keys 12#")()), f"lines: the card is told as {panel.lines[-2:]}")
 
 
 PARTS = {part.__name__: part for part in (noise, no_reader, echo, two_at_one_address, late_answers, stolen_bytes, pulled_adapter, second_panel, new_rate, ctrl_c, killed,
-                                          finds, traces, wrong_rate_heard, acts_first, bad_words, bad_lines)}
+                                          finds, traces, wrong_rate_heard, over_the_network, acts_first, bad_words, bad_lines)}
 
 
 def run_part(name):

@@ -73,6 +73,7 @@ class Console:
 
     @staticmethod
     def text(line):
+        line = line.removesuffix(b"\r")
         is_text = len(line) <= LONGEST and all(0x20 <= byte < 0x7F for byte in line)
         return line.decode() if is_text else None
 

@@ -276,7 +276,7 @@ class Panel:
             raise Refused("a COMSET has an address and a rate, as COMSET 7 9600")
         if int(words[0]) > 126:
             raise Refused(f"address {words[0]}: an address is 0 to 126")
-        if not has_rate(int(words[1])):
+        if not has_rate(int(words[1])) or int(words[1]) != self.port.rate and not self.port.has_own_rate:
             raise Refused(f"the port has no rate {words[1]}")
         for each in self.devices:
             if each.session != "open":
