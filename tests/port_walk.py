@@ -5,6 +5,7 @@ are lost, 30 seconds of noise, Ctrl-C in each command, a reader and a panel that
 import json
 import os
 import random
+import re
 import select
 import signal
 import socket
@@ -75,7 +76,7 @@ def stolen_bytes():
     """A second program takes what comes: the panel goes on, tells what is lost, and takes orders again when the other one has ended."""
     with Line(osdp) as line:
         line.reader(0, 5)
-        panel = line.panel("5", *QUICK, stderr=subprocess.PIPE)
+        panel = line.panel("5", *PANEL, stderr=subprocess.PIPE)
         asks(line.run(opened(panel, 5)), "stolen: the session doesn't open")
         thief = subprocess.Popen(["timeout", "3", "cat"], stdin=line.panel_end.other, stdout=subprocess.DEVNULL)
         line.run(lambda: thief.poll() is not None)
@@ -111,7 +112,7 @@ def pulled_adapter():
     """An adapter that is pulled: the orders get their ends, and when it is back the session opens again by itself."""
     with tempfile.TemporaryDirectory() as folder, Line(osdp) as line:
         adapter = Adapter(line, folder)
-        reader, panel = line.reader(0, 5), line.panel("5", *QUICK)
+        reader, panel = line.reader(0, 5), line.panel("5", *PANEL)
         asks(line.run(opened(panel, 5)), "pulled: the session doesn't open")
         line.loses = lambda way, burst: burst[5] == OUT
         panel.say("5 OUT 0:2:1\n5 OUT 0:2:2")
@@ -148,7 +149,7 @@ def new_rate():
     """A COMSET of the rate whose answers are all lost: two devices are found again, at the new rate."""
     with Line(osdp, 2) as line:
         readers = [line.reader(0, 5), line.reader(1, 6)]
-        panel = line.panel("5,6", *QUICK)
+        panel = line.panel("5,6", *PANEL)
         asks(line.run(lambda: opened(panel, 5)() and opened(panel, 6)()), "rate: the sessions don't open")
         line.loses = lambda way, burst: burst[5] == COM
         panel.say("5 rate 19200")
@@ -223,7 +224,7 @@ def killed():
         kept = [Path(folder) / f"reader{at}" for at in range(2)]
         places = Path(folder) / "panel"
         readers = [line.reader(at, 5 + at, options=["--keep", kept[at]]) for at in range(2)]
-        panel = line.panel("5,6", *QUICK, options=["--keep", places])
+        panel = line.panel("5,6", *PANEL, options=["--keep", places])
         asks(line.run(lambda: opened(panel, 5)() and opened(panel, 6)()), "killed: the sessions don't open")
         panel.say("5 move 7 19200")
         asks(line.run(lambda: opened(panel, 7)() and opened(panel, 6, 2)()), f"killed: not found at the new places: {panel.lines[-6:]}")
@@ -234,13 +235,13 @@ def killed():
         asks(line.run(opened(panel, 7, 2)), "killed: the reader isn't found again")
         panel.process.kill()
         panel.process.wait()
-        again = line.panel("5,6", *QUICK, options=["--keep", places])
+        again = line.panel("5,6", *PANEL, options=["--keep", places])
         asks(line.run(lambda: opened(again, 7)() and opened(again, 6)()), f"killed: the panel doesn't find them: {again.lines}")
         again.say("7 on")
-        asks(line.run(has(readers[0], "taken OUT 0:2:0")), "killed: the order goes elsewhere")
+        asks(line.run(has(readers[0], "taken OUT 0:2:0")), f"killed: the order goes elsewhere: {again.lines[-6:]} {readers[0].lines}")
         asks(taken(readers[1]) == ["taken COMSET 6 19200"] or taken(readers[1]) == [], f"killed: the other one has taken {taken(readers[1])}")
         line.stops(again)
-        refused = line.panel("7,6", *QUICK, options=["--keep", places], stderr=subprocess.PIPE)
+        refused = line.panel("7,6", *PANEL, options=["--keep", places], stderr=subprocess.PIPE)
         refused.process.wait(timeout=60)
         asks("may be the device that began as 5" in refused.process.stderr.read().decode(), "killed: a panel starts where another device may be")
 
@@ -392,6 +393,11 @@ BAD_PORTS = (
 )
 
 
+def version():
+    """The version that the header for C has."""
+    return re.search(r'^#define OSDP_VERSION "(.*)"$', (PORT.parent.parent / "include/osdp.h").read_text(), re.M)[1]
+
+
 def bad_words():
     """Bad words end with status 2, bad ports and files with 3, each with a sentence that names what is wrong, and no traceback."""
     terminal = Terminal()
@@ -409,7 +415,7 @@ def bad_words():
         ends(words, 2)
     for words in BAD_PORTS:
         ends(words, 3)
-    for words, status, wanted in ((["--help"], 0, "usage: osdp-port"), (["--version"], 0, "osdp-port 0."), (["PORT", "9600", "show", "--help"], 0, "usage: osdp-port"),
+    for words, status, wanted in ((["--help"], 0, "usage: osdp-port"), (["--version"], 0, f"osdp-port {version()}\n"), (["PORT", "9600", "show", "--help"], 0, "usage: osdp-port"),
                                   (["--osdp", "/nowhere/osdp", terminal.path, "9600", "show"], 127, "/nowhere/osdp")):
         done = subprocess.run([PORT, *words], capture_output=True, text=True, timeout=60, stdin=subprocess.DEVNULL)
         asks(done.returncode == status and wanted in done.stdout + done.stderr, f"{words}: {done}")
