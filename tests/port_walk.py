@@ -2,16 +2,19 @@
 
 No reader, a wrong rate and address, an echo, two at one address, late answers, stolen bytes, a pulled adapter, a second panel, a COMSET whose answers
 are lost, 30 seconds of noise, Ctrl-C in each command, a reader and a panel that are killed, a trace, and bad words and ports."""
+import fcntl
 import json
 import os
 import random
 import re
 import select
+import shutil
 import signal
 import socket
 import subprocess
 import sys
 import tempfile
+import termios
 import threading
 import time
 from concurrent.futures import ThreadPoolExecutor
@@ -20,7 +23,7 @@ from pathlib import Path
 import serial
 import serial.rfc2217
 
-from port_line import ACK, COM, ID, OUT, PANEL, PDID, POLL, PORT, Device, Line, asks, faults, has, opened, taken, tells
+from port_line import ACK, COM, ID, OUT, PANEL, PDID, POLL, PORT, IDENTITY, Device, Line, asks, faults, has, opened, taken, tells
 from terminals import Script, Terminal, packet
 
 QUICK = "poll-interval 20 reply-wait 100 sends 2 quiet-wait 60 check sum".split()
@@ -206,7 +209,7 @@ def ctrl_c():
     with tempfile.TemporaryDirectory() as folder:
         said = bytes.fromhex("530508000061003F") + packet(0x85, 0, PDID, bytes.fromhex("53494D010101000000010000")) + packet(5, 1, POLL) + packet(0x85, 1, ACK) + packet(5, 2, 0x68, bytes([0, 2, 0, 0]))
         for words, status, wanted in ((["monitor"], 0, "device  asked"), (["show"], 0, "cmd 5 seq 0 sum ID 0"), (["trace", f"{folder}/trace"], 0, f"trace {folder}/trace: "),
-                                      (["find"], 1, "no device found")):
+                                      (["find"], 1, "stopped: 0 devices found so far")):
             with Line(osdp) as line:
                 script = line.start(line.panel_end, 9600, *words, stderr=subprocess.PIPE)
                 asks(line.run(lambda: script.lines), f"Ctrl-C: {words} doesn't begin")
@@ -265,6 +268,41 @@ def finds():
         asks(script.process.wait() == 1 and tells(script, "several devices answer")() and tells(script, "found address 3 rate 9600")()
              and tells(script, "found address 12 rate 9600")() and tells(script, "nothing is set")(), f"find: two: {script.lines}")
         asks(not tells(reader, "moved 4")(), "find: a device was changed though there are two")
+
+
+def another_panel():
+    """Where another panel speaks, `find` says so, and asks no further."""
+    with Line(osdp) as line:
+        script = line.start(line.panel_end, 9600, "find", stderr=subprocess.PIPE)
+        line.run(lambda: any(way == "out" for way, _ in line.bursts))
+        end = time.monotonic() + 30
+        while script.process.poll() is None and time.monotonic() < end:
+            os.write(line.panel_end.end, packet(9, 1, POLL))
+            line.rests(0.05)
+        asks(script.process.wait(timeout=60) == 3 and "another panel speaks on the line of" in script.process.stderr.read().decode(), f"another panel: {script.lines}")
+
+
+def listens():
+    """One device of several, and all packets, of `monitor` and `show`; the table each second."""
+    said = [packet(5, 0, ID, b"\0"), packet(0x85, 0, PDID, IDENTITY), packet(6, 1, POLL), packet(0x86, 1, ACK), packet(5, 1, POLL), packet(0x85, 1, 0x50, b"\0\1\x08\0\x31")]
+    rows = ((["show"], ["--address", "5"], ["cmd 5 seq 0 sum ID 0", "RAW 0 1 8 31"], ["cmd 6", "POLL"]), (["show"], ["--all"], ["cmd 6 seq 1 sum POLL", "reply 6 seq 1 sum ACK"], []),
+            (["monitor"], ["--address", "5"], ["device 5: opened", "5 "], ["device 6", "6  "]), (["monitor"], ["--every", "1"], ["device  asked"] , ["POLL"]),
+            (["monitor"], ["--all"], ["cmd 6 seq 1 sum POLL"], []))
+    for words, options, wanted, unwanted in rows:
+        with Line(osdp) as line:
+            script = line.start(line.panel_end, 9600, *words, options=options)
+            line.run(lambda: script.lines)
+            for burst in said:
+                os.write(line.panel_end.end, burst)
+                line.rests(0.1)
+            if "--every" in options:
+                line.rests(1.1)
+                os.write(line.panel_end.end, packet(6, 2, POLL))
+                asks(line.run(lambda: tells(script, "device  asked")(), 10), f"{words} {options}: no table comes: {script.lines}")
+            line.rests(0.3)
+            line.stops(script)
+            asks(all(any(each in line for line in script.lines) for each in wanted), f"{words} {options}: {script.lines}")
+            asks(not any(each in line for line in script.lines[1:] for each in unwanted), f"{words} {options}: shows too much: {script.lines}")
 
 
 def traces():
@@ -428,6 +466,28 @@ def bad_words():
     terminal.close()
 
 
+def no_permission():
+    """A user who may not open the port is told what to do; one who may, and comes second, is refused by the system."""
+    if os.getuid() != 0:
+        return  # only root can be another user
+    terminal, nobody = Terminal(), {"user": 65534, "group": 65534}
+    with tempfile.TemporaryDirectory() as folder:
+        os.chmod(folder, 0o755)
+        shutil.copytree(PORT.parent, f"{folder}/port", ignore=shutil.ignore_patterns("__pycache__"))
+        shutil.copy(osdp, f"{folder}/osdp")
+        for mode, wanted in ((0o600, "no permission: add yourself to dialout"), (0o666, "is in use by")):
+            os.chmod(terminal.path, mode)
+            holder = serial.Serial(terminal.path, 9600) if mode == 0o666 else None
+            if holder:
+                fcntl.ioctl(holder.fileno(), termios.TIOCEXCL)
+            done = subprocess.run([f"{folder}/port/osdp-port", "--osdp", f"{folder}/osdp", terminal.path, "9600", "show"], capture_output=True, text=True, stdin=subprocess.DEVNULL,
+                                  timeout=60, **nobody)
+            asks(done.returncode == 3 and f"{terminal.path}" in done.stderr and wanted in done.stderr, f"no permission: {done}")
+            if holder:
+                holder.close()
+    terminal.close()
+
+
 def bad_lines():
     """Lines that aren't orders are told with the word that is wrong, and nothing ends by them."""
     with Line(osdp) as line:
@@ -452,7 +512,7 @@ def bad_lines():
 
 
 PARTS = {part.__name__: part for part in (noise, no_reader, echo, two_at_one_address, late_answers, stolen_bytes, pulled_adapter, second_panel, new_rate, ctrl_c, killed,
-                                          finds, traces, wrong_rate_heard, over_the_network, acts_first, bad_words, bad_lines)}
+                                          finds, traces, wrong_rate_heard, another_panel, listens, over_the_network, acts_first, bad_words, no_permission, bad_lines)}
 
 
 def run_part(name):

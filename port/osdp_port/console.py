@@ -39,6 +39,12 @@ class Console:
         if self.stops > 1:
             raise Stop("", 128 + number)
 
+    @staticmethod
+    def ends():
+        """All was told: nothing is left that Ctrl-C could end."""
+        for number in (signal.SIGINT, signal.SIGTERM):
+            signal.signal(number, signal.SIG_IGN)
+
     def say(self, line):
         """Prints a line at once, with this moment."""
         self.raw(f"{stamp()} {line}" if self.has_times else line)

@@ -149,3 +149,5 @@ def main(arguments):
     except OSError as error:
         console.note(f"{error.filename or 'the system'}: {error.strerror}")
         return FAILED
+    finally:
+        console.ends()
