@@ -106,7 +106,7 @@ class Account:
                 self.sessions.append([])
             elif name == "settled":
                 self.settled.append(text.split(" = ")[0])
-            elif name == "event":
+            elif name in ("event", "maybe-again"):
                 self.sessions[-1].append(text)
             elif name == "lost":
                 self.lost += 1

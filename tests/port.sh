@@ -1,6 +1,6 @@
 #!/usr/bin/env bash
-# Runs `osdp-port`, over pyserial of the system's Python: the walk of an installer over pseudo terminals, and over a simulated line where devices are found after
-# a COMSET whose answers were lost. Runs the short examples in Python. Takes the path of the program.
+# Runs `osdp-port`, over pyserial of the system's Python: the walk of an installer over pseudo terminals; a line that loses, damages and repeats bursts; and a
+# simulated line, where devices are found after a COMSET whose answers were lost. Runs the short examples in Python. Takes the path of the program.
 set -u
 program=$(cd "$(dirname "$1")" && pwd)/$(basename "$1")
 cd "$(dirname "$0")/.." || exit 1
@@ -8,5 +8,6 @@ cd "$(dirname "$0")/.." || exit 1
 failed=0
 timeout 400 /usr/bin/python3 -B tests/port_places.py "$program" || failed=1
 timeout 500 /usr/bin/python3 -B tests/port_walk.py "$program" || failed=1
+timeout 200 /usr/bin/python3 -B tests/port_noise.py "$program" || failed=1
 timeout 200 /usr/bin/python3 -B tests/short_examples.py "$program" || failed=1
 exit "$failed"

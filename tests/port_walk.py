@@ -2,20 +2,28 @@
 
 No reader, a wrong rate and address, an echo, two at one address, late answers, stolen bytes, a pulled adapter, a second panel, a COMSET whose answers
 are lost, 30 seconds of noise, Ctrl-C in each command, a reader and a panel that are killed, a trace, and bad words and ports."""
+import fcntl
 import json
 import os
 import random
+import re
 import select
+import shutil
 import signal
+import socket
 import subprocess
 import sys
 import tempfile
+import termios
+import threading
 import time
-import tty
 from concurrent.futures import ThreadPoolExecutor
 from pathlib import Path
 
-from port_line import ACK, COM, COMSET, ID, NAK, OUT, PANEL, PDID, POLL, PORT, Device, Line, asks, com, faults, has, opened, taken, tells
+import serial
+import serial.rfc2217
+
+from port_line import ACK, COM, ID, OUT, PANEL, PDID, POLL, PORT, IDENTITY, Device, Line, asks, faults, has, opened, taken, tells
 from terminals import Script, Terminal, packet
 
 QUICK = "poll-interval 20 reply-wait 100 sends 2 quiet-wait 60 check sum".split()
@@ -71,7 +79,7 @@ def stolen_bytes():
     """A second program takes what comes: the panel goes on, tells what is lost, and takes orders again when the other one has ended."""
     with Line(osdp) as line:
         line.reader(0, 5)
-        panel = line.panel("5", *QUICK, stderr=subprocess.PIPE)
+        panel = line.panel("5", *PANEL, stderr=subprocess.PIPE)
         asks(line.run(opened(panel, 5)), "stolen: the session doesn't open")
         thief = subprocess.Popen(["timeout", "3", "cat"], stdin=line.panel_end.other, stdout=subprocess.DEVNULL)
         line.run(lambda: thief.poll() is not None)
@@ -107,7 +115,7 @@ def pulled_adapter():
     """An adapter that is pulled: the orders get their ends, and when it is back the session opens again by itself."""
     with tempfile.TemporaryDirectory() as folder, Line(osdp) as line:
         adapter = Adapter(line, folder)
-        reader, panel = line.reader(0, 5), line.panel("5", *QUICK)
+        reader, panel = line.reader(0, 5), line.panel("5", *PANEL)
         asks(line.run(opened(panel, 5)), "pulled: the session doesn't open")
         line.loses = lambda way, burst: burst[5] == OUT
         panel.say("5 OUT 0:2:1\n5 OUT 0:2:2")
@@ -144,7 +152,7 @@ def new_rate():
     """A COMSET of the rate whose answers are all lost: two devices are found again, at the new rate."""
     with Line(osdp, 2) as line:
         readers = [line.reader(0, 5), line.reader(1, 6)]
-        panel = line.panel("5,6", *QUICK)
+        panel = line.panel("5,6", *PANEL)
         asks(line.run(lambda: opened(panel, 5)() and opened(panel, 6)()), "rate: the sessions don't open")
         line.loses = lambda way, burst: burst[5] == COM
         panel.say("5 rate 19200")
@@ -201,7 +209,7 @@ def ctrl_c():
     with tempfile.TemporaryDirectory() as folder:
         said = bytes.fromhex("530508000061003F") + packet(0x85, 0, PDID, bytes.fromhex("53494D010101000000010000")) + packet(5, 1, POLL) + packet(0x85, 1, ACK) + packet(5, 2, 0x68, bytes([0, 2, 0, 0]))
         for words, status, wanted in ((["monitor"], 0, "device  asked"), (["show"], 0, "cmd 5 seq 0 sum ID 0"), (["trace", f"{folder}/trace"], 0, f"trace {folder}/trace: "),
-                                      (["find"], 1, "no device found")):
+                                      (["find"], 1, "stopped: 0 devices found so far")):
             with Line(osdp) as line:
                 script = line.start(line.panel_end, 9600, *words, stderr=subprocess.PIPE)
                 asks(line.run(lambda: script.lines), f"Ctrl-C: {words} doesn't begin")
@@ -219,24 +227,24 @@ def killed():
         kept = [Path(folder) / f"reader{at}" for at in range(2)]
         places = Path(folder) / "panel"
         readers = [line.reader(at, 5 + at, options=["--keep", kept[at]]) for at in range(2)]
-        panel = line.panel("5,6", *QUICK, options=["--keep", places])
+        panel = line.panel("5,6", *PANEL, options=["--keep", places])
         asks(line.run(lambda: opened(panel, 5)() and opened(panel, 6)()), "killed: the sessions don't open")
         panel.say("5 move 7 19200")
         asks(line.run(lambda: opened(panel, 7)() and opened(panel, 6, 2)()), f"killed: not found at the new places: {panel.lines[-6:]}")
-        asks([each.read_text() for each in kept] == ["7 19200\n", "6 19200\n"], "killed: the readers keep other places")
+        asks([each.read_text() if each.exists() else "" for each in kept] == ["7 19200\n", "6 19200\n"], "killed: the readers keep other places")
         readers[0].process.kill()
         asks(line.run(tells(panel, "lost 7")), "killed: the reader isn't lost")
         readers[0] = line.reader(0, 5, options=["--keep", kept[0]])
         asks(line.run(opened(panel, 7, 2)), "killed: the reader isn't found again")
         panel.process.kill()
         panel.process.wait()
-        again = line.panel("5,6", *QUICK, options=["--keep", places])
+        again = line.panel("5,6", *PANEL, options=["--keep", places])
         asks(line.run(lambda: opened(again, 7)() and opened(again, 6)()), f"killed: the panel doesn't find them: {again.lines}")
         again.say("7 on")
-        asks(line.run(has(readers[0], "taken OUT 0:2:0")), "killed: the order goes elsewhere")
+        asks(line.run(has(readers[0], "taken OUT 0:2:0")), f"killed: the order goes elsewhere: {again.lines[-6:]} {readers[0].lines}")
         asks(taken(readers[1]) == ["taken COMSET 6 19200"] or taken(readers[1]) == [], f"killed: the other one has taken {taken(readers[1])}")
         line.stops(again)
-        refused = line.panel("7,6", *QUICK, options=["--keep", places], stderr=subprocess.PIPE)
+        refused = line.panel("7,6", *PANEL, options=["--keep", places], stderr=subprocess.PIPE)
         refused.process.wait(timeout=60)
         asks("may be the device that began as 5" in refused.process.stderr.read().decode(), "killed: a panel starts where another device may be")
 
@@ -260,6 +268,41 @@ def finds():
         asks(script.process.wait() == 1 and tells(script, "several devices answer")() and tells(script, "found address 3 rate 9600")()
              and tells(script, "found address 12 rate 9600")() and tells(script, "nothing is set")(), f"find: two: {script.lines}")
         asks(not tells(reader, "moved 4")(), "find: a device was changed though there are two")
+
+
+def another_panel():
+    """Where another panel speaks, `find` says so, and asks no further."""
+    with Line(osdp) as line:
+        script = line.start(line.panel_end, 9600, "find", stderr=subprocess.PIPE)
+        line.run(lambda: any(way == "out" for way, _ in line.bursts))
+        end = time.monotonic() + 30
+        while script.process.poll() is None and time.monotonic() < end:
+            os.write(line.panel_end.end, packet(9, 1, POLL))
+            line.rests(0.05)
+        asks(script.process.wait(timeout=60) == 3 and "another panel speaks on the line of" in script.process.stderr.read().decode(), f"another panel: {script.lines}")
+
+
+def listens():
+    """One device of several, and all packets, of `monitor` and `show`; the table each second."""
+    said = [packet(5, 0, ID, b"\0"), packet(0x85, 0, PDID, IDENTITY), packet(6, 1, POLL), packet(0x86, 1, ACK), packet(5, 1, POLL), packet(0x85, 1, 0x50, b"\0\1\x08\0\x31")]
+    rows = ((["show"], ["--address", "5"], ["cmd 5 seq 0 sum ID 0", "RAW 0 1 8 31"], ["cmd 6", "POLL"]), (["show"], ["--all"], ["cmd 6 seq 1 sum POLL", "reply 6 seq 1 sum ACK"], []),
+            (["monitor"], ["--address", "5"], ["device 5: opened", "5 "], ["device 6", "6  "]), (["monitor"], ["--every", "1"], ["device  asked"] , ["POLL"]),
+            (["monitor"], ["--all"], ["cmd 6 seq 1 sum POLL"], []))
+    for words, options, wanted, unwanted in rows:
+        with Line(osdp) as line:
+            script = line.start(line.panel_end, 9600, *words, options=options)
+            line.run(lambda: script.lines)
+            for burst in said:
+                os.write(line.panel_end.end, burst)
+                line.rests(0.1)
+            if "--every" in options:
+                line.rests(1.1)
+                os.write(line.panel_end.end, packet(6, 2, POLL))
+                asks(line.run(lambda: tells(script, "device  asked")(), 10), f"{words} {options}: no table comes: {script.lines}")
+            line.rests(0.3)
+            line.stops(script)
+            asks(all(any(each in line for line in script.lines) for each in wanted), f"{words} {options}: {script.lines}")
+            asks(not any(each in line for line in script.lines[1:] for each in unwanted), f"{words} {options}: shows too much: {script.lines}")
 
 
 def traces():
@@ -325,6 +368,53 @@ def acts_first():
         asks(packet(0x85, 1, ACK) not in end.held, "acts first: the answer has gone out before the deed was told")
 
 
+def serves(kind, path, ready):
+    """A server on the network that has a port: of bytes alone, or by RFC 2217."""
+    listener = socket.create_server(("127.0.0.1", 0))
+    ready.append(listener.getsockname()[1])
+    client, _ = listener.accept()
+    port = serial.Serial(path, 9600, timeout=0.01)
+    manager = None
+    if kind == "rfc2217":
+        made = type(port)  # a pseudo terminal has no lines of a modem
+        made.cts = made.dsr = made.ri = made.cd = property(lambda _: False)
+        made._update_dtr_state = made._update_rts_state = lambda _: None
+        manager = serial.rfc2217.PortManager(port, type("Answers", (), {"write": staticmethod(client.sendall)}))
+
+    def hands_up():
+        while True:
+            try:
+                read = port.read(max(1, port.in_waiting))
+                client.sendall(b"".join(manager.escape(read)) if manager else read)
+            except (OSError, TypeError):
+                return  # the line, or the client, is gone
+
+    threading.Thread(target=hands_up, daemon=True).start()
+    while read := client.recv(1024):
+        port.write(b"".join(manager.filter(read)) if manager else read)
+    client.close()
+
+
+def over_the_network():
+    """A port that a server on the network has, by its bytes alone and by RFC 2217; only the second one has another rate."""
+    for kind in ("socket", "rfc2217"):
+        with Line(osdp) as line:
+            ready = []
+            threading.Thread(target=serves, args=(kind, line.panel_end.path, ready), daemon=True).start()
+            while not ready:
+                time.sleep(0.01)
+            reader = line.reader(0, 5)
+            line.scripts.append(panel := Script(PORT, "--plain", "--osdp", osdp, f"{kind}://127.0.0.1:{ready[0]}", 9600, "panel", "5", *PANEL))
+            asks(line.run(opened(panel, 5)), f"{kind}: the session doesn't open: {panel.lines}")
+            panel.say("5 rate 19200")
+            if kind == "socket":
+                asks(line.run(tells(panel, "not taken 5 rate 19200: the port has no rate 19200")), f"{kind}: {panel.lines[-3:]}")
+            else:
+                asks(line.run(opened(panel, 5, 2)), f"{kind}: not found at the new rate: {panel.lines[-5:]}")
+            panel.say("5 on")
+            asks(line.run(has(reader, "taken OUT 0:2:0")), f"{kind}: no order is done")
+
+
 BAD_WORDS = (
     [], ["PORT"], ["PORT", "9600"], ["PORT", "fast", "show"], ["PORT", "0", "show"], ["PORT", "-9600", "show"], ["PORT", "9600", "shows"],
     ["PORT", "9600", "panel"], ["PORT", "9600", "panel", "127"], ["PORT", "9600", "panel", "5,5"], ["PORT", "9600", "panel", "5,"], ["PORT", "9600", "panel", "9-5"],
@@ -339,6 +429,11 @@ BAD_PORTS = (
     ["socket://localhost:1", "9600", "show"], ["rfc2217://localhost:1", "9600", "panel", "5"], ["--trace", "/nowhere/file", "PORT", "9600", "panel", "5"], ["PORT", "9600", "trace", "/nowhere/file"],
     ["--keep", "/dev", "PORT", "9600", "panel", "5"], ["--keep", "/dev", "PORT", "9600", "reader", "5"],
 )
+
+
+def version():
+    """The version that the header for C has."""
+    return re.search(r'^#define OSDP_VERSION "(.*)"$', (PORT.parent.parent / "include/osdp.h").read_text(), re.M)[1]
 
 
 def bad_words():
@@ -358,7 +453,7 @@ def bad_words():
         ends(words, 2)
     for words in BAD_PORTS:
         ends(words, 3)
-    for words, status, wanted in ((["--help"], 0, "usage: osdp-port"), (["--version"], 0, "osdp-port 0."), (["PORT", "9600", "show", "--help"], 0, "usage: osdp-port"),
+    for words, status, wanted in ((["--help"], 0, "usage: osdp-port"), (["--version"], 0, f"osdp-port {version()}\n"), (["PORT", "9600", "show", "--help"], 0, "usage: osdp-port"),
                                   (["--osdp", "/nowhere/osdp", terminal.path, "9600", "show"], 127, "/nowhere/osdp")):
         done = subprocess.run([PORT, *words], capture_output=True, text=True, timeout=60, stdin=subprocess.DEVNULL)
         asks(done.returncode == status and wanted in done.stdout + done.stderr, f"{words}: {done}")
@@ -368,6 +463,28 @@ def bad_words():
     script.send_signal(signal.SIGINT)
     script.wait(timeout=60)
     asks(b"Traceback" not in script.stderr.read(), "a closed pipe: a traceback")
+    terminal.close()
+
+
+def no_permission():
+    """A user who may not open the port is told what to do; one who may, and comes second, is refused by the system."""
+    if os.getuid() != 0:
+        return  # only root can be another user
+    terminal, nobody = Terminal(), {"user": 65534, "group": 65534}
+    with tempfile.TemporaryDirectory() as folder:
+        os.chmod(folder, 0o755)
+        shutil.copytree(PORT.parent, f"{folder}/port", ignore=shutil.ignore_patterns("__pycache__"))
+        shutil.copy(osdp, f"{folder}/osdp")
+        for mode, wanted in ((0o600, "no permission: add yourself to dialout"), (0o666, "is in use by")):
+            os.chmod(terminal.path, mode)
+            holder = serial.Serial(terminal.path, 9600) if mode == 0o666 else None
+            if holder:
+                fcntl.ioctl(holder.fileno(), termios.TIOCEXCL)
+            done = subprocess.run([f"{folder}/port/osdp-port", "--osdp", f"{folder}/osdp", terminal.path, "9600", "show"], capture_output=True, text=True, stdin=subprocess.DEVNULL,
+                                  timeout=60, **nobody)
+            asks(done.returncode == 3 and f"{terminal.path}" in done.stderr and wanted in done.stderr, f"no permission: {done}")
+            if holder:
+                holder.close()
     terminal.close()
 
 
@@ -388,14 +505,14 @@ def bad_lines():
         panel.process.stdin.close()
         asks(line.run(has(reader, "taken LED 0:0:0:0:0:0:0:0:1:1:0:2:0")), "lines: the last order isn't done")
         asks(sum("refused line" in each for each in panel.lines) == 3, f"lines: {panel.lines[-6:]}")
-        for said, told in (("card 17 4386", "event RAW 0 1 26 88889100"), ("keys 12#", "event KEYPAD 0 313223"), ("nonsense", "refused nonsense: word 1"), ("bytes 00", "refused bytes 00")):
+        for said, told in (("card 17 4386", "event RAW 0 1 26 88889100"), ("keys 12#", "event KEYPAD 0 313223"), ("nonsense", "refused osdp doesn't read this line"), ("bytes 00", "refused bytes 00")):
             reader.say(said)
             asks(line.run(tells(reader, told), 10), f"lines: {said}: {reader.lines[-2:]}")
         asks(line.run(lambda: tells(panel, "facility 17 number 4386")() and tells(panel, "keys 12#")()), f"lines: the card is told as {panel.lines[-2:]}")
 
 
 PARTS = {part.__name__: part for part in (noise, no_reader, echo, two_at_one_address, late_answers, stolen_bytes, pulled_adapter, second_panel, new_rate, ctrl_c, killed,
-                                          finds, traces, wrong_rate_heard, acts_first, bad_words, bad_lines)}
+                                          finds, traces, wrong_rate_heard, another_panel, listens, over_the_network, acts_first, bad_words, no_permission, bad_lines)}
 
 
 def run_part(name):

@@ -22,7 +22,7 @@ class Port:
     """A port of a simulated line."""
 
     def __init__(self, line, rate):
-        self.line, self.rate, self.is_there = line, rate, True
+        self.line, self.rate, self.is_there, self.has_own_rate = line, rate, True, True
 
     def write(self, burst):
         if self.is_there:

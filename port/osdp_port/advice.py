@@ -7,8 +7,8 @@ OFTEN = 40  # so many packets to a device are looked at
 class Advice:
     """Watches what a panel sends, what comes and what is told."""
 
-    def __init__(self, say, words):
-        self.say, self.words = say, words  # the words of a command for this port, as `PORT RATE`
+    def __init__(self, say, port):
+        self.say, self.port = say, port
         self.sent_before = {}  # the last packet to each address
         self.repeats = {}  # of the last packets to each address, whether they were repeats
         self.came_since = 0  # bytes since the last packet went out, without its echo
@@ -54,12 +54,12 @@ class Advice:
             self.is_refused(words[-2:], words[2] if words[0] == "passed" else words[1])
 
     def is_lost(self, address, cause):
-        find = f"osdp-port {self.words} find"
+        find, show = (f"osdp-port {self.port.path} {self.port.rate} {command}" for command in ("find", "show"))
         if cause == "no-reply" and not self.has_come.get(address):
             self.once((address, "silent"), f"device {address} doesn't answer: its power, the two wires, its address, its rate, its check; {find}")
         elif cause == "no-reply":
             self.once((address, "noise"), f"bytes come, but no answer of device {address}: another rate or check, two devices at one address, an answer "
-                                          f"later than reply-wait, or noise; osdp-port {self.words} show, or {find}")
+                                          f"later than reply-wait, or noise; {show}, or {find}")
         elif cause == "too-busy":
             self.once((address, cause), f"device {address} is busy each time: wait until it has started, or give a larger busy-limit")
         elif cause == "number-refused":

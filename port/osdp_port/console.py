@@ -39,6 +39,12 @@ class Console:
         if self.stops > 1:
             raise Stop("", 128 + number)
 
+    @staticmethod
+    def ends():
+        """All was told: nothing is left that Ctrl-C could end."""
+        for number in (signal.SIGINT, signal.SIGTERM):
+            signal.signal(number, signal.SIG_IGN)
+
     def say(self, line):
         """Prints a line at once, with this moment."""
         self.raw(f"{stamp()} {line}" if self.has_times else line)
@@ -73,6 +79,7 @@ class Console:
 
     @staticmethod
     def text(line):
+        line = line.removesuffix(b"\r")
         is_text = len(line) <= LONGEST and all(0x20 <= byte < 0x7F for byte in line)
         return line.decode() if is_text else None
 

@@ -86,6 +86,8 @@ class Line:
             return [], False
         done = subprocess.run([self.osdp, "show"], input=came.hex() + "\n", capture_output=True, text=True, check=False, start_new_session=True)
         lines = LINE.findall(done.stdout)
+        if any(line.startswith("cmd") for line in lines):
+            raise Stop(f"another panel speaks on the line of {self.port.path}: stop it first")
         replies = [(int(found[1]), found[3]) for found in map(REPLY.fullmatch, lines) if found]
         return replies, any(line.startswith("refused") for line in lines) or (not replies and any(line not in ("skip FF", "skip 00") for line in lines))
 
@@ -205,8 +207,11 @@ def find(words, port, console, osdp):
     search = Search(line, console.say)
     console.say(f"find at {port.path}: rates {', '.join(map(str, search.rates()))}, both checks; no device is changed{'' if address is None and rate is None else ' before it is found'}")
     search.goes()
-    if not search.found and not search.several and line.is_going():
+    if not search.found and not search.several and not console.stops:
         search.goes_by_address()
+    if console.stops:
+        console.say(f"stopped: {len(search.found)} devices found so far")
+        return 0 if search.found else 1
     if not search.found:
         console.say("no device found: power, the two wires and the ground; stop every other panel")
         return 1

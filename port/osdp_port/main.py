@@ -55,9 +55,9 @@ def goes_on(machine, port, console):
         machine.turn(port.read(), console.lines())
 
 
-def says_for_panel(words, port, console):
+def says_for_panel(port, console):
     """Prints what is told, and what to do about it."""
-    advice = Advice(console.say, f"{port.path} {port.rate}")
+    advice = Advice(console.say, port)
     port.taps.append(advice)
 
     def say(line):
@@ -70,7 +70,7 @@ def panel(words, port, console, osdp, kept, devices):
     ends = taps(words, port, console, osdp)
     program = Lines(osdp, ["panel", *words.rest[1:]])
     console.say(f"panel at {port.path} {port.rate}: devices {','.join(str(device.address) for device in devices)}; settings {' '.join(words.rest[1:]) or 'as osdp has them'}")
-    machine = Panel(port, program, devices, moment, says_for_panel(words, port, console), kept)
+    machine = Panel(port, program, devices, moment, says_for_panel(port, console), kept)
     return runs(machine, port, console, ends)
 
 
@@ -149,3 +149,5 @@ def main(arguments):
     except OSError as error:
         console.note(f"{error.filename or 'the system'}: {error.strerror}")
         return FAILED
+    finally:
+        console.ends()

@@ -276,13 +276,21 @@ class Panel:
             raise Refused("a COMSET has an address and a rate, as COMSET 7 9600")
         if int(words[0]) > 126:
             raise Refused(f"address {words[0]}: an address is 0 to 126")
-        if not has_rate(int(words[1])):
+        if not has_rate(int(words[1])) or int(words[1]) != self.port.rate and not self.port.has_own_rate:
             raise Refused(f"the port has no rate {words[1]}")
+        self.may_go_to(int(words[0]))
         for each in self.devices:
             if each.session != "open":
                 raise Refused(f"the session with {each.address} isn't open: it would stay at its rate, where nobody finds it")
             if each.is_in_doubt():
                 raise Refused(f"the COMSET of {each.address} isn't answered yet")
+
+    def may_go_to(self, address):
+        """Refuses an address at which a device may be that the file knows and this panel hasn't."""
+        here = {each.name for each in self.devices}
+        for name, known in (self.kept.known if self.kept else {}).items():
+            if name not in here and any(place.address == address for place in known.places):
+                raise Refused(f"at address {address} there may be the device that began as {name}: {self.kept.path} says so")
 
     def submit(self, device, text):
         """Hands an order to `osdp`. Whether it was taken. A COMSET's new place is written down before it goes out."""

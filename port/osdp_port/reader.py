@@ -7,7 +7,8 @@ from .serial_port import has_rate
 
 TURN = 10  # how long a read waits, in milliseconds
 NAK = 0x41  # the code of a reply that says that nothing was done
-CALLS = ("event", "busy", "inputs", "readers", "local", "withdraw")  # what a line of standard input may begin with, as it is: all other calls are made here
+OWN = ("at", "bytes", "silence", "tick", "outputs")  # the calls that are made here, and aren't taken from standard input
+COULD = "what can stand there is card, keys, event, busy, inputs, readers, local and help"
 HELP = """card FACILITY NUMBER   a card of 26 bits was read
 keys KEYS              keys were pressed, as keys 123#
 event, busy, inputs, readers, local   as osdp reader has them: event KEYPAD 0 31"""
@@ -24,9 +25,9 @@ def call_of(line):
         if len(words) != 2:
             raise Refused("keys is followed by one word: keys 123#")
         return f"event KEYPAD 0 {words[1].encode().hex().upper()}"
-    if not words or words[0] not in CALLS:
-        raise Refused(f"word 1, {words[0] if words else 'nothing'}: one of card, keys, {', '.join(CALLS)}, help")
-    return line
+    if words[:1] and words[0] in OWN:
+        raise Refused(f"word 1, {words[0]}: this call is made here; {COULD}")
+    return line if words else ""
 
 
 class Reader:
@@ -61,7 +62,7 @@ class Reader:
         if name in ("taken", "again") and burst is not None and burst[5] == NAK:
             name = "refused"
         elif name == "refused":
-            words = [{"N2": "no room for another event", "line": "osdp doesn't read this line: man osdp-reader has them"}.get(words[0], words[0])]
+            words = [{"N2": "no room for another event", "line": f"osdp doesn't read this line: man osdp-reader has them; of word 1 {COULD}"}.get(words[0], words[0])]
         self.say(" ".join([name, *words]))
         if name == "taken" and words[0] == "OUT":
             self.outputs.switch(words[1:])

@@ -15,6 +15,7 @@ except ImportError:
 RATES = (9600, 19200, 38400, 57600, 115200, 230400)  # those of the standard
 PIECE = 2048  # how many bytes a read takes at most: a line to `osdp` has 8,192 characters at most, and a byte two of them
 AGAIN = 500  # after how many milliseconds a port that isn't there is tried again
+FAULTS = (OSError, ValueError, NotImplementedError)  # what pyserial raises
 STOLEN_AGAIN = 10.0  # after how many seconds it is told again that bytes were taken
 
 
@@ -55,7 +56,7 @@ class Port:
         self.taps = []  # what else gets each burst that is sent, and the bytes that come
         try:
             self.open()
-        except (OSError, ValueError) as error:
+        except FAULTS as error:
             raise Stop(refusal(path, error)) from None
 
     @property
@@ -64,9 +65,9 @@ class Port:
 
     def open(self):
         """Opens the port, for this program alone: other programs are refused by a lock, and, but for root, by the system."""
-        made = serial.serial_for_url(self.path, self.rate, timeout=0, write_timeout=2, do_not_open=True)
+        made = serial.serial_for_url(self.path, self.rate, timeout=0, do_not_open=True)
         if "://" not in self.path:
-            made.exclusive = True
+            made.exclusive, made.write_timeout = True, 2
         made.open()
         if "://" not in self.path:
             try:
@@ -74,6 +75,11 @@ class Port:
             except OSError:
                 pass  # a port without it still has the lock
         self.serial = made
+
+    @property
+    def has_own_rate(self):
+        """Whether the rate is set here, and not by a server on the network."""
+        return not self.path.startswith("socket://")
 
     def others(self):
         """Which other programs have it open already."""
@@ -102,7 +108,7 @@ class Port:
                 self.open()
                 self.tell(f"back {self.path}")
                 return True
-            except (OSError, ValueError):
+            except FAULTS:
                 self.tries_at = time.monotonic() + AGAIN / 1000
         return False
 
@@ -140,7 +146,7 @@ class Port:
             return
         try:
             self.serial.write(burst)
-        except (OSError, ValueError):
+        except FAULTS:
             self.pulled()
             return
         for tap in self.taps:
@@ -148,13 +154,13 @@ class Port:
 
     def set_rate(self, rate):
         """Sets another rate. What was written goes out before, at the old one. Whether the port has such a rate; else it stays as it is."""
-        if not has_rate(rate):
+        if not has_rate(rate) or not self.has_own_rate:
             return False
         try:
             if self.serial is not None:
                 self.serial.flush()
                 self.serial.baudrate = rate
-        except (OSError, ValueError, termios.error):
+        except (*FAULTS, termios.error):
             return False
         self.rate = rate
         return True
