@@ -30,6 +30,7 @@ NUMBERED = (
     ("Reports", r"^report_struct (?P<name>None) r = tells (?P<number>\d+) ", "OSDP_REPORT_"),
     ("Reports", r"^cause_number (?P<name>\w+) = (?P<number>\d+)$", "OSDP_LOST_"),
     ("Answers", r"^kind_number (?P<name>\w+) = (?P<number>\d+)$", "OSDP_SAID_"),
+    ("Readers", r"^how_expired \(?(?:Some \()?(?P<name>\w+).* = (?P<number>\d+)$", "OSDP_EXPIRED_"),
     ("Answers", r"^order_number (?P<name>\w+) = (?P<number>\d+)$", "OSDP_ORDER_"),
     ("Answers", r"^(?P<name>pends) .* \(ordered (?P<number>\d+) ", "OSDP_ORDER_"),
     ("Answers", r"^(?P<name>pends) .* kind = (?P<number>\d+) ", "OSDP_SAID_"),

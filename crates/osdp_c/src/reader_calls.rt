@@ -10,7 +10,7 @@ use arrayvec::ArrayVec;
 use osdp_c_values::{
     AnswerStruct, Clock, MessageStruct, Place, ReaderMachine, ReaderSettings, StateList, Status,
 };
-use osdp_device::{Device, Expired, ProgramAnswers};
+use osdp_device::{Ages, Device, Expired, ProgramAnswers};
 use osdp_frame::{Address, CheckKind, FrameView, Header, Seq, is_time};
 use osdp_msg::{Event, LocalState, MAX_DATA, MsgFault, PdCap, Reply, is_room};
 use osdp_reader::{Answer, Heard, Kind, Reader, ReaderConfig, ReaderFault};
@@ -55,8 +55,13 @@ fn new_machine(
         caps,
     };
     let capacity = settings.capacity as usize;
+    let Ok(ages) = Ages::new(alloc, capacity) else {
+        return Err(ReaderFault::NoMemory);
+    };
     let reader = Reader::new(alloc, config, ProgramAnswers::new(), capacity)?;
-    let device = Device::new(alloc, reader, settings.gap)?;
+    let Some(device) = Device::with_ages(reader, ages, settings.gap) else {
+        return Err(ReaderFault::OutOfRange);
+    };
     let clock = Clock::new(settings.clock_limit());
     let heard = Place::new(Heard::new());
     match Box::new(

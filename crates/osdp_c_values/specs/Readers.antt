@@ -329,7 +329,7 @@ expires_event now limit m = does (record m {
 abbrev pub expired_now : ℕ → ℕ → ReaderMachine → Option Expired
 expired_now now limit m = if is_expired now limit m then expired_front m.device.reader.queue else None
 
--- what became of it: 0 there is none, 1 it is withdrawn, 2 it is in doubt
+-- what became of it: there is none, it is withdrawn, it is in doubt
 abbrev pub how_expired : Option Expired → ℕ
 how_expired None = 0
 how_expired (Some (Withdrawn event)) = 1

@@ -34,22 +34,29 @@ impl Ages {
         })
     }
 
+    /// For how many events there is room.
+    pub fn room(&self) -> usize
+        ensures { result ≡ self.now.room }
+    {
+        self.moments.capacity()
+    }
+
     /// The moment of the last packet.
-    pub fn last_packet(&self) -> Option<u64>
+    pub(crate) fn last_packet(&self) -> Option<u64>
         ensures { result ≡ self.now.last_packet }
     {
         self.last_packet
     }
 
     /// A packet came at a moment.
-    pub fn hear(&mut self, now: u64)
+    pub(crate) fn hear(&mut self, now: u64)
         ensures { self.new ≡ record self.old { last_packet = Some now } }
     {
         self.last_packet = Some(now);
     }
 
     /// The first of the last so many moments.
-    pub fn nth_last(&self, count: usize) -> Option<u64>
+    pub(crate) fn nth_last(&self, count: usize) -> Option<u64>
         ensures { result ≡ slice_get (last_of count self.now.moments) 0 }
     {
         let before = self.moments.len().saturating_sub(count);
@@ -60,28 +67,28 @@ impl Ages {
     }
 
     /// Keeps the last so many moments.
-    pub fn keep(&mut self, count: usize)
+    pub(crate) fn keep(&mut self, count: usize)
         ensures { self.new ≡ record self.old { moments = last_of count self.old.moments } }
     {
         self.moments.truncate_front(count);
     }
 
     /// An event came at a moment.
-    pub fn push(&mut self, now: u64)
+    pub(crate) fn push(&mut self, now: u64)
         ensures { self.new ≡ record self.old { moments = last_of self.old.room (self.old.moments ++ (now ∷ [])) } }
     {
         let _ = self.moments.push_back(now);
     }
 
     /// The moment that stands first leaves.
-    pub fn remove_first(&mut self)
+    pub(crate) fn remove_first(&mut self)
         ensures { self.new ≡ record self.old { moments = drop 1 self.old.moments } }
     {
         let _ = self.moments.pop_front();
     }
 
     /// The moment after the first leaves.
-    pub fn remove_second(&mut self)
+    pub(crate) fn remove_second(&mut self)
         ensures { self.new ≡ record self.old { moments = take 1 self.old.moments ++ drop 2 self.old.moments } }
     {
         if self.moments.len() < 2 {

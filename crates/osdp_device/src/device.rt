@@ -1,6 +1,6 @@
 //! A reader on a serial line.
 
-ghost use Rattle.std.specs.Prelude.{◌≡◌, ◌↔◌, true, false, is_some, IfOk, IsErrOf, None, Some};
+ghost use Rattle.std.specs.Prelude.{◌≡◌, ◌↔◌, true, false, is_some, IfOk, IfSome, IsErrOf, IsSome, None, Some};
 ghost use Rattle.std.specs.Borrow.{Lends, sem};
 ghost use Rattle.osdp_device.specs.Ages.{after_saying, no_ages};
 ghost use Rattle.osdp_device.specs.contracts.device.Device.{the_row};
@@ -53,6 +53,24 @@ impl<H: Handler> Device<H> {
             return Err(ReaderFault::NoMemory);
         };
         Ok(Device {
+            reader,
+            line: Receiver::new(gap),
+            ages,
+        })
+    }
+
+    /// As `new`, of ages that were made before: for a program with little stack, which hands no device on. None where the gap is out of its range, or
+    /// the ages have room for another number of events than the reader.
+    pub fn with_ages(reader: Reader<H>, ages: Ages, gap: u32) -> Option<Device<H>>
+        ensures range { IsSome result ↔ (IsTime gap × (ages.room ≡ reader.queue.capacity)) }
+        ensures reader { IfSome result (λ d. d.reader ≡ reader) }
+        ensures line { IfSome result (λ d. d.line ≡ new_line gap) }
+        ensures ages { IfSome result (λ d. d.ages ≡ ages) }
+    {
+        if !is_time(gap) || ages.room() != reader.capacity() {
+            return None;
+        }
+        Some(Device {
             reader,
             line: Receiver::new(gap),
             ages,

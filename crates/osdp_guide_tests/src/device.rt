@@ -88,7 +88,6 @@ pub fn new_device(
 /// A card was read at a moment: it waits until a POLL has taken it.
 pub fn card_was_read(device: &mut Device<ProgramAnswers>, now: u64) {
     if let Some(card) = Raw::new(0, 0, 26, &[0x12, 0x34, 0x56, 0x40]) {
-        // where there is no room the event comes back, and the device may beep
         let _ = device.submit_event(Event::Raw(card), now);
     }
 }
@@ -103,15 +102,10 @@ pub fn keys_were_pressed(device: &mut Device<ProgramAnswers>, keys: &[u8], now: 
 }
 
 /// An input is on or off: ISTAT is answered so from now on, and an event tells the states of all inputs.
-pub fn input_was_switched(
-    device: &mut Device<ProgramAnswers>,
-    input: usize,
-    is_on: bool,
-    now: u64,
-) {
+pub fn input_was_switched(device: &mut Device<ProgramAnswers>, input: usize, on: bool, now: u64) {
     let inputs = &mut device.handler_mut().status.inputs;
     if let Some(state) = inputs.get_mut(input) {
-        *state = u8::from(is_on);
+        *state = u8::from(on);
     }
     let mut states = ArrayVec::new();
     if states.try_extend_from_slice(inputs.as_slice()).is_ok() {
@@ -155,10 +149,8 @@ fn pass(device: &mut Device<ProgramAnswers>, relays: &mut Relays, now: u64) {
 fn let_go(device: &mut Device<ProgramAnswers>, now: u64) {
     for _ in 0..64 {
         match device.expire_event(now, TOO_OLD) {
-            // no answer has told it: the device may beep
-            Some(Expired::Withdrawn(_)) => {}
-            // its answer may be lost: the panel may have it or not
-            Some(Expired::InDoubt(_)) => {}
+            // the device may beep: this card opens nothing
+            Some(Expired::Withdrawn(_) | Expired::InDoubt(_)) => {}
             None => break,
         }
     }
@@ -176,7 +168,6 @@ pub fn device_turn(
     let_go(device, now);
     device.tick(now);
     let unsent = match device.turn(bytes, now, turn) {
-        // nothing else is set for the command, so the status answers it
         None if turn.pending.is_some() => device.turn(&[], now, turn),
         unsent => unsent,
     };
