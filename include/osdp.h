@@ -647,7 +647,8 @@ osdp_status osdp_device_set_busy(osdp_device *device, uint32_t busy);
 
 /*
  * Puts an event after those that wait: it is told when the panel polls. Its code and data are those of the reply that tells it: LSTATR, ISTATR, OSTATR,
- * RSTATR, RAW, FMT or KEYPAD.
+ * RSTATR, RAW, FMT or KEYPAD. It came at the greatest moment that any call has handed in, from which its age counts; one that comes before any
+ * was handed in is never too old.
  *
  * OSDP_NO_MACHINE. OSDP_UNKNOWN_CODE (M1), OSDP_BAD_LENGTH (M2), OSDP_BAD_COUNT (M3): the code and data stand for no reply. OSDP_NO_EVENT: for one that
  * tells no event. OSDP_EVENTS_FULL (N2).
@@ -669,6 +670,48 @@ osdp_status osdp_device_waiting(osdp_device *device, size_t *count);
 
 /* Whether the session of a device is closed: 1 where it refuses each number but 0, as one that is new or has moved, else 0. OSDP_NO_MACHINE. */
 osdp_status osdp_device_is_closed(osdp_device *device, uint32_t *closed);
+
+/*
+ * Whether no panel is there at a moment: 1 where the device has answered no packet for 8,000 ms, or none ever, else 0. It answers each command to its own
+ * address or to the configuration address that comes whole and undamaged. OSDP_NO_MACHINE. OSDP_MOMENT_TOO_FAR.
+ */
+osdp_status osdp_device_is_offline(osdp_device *device, uint64_t now, uint32_t *offline);
+
+/* What became of an event that was too old. */
+enum {
+    /* None is too old. */
+    OSDP_EXPIRED_NONE = 0,
+    /* It was never offered: no answer has told it, and none will. */
+    OSDP_EXPIRED_WITHDRAWN = 1,
+    /* It was offered, and its answer may be lost: the panel may have it or not. */
+    OSDP_EXPIRED_IN_DOUBT = 2
+};
+
+/*
+ * Takes the oldest event off, where no panel is there at a moment (`osdp_device_is_offline`) and the event has waited for more than `limit` milliseconds, and
+ * writes what became of it and the event, as the reply that would have told it. A limit of 0 takes none off. Call it in each turn until it writes
+ * OSDP_EXPIRED_NONE: so no card of long ago opens a door.
+ *
+ *     while (osdp_device_expire_event(&device, now, 30000, &expired, &event) == OSDP_OK && expired != OSDP_EXPIRED_NONE) {
+ *         .. the event is told to nobody any more ..
+ *     }
+ *
+ * OSDP_NO_MACHINE. OSDP_MOMENT_TOO_FAR: nothing has changed.
+ */
+osdp_status osdp_device_expire_event(
+    osdp_device *device, uint64_t now, uint64_t limit, uint32_t *expired, struct osdp_message *event);
+
+/*
+ * Takes back the oldest event that was never offered, in this session or in one before: no answer has told it, and none will. It is written as the reply that
+ * would have told it; where there is none, no message is there. OSDP_NO_MACHINE.
+ */
+osdp_status osdp_device_withdraw_event(osdp_device *device, struct osdp_message *event);
+
+/*
+ * Lets the oldest event go where it was ever offered, in this session or in one before: its answer may be lost, so the panel may have it or not. A repeat
+ * within this session may still tell it. Where it was never offered no message is there, and nothing changes. OSDP_NO_MACHINE.
+ */
+osdp_status osdp_device_lapse_event(osdp_device *device, struct osdp_message *event);
 
 /* How a packet was answered. */
 enum {

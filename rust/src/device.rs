@@ -1,7 +1,7 @@
 //! The device's end of a line.
 
 use crate::error::{Error, check};
-use crate::fields::{NakReason, PdId, Product};
+use crate::fields::{NakReason, PdId, Product, Reply};
 use crate::message::{Command, Unsent, no_burst, no_message};
 use crate::numbered::numbered;
 use crate::panel::milliseconds;
@@ -51,6 +51,15 @@ impl DeviceConfig<'_> {
             capabilities: &[],
         }
     }
+}
+
+/// An event that a device has taken off its queue because it was too old, as the reply that would have told it.
+#[derive(Clone, Debug, PartialEq, Eq)]
+pub enum Expired {
+    /// It was never offered: no answer has told it, and none will.
+    Withdrawn(Reply),
+    /// It was offered, and its answer may be lost: the panel may have it or not.
+    InDoubt(Reply),
 }
 
 numbered! {
@@ -277,7 +286,8 @@ impl Device {
         let _ = unsafe { sys::osdp_device_set_busy(&mut self.0, busy.into()) };
     }
 
-    /// Puts an event, by the code and data of the reply that tells it, after those that wait.
+    /// Puts an event, by the code and data of the reply that tells it, after those that wait. It came at the greatest moment that any call has handed in,
+    /// from which its age counts; one that comes before any was handed in is never too old.
     ///
     /// # Errors
     ///
@@ -315,6 +325,70 @@ impl Device {
         // SAFETY: the handle is ours alone, and the number is one. It holds a machine, so the call isn't refused.
         let _ = unsafe { sys::osdp_device_is_closed(&mut self.0, &mut closed) };
         closed != 0
+    }
+
+    /// Whether no panel is there at a moment: the device has answered no packet for 8 seconds, or none ever. It answers each command to its own address
+    /// or to the configuration address that comes whole and undamaged.
+    ///
+    /// # Errors
+    ///
+    /// `MomentTooFar`.
+    pub fn is_offline(&mut self, now: Moment) -> Result<bool, Error> {
+        let mut offline = 0;
+        // SAFETY: the handle is ours alone, and the number is one.
+        check(unsafe {
+            sys::osdp_device_is_offline(&mut self.0, now.as_millis(), &mut offline)
+        })?;
+        Ok(offline != 0)
+    }
+
+    /// Takes the oldest event off, where no panel is there at a moment (`is_offline`) and the event has waited for longer than a limit. A limit of no time
+    /// takes none off. Call it in each turn until it answers `None`: so no card of long ago opens a door.
+    ///
+    /// # Errors
+    ///
+    /// `MomentTooFar`: nothing has changed.
+    pub fn expire_event(
+        &mut self,
+        now: Moment,
+        limit: Duration,
+    ) -> Result<Option<Expired>, Error> {
+        let limit = u64::try_from(limit.as_millis()).unwrap_or(u64::MAX);
+        let (mut expired, mut event) = (0, no_message());
+        // SAFETY: the handle is ours alone, and the number and the event are one each.
+        check(unsafe {
+            sys::osdp_device_expire_event(
+                &mut self.0,
+                now.as_millis(),
+                limit,
+                &mut expired,
+                &mut event,
+            )
+        })?;
+        let event = Reply::from_sys(&event);
+        Ok(match expired {
+            sys::OSDP_EXPIRED_WITHDRAWN => event.map(Expired::Withdrawn),
+            sys::OSDP_EXPIRED_IN_DOUBT => event.map(Expired::InDoubt),
+            _ => None,
+        })
+    }
+
+    /// Takes back the oldest event that was never offered, in this session or in one before: no answer has told it, and none will. It is given as the reply
+    /// that would have told it.
+    pub fn withdraw_event(&mut self) -> Option<Reply> {
+        let mut event = no_message();
+        // SAFETY: the handle is ours alone, and the event is one. It holds a machine, so the call isn't refused.
+        let _ = unsafe { sys::osdp_device_withdraw_event(&mut self.0, &mut event) };
+        Reply::from_sys(&event)
+    }
+
+    /// Lets the oldest event go where it was ever offered, in this session or in one before: its answer may be lost, so the panel may have it or not. A
+    /// repeat within this session may still tell it.
+    pub fn lapse_event(&mut self) -> Option<Reply> {
+        let mut event = no_message();
+        // SAFETY: the handle is ours alone, and the event is one. It holds a machine, so the call isn't refused.
+        let _ = unsafe { sys::osdp_device_lapse_event(&mut self.0, &mut event) };
+        Reply::from_sys(&event)
     }
 
     /// The address that the device has now.

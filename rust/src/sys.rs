@@ -86,6 +86,10 @@ pub const OSDP_LOST_NO_REPLY: u32 = 1;
 pub const OSDP_LOST_TOO_BUSY: u32 = 2;
 pub const OSDP_LOST_NUMBER_REFUSED: u32 = 3;
 
+pub const OSDP_EXPIRED_NONE: u32 = 0;
+pub const OSDP_EXPIRED_WITHDRAWN: u32 = 1;
+pub const OSDP_EXPIRED_IN_DOUBT: u32 = 2;
+
 pub const OSDP_SAID_NONE: u32 = 0;
 pub const OSDP_SAID_SECURED: u32 = 1;
 pub const OSDP_SAID_ZERO: u32 = 2;
@@ -346,6 +350,10 @@ calls! {
     osdp_panel_is_closed(panel: *mut osdp_panel, entry: usize, closed: *mut u32);
     osdp_device_address(device: *mut osdp_device, address: *mut u32);
     osdp_device_is_closed(device: *mut osdp_device, closed: *mut u32);
+    osdp_device_is_offline(device: *mut osdp_device, now: u64, offline: *mut u32);
+    osdp_device_expire_event(device: *mut osdp_device, now: u64, limit: u64, expired: *mut u32, event: *mut osdp_message);
+    osdp_device_withdraw_event(device: *mut osdp_device, event: *mut osdp_message);
+    osdp_device_lapse_event(device: *mut osdp_device, event: *mut osdp_message);
     osdp_device_set_moment(device: *mut osdp_device, now: u64);
     osdp_device_pending(device: *mut osdp_device, command: *mut osdp_message);
     osdp_device_answer_done(device: *mut osdp_device);

@@ -11,3 +11,4 @@ mod panel_calls;
 mod read;
 mod reader;
 mod reader_calls;
+mod reader_events;

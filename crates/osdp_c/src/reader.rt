@@ -111,7 +111,7 @@ pub extern "C" fn osdp_device_set_busy(alloc: Global, reader: &mut ReaderHandle,
     ensures { IsDone (calls (sets_busy busy) reader.old.slot.machine) result reader.new.slot.machine }
 {
     on_held!(reader, alloc, |machine| {
-        machine.device.reader.set_busy(busy != 0);
+        machine.device.set_busy(busy != 0);
         Status::Done
     })
 }
@@ -166,7 +166,7 @@ pub extern "C" fn osdp_device_waiting(
     ensures written { count.new ≡ writes writes_waiting reader.old.slot.machine count.old }
 {
     on_held!(reader, alloc, |machine| {
-        *count = machine.device.reader.waiting();
+        *count = machine.device.reader().waiting();
         Status::Done
     })
 }
@@ -182,7 +182,7 @@ pub extern "C" fn osdp_device_address(
     ensures written { address.new ≡ writes writes_address reader.old.slot.machine address.old }
 {
     on_held!(reader, alloc, |machine| {
-        *address = u32::from(machine.device.reader.address().get());
+        *address = u32::from(machine.device.reader().address().get());
         Status::Done
     })
 }
@@ -266,7 +266,7 @@ pub extern "C" fn osdp_device_is_closed(
     ensures written { closed.new ≡ writes writes_closed reader.old.slot.machine closed.old }
 {
     on_held!(reader, alloc, |machine| {
-        let told = reader_calls::is_closed(&machine.device.reader);
+        let told = reader_calls::is_closed(machine.device.reader());
         *closed = if told { 1 } else { 0 };
         Status::Done
     })

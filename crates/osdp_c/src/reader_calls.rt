@@ -3,14 +3,14 @@
 ghost use Rattle.std.specs.Prelude.{◌≡◌, ◌↔◌, IsTrue};
 ghost use Rattle.std.specs.Result.{result_map_both};
 ghost use Rattle.osdp_msg.specs.ReplyTable.{reply_of};
-ghost use Rattle.osdp_c_values.specs.Readers.{AreSettings, IsEventRead, MadeAs, MadeWith, answers, answers_if, at_moment, caps_of, falls_silent, is_closed, list_answer, looks, maker_answer, refuses, sets_local, sets_moment, sets_states, states_of, steps, submits, submits_read, submits_text, ticks, writes_at, writes_pending, writes_silence, writes_step, writes_taken, writes_tick};
+ghost use Rattle.osdp_c_values.specs.Readers.{AreSettings, IsEventRead, MadeAs, MadeWith, answers, answers_if, at_moment, caps_of, does, event_expired, event_struct, expires_event, falls_silent, how_expired, is_closed, list_answer, looks, maker_answer, refuses, sets_local, sets_moment, sets_states, states_of, steps, submits, submits_read, submits_text, ticks, writes_at, writes_expired, writes_how, writes_offline, writes_pending, writes_silence, writes_step, writes_taken, writes_tick};
 
 use crate::held::at_moment;
 use arrayvec::ArrayVec;
 use osdp_c_values::{
     AnswerStruct, Clock, MessageStruct, Place, ReaderMachine, ReaderSettings, StateList, Status,
 };
-use osdp_device::{Device, ProgramAnswers};
+use osdp_device::{Device, Expired, ProgramAnswers};
 use osdp_frame::{Address, CheckKind, FrameView, Header, Seq, is_time};
 use osdp_msg::{Event, LocalState, MAX_DATA, MsgFault, PdCap, Reply, is_room};
 use osdp_reader::{Answer, Heard, Kind, Reader, ReaderConfig, ReaderFault};
@@ -56,9 +56,7 @@ fn new_machine(
     };
     let capacity = settings.capacity as usize;
     let reader = Reader::new(alloc, config, ProgramAnswers::new(), capacity)?;
-    let Some(device) = Device::new(reader, settings.gap) else {
-        return Err(ReaderFault::OutOfRange);
-    };
+    let device = Device::new(alloc, reader, settings.gap)?;
     let clock = Clock::new(settings.clock_limit());
     let heard = Place::new(Heard::new());
     match Box::new(
@@ -111,7 +109,7 @@ pub(crate) fn set_states(machine: &mut ReaderMachine, told: StateList, states: &
     let Some(list) = read_states(states) else {
         return Status::Message(MsgFault::Length);
     };
-    let status = &mut machine.device.reader.handler_mut().status;
+    let status = &mut machine.device.handler_mut().status;
     match told {
         StateList::Inputs => status.inputs = list,
         StateList::Outputs => status.outputs = list,
@@ -124,17 +122,21 @@ pub(crate) fn set_states(machine: &mut ReaderMachine, told: StateList, states: &
 pub(crate) fn set_local(machine: &mut ReaderMachine, tamper: u8, power: u8)
     ensures { machine.new ≡ (sets_local tamper power machine.old).machine }
 {
-    let status = &mut machine.device.reader.handler_mut().status;
+    let status = &mut machine.device.handler_mut().status;
     status.tamper = tamper;
     status.power = power;
 }
 
-/// Puts an event after those that wait.
+/// Puts an event after those that wait, as of the greatest moment seen. One that comes before any was seen is never too old.
 fn submit(machine: &mut ReaderMachine, event: Event) -> Status
     ensures status { result ≡ (submits event machine.old).status }
     ensures machine { machine.new ≡ (submits event machine.old).machine }
 {
-    match machine.device.reader.submit_event(event) {
+    let now = match machine.clock.greatest() {
+        Some(greatest) => greatest,
+        None => u64::MAX,
+    };
+    match machine.device.submit_event(event, now) {
         Ok(()) => Status::Done,
         Err(_) => Status::EventsFull,
     }
@@ -329,4 +331,67 @@ pub(crate) fn is_closed(reader: &Reader<ProgramAnswers>) -> bool
         Seq::new(3).unwrap(),
     );
     refuses(reader, one) && refuses(reader, two) && refuses(reader, three)
+}
+
+/// Writes an event that has left the queue, as the reply that would have told it; or that there is none.
+pub(crate) fn write_event(event: &Option<Event>, out: &mut MessageStruct)
+    ensures { out.new ≡ event_struct event.now out.old }
+{
+    match event {
+        Some(event) => out.set_reply(Some(&event.to_reply())),
+        None => out.set_reply(None),
+    }
+}
+
+/// Writes what became of an event that was too old, and which it is.
+fn write_expired(expired: Option<Expired>, how: &mut u32, out: &mut MessageStruct)
+    ensures how { how.new ≡ how_expired expired }
+    ensures event { out.new ≡ event_struct (event_expired expired) out.old }
+{
+    let (number, event) = match expired {
+        None => (0, None),
+        Some(Expired::Withdrawn(event)) => (1, Some(event)),
+        Some(Expired::InDoubt(event)) => (2, Some(event)),
+    };
+    *how = number;
+    write_event(&event, out);
+}
+
+/// Takes the oldest event off, where it is too old at a moment, and writes what became of it.
+pub(crate) fn expire_event(
+    machine: &mut ReaderMachine,
+    now: u64,
+    limit: u64,
+    how: &mut u32,
+    event: &mut MessageStruct,
+) -> Status
+    ensures status { result ≡ (at_moment now (expires_event now limit) machine.old).status }
+    ensures machine { machine.new ≡ (at_moment now (expires_event now limit) machine.old).machine }
+    ensures how { how.new ≡ writes_at now (writes_how now limit) machine.old how.old }
+    ensures event { event.new ≡ writes_at now (writes_expired now limit) machine.old event.old }
+{
+    at_moment!(
+        machine,
+        now,
+        {
+            write_expired(machine.device.expire_event(now, limit), how, event);
+            Status::Done
+        }
+    )
+}
+
+/// Writes whether no panel is there at a moment.
+pub(crate) fn is_offline(machine: &mut ReaderMachine, now: u64, offline: &mut u32) -> Status
+    ensures status { result ≡ (at_moment now does machine.old).status }
+    ensures machine { machine.new ≡ (at_moment now does machine.old).machine }
+    ensures written { offline.new ≡ writes_at now (writes_offline now) machine.old offline.old }
+{
+    at_moment!(
+        machine,
+        now,
+        {
+            *offline = if machine.device.is_offline(now) { 1 } else { 0 };
+            Status::Done
+        }
+    )
 }

@@ -1,7 +1,11 @@
 -- The calls of a reader.
-use Rattle.std.specs.Prelude.{◌≡◌, ℕ, ◌≤◌, not, ◌==◌, ◌&&◌, nat_le, Bool, true, false, List, [], ◌∷◌, length, if◌then◌else◌, Option, None, Some, option_map, Result, Ok, Err}
+use Rattle.std.specs.Prelude.{◌≡◌, ℕ, ◌≤◌, not, ◌==◌, ◌&&◌, nat_le, Bool, true, false, List, [], ◌∷◌, length, if◌then◌else◌, is_some, Option, None, Some, option_map, Result, Ok, Err}
 use Rattle.arrayvec.specs.ArrayVec.{ArrayVec}
 use Rattle.osdp_frame.specs.Receiving.{Received, after_silence, after_take, after_tick, count_taken, new_line, seen}
+use Rattle.osdp_device.specs.Ages.{after_arrival, after_expiry, after_removal, after_saying, expired_front, expires, is_offline, no_ages}
+use Rattle.osdp_device.specs.declared.events.Expired.{Expired}
+use Rattle.osdp_device.specs.declared.events.Expired.TheVariants.{Withdrawn, InDoubt}
+use Rattle.osdp_reader.specs.Queue.{in_doubt, never_offered}
 use Rattle.osdp_device.specs.Deciding.{Turned, is_asked, pending_of, passed, turned, with_question}
 use Rattle.osdp_device.specs.Program.{new_program}
 use Rattle.osdp_device.specs.declared.program.ProgramAnswers.{ProgramAnswers}
@@ -28,7 +32,7 @@ use Rattle.osdp_reader.specs.declared.fault.ReaderFault.{ReaderFault}
 use Rattle.osdp_reader.specs.declared.handler.Answer.{Answer}
 use Rattle.osdp_reader.specs.declared.handler.Answer.TheVariants as answer
 use Rattle.osdp_reader.specs.declared.fault.ReaderFault.TheVariants.{NoMemory, OutOfRange}
-use Rattle.osdp_reader.specs.State.{ReaderState, after_set_busy, after_set_handler, after_submit, new_reader}
+use Rattle.osdp_reader.specs.State.{ReaderState, after_lapse_event, after_set_busy, after_set_handler, after_submit, after_withdraw_event, new_reader}
 use Rattle.osdp_c_values.specs.declared.machine.ReaderMachine.{ReaderMachine}
 use Rattle.osdp_c_values.specs.Clocks.{accepts, new_clock, sees}
 use Rattle.osdp_c_values.specs.declared.answer.AnswerStruct.{AnswerStruct}
@@ -37,7 +41,7 @@ use Rattle.osdp_c_values.specs.declared.status.Status.{Status}
 use Rattle.osdp_c_values.specs.declared.status.Status.TheVariants as status
 use Rattle.osdp_c_values.specs.declared.message.MessageStruct.{MessageStruct}
 use Rattle.osdp_c_values.specs.Answers.{turn_struct}
-use Rattle.osdp_c_values.specs.Structs.{command_struct}
+use Rattle.osdp_c_values.specs.Structs.{command_struct, reply_struct}
 use Rattle.osdp_c_values.specs.Settings.{id_of, limit_of}
 use Rattle.osdp_c_values.specs.Statuses.{number}
 use Rattle.osdp_c_values.specs.Calls.{Done}
@@ -66,6 +70,7 @@ new_machine s caps = record {
   device = record {
     reader = new_reader (record { address = s.address; id = id_of s; caps = caps }) new_program s.capacity;
     line = new_line s.gap;
+    ages = no_ages s.capacity;
   };
   clock = new_clock (limit_of s.clock_limit);
   heard = tt;
@@ -96,9 +101,9 @@ NewReaderEnds s body (Some m) answer after = (answer ≡ number status.InUse) ×
 NewReaderEnds s body None answer after =
     (r : Result ReaderMachine Status) × MadeAs s (caps_of body) r × (answer ≡ number (made_status r)) × (after ≡ made_in r)
 
--- the reader is another; what has come on its line stays
+-- the reader is another; what has come on its line stays, and when its events came
 abbrev pub sets : ReaderState ProgramAnswers → ReaderMachine → ReaderMachine
-sets r m = record m { device = record { reader = r; line = m.device.line } }
+sets r m = record m { device = record m.device { reader = r } }
 
 abbrev pub does : ReaderMachine → Done ReaderMachine
 does m = record { status = status.Done; machine = m }
@@ -143,10 +148,23 @@ sets_busy busy m = does (sets (after_set_busy (not (busy == 0)) m.device.reader)
 abbrev pub is_full : ReaderState ProgramAnswers → Bool
 is_full r = length r.queue.events == r.queue.capacity
 
+-- an event came at the greatest moment that was seen; one that came before any was is never too old
+abbrev pub arrival : Option ℕ → ℕ
+arrival (Some greatest) = greatest
+arrival None = 18446744073709551615
+
+abbrev pub arrived : Event → ReaderMachine → ReaderMachine
+arrived event m = record m {
+  device = record m.device {
+    reader = after_submit event m.device.reader;
+    ages = after_arrival (arrival m.clock.greatest) (length m.device.reader.queue.events) m.device.ages;
+  };
+}
+
 abbrev pub submits : Event → ReaderMachine → Done ReaderMachine
 submits event m =
     if is_full m.device.reader then record { status = status.EventsFull; machine = m }
-    else does (sets (after_submit event m.device.reader) m)
+    else does (arrived event m)
 
 -- the event that a reply tells, by the reply's code and data, or why there is none
 abbrev pub IsEventRead : Result Reply MsgFault → Result Event Status → Type 0
@@ -196,7 +214,11 @@ next_of m l = turned m.device.reader l.held
 
 abbrev pub reads_next : ReaderMachine → Received → Done ReaderMachine
 reads_next m l = does (record m {
-  device = record { reader = (next_of m l).reader; line = record l { held = (next_of m l).held } };
+  device = record {
+    reader = (next_of m l).reader;
+    line = record l { held = (next_of m l).held };
+    ages = after_saying (is_some (next_of m l).said) l.greatest m.device.ages;
+  };
 })
 
 abbrev pub writes_next : ReaderMachine → Received → AnswerStruct → AnswerStruct
@@ -205,7 +227,7 @@ writes_next m l out = turn_struct (next_of m l).pending (next_of m l).said out
 -- what isn't answered is passed over, and the command that is pending is written
 abbrev pub looks : ReaderMachine → Done ReaderMachine
 looks m = does (record m {
-  device = record { reader = m.device.reader; line = record m.device.line { held = passed m.device.reader m.device.line.held } };
+  device = record m.device { line = record m.device.line { held = passed m.device.reader m.device.line.held } };
 })
 
 abbrev pub writes_pending : ReaderMachine → MessageStruct → MessageStruct
@@ -258,7 +280,7 @@ writes_at now write m out = if accepts now m.clock then write m out else out
 -- a moment is seen, however far it lies after the greatest one
 abbrev pub sets_moment : ℕ → ReaderMachine → Done ReaderMachine
 sets_moment now m = does (record m {
-  device = record { reader = m.device.reader; line = seen now m.device.line };
+  device = record m.device { line = seen now m.device.line };
   clock = sees now m.clock;
 })
 
@@ -283,3 +305,67 @@ falls_silent now m = reads_next m (after_silence now m.device.line)
 
 abbrev pub writes_silence : ℕ → ReaderMachine → AnswerStruct → AnswerStruct
 writes_silence now m out = writes_next m (after_silence now m.device.line) out
+
+-- the events of a device that are too old, and those that its program takes back. Each is written as the reply that would have told it
+abbrev pub event_struct : Option Event → MessageStruct → MessageStruct
+event_struct event out = reply_struct (option_map event_reply event) out
+
+-- whether no panel is there is written
+abbrev pub writes_offline : ℕ → ReaderMachine → ℕ → ℕ
+writes_offline now m out = if is_offline now m.device.ages then 1 else 0
+
+-- whether the oldest event is too old
+abbrev pub is_expired : ℕ → ℕ → ReaderMachine → Bool
+is_expired now limit m = expires now limit (length m.device.reader.queue.events) m.device.ages
+
+abbrev pub expires_event : ℕ → ℕ → ReaderMachine → Done ReaderMachine
+expires_event now limit m = does (record m {
+  device = record m.device {
+    reader = if is_expired now limit m then after_expiry m.device.reader else m.device.reader;
+    ages = if is_expired now limit m then after_removal false (length m.device.reader.queue.events) m.device.ages else m.device.ages;
+  };
+})
+
+abbrev pub expired_now : ℕ → ℕ → ReaderMachine → Option Expired
+expired_now now limit m = if is_expired now limit m then expired_front m.device.reader.queue else None
+
+-- what became of it: 0 there is none, 1 it is withdrawn, 2 it is in doubt
+abbrev pub how_expired : Option Expired → ℕ
+how_expired None = 0
+how_expired (Some (Withdrawn event)) = 1
+how_expired (Some (InDoubt event)) = 2
+
+abbrev pub event_expired : Option Expired → Option Event
+event_expired None = None
+event_expired (Some (Withdrawn event)) = Some event
+event_expired (Some (InDoubt event)) = Some event
+
+abbrev pub writes_how : ℕ → ℕ → ReaderMachine → ℕ → ℕ
+writes_how now limit m out = how_expired (expired_now now limit m)
+
+abbrev pub writes_expired : ℕ → ℕ → ReaderMachine → MessageStruct → MessageStruct
+writes_expired now limit m out = event_struct (event_expired (expired_now now limit m)) out
+
+-- the oldest event that was never offered is taken back
+abbrev pub withdraws_event : ReaderMachine → Done ReaderMachine
+withdraws_event m = does (record m {
+  device = record m.device {
+    reader = after_withdraw_event m.device.reader;
+    ages = after_removal m.device.reader.queue.ever_offered (length m.device.reader.queue.events) m.device.ages;
+  };
+})
+
+abbrev pub writes_withdrawn : ReaderMachine → MessageStruct → MessageStruct
+writes_withdrawn m out = event_struct (never_offered m.device.reader.queue) out
+
+-- the one in doubt lapses
+abbrev pub lapses_event : ReaderMachine → Done ReaderMachine
+lapses_event m = does (record m {
+  device = record m.device {
+    reader = after_lapse_event m.device.reader;
+    ages = if m.device.reader.queue.ever_offered then after_removal false (length m.device.reader.queue.events) m.device.ages else m.device.ages;
+  };
+})
+
+abbrev pub writes_lapsed : ReaderMachine → MessageStruct → MessageStruct
+writes_lapsed m out = event_struct (in_doubt m.device.reader.queue) out

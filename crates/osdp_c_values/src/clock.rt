@@ -37,6 +37,17 @@ impl Clock {
         }
     }
 
+    /// The greatest moment seen. None where none was.
+    pub fn greatest(&self) -> Option<u64>
+        ensures { result ≡ self.now.greatest }
+    {
+        if self.has_seen {
+            Some(self.greatest)
+        } else {
+            None
+        }
+    }
+
     /// Whether a moment may be seen. The first may be any.
     pub fn accepts(&self, now: u64) -> bool
         ensures { result ≡ accepts now self.now }

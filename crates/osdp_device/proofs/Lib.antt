@@ -7,3 +7,4 @@ pub mod Staying
 pub mod Moments
 pub mod Unasked
 pub mod Whole
+pub mod Waiting

@@ -3,6 +3,7 @@ pub mod Telling
 pub mod Hearing
 pub mod Status
 pub mod Ages
+pub mod AgesLaws
 pub mod Program
 pub mod Moments
 pub mod Lent

@@ -19,6 +19,7 @@ ghost use Rattle.osdp_msg.specs.declared.reply.Reply.{Reply};
 ghost use Rattle.osdp_frame.specs.Packet.{Packet};
 ghost use Rattle.osdp_reader.specs.Table.{hears};
 ghost use Rattle.osdp_device.specs.Orders.{is_nak, is_refusal};
+ghost use Rattle.osdp_device.specs.AgesLaws.{ArrivesWithItsMoment, BeginsWithNone, LeavesWithItsMoment, StaysWithItsMoment, TellsAges};
 
 use osdp_reader::Handler;
 
@@ -93,3 +94,16 @@ pub fn says_it_to_no_other()
     ensures once { (r : ReaderState ProgramAnswers) (held : Held) → IsSaidOnce r held }
     ensures repeats { (r : ReaderState ProgramAnswers) (held : Held) → RepeatsWhatIsStored r held }
 {}
+
+/// Each event that waits keeps the moment at which it came, whatever is called: so the age of the oldest is the time since it came. A packet lets
+/// the oldest event go with its moment, or each stays with its own.
+pub fn events_keep_their_moments<H: Handler>()
+    ensures none { BeginsWithNone H }
+    ensures arrives { ArrivesWithItsMoment H }
+    ensures stays { StaysWithItsMoment H.answer_of H.after }
+    ensures leaves { LeavesWithItsMoment H }
+    ensures age { TellsAges H }
+{
+    osdp_reader_laws::loses_no_event::<H>();
+    osdp_reader_laws::changes_by_acting::<H>();
+}

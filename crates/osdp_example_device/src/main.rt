@@ -1,10 +1,11 @@
-//! A device with two outputs at address 5, by lines (`osdp_example_lines`). `card 12345640` is a card. It answers `send` and bytes, `on` and an output, `done`.
+//! A device with two outputs at address 5, by lines (`osdp_example_lines`). `card 12345640` is a card. It answers `send` and bytes, `on` and an output,
+//! `withdrawn` or `in doubt` and a card that was too old, `done`.
 #![tactic(auto)]
 
 use arrayvec::ArrayVec;
 use osdp_device::{
-    Address, Answer, Command, Device, Event, NakReason, Order, PdCap, PdId, ProgramAnswers, Raw,
-    Reader, ReaderConfig, Response, Turn, order_of, ordered,
+    Address, Answer, Command, Device, Event, Expired, NakReason, Order, PdCap, PdId,
+    ProgramAnswers, Raw, Reader, ReaderConfig, Response, Turn, order_of, ordered,
 };
 use osdp_example_lines::{Line, read_line, send};
 use std::alloc::Global;
@@ -34,7 +35,7 @@ fn new_device(alloc: Global) -> Option<Doors> {
     let config = ReaderConfig { address, id, caps };
     let mut program = ProgramAnswers::new();
     let _ = program.status.outputs.try_extend_from_slice(&[0, 0]);
-    Device::new(Reader::new(alloc, config, program, 64).ok()?, 20)
+    Device::new(alloc, Reader::new(alloc, config, program, 64).ok()?, 20).ok()
 }
 
 /// An OUT that may not be done is refused before it is answered. All else is answered as it was set.
@@ -77,14 +78,31 @@ fn hear(rt: &HostRuntime, device: &mut Doors, mut bytes: &[u8], now: u64) -> io:
     Ok(())
 }
 
+/// A card that has waited for more than 30 s, while no panel was there, is told to nobody any more.
+fn let_go(rt: &HostRuntime, device: &mut Doors, now: u64) -> io::Result<()> {
+    for _ in 0..64 {
+        match device.expire_event(now, 30_000) {
+            Some(Expired::Withdrawn(event)) => println!(rt; "withdrawn {event}")?,
+            Some(Expired::InDoubt(event)) => println!(rt; "in doubt {event}")?,
+            None => break,
+        }
+    }
+    Ok(())
+}
+
 fn main(rt: HostRuntime) -> io::Result<()> {
     let mut device = new_device(rt.alloc()).ok_or(io::ErrorKind::OutOfMemory)?;
+    let mut last = 0;
     for line in rt.lines(rt.alloc()) {
         match read_line(rt.alloc(), line?.as_str())? {
-            Line::Turn(now, bytes) => hear(&rt, &mut device, bytes.as_slice(), now)?,
+            Line::Turn(now, bytes) => {
+                last = now;
+                let_go(&rt, &mut device, now)?;
+                hear(&rt, &mut device, bytes.as_slice(), now)?;
+            }
             Line::Card(bytes) => {
                 if let Some(card) = Raw::new(0, 0, 26, bytes.as_slice()) {
-                    let _ = device.reader.submit_event(Event::Raw(card));
+                    let _ = device.submit_event(Event::Raw(card), last);
                 }
             }
             Line::Other => println!(rt; "refused line")?,

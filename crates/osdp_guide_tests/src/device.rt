@@ -2,13 +2,17 @@
 
 use arrayvec::ArrayVec;
 use osdp_device::{
-    Address, Capability, Command, Device, Event, Keypad, MAX_DATA, Order, OutputRecord, PdCap,
-    PdId, ProgramAnswers, Raw, Reader, ReaderConfig, Response, Turn, Unsent, order_of, ordered,
+    Address, Capability, Command, Device, Event, Expired, Keypad, MAX_DATA, Order, OutputRecord,
+    PdCap, PdId, ProgramAnswers, Raw, Reader, ReaderConfig, Response, Turn, Unsent, order_of,
+    ordered,
 };
 use std::alloc::Global;
 
 /// For how many outputs there is room.
 const ROOM: usize = 8;
+
+/// For how many milliseconds an event may wait where no panel is there.
+const TOO_OLD: u64 = 30_000;
 
 /// The outputs: each is on until a moment, or off.
 #[derive(Drop)]
@@ -78,35 +82,34 @@ pub fn new_device(
     program.status.inputs = all_off(inputs);
     program.status.outputs = all_off(outputs);
     let reader = Reader::new(alloc, new_config(address, inputs, outputs), program, 64).ok()?;
-    Device::new(reader, 20)
+    Device::new(alloc, reader, 20).ok()
 }
 
-/// A card was read: it waits until a POLL has taken it.
-pub fn card_was_read(device: &mut Device<ProgramAnswers>) {
+/// A card was read at a moment: it waits until a POLL has taken it.
+pub fn card_was_read(device: &mut Device<ProgramAnswers>, now: u64) {
     if let Some(card) = Raw::new(0, 0, 26, &[0x12, 0x34, 0x56, 0x40]) {
-        // where there is no room the event comes back, and the device may beep
-        let _ = device.reader.submit_event(Event::Raw(card));
+        let _ = device.submit_event(Event::Raw(card), now);
     }
 }
 
 /// Keys were pressed, each a byte in ASCII.
-pub fn keys_were_pressed(device: &mut Device<ProgramAnswers>, keys: &[u8]) {
+pub fn keys_were_pressed(device: &mut Device<ProgramAnswers>, keys: &[u8], now: u64) {
     let mut digits = ArrayVec::new();
     if digits.try_extend_from_slice(keys).is_ok() {
         let pressed = Keypad { reader: 0, digits };
-        let _ = device.reader.submit_event(Event::Keypad(pressed));
+        let _ = device.submit_event(Event::Keypad(pressed), now);
     }
 }
 
 /// An input is on or off: ISTAT is answered so from now on, and an event tells the states of all inputs.
-pub fn input_was_switched(device: &mut Device<ProgramAnswers>, input: usize, is_on: bool) {
-    let inputs = &mut device.reader.handler_mut().status.inputs;
+pub fn input_was_switched(device: &mut Device<ProgramAnswers>, input: usize, on: bool, now: u64) {
+    let inputs = &mut device.handler_mut().status.inputs;
     if let Some(state) = inputs.get_mut(input) {
-        *state = u8::from(is_on);
+        *state = u8::from(on);
     }
     let mut states = ArrayVec::new();
     if states.try_extend_from_slice(inputs.as_slice()).is_ok() {
-        let _ = device.reader.submit_event(Event::Inputs(states));
+        let _ = device.submit_event(Event::Inputs(states), now);
     }
 }
 
@@ -133,12 +136,23 @@ fn act(relays: &mut Relays, response: &Response, now: u64) {
 
 /// Time passes: that of an output may be over. OSTAT is answered by what is set here.
 fn pass(device: &mut Device<ProgramAnswers>, relays: &mut Relays, now: u64) {
-    let states = device.reader.handler_mut().status.outputs.as_mut_slice();
+    let states = device.handler_mut().status.outputs.as_mut_slice();
     for (state, until) in states.iter_mut().zip(relays.until.iter_mut()) {
         if until.is_some_and(|until| until <= now) {
             *until = None;
         }
         *state = u8::from(until.is_some());
+    }
+}
+
+/// Where no panel is there, events that have waited too long leave: a card of long ago opens no door.
+fn let_go(device: &mut Device<ProgramAnswers>, now: u64) {
+    for _ in 0..64 {
+        match device.expire_event(now, TOO_OLD) {
+            // the device may beep: this card opens nothing
+            Some(Expired::Withdrawn(_) | Expired::InDoubt(_)) => {}
+            None => break,
+        }
     }
 }
 
@@ -151,9 +165,9 @@ pub fn device_turn(
     turn: &mut Turn,
 ) -> Option<Unsent> {
     pass(device, relays, now);
+    let_go(device, now);
     device.tick(now);
     let unsent = match device.turn(bytes, now, turn) {
-        // nothing else is set for the command, so the status answers it
         None if turn.pending.is_some() => device.turn(&[], now, turn),
         unsent => unsent,
     };

@@ -48,10 +48,10 @@ fn a_card_opens_the_door(rt: HostRuntime) {
     let mut relays = Relays::off();
     run(&mut panel, door, &mut device, &mut relays, 0, 1000);
     assert!(rt; relays.until[0].is_none());
-    card_was_read(&mut device);
+    card_was_read(&mut device, 1000);
     run(&mut panel, door, &mut device, &mut relays, 1000, 1200);
     assert!(rt; relays.until[0].is_some());
     run(&mut panel, door, &mut device, &mut relays, 1200, 4500);
     assert!(rt; relays.until[0].is_none());
-    assert_eq!(rt; device.reader.waiting(), 0);
+    assert_eq!(rt; device.reader().waiting(), 0);
 }

@@ -33,5 +33,5 @@ pub fn new_device(rt: &impl Abort, alloc: Global, device: usize) -> Device<Devic
     let reader = Reader::new(alloc, config, status, MOST)
         .ok()
         .expect(rt, "a reader");
-    Device::new(reader, 20).expect(rt, "a device")
+    Device::new(alloc, reader, 20).ok().expect(rt, "a device")
 }

@@ -342,10 +342,11 @@ impl Line {
 
     /// Something happens at a device.
     pub fn queues(&mut self, rt: &impl Abort, device: usize, most: usize) {
+        let now = self.now;
         let site = self.site(device);
         let number = site.account.queued;
         if number < most {
-            assert!(rt; site.device.reader.submit_event(event(rt, number)).is_ok());
+            assert!(rt; site.device.submit_event(event(rt, number), now).is_ok());
             site.account.queued = number.saturating_add(1);
         }
     }
@@ -366,7 +367,7 @@ impl Line {
 
     /// A device is busy from now on, or ready.
     pub fn sets_busy(&mut self, device: usize, is_busy: bool) {
-        self.site(device).device.reader.set_busy(is_busy);
+        self.site(device).device.set_busy(is_busy);
     }
 
     /// A device is made anew at its address. It goes on from where it had read.

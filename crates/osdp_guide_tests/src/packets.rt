@@ -1,6 +1,8 @@
 //! A device by packets: what it answers, byte for byte, that an order which comes again is done once, and its events.
 
-use crate::device::{Relays, device_turn, input_was_switched, keys_were_pressed, new_device};
+use crate::device::{
+    Relays, card_was_read, device_turn, input_was_switched, keys_were_pressed, new_device,
+};
 use osdp_device::{Address, Device, ProgramAnswers, Turn};
 use std::alloc::Global;
 use std::process::Abort;
@@ -80,8 +82,8 @@ fn a_refused_order_does_nothing(rt: HostRuntime) {
 #[test]
 fn events_are_told_in_order(rt: HostRuntime) {
     let (mut device, mut relays) = new_one(&rt, rt.alloc(), 1, 1);
-    keys_were_pressed(&mut device, &[0x31, 0x32]);
-    input_was_switched(&mut device, 0, true);
+    keys_were_pressed(&mut device, &[0x31, 0x32], 0);
+    input_was_switched(&mut device, 0, true, 0);
     let keys = (100, "53050700016040", "53850B0001530002313264");
     let inputs = (200, "5305070002603F", "53850800024901D4");
     let ack = (300, "5305070003603E", "538507000340DE");
@@ -118,8 +120,21 @@ fn two_outputs_are_switched(rt: HostRuntime) {
 fn two_inputs_are_told(rt: HostRuntime) {
     let (mut device, mut relays) = new_one(&rt, rt.alloc(), 2, 2);
     are_answered(&rt, &mut device, &mut relays, &[OPENING]);
-    input_was_switched(&mut device, 1, true);
+    input_was_switched(&mut device, 1, true, 0);
     let event = (100, "53050700016040", "5385090001490001D4");
     let istat = (200, "5305070002653A", "5385090002490001D3");
     are_answered(&rt, &mut device, &mut relays, &[event, istat]);
+}
+
+/// The panel is stopped, a card is held, and the panel comes back 45 s later: the card is told to nobody.
+#[test]
+fn a_card_of_long_ago_opens_no_door(rt: HostRuntime) {
+    let (mut device, mut relays) = new_one(&rt, rt.alloc(), 1, 1);
+    are_answered(&rt, &mut device, &mut relays, &[OPENING]);
+    card_was_read(&mut device, 1000);
+    are_answered(&rt, &mut device, &mut relays, &[(31_001, "", "")]);
+    assert_eq!(rt; device.reader().waiting(), 0);
+    let opening = (46_000, OPENING.1, OPENING.2);
+    let ack = (46_100, "53050700016040", "538507000140E0");
+    are_answered(&rt, &mut device, &mut relays, &[opening, ack]);
 }

@@ -68,17 +68,18 @@ fn hear(
     }
 }
 
-/// Puts an event after those that wait, or writes that there is no room for it.
+/// Puts an event that came at a moment after those that wait, or writes that there is no room for it.
 fn submit(
     device: &mut Device<DeviceStatus>,
     event: Event,
+    now: u64,
     text: &mut String,
 ) -> Result<(), AllocError>
     ensures text { OnOk result (string_bytes text.new ≡ string_bytes text.old ++ submit_text device.old.reader) }
     ensures reader { OnOk result (device.new.reader ≡ after_event event device.old.reader) }
     ensures line { device.new.line ≡ device.old.line }
 {
-    match device.reader.submit_event(event) {
+    match device.submit_event(event, now) {
         Ok(()) => Ok(()),
         Err(_) => text.push_str("refused N2\n"),
     }
@@ -108,10 +109,8 @@ impl LineDevice {
             return Err(ReaderFault::OutOfRange);
         }
         let reader = Reader::new(alloc, config, DeviceStatus::new(), capacity)?;
-        match Device::new(reader, gap) {
-            Some(device) => Ok(LineDevice { device, now: 0 }),
-            None => Err(ReaderFault::OutOfRange),
-        }
+        let device = Device::new(alloc, reader, gap)?;
+        Ok(LineDevice { device, now: 0 })
     }
 }
 
@@ -152,13 +151,13 @@ impl LineDevice {
             ReaderCall::Bytes(list) => return self.hear(list.as_slice(), text),
             ReaderCall::Silence => return self.silence(text),
             ReaderCall::Tick => return self.tick(text),
-            ReaderCall::Event(event) => return submit(&mut self.device, event, text),
-            ReaderCall::Busy(busy) => self.device.reader.set_busy(busy),
-            ReaderCall::Inputs(list) => self.device.reader.handler_mut().inputs = list,
-            ReaderCall::Outputs(list) => self.device.reader.handler_mut().outputs = list,
-            ReaderCall::Readers(list) => self.device.reader.handler_mut().readers = list,
+            ReaderCall::Event(event) => return submit(&mut self.device, event, self.now, text),
+            ReaderCall::Busy(busy) => self.device.set_busy(busy),
+            ReaderCall::Inputs(list) => self.device.handler_mut().inputs = list,
+            ReaderCall::Outputs(list) => self.device.handler_mut().outputs = list,
+            ReaderCall::Readers(list) => self.device.handler_mut().readers = list,
             ReaderCall::Local(tamper, power) => {
-                let status = self.device.reader.handler_mut();
+                let status = self.device.handler_mut();
                 status.tamper = tamper;
                 status.power = power;
             }
@@ -171,7 +170,7 @@ impl LineDevice {
         requires { IsAllRead self.old.line }
         ensures { OnOk result (Comes (string_bytes text.old) (string_bytes text.new) self.new (record { text = waiting_line (length self.old.reader.queue.events); session = self.old })) }
     {
-        push_waiting(text, self.device.reader.waiting())
+        push_waiting(text, self.device.reader().waiting())
     }
 
     /// Answers a call: does what it orders, writes the lines that tell what came of it, and the one that ends the answer.

@@ -1,5 +1,6 @@
 //! Tests of `osdp_device` through its public calls.
 
+mod ages;
 mod devices;
 mod moments;
 mod status;

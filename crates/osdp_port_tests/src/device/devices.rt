@@ -40,7 +40,9 @@ pub fn new_reader(rt: &impl Abort, alloc: Global) -> Reader<DeviceStatus> {
 
 /// A device with a gap of 20 ms.
 pub fn new_device(rt: &impl Abort, alloc: Global) -> Device<DeviceStatus> {
-    Device::new(new_reader(rt, alloc), 20).expect(rt, "a device")
+    Device::new(alloc, new_reader(rt, alloc), 20)
+        .ok()
+        .expect(rt, "a device")
 }
 
 /// The bytes of these digits come at a moment: all of them are taken at once.

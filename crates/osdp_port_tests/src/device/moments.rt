@@ -17,10 +17,10 @@ const NOISE: &str = "5305A00500";
 /// A gap is 1 to 3,600,000 ms.
 #[test]
 fn gaps_have_a_range(rt: HostRuntime) {
-    assert!(rt; Device::new(new_reader(&rt, rt.alloc()), 0).is_none());
-    assert!(rt; Device::new(new_reader(&rt, rt.alloc()), 1).is_some());
-    assert!(rt; Device::new(new_reader(&rt, rt.alloc()), 3_600_000).is_some());
-    assert!(rt; Device::new(new_reader(&rt, rt.alloc()), 3_600_001).is_none());
+    assert!(rt; Device::new(rt.alloc(), new_reader(&rt, rt.alloc()), 0).is_err());
+    assert!(rt; Device::new(rt.alloc(), new_reader(&rt, rt.alloc()), 1).is_ok());
+    assert!(rt; Device::new(rt.alloc(), new_reader(&rt, rt.alloc()), 3_600_000).is_ok());
+    assert!(rt; Device::new(rt.alloc(), new_reader(&rt, rt.alloc()), 3_600_001).is_err());
 }
 
 /// Noise comes, and then reads time out: twelve seconds of them are no bytes, and the next packet is answered.

@@ -102,14 +102,14 @@ fn the_reader_moves(rt: HostRuntime) {
     let response = device.next().expect(&rt, "an answer");
     let setting = response.comset().expect(&rt, "a setting");
     assert!(rt; setting.address == 7 && setting.baud_rate == 9600);
-    assert_eq!(rt; device.reader.address().get(), 7);
+    assert_eq!(rt; device.reader().address().get(), 7);
 }
 
 /// What the program sets is told from then on; no command changes it.
 #[test]
 fn states_are_set_by_the_program(rt: HostRuntime) {
     let mut device = opened(&rt, rt.alloc());
-    let states = device.reader.handler_mut();
+    let states = device.handler_mut();
     states.tamper = 1;
     states.power = 0;
     hears(&rt, &mut device, "5305070001643C", 2000);
