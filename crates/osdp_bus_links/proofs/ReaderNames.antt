@@ -17,7 +17,7 @@ use Rattle.osdp_msg.specs.declared.reply.Reply.TheVariants as reply
 use Rattle.osdp_msg.specs.declared.reply_fields.Nak.{Nak as NakData}
 use Rattle.osdp_controller.specs.Answers.{meaning_by_reason, meaning_by_reply}
 use Rattle.osdp_controller.specs.declared.meaning.ReplyMeaning.TheVariants.{Plain}
-use Rattle.osdp_reader.specs.Queue.{event_for, offering, released, withdrawn}
+use Rattle.osdp_reader.specs.Queue.{event_for, offering, released, unoffered}
 use Rattle.osdp_reader.specs.Replies.{done_reply, list_reply, local_reply, maker_reply, not_processed, refusal_reply, refused, reply_for, reply_packet, unread_reason}
 use Rattle.osdp_reader.specs.State.{ReaderState}
 use Rattle.osdp_reader.specs.Table.{Outcome, answer_to, begun, command_in, event_or_answer, hears, kind_of, moved, new_address, outcome, refuses, taken}
@@ -208,7 +208,7 @@ module _ (reads : ReadsWhatIsAnswered) where
     }
     begun_well (Ok c) r p here read fits kept =
         let a = answer_to answer_of after r.config r.handler c in
-        set_well r (record r { last = Some 0; queue = withdrawn r.queue; handler = a.handler }) p 0 a.reply c (new_address c) here read refl fits
+        set_well r (record r { last = Some 0; queue = unoffered r.queue; handler = a.handler }) p 0 a.reply c (new_address c) here read refl fits
         (answered_com answer_of after r.config r.handler c) refl (λ quiet. kept)
 
     taken_well : (c : Result Command MsgFault) (r : ReaderState H) (p : Packet) → p.address ≡ r.config.address → command_in p ≡ c

@@ -7,8 +7,7 @@ use Rattle.osdp_controller.specs.Machine.{AreSettings}
 use Rattle.osdp_controller.specs.declared.config.ControllerConfig.{ControllerConfig}
 use Rattle.osdp_bus.specs.Machine.{new_device}
 use Rattle.osdp_bus.specs.declared.device.Device.{Device}
-use Rattle.osdp_link_laws.specs.Costs.{ControllerCosts, ReaderCosts}
-use Rattle.osdp_link_laws.specs.Headline.{IsBeginning}
+use Rattle.osdp_link_laws.specs.Costs.{ControllerCosts, ReaderCosts, ReportsOnly}
 use Rattle.osdp_link_laws.specs.Link as link
 use Rattle.osdp_link_laws.specs.Link.{Account, controller_restarted, reader_restarted}
 use Rattle.osdp_link_laws.specs.Sessions.{LeavesCommands, queued}

@@ -9,7 +9,7 @@ use Rattle.osdp_msg.specs.declared.command.Command.{Command}
 use Rattle.osdp_msg.specs.declared.fault.MsgFault.{MsgFault}
 use Rattle.osdp_device.specs.Saying.{said_to, speaks, unless_silent}
 use Rattle.osdp_device.specs.Telling.{Told, told_by, told_or}
-use Rattle.osdp_reader.specs.Queue.{event_for, offering, released, withdrawn}
+use Rattle.osdp_reader.specs.Queue.{event_for, offering, released, unoffered}
 use Rattle.osdp_reader.specs.State.{ReaderState}
 use Rattle.osdp_reader.specs.Table.{Outcome, answer_to, begun, command_in, event_or_answer, hears, kind_of, moved, new_address, outcome, taken}
 use Rattle.osdp_reader.specs.declared.handler.Answer.{Answer}
@@ -49,7 +49,7 @@ module _ {H : Type 0} where
     begun_replies (Ok c) r p is = record {
       said = refl;
       stored = moved_stores (new_address c)
-          (record r { last = Some 0; queue = withdrawn r.queue; handler = (answer_to answer_of after r.config r.handler c).handler }) is;
+          (record r { last = Some 0; queue = unoffered r.queue; handler = (answer_to answer_of after r.config r.handler c).handler }) is;
     }
 
     taken_replies : (c : Result Command MsgFault) (r : ReaderState H) (p : Packet) → StoresReply r → SaysReplies (taken answer_of after c r p)

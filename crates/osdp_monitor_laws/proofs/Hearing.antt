@@ -16,7 +16,7 @@ use Rattle.osdp_monitor.specs.Saying.{said}
 use Rattle.osdp_reader.specs.declared.handler.Answer.{Answer as AnswerOfHandler}
 use Rattle.osdp_reader.specs.declared.kind.Kind.{Kind}
 use Rattle.osdp_reader.specs.declared.kind.Kind.TheVariants.{Silent, Secured, Zero, Repeat, Taken, Busy, Wrong}
-use Rattle.osdp_reader.specs.Queue.{event_for, offering, released, withdrawn}
+use Rattle.osdp_reader.specs.Queue.{event_for, offering, released, unoffered}
 use Rattle.osdp_reader.specs.Replies.{refused, reply_packet, unread_reason}
 use Rattle.osdp_reader.specs.State.{ReaderState}
 use Rattle.osdp_reader.specs.Table.{Outcome, answer_to, begun, command_in, event_or_answer, hears, is_for_another, kind_by_number, kind_of, moved, new_address, outcome, taken}
@@ -115,7 +115,7 @@ module _ {H : Type 0} where
     zero_ends : (read : Result Command MsgFault) (r : ReaderState H) (p : Packet) → Ends r (begun answer_of after read r p).reader 0 r.stored
     zero_ends (Err fault) r p = inr (refl, refl, refl)
     zero_ends (Ok c) r p =
-        let s = record r { last = Some 0; queue = withdrawn r.queue; handler = (answer_to answer_of after r.config r.handler c).handler } in
+        let s = record r { last = Some 0; queue = unoffered r.queue; handler = (answer_to answer_of after r.config r.handler c).handler } in
         ends_as r (moved (new_address c) s) s 0 refl refl (move_ends (new_address c) s)
 
     taken_ends : (read : Result Command MsgFault) (r : ReaderState H) (p : Packet)

@@ -124,6 +124,7 @@ module _ {H : Type 0} (answer_of : H → Command → Answer) (after : H → Comm
   -- what is known of one session
   record IsGood (t : link.Account) (earlier : List link.Account) : Type 0 where
     pub once : Once answer_of after config (handler_after answer_of after config handler earlier) t
+    pub stayed : t.stayed ≡ t.queued
     pub told : IsBeginning (settled_commands t ++ t.unsettled) t.issued
     pub few : length t.unsettled ≤ 1
 
@@ -159,7 +160,7 @@ module _ {H : Type 0} (answer_of : H → Command → Answer) (after : H → Comm
           good.once.settled.2,
         );
         reported = subst (λ es. IsBeginning es (between first to.queued a.queued)) (sym parts.reported)
-            (subst (IsBeginning t.reported) (sym parts.queued) good.once.reported);
+            (subst (IsBeginning t.reported) (good.stayed ∙ sym parts.queued) good.once.reported);
         told = subst (λ cs. IsBeginning cs (session_commands a from to)) (sym (told_is a from to first t parts))
             (subst (IsBeginning (settled_commands t ++ t.unsettled)) (sym parts.issued) good.told);
         unsettled = omega (arith, is_from.counts.unsettled, is_to.counts.unsettled, length-append (all_in (λ u. u.unsettled) earlier) t.unsettled, good.few);
@@ -236,6 +237,7 @@ module _ {H : Type 0} (answer_of : H → Command → Answer) (after : H → Comm
       } in
       let good : IsGood u earlier = record {
         once = once;
+        stayed = so.0.stayed;
         told = (waiting, left ∙ ap (λ cs. cs ++ waiting) (ended_so u so.0));
         few = leaves.unsettled;
       } in
@@ -305,6 +307,7 @@ module _ {H : Type 0} (answer_of : H → Command → Answer) (after : H → Comm
       } in
       let good : IsGood t earlier = record {
         once = row.once.0;
+        stayed = so.0.stayed;
         told = told_last t earlier a so.0 lists.issued row.told;
         few = (each_of (λ u. length u.unsettled ≤ 1) (t ∷ earlier) row.unsettled).0;
       } in

@@ -150,6 +150,6 @@ module _ {H : Type 0} (answer_of : H → Command → Answer) (after : H → Comm
               mine.0,
               mine.1,
               of_one answer_of after given.0 given.2 mine.0 its.last its.earlier (none_earlier mine.0 its.last its.earlier its.lists one)
-                  its.lists its.once its.ends its.causes,
+                  its.lists its.undisturbed.0 its.once its.ends its.causes,
             );
       }

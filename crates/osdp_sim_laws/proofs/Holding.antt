@@ -231,9 +231,9 @@ module _ {H : Type 0} (answer_of : H → Command → Answer) (after : H → Comm
 
   -- of one session alone
   pub of_one : (config : ReaderConfig) (handler : H) (a : Account) (t : link.Account) (earlier : List link.Account) → earlier ≡ []
-      → IsOf a t earlier → AreOnce answer_of after config handler (t ∷ earlier) → LastsOrHasEnded a t → All IsNoRefusal a.ends → IsOnce answer_of after config handler a
-  of_one config handler a t (u ∷ earlier) none lists once ends causes = absurd cc
-  of_one config handler a t [] none lists once ends causes =
+      → IsOf a t earlier → IsUndisturbed t → AreOnce answer_of after config handler (t ∷ earlier) → LastsOrHasEnded a t → All IsNoRefusal a.ends → IsOnce answer_of after config handler a
+  of_one config handler a t (u ∷ earlier) none lists so once ends causes = absurd cc
+  of_one config handler a t [] none lists so once ends causes =
       let held = once.0 in
       let gone : lists.queued.0 ≡ [] = lists.queued.1.1 in
       let queued : a.queued ≡ t.queued = lists.queued.2 ∙ ap (λ es. es ++ t.queued) gone in
@@ -244,7 +244,7 @@ module _ {H : Type 0} (answer_of : H → Command → Answer) (after : H → Comm
           ap (with_answers answer_of after config handler) lists.taken ∙ held.settled.1 ∙ ap (λ l. l ++ held.settled.0) (sym lists.settled),
           held.settled.2,
         );
-        reported = subst (λ es. IsBeginning es a.queued) (sym lists.reported) (subst (IsBeginning t.reported) (sym queued) held.reported);
+        reported = subst (λ es. IsBeginning es a.queued) (sym lists.reported) (subst (IsBeginning t.reported) (so.stayed ∙ sym queued) held.reported);
         ends = few a t ends (ap length lists.queued.1.0);
         causes = causes;
       }
@@ -256,7 +256,7 @@ module _ {H : Type 0} (answer_of : H → Command → Answer) (after : H → Comm
       let a = (run answer_of after steps (set_up config handler)).account in
       of_one config.reader handler a row.last row.earlier
       (run_within (moves_of steps 0) (first_link config handler) (steps_within steps 0 (each_of IsInSession steps within)))
-      row.lists row.once row.ends row.causes
+      row.lists row.undisturbed.0 row.once row.ends row.causes
 
   -- ---- what is answered
 
