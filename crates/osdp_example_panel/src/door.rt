@@ -99,7 +99,8 @@ impl Door {
                 self.note(rt, identity)
             }
             Report::Settled(Command::Comset(_), _) => {
-                self.stand.is_at(self.stand.place); // it was refused
+                let place = self.stand.place; // it was refused
+                self.stand.is_at(place);
                 self.keep(rt)
             }
             Report::Moved(_, com) => {
