@@ -18,7 +18,7 @@ from lines import Program  # noqa: E402
 from terminals import Terminal, packet  # noqa: E402
 
 PROGRAM = str(Path(sys.argv[1]).resolve())
-COLUMNS = ("asked", "polls", "repeats", "answered", "busy", "nak", "events", "opened", "moved", "accused")
+COLUMNS = ("asked", "polls", "repeats", "answered", "busy", "nak", "events", "opened", "moved", "judged", "forgot", "accused")
 BUSY, NAK, POLL, EVENTS = 0x79, 0x41, 0x60, (0x50, 0x51, 0x53)
 SECONDS = 5
 faults = 0
@@ -163,6 +163,10 @@ def judge_good_line(seed):
     for address, row in wanted.items():
         row["opened"] = text.count(f" device {address}: opened\n")
         row["moved"] = row["accused"] = 0
+        judged, forgot = rows[address]["judged"], rows[address]["forgot"]
+        if not judged or judged > row["asked"] + row["answered"] + row["busy"] + row["nak"] - forgot:
+            tell(f"seed {seed}: device {address}: judged and forgotten", "some of its packets", (judged, forgot))
+        row["judged"], row["forgot"] = judged, forgot
         if not row["opened"]:
             tell(f"seed {seed}: device {address} opened no session", "some", 0)
     if rows != wanted:
@@ -203,7 +207,7 @@ def judge_other_answer():
     if repeat != asked:
         tell("the panel repeats its packet", asked.hex(), repeat.hex())
     other = answers(repeat, "53000132")
-    wanted = f" reader 5: a repeat is answered by something else\n     expected {first.hex().upper()}\n     seen     {other.hex().upper()}\n".encode()
+    wanted = f" reader 5: a repeat is answered by something else (standard)\n     expected {first.hex().upper()}\n     seen     {other.hex().upper()}\n".encode()
     if not listener.waits_for(wanted):
         tell("the reader is accused before the panel's next packet", wanted, listener.text)
     text, status = listener.end()
@@ -234,7 +238,7 @@ def judge_clock():
         if not listener.waits_for(wanted):
             tell("a packet at a terminal", wanted, listener.text)
         time.sleep(1.2)
-    if not listener.waits_for(b"runs 1 packets 2 skipped 0 refused 0 accused 0\n"):
+    if not listener.waits_for(b"runs 1 packets 2 skipped 0 refused 0 judged 1 accused 0\n"):
         tell("a table by the clock", "runs 1 packets 2", listener.text)
     listener.process.terminate()
     listener.process.wait()

@@ -1,5 +1,5 @@
 -- A packet after one that was answered, and an ACK that answers a POLL in turn: nothing is found in them.
-use Rattle.std.proofs.Common.{◌≡◌, ◌≢◌, ◌==◌, ◌||◌, ◌<◌, ℕ, Bool, true, false, List, Option, Some, None, Result, Ok, Err, refl, ap, subst, arith}
+use Rattle.std.proofs.Common.{◌≡◌, ◌≢◌, ◌==◌, ◌&&◌, ◌||◌, not, ◌<◌, ℕ, Bool, true, false, List, Option, Some, None, Result, Ok, Err, refl, ap, subst, arith}
 use Rattle.std.proofs.lemmas.Bool.{ne_eqb}
 use Rattle.osdp_frame.specs.Packet.{Packet, next_sequence}
 use Rattle.osdp_msg.specs.declared.command.Command.{Command}
@@ -7,8 +7,8 @@ use Rattle.osdp_msg.specs.declared.command.Command.TheVariants.{Comset, Poll}
 use Rattle.osdp_msg.specs.declared.fault.MsgFault.{MsgFault}
 use Rattle.osdp_msg.specs.declared.reply.Reply.TheVariants.{Ack}
 use Rattle.osdp_monitor.specs.declared.found.Found.{Found}
-use Rattle.osdp_monitor.specs.Known.{Known, same_check, same_packet}
-use Rattle.osdp_monitor.specs.Line.{Knowledge, after_packet, after_reply_if, devices_after, devices_after_reply, devices_after_sent, expected_if, expected_in, found_in, found_in_reply, found_in_sent, moves_to, nothing_found}
+use Rattle.osdp_monitor.specs.Known.{Known, is_number, same_check, same_packet}
+use Rattle.osdp_monitor.specs.Line.{Knowledge, after_packet, after_reply_if, devices_after, devices_after_reply, devices_after_sent, expected_if, expected_in, found_in, found_in_reply, found_in_sent, moves_to, nothing_wrong}
 use Rattle.osdp_monitor.specs.Panel.{after_sent}
 use Rattle.osdp_monitor.specs.Private.{AnswersPoll, IsNext, IsPollTo, IsSpelledIf, is_next, number_of}
 use Rattle.osdp_monitor.specs.Reader.{after_reply}
@@ -30,24 +30,41 @@ not_zero n other = grind arith
 begun : (t n : ℕ) → (next_sequence t == n) ≡ true → n ≢ 0
 begun t n is = grind arith
 
+own_way : (n : ℕ) → n ≢ 0 → (n == next_sequence n) ≡ false
+own_way n other = grind arith
+
 self_is : (n : ℕ) → (n == n) ≡ true
 self_is n = grind arith
 
-or_true : (b : Bool) → (b || true) ≡ true
-or_true true = refl
-or_true false = refl
+and_false : (b : Bool) → (b && false) ≡ false
+and_false true = refl
+and_false false = refl
 
 by_taken : (taken : Option ℕ) (k : Known) (p r : Packet) → k.taken ≡ taken → k.replied ≡ false → asked p ≡ Ok Poll → reply_told r ≡ Ok Ack
     → p.sequence ≡ r.sequence → same_check r.check p.check ≡ true → is_next taken r.sequence ≡ true
-    → found_in_reply (Some p) k r ≡ nothing_found
+    → found_in_reply (Some p) k r ≡ nothing_wrong
 by_taken None k p r is first poll ack number check next = absurd cc
 by_taken (Some t) k p r is first poll ack number check next =
-    simp (is, first, poll, ack, number, not_zero r.sequence (begun t r.sequence next), check, other_number t r.sequence next, next_way t r.sequence next, self_is r.sequence) refl
+    simp (
+      is,
+      first,
+      poll,
+      ack,
+      number,
+      not_zero r.sequence (begun t r.sequence next),
+      check,
+      other_number t r.sequence next,
+      next_way t r.sequence next,
+      self_is r.sequence,
+      and_false (not k.settled || is_number k.earlier r.sequence),
+      and_false k.answered,
+      own_way r.sequence (begun t r.sequence next),
+    ) refl
 
-pub none_found : (k : Known) (r : Packet) → AnswersPoll k r → reply_told r ≡ Ok Ack → found_in_reply k.last k r ≡ nothing_found
+pub none_found : (k : Known) (r : Packet) → AnswersPoll k r → reply_told r ≡ Ok Ack → found_in_reply k.last k r ≡ nothing_wrong
 none_found k r a ack = by_last k.last a.last
   where
-    by_last : (last : Option Packet) → IsPollTo last r.sequence r.check → found_in_reply last k r ≡ nothing_found
+    by_last : (last : Option Packet) → IsPollTo last r.sequence r.check → found_in_reply last k r ≡ nothing_wrong
     by_last None poll = absurd poll
     by_last (Some p) (poll, number, check) = by_taken k.taken k p r refl a.first poll ack number check a.next
 
@@ -65,17 +82,17 @@ goes_nowhere k r ack = by_last k.last
 
 after_taken : (taken : Option ℕ) (k : Known) (p r : Packet) → k.taken ≡ taken → p.sequence ≡ r.sequence
     → is_next taken r.sequence ≡ true → reply_told r ≡ Ok Ack
-    → after_reply k p r ≡ record k { replied = true; answered = true; taken = Some r.sequence; stored = Some r }
+    → after_reply k p r ≡ record k { replied = true; answered = true; taken = Some r.sequence; stored = Some r; earlier = None }
 after_taken None k p r is number next ack = absurd cc
 after_taken (Some t) k p r is number next ack =
-    simp (is, ack, number, not_zero r.sequence (begun t r.sequence next), other_number t r.sequence next, self_is r.sequence, or_true k.answered) refl
+    simp (is, ack, number, not_zero r.sequence (begun t r.sequence next), other_number t r.sequence next, self_is r.sequence, and_false (not k.settled || is_number k.earlier r.sequence), and_false k.answered, own_way r.sequence (begun t r.sequence next)) refl
 
 pub is_taken : (k : Known) (r : Packet) → AnswersPoll k r → reply_told r ≡ Ok Ack
-    → after_reply_if k.last k r ≡ record k { replied = true; answered = true; taken = Some r.sequence; stored = Some r }
+    → after_reply_if k.last k r ≡ record k { replied = true; answered = true; taken = Some r.sequence; stored = Some r; earlier = None }
 is_taken k r a ack = by_last k.last a.last
   where
     by_last : (last : Option Packet) → IsPollTo last r.sequence r.check
-        → after_reply_if last k r ≡ record k { replied = true; answered = true; taken = Some r.sequence; stored = Some r }
+        → after_reply_if last k r ≡ record k { replied = true; answered = true; taken = Some r.sequence; stored = Some r; earlier = None }
     by_last None poll = absurd poll
     by_last (Some p) (poll, number, check) = after_taken k.taken k p r refl number a.next ack
 
@@ -85,7 +102,7 @@ other_packet : (last p : Packet) → (last.sequence == p.sequence) ≡ false →
 other_packet last p other = grind arith
 
 next_found : (last : Option Packet) (k : Known) (p : Packet) → k.last ≡ last → is_next (number_of last) p.sequence ≡ true → k.replied ≡ true → k.answered ≡ true
-    → found_in_sent k p ≡ nothing_found
+    → found_in_sent k p ≡ nothing_wrong
 next_found None k p is next replied answered = absurd cc
 next_found (Some last) k p is next replied answered =
     simp (
@@ -97,18 +114,18 @@ next_found (Some last) k p is next replied answered =
       not_zero p.sequence (begun last.sequence p.sequence next),
     ) refl
 
-pub none_found_in_next : (k : Known) (p : Packet) → IsNext k p → found_in_sent k p ≡ nothing_found
+pub none_found_in_next : (k : Known) (p : Packet) → IsNext k p → found_in_sent k p ≡ nothing_wrong
 none_found_in_next k p n = next_found k.last k p refl n.next n.replied n.answered
 
-next_sent : (last : Option Packet) (k : Known) (p : Packet) → k.last ≡ last → is_next (number_of last) p.sequence ≡ true → k.replied ≡ true
-    → after_sent last k p ≡ record k { last = Some p; replied = false; answered = false; missed = false }
-next_sent None k p is next replied = absurd cc
-next_sent (Some last) k p is next replied =
-    simp (other_packet last p (other_number last.sequence p.sequence next), replied, not_zero p.sequence (begun last.sequence p.sequence next)) refl
+next_sent : (last : Option Packet) (k : Known) (p : Packet) → k.last ≡ last → is_next (number_of last) p.sequence ≡ true → k.replied ≡ true → k.owing ≡ false
+    → after_sent last k p ≡ record k { last = Some p; replied = false; answered = false; missed = false; earlier = None; settled = true }
+next_sent None k p is next replied settled = absurd cc
+next_sent (Some last) k p is next replied settled =
+    simp (other_packet last p (other_number last.sequence p.sequence next), replied, settled, not_zero p.sequence (begun last.sequence p.sequence next)) refl
 
 pub is_sent : (k : Known) (p : Packet) → IsNext k p
-    → after_sent k.last k p ≡ record k { last = Some p; replied = false; answered = false; missed = false }
-is_sent k p n = next_sent k.last k p refl n.next n.replied
+    → after_sent k.last k p ≡ record k { last = Some p; replied = false; answered = false; missed = false; earlier = None; settled = true }
+is_sent k p n = next_sent k.last k p refl n.next n.replied n.settled
 
 -- ---- where nothing is known anew
 

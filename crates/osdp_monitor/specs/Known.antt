@@ -19,9 +19,25 @@ pub record Known : Type 0 where
   pub taken : Option ℕ
   -- the reply that a repeat of it must have
   pub stored : Option Packet
+  -- the number of the packet before the last one, where a reply to it may still come
+  pub earlier : Option ℕ
+  -- whether a reply may still come to an earlier copy of the last packet, or to the packet before where that has the same number
+  pub owing : Bool
+  -- whether another packet has been sent since the first one that is known: what is owed to packets before the first nobody knows
+  pub settled : Bool
 
 abbrev pub nothing_known : Known
-nothing_known = record { last = None; replied = false; answered = false; missed = false; taken = None; stored = None }
+nothing_known = record {
+  last = None;
+  replied = false;
+  answered = false;
+  missed = false;
+  taken = None;
+  stored = None;
+  earlier = None;
+  owing = false;
+  settled = false;
+}
 
 -- the same kind of check: each has a size of its own
 abbrev pub same_check : CheckKind → CheckKind → Bool

@@ -1,4 +1,5 @@
 pub mod Known
+pub mod Accused
 pub mod Saying
 pub mod Panel
 pub mod Reader

@@ -1,5 +1,5 @@
 -- The rules over a whole line: what is known after each item, and what is found in it.
-use Rattle.std.specs.Prelude.{ℕ, ◌==◌, ◌+◌, Bool, false, ◌||◌, nat_lt, if◌then◌else◌, List, [], ◌∷◌, Option, None, Some}
+use Rattle.std.specs.Prelude.{ℕ, ◌==◌, ◌+◌, Bool, true, false, ◌&&◌, ◌||◌, not, is_some, nat_lt, if◌then◌else◌, List, [], ◌∷◌, Option, None, Some}
 use Rattle.osdp_frame.specs.Packet.{Packet}
 use Rattle.osdp_frame.specs.declared.check_kind.CheckKind.TheVariants.{Sum}
 use Rattle.osdp_frame.specs.Reading.{RunItem, PacketItem, SkippedItem, RefusedItem, smallest}
@@ -7,11 +7,11 @@ use Rattle.osdp_monitor.specs.declared.accusation.Accusation.{Accusation}
 use Rattle.osdp_monitor.specs.declared.accusation.Accusation.TheVariants.{AnotherPacket, AnotherReply}
 use Rattle.osdp_monitor.specs.declared.found.Found.{Found}
 use Rattle.osdp_monitor.specs.declared.found.Notice.{Notice}
-use Rattle.osdp_monitor.specs.declared.found.Notice.TheVariants.{Opened, Moved, Restarted, Unanswered}
+use Rattle.osdp_monitor.specs.declared.found.Notice.TheVariants.{Opened, Moved, Restarted, Unanswered, Late, Unsure}
 use Rattle.osdp_monitor.specs.Known.{Known, nothing_known, same_packet}
 use Rattle.osdp_monitor.specs.Panel.{after_sent, is_missed, panel_accused}
-use Rattle.osdp_monitor.specs.Reader.{after_reply, is_opening, reader_accused}
-use Rattle.osdp_monitor.specs.Saying.{asked, is_foreign, is_refusal, moved_by, reply_told, said}
+use Rattle.osdp_monitor.specs.Reader.{after_reply, is_doubtful, is_late, is_one_more, is_opening, is_owed, is_unheard, reader_accused}
+use Rattle.osdp_monitor.specs.Saying.{asked, is_damage, is_foreign, is_refusal, moved_by, reply_told, said}
 
 -- what is known of each address, and how many bytes in a row were no packet: fewer than the smallest packet has
 pub record Knowledge : Type 0 where
@@ -84,24 +84,40 @@ after_items line (part ∷ parts) = after_items (after_item line part) parts
 -- ---- what is found in a packet
 
 abbrev pub nothing_found : Found
-nothing_found = record { accusation = None; notice = None }
+nothing_found = record { accusation = None; notice = None; judged = false }
+
+-- .. in a packet that was judged
+abbrev pub nothing_wrong : Found
+nothing_wrong = record { accusation = None; notice = None; judged = true }
 
 abbrev pub notice_if : Bool → Notice → Option Notice
 notice_if test notice = if test then Some notice else None
 
 abbrev pub found_in_sent : Known → Packet → Found
 found_in_sent k p =
-    record { accusation = panel_accused k.last k p; notice = notice_if (is_missed k.last k) Unanswered }
+    record { accusation = panel_accused k.last k p; notice = notice_if (is_missed k.last k) Unanswered; judged = is_some k.last }
+
+-- a reply comes late; but of what came before the first packet nothing is known
+abbrev pub late_notice : Known → Notice
+late_notice k = if k.settled then Late else Unsure
 
 abbrev pub reply_notice : Option ℕ → Known → Packet → Packet → Option Notice
 reply_notice (Some moved) k p r = Some (Moved moved)
 reply_notice None k p r =
-    if is_refusal (said r) then Some Restarted else notice_if (is_opening k p r) Opened
+    if is_late k p r then Some (late_notice k)
+    else if is_unheard k p r then Some Unsure
+    else if is_refusal (said r) then Some Restarted
+    else if is_opening k p r then Some Opened
+    else notice_if (is_one_more k r && is_owed k) (late_notice k)
+
+-- what is in doubt isn't judged, nor is NAK 1
+abbrev pub is_reply_judged : Known → Packet → Packet → Bool
+is_reply_judged k p r = not (is_doubtful k p r) && not (is_damage (said r))
 
 abbrev pub found_in_reply : Option Packet → Known → Packet → Found
 found_in_reply None k r = nothing_found
 found_in_reply (Some p) k r =
-    record { accusation = reader_accused k p r; notice = reply_notice (moves_to (Some p) r) k p r }
+    record { accusation = reader_accused k p r; notice = reply_notice (moves_to (Some p) r) k p r; judged = is_reply_judged k p r }
 
 abbrev pub found_in : Knowledge → Packet → Found
 found_in line p =

@@ -1,5 +1,5 @@
 -- The rules of the panel: what may be sent to an address after what is known of it.
-use Rattle.std.specs.Prelude.{◌==◌, Bool, false, ◌&&◌, ◌||◌, not, if◌then◌else◌, Option, None, Some}
+use Rattle.std.specs.Prelude.{ℕ, ◌==◌, Bool, true, false, ◌&&◌, ◌||◌, not, if◌then◌else◌, Option, None, Some}
 use Rattle.osdp_frame.specs.Packet.{Packet, next_sequence}
 use Rattle.osdp_monitor.specs.declared.accusation.Accusation.{Accusation}
 use Rattle.osdp_monitor.specs.declared.accusation.Accusation.TheVariants.{AnotherPacket, NotAnswered, SentOutOfTurn}
@@ -24,25 +24,36 @@ panel_accused (Some last) k p = sent_after last k.answered p
 abbrev pub keeps_number : Packet → Known → Packet → Bool
 keeps_number last k p = not (p.sequence == 0) && (k.replied || is_number k.taken last.sequence)
 
+-- a copy of the last packet has had no reply: one may still come
+abbrev pub is_waiting : Known → Bool
+is_waiting k = k.owing || not k.replied
+
+abbrev pub left_waiting : Packet → Known → Option ℕ
+left_waiting last k = if is_waiting k then Some last.sequence else None
+
 -- another packet than the last
-abbrev pub after_another : Bool → Known → Packet → Known
-after_another keeps k p = record {
+abbrev pub after_another : Bool → Option ℕ → Known → Packet → Known
+after_another keeps earlier k p = record {
   last = Some p;
   replied = false;
   answered = false;
   missed = not k.replied;
   taken = if keeps then k.taken else None;
   stored = if keeps then k.stored else None;
+  earlier = earlier;
+  owing = is_number earlier p.sequence;
+  settled = true;
 }
 
 -- the last packet once more, at number 0 too
 abbrev pub after_copy : Known → Known
-after_copy k = record k { replied = false; missed = not k.replied }
+after_copy k = record k { replied = false; missed = not k.replied; owing = is_waiting k }
 
+-- the first one that is known may be a copy
 abbrev pub after_sent : Option Packet → Known → Packet → Known
-after_sent None k p = record nothing_known { last = Some p }
+after_sent None k p = record nothing_known { last = Some p; owing = true }
 after_sent (Some last) k p =
-    if same_packet last p then after_copy k else after_another (keeps_number last k p) k p
+    if same_packet last p then after_copy k else after_another (keeps_number last k p) (left_waiting last k) k p
 
 -- the last packet had no reply, and the one before it had one, or wasn't known
 abbrev pub is_missed : Option Packet → Known → Bool

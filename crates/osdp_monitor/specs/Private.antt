@@ -36,6 +36,7 @@ pub record IsNext (k : Known) (p : Packet) : Type 0 where
   pub next : is_next (number_of k.last) p.sequence ≡ true
   pub replied : k.replied ≡ true
   pub answered : k.answered ≡ true
+  pub settled : k.owing ≡ false
 
 -- it is known, and a POLL with this number and this check
 abbrev pub IsPollTo : Option Packet → ℕ → CheckKind → Type 0

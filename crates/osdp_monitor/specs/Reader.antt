@@ -9,7 +9,7 @@ use Rattle.osdp_msg.specs.declared.reply.Reply.TheVariants.{Ack, Nak}
 use Rattle.osdp_msg.specs.Fitting.{reply_fits}
 use Rattle.osdp_monitor.specs.declared.accusation.Accusation.{Accusation}
 use Rattle.osdp_monitor.specs.declared.accusation.Accusation.TheVariants.{SecondReply, AnotherNumber, AnotherCheck, BusyToRepeat, RefusedZero, AnotherReply, TakenOutOfTurn, UnreadReply, UnfitReply, EventAtZero}
-use Rattle.osdp_monitor.specs.Known.{Known, is_number, same_check, same_packet}
+use Rattle.osdp_monitor.specs.Known.{Known, is_number, nothing_known, same_check, same_packet}
 use Rattle.osdp_monitor.specs.declared.said.Said.{Said}
 use Rattle.osdp_monitor.specs.declared.said.Said.TheVariants.{Busy, Damage, Refusal, Answer}
 use Rattle.osdp_monitor.specs.Saying.{asked, is_answer, is_damage, reply_told, said}
@@ -80,19 +80,69 @@ reply_accused Damage k p r = None
 reply_accused Refusal k p r = refusal_accused p r
 reply_accused Answer k p r = answer_accused (repeat_reply k p) k p r
 
--- one reply to one copy
+-- a reply has the number of the packet that it answers, but a BUSY with number 0, which may answer any
+abbrev pub tells_number : Said → ℕ → Bool
+tells_number Busy number = not (number == 0)
+tells_number Damage number = false
+tells_number Refusal number = true
+tells_number Answer number = true
+
+-- it has the number of the packet before the last one, to which a reply may still come; that one may have any number where it isn't known
+abbrev pub has_earlier_number : Known → Packet → Bool
+has_earlier_number k r = tells_number (said r) r.sequence && (not k.settled || is_number k.earlier r.sequence)
+
+-- Such a reply comes late, where the last packet has another number: the panel waits no more for it.
+abbrev pub is_late : Known → Packet → Packet → Bool
+is_late k p r = has_earlier_number k r && not (r.sequence == p.sequence)
+
+-- Where both packets have number 0 nobody can tell which of them it answers.
+abbrev pub is_of_either : Known → Packet → Packet → Bool
+is_of_either k p r = has_earlier_number k r && p.sequence == 0
+
+-- It has the next number, and the last packet was answered: the packet that it answers wasn't heard.
+abbrev pub is_unheard : Known → Packet → Packet → Bool
+is_unheard k p r = is_answer (said r) && k.answered && r.sequence == next_sequence p.sequence
+
+-- what is not judged
+abbrev pub is_doubtful : Known → Packet → Packet → Bool
+is_doubtful k p r = is_late k p r || is_of_either k p r || is_unheard k p r
+
+-- a reply may still come to the packet before, or to an earlier copy
+abbrev pub is_owed : Known → Bool
+is_owed k = k.owing || is_some k.earlier
+
+-- one more reply to this copy
+abbrev pub is_one_more : Known → Packet → Bool
+is_one_more k r = k.replied && not (is_damage (said r))
+
+-- one reply to each copy
 abbrev pub reader_accused : Known → Packet → Packet → Option Accusation
 reader_accused k p r =
-    if k.replied && not (is_damage (said r)) then Some SecondReply else reply_accused (said r) k p r
+    if is_doubtful k p r then None
+    else if is_one_more k r && not (is_owed k) then Some SecondReply
+    else reply_accused (said r) k p r
 
--- a reply to this number takes it, but to a known repeat, whose stored reply stays
-abbrev pub after_answer : Bool → ℕ → Known → Packet → Known
-after_answer is_repeat number k r = record k {
+-- A reply with the packet's number takes it, but to a known repeat, whose stored reply stays. All packets before are answered then, if ever; but where
+-- the number is 0 it may be the packet before that was answered.
+abbrev pub after_own : Bool → ℕ → Known → Packet → Known
+after_own is_repeat number k r = record k {
   replied = true;
-  answered = k.answered || r.sequence == number;
+  answered = true;
   taken = if is_repeat then k.taken else Some number;
   stored = if is_repeat then k.stored else (if number == 0 then None else Some r);
+  earlier = if number == 0 then k.earlier else None;
 }
+
+-- after one with another number nobody knows which the reader took, but at a known repeat
+abbrev pub after_other : Bool → Known → Known
+after_other is_repeat k = record k {
+  replied = true;
+  taken = if is_repeat then k.taken else None;
+  stored = if is_repeat then k.stored else None;
+}
+
+abbrev pub after_answer : Bool → ℕ → Known → Packet → Known
+after_answer is_repeat number k r = if r.sequence == number then after_own is_repeat number k r else after_other is_repeat k
 
 -- after a NAK 4 the last number is unknown: a restart
 abbrev pub after_reply_of : Said → Known → Packet → Packet → Known
@@ -101,8 +151,9 @@ after_reply_of Damage k p r = k
 after_reply_of Refusal k p r = record k { replied = true; taken = None; stored = None }
 after_reply_of Answer k p r = after_answer (is_some (repeat_reply k p)) p.sequence k r
 
+-- What comes late changes nothing. Where a packet wasn't heard nothing is known any more.
 abbrev pub after_reply : Known → Packet → Packet → Known
-after_reply k p r = after_reply_of (said r) k p r
+after_reply k p r = if is_late k p r then k else if is_unheard k p r then nothing_known else after_reply_of (said r) k p r
 
 -- a NAK, whatever its reason
 abbrev pub is_nak : Result Reply MsgFault → Bool

@@ -1,5 +1,8 @@
 //! What an end is accused of.
 
+ghost use Rattle.std.specs.Prelude.{◌≡◌};
+ghost use Rattle.osdp_monitor.specs.Accused.{basis};
+
 /// What an end is accused of: the first three the panel, all others the reader at the address.
 #[derive(Clone, Copy, Debug, PartialEq, Eq)]
 pub enum Accusation {
@@ -29,4 +32,36 @@ pub enum Accusation {
     UnfitReply,
     /// An event at number 0.
     EventAtZero,
+}
+
+/// What asks for a rule.
+#[derive(Clone, Copy, Debug, PartialEq, Eq)]
+pub enum Basis {
+    /// The standard.
+    Standard,
+    /// The profile of these crates alone: other makers may do otherwise.
+    Profile,
+}
+
+impl Accusation {
+    /// What asks for the rule that was broken.
+    pub fn basis(self) -> Basis
+        ensures { result ≡ basis self }
+    {
+        match self {
+            Accusation::BusyToRepeat
+            | Accusation::RefusedZero
+            | Accusation::UnfitReply
+            | Accusation::EventAtZero => Basis::Profile,
+            Accusation::AnotherPacket
+            | Accusation::NotAnswered
+            | Accusation::SentOutOfTurn
+            | Accusation::SecondReply
+            | Accusation::AnotherNumber
+            | Accusation::AnotherCheck
+            | Accusation::AnotherReply
+            | Accusation::TakenOutOfTurn
+            | Accusation::UnreadReply => Basis::Standard,
+        }
+    }
 }

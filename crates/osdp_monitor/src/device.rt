@@ -3,11 +3,11 @@
 ghost use Rattle.std.specs.Prelude.{◌≡◌, ◌↔◌, [], is_some, None, Ok, true, false};
 ghost use Rattle.osdp_msg.specs.declared.reply.Reply.TheVariants.{Ack};
 ghost use Rattle.osdp_monitor.specs.Known.{nothing_known};
-ghost use Rattle.osdp_monitor.specs.Line.{after_reply_if, expected_if, found_in_reply, found_in_sent, is_last, moves_to, nothing_found, reply_notice};
-ghost use Rattle.osdp_monitor.specs.Panel.{after_another, after_sent};
+ghost use Rattle.osdp_monitor.specs.Line.{after_reply_if, expected_if, found_in_reply, found_in_sent, is_last, is_reply_judged, late_notice, moves_to, nothing_wrong, reply_notice};
+ghost use Rattle.osdp_monitor.specs.Panel.{after_another, after_sent, is_waiting};
 ghost use Rattle.osdp_frame.specs.Packet.{Packet};
 ghost use Rattle.osdp_monitor.specs.Private.{AnswersPoll, IsNext, IsSpelledIf};
-ghost use Rattle.osdp_monitor.specs.Reader.{after_answer, reader_accused, repeat_reply};
+ghost use Rattle.osdp_monitor.specs.Reader.{after_answer, after_own, has_earlier_number, is_doubtful, is_late, is_of_either, is_one_more, is_owed, is_unheard, reader_accused, repeat_reply};
 ghost use Rattle.osdp_monitor.specs.Saying.{reply_told, said};
 
 use crate::accusation::Accusation;
@@ -15,7 +15,7 @@ use crate::found::{Found, NOTHING, Notice};
 use crate::kept::KeptPacket;
 use crate::panel::{is_after, is_number, sent_after};
 use crate::reader::{answer_accused, busy_accused, refusal_accused};
-use crate::said::{ReadReply, Said, is_nak, moved_by, read_command, said_in};
+use crate::said::{ReadReply, Said, is_nak, moved_by, read_command, said_in, tells_number};
 use osdp_frame::{Address, Burst, FrameView, Seq};
 use osdp_msg::Reply;
 use std::marker::Model;
@@ -29,6 +29,9 @@ pub(crate) struct Device {
     missed: bool,
     taken: Option<Seq>,
     stored: KeptPacket,
+    earlier: Option<Seq>,
+    owing: bool,
+    settled: bool,
 }
 
 impl Model for Device {
@@ -36,7 +39,7 @@ impl Model for Device {
 
     ghost Value = { Known };
 
-    ghost view = { λ d. record { last = d.last; replied = d.replied; answered = d.answered; missed = d.missed; taken = d.taken; stored = d.stored } };
+    ghost view = { λ d. record { last = d.last; replied = d.replied; answered = d.answered; missed = d.missed; taken = d.taken; stored = d.stored; earlier = d.earlier; owing = d.owing; settled = d.settled } };
 }
 
 impl Device {
@@ -51,6 +54,9 @@ impl Device {
             missed: false,
             taken: None,
             stored: KeptPacket::none(),
+            earlier: None,
+            owing: false,
+            settled: false,
         }
     }
 
@@ -64,6 +70,9 @@ impl Device {
         self.missed = false;
         self.taken = None;
         self.stored.forget();
+        self.earlier = None;
+        self.owing = false;
+        self.settled = false;
     }
 
     /// What is found in a packet to it.
@@ -81,6 +90,7 @@ impl Device {
             } else {
                 None
             },
+            judged: true,
         }
     }
 
@@ -95,14 +105,14 @@ impl Device {
     fn is_next(&self, packet: &FrameView<'_>) -> bool
         ensures { (result ≡ true) ↔ IsNext self.now packet.now }
     {
-        self.replied && self.answered && is_after(self.last.number(), packet.seq())
+        self.replied && self.answered && !self.owing && is_after(self.last.number(), packet.seq())
     }
 
     /// Takes a packet after one that was answered, in which nothing is found. False of any other one, and then nothing is known anew.
     #[tactic(auto, using(crate::proofs::Turns::none_found_in_next, crate::proofs::Turns::is_sent))]
     pub fn take_next(&mut self, packet: &FrameView<'_>) -> bool
         ensures when { (result ≡ true) ↔ IsNext self.old packet.now }
-        ensures found { result ≡ true → found_in_sent self.old packet.now ≡ nothing_found }
+        ensures found { result ≡ true → found_in_sent self.old packet.now ≡ nothing_wrong }
         ensures sent { result ≡ true → self.new ≡ after_sent self.old.last self.old packet.now }
         ensures kept { result ≡ false → self.new ≡ self.old }
     {
@@ -113,7 +123,16 @@ impl Device {
         self.replied = false;
         self.answered = false;
         self.missed = false;
+        self.earlier = None;
+        self.settled = true;
         true
+    }
+
+    /// Whether a copy of the last packet has had no reply.
+    fn is_waiting(&self) -> bool
+        ensures { result ≡ is_waiting self.now }
+    {
+        self.owing || !self.replied
     }
 
     /// A packet was sent to it.
@@ -123,22 +142,29 @@ impl Device {
         let Some(number) = self.last.number() else {
             self.forget();
             self.last.keep(packet);
+            self.owing = true;
             return;
         };
+        let waits = self.is_waiting();
         if self.last.is(packet) {
+            self.owing = waits;
             self.missed = !self.replied;
             self.replied = false;
             return;
         }
         let keeps = packet.seq().get() != 0 && (self.replied || is_number(self.taken, number));
-        self.send_another(keeps, packet);
+        let earlier = if waits { Some(number) } else { None };
+        self.send_another(keeps, earlier, packet);
     }
 
-    /// Another packet than the last was sent to it.
-    fn send_another(&mut self, keeps: bool, packet: &FrameView<'_>)
-        ensures { self.new ≡ after_another keeps self.old packet.now }
+    /// Another packet than the last was sent to it, which has this number where a reply to it may still come.
+    fn send_another(&mut self, keeps: bool, earlier: Option<Seq>, packet: &FrameView<'_>)
+        ensures { self.new ≡ after_another keeps earlier self.old packet.now }
     {
         self.last.keep(packet);
+        self.earlier = earlier;
+        self.owing = is_number(self.earlier, packet.seq());
+        self.settled = true;
         self.missed = !self.replied;
         self.replied = false;
         self.answered = false;
@@ -155,14 +181,88 @@ impl Device {
         number.get() != 0 && is_number(self.taken, number) && self.stored.number().is_some()
     }
 
+    /// Whether a reply has the number of the packet before the last one, to which one may still come.
+    fn has_earlier_number(&self, reply: &ReadReply<'_, '_>) -> bool
+        ensures { result ≡ has_earlier_number self.now reply.now }
+    {
+        let number = reply.packet.seq();
+        tells_number(said_in(reply.read), number.get())
+            && (!self.settled || is_number(self.earlier, number))
+    }
+
+    /// Whether it comes late: the last packet has another number.
+    fn is_late(&self, last: &FrameView<'_>, reply: &ReadReply<'_, '_>) -> bool
+        ensures { result ≡ is_late self.now last.now reply.now }
+    {
+        self.has_earlier_number(reply) && !(reply.packet.seq().get() == last.seq().get())
+    }
+
+    /// Whether nobody can tell which of two packets with number 0 it answers.
+    fn is_of_either(&self, last: &FrameView<'_>, reply: &ReadReply<'_, '_>) -> bool
+        ensures { result ≡ is_of_either self.now last.now reply.now }
+    {
+        self.has_earlier_number(reply) && last.seq().get() == 0
+    }
+
+    /// Whether the packet that it answers wasn't heard.
+    fn is_unheard(&self, last: &FrameView<'_>, reply: &ReadReply<'_, '_>) -> bool
+        ensures { result ≡ is_unheard self.now last.now reply.now }
+    {
+        matches!(said_in(reply.read), Said::Answer)
+            && self.answered
+            && reply.packet.seq().get() == last.seq().next().get()
+    }
+
+    /// Whether it is not judged.
+    fn is_doubtful(&self, last: &FrameView<'_>, reply: &ReadReply<'_, '_>) -> bool
+        ensures { result ≡ is_doubtful self.now last.now reply.now }
+    {
+        self.is_late(last, reply) || self.is_of_either(last, reply) || self.is_unheard(last, reply)
+    }
+
+    /// Whether it is held to the rules.
+    fn is_reply_judged(&self, last: &FrameView<'_>, reply: &ReadReply<'_, '_>) -> bool
+        ensures { result ≡ is_reply_judged self.now last.now reply.now }
+    {
+        !self.is_doubtful(last, reply) && !matches!(said_in(reply.read), Said::Damage)
+    }
+
+    /// What is told of a reply that comes late.
+    fn late_notice(&self) -> Notice
+        ensures { result ≡ late_notice self.now }
+    {
+        if self.settled {
+            Notice::Late
+        } else {
+            Notice::Unsure
+        }
+    }
+
+    /// Whether a reply may still come to the packet before, or to an earlier copy.
+    fn is_owed(&self) -> bool
+        ensures { result ≡ is_owed self.now }
+    {
+        self.owing || self.earlier.is_some()
+    }
+
+    /// Whether it is one more reply to this copy.
+    fn is_one_more(&self, reply: &ReadReply<'_, '_>) -> bool
+        ensures { result ≡ is_one_more self.now reply.now }
+    {
+        self.replied && !matches!(said_in(reply.read), Said::Damage)
+    }
+
     /// What the reader is accused of for a reply to its last packet.
     fn reader_accused(&self, last: &FrameView<'_>, reply: &ReadReply<'_, '_>) -> Option<Accusation>
         ensures { result ≡ reader_accused self.now last.now reply.now }
     {
-        let said = said_in(reply.read);
-        if self.replied && !matches!(said, Said::Damage) {
+        if self.is_doubtful(last, reply) {
+            return None;
+        }
+        if self.is_one_more(reply) && !self.is_owed() {
             return Some(Accusation::SecondReply);
         }
+        let said = said_in(reply.read);
         let is_repeat = self.is_repeat(last.seq());
         match said {
             Said::Busy => busy_accused(is_repeat, last, reply.packet),
@@ -197,6 +297,12 @@ impl Device {
         if let Some(address) = moved {
             return Some(Notice::Moved(address.get()));
         }
+        if self.is_late(last, reply) {
+            return Some(self.late_notice());
+        }
+        if self.is_unheard(last, reply) {
+            return Some(Notice::Unsure);
+        }
         let meant = said_in(reply.read);
         if matches!(meant, Said::Refusal) {
             return Some(Notice::Restarted);
@@ -208,6 +314,8 @@ impl Device {
             && !is_nak(reply.read);
         if is_opening {
             Some(Notice::Opened)
+        } else if self.is_one_more(reply) && self.is_owed() {
+            Some(self.late_notice())
         } else {
             None
         }
@@ -224,6 +332,7 @@ impl Device {
         Found {
             accusation: self.reader_accused(&last, reply),
             notice: self.reply_notice(moved, &last, reply),
+            judged: self.is_reply_judged(&last, reply),
         }
     }
 
@@ -231,9 +340,17 @@ impl Device {
     pub fn reply(&mut self, reply: &ReadReply<'_, '_>)
         ensures { self.new ≡ after_reply_if self.old.last self.old reply.now }
     {
-        let Some(number) = self.last.number() else {
+        let Some(last) = self.last.view() else {
             return;
         };
+        if self.is_late(&last, reply) {
+            return;
+        }
+        if self.is_unheard(&last, reply) {
+            self.forget();
+            return;
+        }
+        let number = last.seq();
         let is_repeat = self.is_repeat(number);
         match said_in(reply.read) {
             Said::Busy => self.replied = true,
@@ -261,7 +378,7 @@ impl Device {
     pub fn take_ack(&mut self, reply: &FrameView<'_>) -> bool
         requires { reply_told reply.now ≡ Ok Ack }
         ensures when { (result ≡ true) ↔ AnswersPoll self.old reply.now }
-        ensures found { result ≡ true → found_in_reply self.old.last self.old reply.now ≡ nothing_found }
+        ensures found { result ≡ true → found_in_reply self.old.last self.old reply.now ≡ nothing_wrong }
         ensures stays { result ≡ true → moves_to self.old.last reply.now ≡ None }
         ensures taken { result ≡ true → self.new ≡ after_reply_if self.old.last self.old reply.now }
         ensures kept { result ≡ false → self.new ≡ self.old }
@@ -273,6 +390,7 @@ impl Device {
         self.answered = true;
         self.taken = Some(reply.seq());
         self.stored.keep(reply);
+        self.earlier = None;
         true
     }
 
@@ -280,8 +398,26 @@ impl Device {
     fn answer(&mut self, number: Seq, is_repeat: bool, reply: &FrameView<'_>)
         ensures { self.new ≡ after_answer is_repeat number self.old reply.now }
     {
+        if reply.seq().get() == number.get() {
+            self.take(number, is_repeat, reply);
+            return;
+        }
         self.replied = true;
-        self.answered = self.answered || reply.seq().get() == number.get();
+        if !is_repeat {
+            self.taken = None;
+            self.stored.forget();
+        }
+    }
+
+    /// It has answered its last packet by a reply with the number of it.
+    fn take(&mut self, number: Seq, is_repeat: bool, reply: &FrameView<'_>)
+        ensures { self.new ≡ after_own is_repeat number self.old reply.now }
+    {
+        self.replied = true;
+        self.answered = true;
+        if number.get() != 0 {
+            self.earlier = None;
+        }
         if is_repeat {
             return;
         }

@@ -3,7 +3,7 @@
 ghost use Rattle.std.specs.Prelude.{◌≡◌, ◌<◌, ◌↔◌, [], length, true, false, None, Ok, IfNone, IfOk, IfSome, OnErr, OnOk};
 ghost use Rattle.osdp_msg.specs.declared.reply.Reply.TheVariants.{Ack};
 ghost use Rattle.osdp_monitor.specs.Known.{nothing_known};
-ghost use Rattle.osdp_monitor.specs.Line.{after_reply_if, devices_after_reply, devices_after_sent, expected_if, found_in_reply, found_in_sent, known_at, moves_to, no_knowledge, nothing_found};
+ghost use Rattle.osdp_monitor.specs.Line.{after_reply_if, devices_after_reply, devices_after_sent, expected_if, found_in_reply, found_in_sent, known_at, moves_to, no_knowledge, nothing_wrong};
 ghost use Rattle.osdp_monitor.specs.Panel.{after_sent};
 ghost use Rattle.osdp_monitor.specs.Private.{AnswersPoll, IsNext, IsSpelledIf, known_of};
 ghost use Rattle.osdp_monitor.specs.Saying.{reply_told};
@@ -72,7 +72,7 @@ impl Devices {
     /// Takes a packet after one that was answered, in which nothing is found. False of any other one, and then nothing is known anew.
     pub fn take_next(&mut self, packet: &FrameView<'_>) -> bool
         ensures when { (result ≡ true) ↔ IsNext (devices_in self.old packet.now.address) packet.now }
-        ensures found { result ≡ true → found_in_sent (devices_in self.old packet.now.address) packet.now ≡ nothing_found }
+        ensures found { result ≡ true → found_in_sent (devices_in self.old packet.now.address) packet.now ≡ nothing_wrong }
         ensures sent { result ≡ true → devices_in self.new ≡ devices_after_sent packet.now (devices_in self.old) }
         ensures kept { result ≡ false → devices_in self.new ≡ devices_in self.old }
     {
@@ -125,7 +125,7 @@ impl Devices {
     pub fn take_ack(&mut self, packet: &FrameView<'_>) -> bool
         requires { reply_told packet.now ≡ Ok Ack }
         ensures when { (result ≡ true) ↔ AnswersPoll (devices_in self.old packet.now.address) packet.now }
-        ensures found { result ≡ true → let k = devices_in self.old packet.now.address in found_in_reply k.last k packet.now ≡ nothing_found }
+        ensures found { result ≡ true → let k = devices_in self.old packet.now.address in found_in_reply k.last k packet.now ≡ nothing_wrong }
         ensures taken { result ≡ true → devices_in self.new ≡ devices_after_reply packet.now (devices_in self.old) }
         ensures kept { result ≡ false → devices_in self.new ≡ devices_in self.old }
     {
@@ -200,7 +200,7 @@ fn hear_reply(slot: &mut Slot, reply: &ReadReply<'_, '_>)
 /// A packet was sent to this address: whether it is the next one after one that was answered.
 fn take_next(slot: &mut Slot, packet: &FrameView<'_>) -> bool
     ensures when { (result ≡ true) ↔ IsNext (known_of slot.old) packet.now }
-    ensures found { result ≡ true → found_in_sent (known_of slot.old) packet.now ≡ nothing_found }
+    ensures found { result ≡ true → found_in_sent (known_of slot.old) packet.now ≡ nothing_wrong }
     ensures sent { result ≡ true → let k = known_of slot.old in known_of slot.new ≡ after_sent k.last k packet.now }
     ensures kept { result ≡ false → known_of slot.new ≡ known_of slot.old }
 {
@@ -214,7 +214,7 @@ fn take_next(slot: &mut Slot, packet: &FrameView<'_>) -> bool
 fn take_ack(slot: &mut Slot, packet: &FrameView<'_>) -> bool
     requires { reply_told packet.now ≡ Ok Ack }
     ensures when { (result ≡ true) ↔ AnswersPoll (known_of slot.old) packet.now }
-    ensures found { result ≡ true → let k = known_of slot.old in found_in_reply k.last k packet.now ≡ nothing_found }
+    ensures found { result ≡ true → let k = known_of slot.old in found_in_reply k.last k packet.now ≡ nothing_wrong }
     ensures stays { result ≡ true → moves_to (known_of slot.old).last packet.now ≡ None }
     ensures taken { result ≡ true → let k = known_of slot.old in known_of slot.new ≡ after_reply_if k.last k packet.now }
     ensures kept { result ≡ false → known_of slot.new ≡ known_of slot.old }

@@ -13,6 +13,10 @@ pub enum Notice {
     Restarted,
     /// The packet before this one had no reply, and it is the first in a row.
     Unanswered,
+    /// A reply that answers an earlier packet, or an earlier copy: it comes later than the panel waits.
+    Late,
+    /// A reply that may answer a packet which wasn't heard.
+    Unsure,
 }
 
 /// What is found in a packet.
@@ -22,10 +26,20 @@ pub struct Found {
     pub accusation: Option<Accusation>,
     /// What else is worth a look.
     pub notice: Option<Notice>,
+    /// Whether it was held to the rules: what was known of its address was enough for that.
+    pub judged: bool,
 }
 
-/// Nothing is found.
+/// Nothing is found, since nothing is known.
 pub(crate) const NOTHING: Found = Found {
     accusation: None,
     notice: None,
+    judged: false,
+};
+
+/// Nothing is wrong.
+pub(crate) const FINE: Found = Found {
+    accusation: None,
+    notice: None,
+    judged: true,
 };

@@ -15,7 +15,7 @@ mod panel;
 mod reader;
 mod said;
 
-pub use accusation::Accusation;
+pub use accusation::{Accusation, Basis};
 pub use found::{Found, Notice};
 pub use monitor::Monitor;
 pub use said::{Said, is_poll};

@@ -7,7 +7,7 @@ ghost use Rattle.osdp_monitor.specs.Private.{IsSpelledIf};
 ghost use Rattle.osdp_monitor.specs.Saying.{is_foreign, reply_told};
 
 use crate::devices::Devices;
-use crate::found::{Found, NOTHING};
+use crate::found::{FINE, Found, NOTHING};
 use crate::said::{ReadReply, asks_unknown, is_ack, is_unknown, read_reply};
 use osdp_frame::{Burst, FrameView};
 use osdp_msg::{MsgFault, Reply};
@@ -110,7 +110,7 @@ impl Monitor {
     {
         if self.devices.take_ack(packet) {
             self.skipped = 0;
-            return NOTHING;
+            return FINE;
         }
         let reply = ReadReply {
             packet,
@@ -168,7 +168,7 @@ impl Monitor {
         }
         if self.devices.take_next(packet) {
             self.skipped = 0;
-            return Ok(NOTHING);
+            return Ok(FINE);
         }
         let found = self.devices.judge_sent(packet, expected);
         match self.devices.send(packet) {

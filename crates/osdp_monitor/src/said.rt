@@ -2,7 +2,7 @@
 
 ghost use Rattle.std.specs.Prelude.{◌≡◌, ◌↔◌, ℕ, Ok, true};
 ghost use Rattle.osdp_controller.specs.Answers.{meaning_by_reading, meaning_by_reason};
-ghost use Rattle.osdp_monitor.specs.Reader.{is_nak};
+ghost use Rattle.osdp_monitor.specs.Reader.{is_nak, tells_number};
 ghost use Rattle.osdp_monitor.specs.Saying.{asked, is_foreign, is_unknown, moved_by, reply_told, said_by};
 
 use osdp_frame::{Address, FrameView};
@@ -107,6 +107,17 @@ fn said_by_reason(nak: &Nak) -> Said
         NakReason::CheckCharacters => Said::Damage,
         NakReason::UnexpectedSequence => Said::Refusal,
         _ => Said::Answer,
+    }
+}
+
+/// Whether a reply has the number of the packet that it answers: all but NAK 1, and a BUSY with number 0.
+pub(crate) fn tells_number(said: Said, number: u8) -> bool
+    ensures { result ≡ tells_number said number }
+{
+    match said {
+        Said::Busy => number != 0,
+        Said::Damage => false,
+        Said::Refusal | Said::Answer => true,
     }
 }
 

@@ -5,10 +5,11 @@ use Rattle.std.specs.Prelude.{is_some}
 use Rattle.osdp_frame.specs.Packet.{Packet, next_sequence}
 use Rattle.osdp_monitor.specs.declared.said.Said.{Said}
 use Rattle.osdp_monitor.specs.declared.said.Said.TheVariants.{Busy, Damage, Refusal, Answer}
-use Rattle.osdp_monitor.specs.Known.{Known, is_number, same_packet}
-use Rattle.osdp_monitor.specs.Panel.{after_another, after_copy, after_sent, keeps_number}
+use Rattle.osdp_monitor.specs.Known.{Known, is_number, nothing_known, same_packet}
+use Rattle.osdp_monitor.specs.Panel.{after_another, after_copy, after_sent, keeps_number, left_waiting}
 use Rattle.osdp_monitor.specs.Reader.{after_answer, after_reply, after_reply_of, repeat_reply, taken_accused}
 use Rattle.osdp_monitor.specs.Saying.{said}
+use Rattle.osdp_monitor_laws.proofs.Late.{by_fate, by_number}
 use Rattle.osdp_monitor_laws.proofs.Numbers.{next_differs}
 use Rattle.osdp_monitor_laws.proofs.Same.{packet_is}
 
@@ -69,10 +70,10 @@ module _ (last : Option ℕ) (stored : Option Packet) where
       let packet : old ≡ u.packet = same_some old u.packet (sym before ∙ u.last) in
       next_differs n (sym u.next ∙ sym u.number ∙ sym (ap (λ q. q.sequence) packet) ∙ sym same)
 
-  another_agrees : (old : Packet) (k : Known) (p : Packet) (keeps : Bool) → k.last ≡ Some old → keeps_number old k p ≡ keeps → Agrees k last stored
-      → Agrees (after_another keeps k p) last stored
-  another_agrees old k p false before is agrees = λ n m taken has. absurd (none_some n taken)
-  another_agrees old k p true before is agrees = λ n m taken has. elim (agrees n m taken has) [
+  another_agrees : (old : Packet) (k : Known) (p : Packet) (keeps : Bool) (earlier : Option ℕ) → k.last ≡ Some old → keeps_number old k p ≡ keeps
+      → Agrees k last stored → Agrees (after_another keeps earlier k p) last stored
+  another_agrees old k p false earlier before is agrees = λ n m taken has. absurd (none_some n taken)
+  another_agrees old k p true earlier before is agrees = λ n m taken has. elim (agrees n m taken has) [
     | inl level ↦ inl (record { same = level.same; keeps = level.keeps })
     | inr u ↦ absurd (not_unheard old k p n m before taken u (or_cases k.replied (is_number k.taken old.sequence) (and_parts (not (eqb p.sequence 0)) _ is).1))
   ]
@@ -80,8 +81,8 @@ module _ (last : Option ℕ) (stored : Option Packet) where
   by_last : (k : Known) (p : Packet) (o : Option Packet) → k.last ≡ o → Agrees k last stored → Agrees (after_sent o k p) last stored
   by_last k p None before agrees = λ n m taken has. absurd (none_some n taken)
   by_last k p (Some old) before agrees =
-      cond_both (same_packet old p) (after_copy k) (after_another (keeps_number old k p) k p) (λ j. Agrees j last stored)
-      (λ _. copy_agrees k agrees) (λ _. another_agrees old k p (keeps_number old k p) before refl agrees)
+      cond_both (same_packet old p) (after_copy k) (after_another (keeps_number old k p) (left_waiting old k) k p) (λ j. Agrees j last stored)
+      (λ _. copy_agrees k agrees) (λ _. another_agrees old k p (keeps_number old k p) (left_waiting old k) before refl agrees)
 
   pub sent_agrees : (k : Known) (p : Packet) → Agrees k last stored → Agrees (after_sent k.last k p) last stored
   sent_agrees k p agrees = by_last k p k.last refl agrees
@@ -94,15 +95,16 @@ pub record IsAsked (k : Known) (p : Packet) : Type 0 where
 asked_by_last : (k : Known) (p : Packet) (o : Option Packet) → k.last ≡ o → IsAsked (after_sent o k p) p
 asked_by_last k p None before = record { last = refl; replied = refl }
 asked_by_last k p (Some old) before =
-    cond_both (same_packet old p) (after_copy k) (after_another (keeps_number old k p) k p) (λ j. IsAsked j p)
+    cond_both (same_packet old p) (after_copy k) (after_another (keeps_number old k p) (left_waiting old k) k p) (λ j. IsAsked j p)
     (λ same. record { last = before ∙ ap Some (packet_is old p same); replied = refl }) (λ _. record { last = refl; replied = refl })
 
 pub sent_asked : (k : Known) (p : Packet) → IsAsked (after_sent k.last k p) p
 sent_asked k p = asked_by_last k p k.last refl
 
-another_zero : (old : Packet) (k : Known) (p : Packet) (keeps : Bool) → keeps_number old k p ≡ keeps → TakesZero (after_another keeps k p)
-another_zero old k p false is = λ q n last zero taken. absurd (none_some n taken)
-another_zero old k p true is = λ q n last zero taken.
+another_zero : (old : Packet) (k : Known) (p : Packet) (keeps : Bool) (earlier : Option ℕ) → keeps_number old k p ≡ keeps
+    → TakesZero (after_another keeps earlier k p)
+another_zero old k p false earlier is = λ q n last zero taken. absurd (none_some n taken)
+another_zero old k p true earlier is = λ q n last zero taken.
     let same : p ≡ q = same_some p q last in
     absurd (false≢true (sym (not-true (eqb p.sequence 0) (and_parts (not (eqb p.sequence 0)) _ is).0)
     ∙ eq-eqb p.sequence 0 (ap (λ x. x.sequence) same ∙ zero)))
@@ -110,8 +112,8 @@ another_zero old k p true is = λ q n last zero taken.
 zero_by_last : (k : Known) (p : Packet) (o : Option Packet) → k.last ≡ o → TakesZero k → TakesZero (after_sent o k p)
 zero_by_last k p None before takes = λ q n last zero taken. absurd (none_some n taken)
 zero_by_last k p (Some old) before takes =
-    cond_both (same_packet old p) (after_copy k) (after_another (keeps_number old k p) k p) TakesZero
-    (λ _. takes) (λ _. another_zero old k p (keeps_number old k p) refl)
+    cond_both (same_packet old p) (after_copy k) (after_another (keeps_number old k p) (left_waiting old k) k p) TakesZero
+    (λ _. takes) (λ _. another_zero old k p (keeps_number old k p) (left_waiting old k) refl)
 
 pub sent_zero : (k : Known) (p : Packet) → TakesZero k → TakesZero (after_sent k.last k p)
 sent_zero k p takes = zero_by_last k p k.last refl takes
@@ -119,10 +121,13 @@ sent_zero k p takes = zero_by_last k p k.last refl takes
 -- ---- a reply
 
 answer_zero : (k : Known) (p q : Packet) (repeat : Bool) → k.last ≡ Some p → TakesZero k → TakesZero (after_answer repeat p.sequence k q)
-answer_zero k p q true last takes = takes
-answer_zero k p q false last takes = λ x n is zero taken.
+answer_zero k p q true last takes = by_number TakesZero true p.sequence k q (λ _. takes) (λ _. takes)
+answer_zero k p q false last takes =
+    by_number TakesZero false p.sequence k q
+    (λ _ x n is zero taken.
     let same : p ≡ x = same_some p x (sym last ∙ is) in
-    sym (same_some p.sequence n taken) ∙ ap (λ y. y.sequence) same ∙ zero
+    sym (same_some p.sequence n taken) ∙ ap (λ y. y.sequence) same ∙ zero)
+    (λ _ x n is zero taken. absurd (none_some n taken))
 
 zero_by_said : (s : Said) (k : Known) (p q : Packet) → k.last ≡ Some p → TakesZero k → TakesZero (after_reply_of s k p q)
 zero_by_said Busy k p q last takes = takes
@@ -131,4 +136,4 @@ zero_by_said Refusal k p q last takes = λ x n is zero taken. absurd (none_some 
 zero_by_said Answer k p q last takes = answer_zero k p q (is_some (repeat_reply k p)) last takes
 
 pub reply_zero : (k : Known) (p q : Packet) → k.last ≡ Some p → TakesZero k → TakesZero (after_reply k p q)
-reply_zero k p q = zero_by_said (said q) k p q
+reply_zero k p q last takes = by_fate TakesZero k p q (λ _. takes) (λ _. zero_untaken nothing_known refl) (zero_by_said (said q) k p q last takes)

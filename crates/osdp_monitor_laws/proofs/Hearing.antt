@@ -69,7 +69,7 @@ pub record Keeps (own : ℕ) (kept : Option Packet) (m : ℕ) : Type 0 where
   pub sent : IsSaid own packet
 
 -- .. also of a reader that has no last number
-settle : (k : Known) (p q : Packet) (last : Option ℕ) (stored : Option Packet) (then : Option ℕ) (kept : Option Packet) → Replies k p q last stored
+pub settle : (k : Known) (p q : Packet) (last : Option ℕ) (stored : Option Packet) (then : Option ℕ) (kept : Option Packet) → Replies k p q last stored
     → (then ≡ None) ⊎ ((then ≡ last) × (kept ≡ stored)) → Replies k p q then kept
 settle k p q last stored then kept replies (inl none) =
     record { fine = replies.fine; lost = agrees_new k then kept none; after = agrees_new (after_reply k p q) then kept none }
@@ -276,7 +276,7 @@ module _ {H : Type 0} where
         comes_kind Busy is of fits =
             let x = reply_packet p 0 reply.Busy in
             comes_if (outcome answer_of after Busy r p) x refl (unchanging x
-            (busy k p r.last r.stored asked agrees takes x of (said_is reads p 0 reply.Busy tt) refl (check_same p.check)))
+            (busy k p r.last r.stored asked agrees takes x of (said_is reads p 0 reply.Busy tt) (inr refl) (check_same p.check)))
         comes_kind Wrong is of fits =
             let x = reply_packet p p.sequence (refused UnexpectedSequence) in
             comes_if (outcome answer_of after Wrong r p) x refl (unchanging x

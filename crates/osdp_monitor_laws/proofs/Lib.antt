@@ -1,13 +1,16 @@
 pub mod Same
 pub mod Numbers
+pub mod Late
 pub mod Knowing
 pub mod Agreeing
 pub mod Replying
 pub mod Saying
 pub mod Hearing
 pub mod ReaderLines
+pub mod AnyReaders
 pub mod PanelFits
 pub mod PanelLines
 pub mod Remembering
 pub mod Missing
+pub mod Telling
 pub mod FittingReplies

@@ -1,6 +1,6 @@
 -- What the rules never miss.
 use Rattle.std.proofs.Common.{◌≡◌, ◌≢◌, ◌⊎◌, inl, inr, ℕ, Bool, true, false, cond, eqb, ◌&&◌, ◌||◌, not, ◌∷◌, ◌++◌, Option, Some, None, refl, sym, subst, ap, ◌∙◌}
-use Rattle.std.proofs.lemmas.Bool.{and_from, and_right, cond-false, cond-true, cond_both, eq-eqb, false≢true, false_from_ne_true, ne_eqb, not_from_false, or_from, or_right}
+use Rattle.std.proofs.lemmas.Bool.{not_from_true, and_from, and_left, and_right, cond-false, cond-true, cond_both, eq-eqb, false≢true, false_from_ne_true, ne_eqb, not_from_false, or_from, or_right}
 use Rattle.std.specs.Prelude.{is_some}
 use Rattle.osdp_frame.specs.Packet.{Packet, next_sequence}
 use Rattle.osdp_frame.specs.Reading.{PacketItem}
@@ -10,15 +10,16 @@ use Rattle.osdp_monitor.specs.declared.said.Said.{Said}
 use Rattle.osdp_monitor.specs.declared.said.Said.TheVariants.{Busy, Damage, Refusal, Answer}
 use Rattle.osdp_monitor.specs.Known.{Known, is_number, same_check, same_packet}
 use Rattle.osdp_monitor.specs.Line.{Knowledge, after_items, after_packet, found_in, found_in_reply, found_in_sent, nothing_found}
-use Rattle.osdp_monitor.specs.Panel.{after_another, after_copy, after_sent, keeps_number, panel_accused, sent_after}
-use Rattle.osdp_monitor.specs.Reader.{after_answer, after_reply_of, answer_accused, reader_accused, repeat_reply, reply_accused}
-use Rattle.osdp_monitor.specs.Saying.{is_damage, is_foreign, said}
+use Rattle.osdp_monitor.specs.Panel.{after_another, after_copy, after_sent, keeps_number, left_waiting, panel_accused, sent_after}
+use Rattle.osdp_monitor.specs.Reader.{after_answer, after_reply_of, answer_accused, has_earlier_number, is_doubtful, is_late, is_of_either, is_one_more, is_owed, is_unheard, reader_accused, repeat_reply, reply_accused, tells_number}
+use Rattle.osdp_monitor.specs.Saying.{is_answer, is_foreign, said}
 use Rattle.osdp_monitor_laws.proofs.Agreeing.{none_some, same_some, sent_asked}
+use Rattle.osdp_monitor_laws.proofs.Late.{by_fate, by_number, own_counts, own_heard, own_in_time}
 use Rattle.osdp_monitor_laws.proofs.Numbers.{next_above_zero, next_differs}
 use Rattle.osdp_monitor_laws.proofs.PanelLines.{last_by}
 use Rattle.osdp_monitor_laws.proofs.Remembering.{after_append, after_one, at_remembered, forgotten_append, items_keep}
 use Rattle.osdp_monitor_laws.proofs.Same.{packet_is}
-use Rattle.osdp_monitor_laws.specs.Misses.{IsCopyOrReply, IsFrom, IsRemembered, IsTo, LeavesUnanswered, MissesNoOtherPacket, MissesNoOtherReply, MissesNoUnanswered, RefusesNothing, TakesNothing}
+use Rattle.osdp_monitor_laws.specs.Misses.{IsCopyOrReply, IsFrom, IsRemembered, IsTo, LeavesUnanswered, MissesNoOtherPacket, MissesNoOtherReply, MissesNoUnanswered, RefusesNothing, SaysOther, TakesNothing}
 
 -- ---- what is found, where the packet is judged
 
@@ -58,7 +59,8 @@ last_step a p line x known each is =
       | inl same ↦ (sent_asked (line.devices a) x).last ∙ ap Some same
       | inr reply ↦ absurd (false≢true (sym command ∙ reply))
     ])
-    (λ _ _ last _. last_by (said x) (line.devices a) last x ∙ known)
+    (λ _ _ last _ heard. by_fate (IsLast p) (line.devices a) last x (λ _. known) (λ unheard. absurd (false≢true (sym heard ∙ unheard)))
+    (last_by (said x) (line.devices a) last x ∙ known))
 
 first_last : (a : ℕ) (line : Knowledge) (p : Packet) → IsTo a p → IsRemembered a (PacketItem p) line → IsLast p ((after_packet line p).devices a)
 first_last a line p to is =
@@ -89,12 +91,12 @@ IsUnanswered p k = (k.last ≡ Some p) × (k.answered ≡ false)
 copy_unanswered : (k : Known) (p : Packet) (o : Option Packet) → k.last ≡ o → o ≡ Some p → k.answered ≡ false → (after_sent o k p).answered ≡ false
 copy_unanswered k p None is last none = refl
 copy_unanswered k p (Some old) is last none =
-    cond_both (same_packet old p) (after_copy k) (after_another (keeps_number old k p) k p) (λ j. j.answered ≡ false) (λ _. none) (λ _. refl)
+    cond_both (same_packet old p) (after_copy k) (after_another (keeps_number old k p) (left_waiting old k) k p) (λ j. j.answered ≡ false) (λ _. none) (λ _. refl)
 
 first_unanswered : (k : Known) (p : Packet) (o : Option Packet) → o ≢ Some p → (after_sent o k p).answered ≡ false
 first_unanswered k p None first = refl
 first_unanswered k p (Some old) first =
-    cond_both (same_packet old p) (after_copy k) (after_another (keeps_number old k p) k p) (λ j. j.answered ≡ false)
+    cond_both (same_packet old p) (after_copy k) (after_another (keeps_number old k p) (left_waiting old k) k p) (λ j. j.answered ≡ false)
     (λ same. absurd (first (ap Some (packet_is old p same)))) (λ _. refl)
 
 reply_unanswered : (s : Said) (k : Known) (p x : Packet) → k.answered ≡ false → (x.sequence ≢ p.sequence) ⊎ (s ≢ Answer)
@@ -102,7 +104,8 @@ reply_unanswered : (s : Said) (k : Known) (p x : Packet) → k.answered ≡ fals
 reply_unanswered Busy k p x none other = none
 reply_unanswered Damage k p x none other = none
 reply_unanswered Refusal k p x none other = none
-reply_unanswered Answer k p x none (inl other) = or_from k.answered (eqb x.sequence p.sequence) none (ne_eqb x.sequence p.sequence other)
+reply_unanswered Answer k p x none (inl other) =
+    by_number (λ j. j.answered ≡ false) (is_some (repeat_reply k p)) p.sequence k x (λ own. absurd (other own)) (λ _. none)
 reply_unanswered Answer k p x none (inr other) = absurd (other refl)
 
 unanswered_step : (a : ℕ) (p : Packet) → p.reply ≡ false → (line : Knowledge) (x : Packet) → IsUnanswered p (line.devices a)
@@ -114,9 +117,9 @@ unanswered_step a p command line x known each is =
       | inl same ↦ ((sent_asked k x).last ∙ ap Some same, copy_unanswered k x k.last refl (known.0 ∙ ap Some (sym same)) known.1)
       | inr by ↦ absurd (false≢true (sym sent ∙ by.0))
     ])
-    (λ here reply last before. elim (each here) [
+    (λ here reply last before heard. elim (each here) [
       | inl same ↦ absurd (false≢true (sym command ∙ sym (ap (λ (y : Packet). y.reply) same) ∙ reply))
-      | inr by ↦ (
+      | inr by ↦ by_fate (IsUnanswered p) k last x (λ _. known) (λ unheard. absurd (false≢true (sym heard ∙ unheard))) (
         last_by (said x) k last x ∙ known.0,
         reply_unanswered (said x) k last x known.1
             (subst (λ y. (x.sequence ≢ y.sequence) ⊎ (said x ≢ Answer)) (same_some p last (sym known.0 ∙ before)) by.1),
@@ -162,7 +165,7 @@ IsPending n k = HasNumber n k × (k.taken ≢ Some n)
 untaken_sent : (n : ℕ) (k : Known) (p : Packet) (o : Option Packet) → k.taken ≢ Some n → (after_sent o k p).taken ≢ Some n
 untaken_sent n k p None untaken = none_some n
 untaken_sent n k p (Some old) untaken =
-    cond_both (same_packet old p) (after_copy k) (after_another (keeps_number old k p) k p) (λ j. j.taken ≢ Some n) (λ _. untaken)
+    cond_both (same_packet old p) (after_copy k) (after_another (keeps_number old k p) (left_waiting old k) k p) (λ j. j.taken ≢ Some n) (λ _. untaken)
     (λ _. cond_both (keeps_number old k p) k.taken None (λ t. t ≢ Some n) (λ _. untaken) (λ _. none_some n))
 
 untaken_reply : (s : Said) (n : ℕ) (k : Known) (p x : Packet) → k.taken ≢ Some n → s ≢ Answer → (after_reply_of s k p x).taken ≢ Some n
@@ -180,9 +183,9 @@ pending_step a n line x known each is =
       | inl same ↦ ((x, (sent_asked k x).last, same.1), untaken_sent n k x k.last known.1)
       | inr by ↦ absurd (false≢true (sym sent ∙ by.0))
     ])
-    (λ here reply last before. elim (each here) [
+    (λ here reply last before heard. elim (each here) [
       | inl sent ↦ absurd (false≢true (sym sent.0 ∙ reply))
-      | inr by ↦ (
+      | inr by ↦ by_fate (IsPending n) k last x (λ _. known) (λ unheard. absurd (false≢true (sym heard ∙ unheard))) (
         (known.0.0, last_by (said x) k last x ∙ known.0.1, known.0.2),
         untaken_reply (said x) n k last x known.1 by.1,
       )
@@ -195,9 +198,13 @@ first_pending a line p to untaken is =
     at_remembered a (IsPending p.sequence) line p is (λ other. absurd (other to.1)) (λ _ reply. absurd (false≢true (sym to.0 ∙ reply)))
     (λ _ _. ((p, (sent_asked k p).last, refl), untaken_sent p.sequence k p k.last untaken)) (λ _ reply. absurd (false≢true (sym to.0 ∙ reply)))
 
--- the reply that a packet with this number must have
+-- what a packet with this number must be answered by
+abbrev Keeps : ℕ → Packet → Known → Type 0
+Keeps n r k = (k.taken ≡ Some n) × (k.stored ≡ Some r)
+
+-- .. and the last packet has this number
 abbrev IsStored : ℕ → Packet → Known → Type 0
-IsStored n r k = HasNumber n k × (k.taken ≡ Some n) × (k.stored ≡ Some r)
+IsStored n r k = HasNumber n k × Keeps n r k
 
 not_number : (o : Option ℕ) (n : ℕ) → o ≢ Some n → is_number o n ≡ false
 not_number None n other = refl
@@ -216,50 +223,60 @@ old_repeat k q n above number taken =
     (subst (λ o. is_number o q.sequence ≡ true) (sym taken) (eq-eqb n q.sequence (sym number))))
 
 -- the reply that takes the number
-answer_stored : (n : ℕ) (k : Known) (q r : Packet) → n ≢ 0 → q.sequence ≡ n → k.last ≡ Some q → repeat_reply k q ≡ None
+answer_stored : (n : ℕ) (k : Known) (q r : Packet) → n ≢ 0 → q.sequence ≡ n → k.last ≡ Some q → repeat_reply k q ≡ None → r.sequence ≡ q.sequence
     → IsStored n r (after_answer (is_some (repeat_reply k q)) q.sequence k r)
-answer_stored n k q r above number last new =
-    subst (λ o. IsStored n r (after_answer (is_some o) q.sequence k r)) (sym new) (
+answer_stored n k q r above number last new own =
+    subst (λ o. IsStored n r (after_answer (is_some o) q.sequence k r)) (sym new)
+    (by_number (IsStored n r) false q.sequence k r
+    (λ _. (
       (q, last, number),
-      ap Some number,
-      cond-false (eqb q.sequence 0) None (Some r) (ne_eqb q.sequence 0 (λ zero. above (sym number ∙ zero))),
-    )
+      (
+        ap Some number,
+        cond-false (eqb q.sequence 0) None (Some r) (ne_eqb q.sequence 0 (λ zero. above (sym number ∙ zero))),
+      ),
+    ))
+    (λ other. absurd (other own)))
 
-taken_stored : (a n : ℕ) (line : Knowledge) (r : Packet) → n ≢ 0 → IsPending n (line.devices a) → IsFrom a r → said r ≡ Answer
+taken_stored : (a n : ℕ) (line : Knowledge) (r : Packet) → n ≢ 0 → IsPending n (line.devices a) → IsFrom a r → said r ≡ Answer → r.sequence ≡ n
     → IsRemembered a (PacketItem r) line → IsStored n r ((after_packet line r).devices a)
-taken_stored a n line r above known from says is =
+taken_stored a n line r above known from says own is =
     let k = line.devices a in
     at_remembered a (IsStored n r) line r is (λ other. absurd (other from.1))
     (λ _ _ none. absurd (none_some known.0.0 (sym none ∙ known.0.1))) (λ _ sent. absurd (false≢true (sym sent ∙ from.0)))
-    (λ _ _ last before.
+    (λ _ _ last before _.
     let same : known.0.0 ≡ last = same_some known.0.0 last (sym known.0.1 ∙ before) in
     let number : last.sequence ≡ n = sym (ap (λ (y : Packet). y.sequence) same) ∙ known.0.2 in
-    subst (λ s. IsStored n r (after_reply_of s k last r)) (sym says)
-    (answer_stored n k last r above number before (new_repeat k last n number known.1)))
+    subst (IsStored n r) (sym (own_counts k last r (own ∙ sym number)))
+    (subst (λ s. IsStored n r (after_reply_of s k last r)) (sym says)
+    (answer_stored n k last r above number before (new_repeat k last n number known.1) (own ∙ sym number))))
 
 -- another packet with this number, and a copy
 stored_sent : (n : ℕ) (r : Packet) (k : Known) (x : Packet) (o : Option Packet) → n ≢ 0 → k.last ≡ o → x.sequence ≡ n → IsStored n r k
-    → ((after_sent o k x).taken ≡ Some n) × ((after_sent o k x).stored ≡ Some r)
+    → Keeps n r (after_sent o k x)
 stored_sent n r k x None above last number known = absurd (none_some known.0.0 (sym last ∙ known.0.1))
 stored_sent n r k x (Some old) above last number known =
     let same : known.0.0 ≡ old = same_some known.0.0 old (sym known.0.1 ∙ last) in
+    let its : old.sequence ≡ n = sym (ap (λ (y : Packet). y.sequence) same) ∙ known.0.2 in
     let keeps : keeps_number old k x ≡ true =
     and_from (not (eqb x.sequence 0)) (k.replied || is_number k.taken old.sequence)
     (not_from_false (eqb x.sequence 0) (ne_eqb x.sequence 0 (λ zero. above (sym number ∙ zero))))
-    (or_right k.replied (is_number k.taken old.sequence) (subst (λ t. is_number t old.sequence ≡ true) (sym known.1)
-    (eq-eqb n old.sequence (sym known.0.2 ∙ ap (λ (y : Packet). y.sequence) same)))) in
-    cond_both (same_packet old x) (after_copy k) (after_another (keeps_number old k x) k x) (λ j. (j.taken ≡ Some n) × (j.stored ≡ Some r))
-    (λ _. (known.1, known.2))
-    (λ _. (cond-true (keeps_number old k x) k.taken None keeps ∙ known.1, cond-true (keeps_number old k x) k.stored None keeps ∙ known.2))
+    (or_right k.replied (is_number k.taken old.sequence) (subst (λ t. is_number t old.sequence ≡ true) (sym known.1.0)
+    (eq-eqb n old.sequence (sym its)))) in
+    cond_both (same_packet old x) (after_copy k) (after_another (keeps_number old k x) (left_waiting old k) k x) (Keeps n r)
+    (λ _. known.1)
+    (λ _. (
+      cond-true (keeps_number old k x) k.taken None keeps ∙ known.1.0,
+      cond-true (keeps_number old k x) k.stored None keeps ∙ known.1.1,
+    ))
 
 stored_reply : (s : Said) (n : ℕ) (r : Packet) (k : Known) (q x : Packet) → n ≢ 0 → k.last ≡ Some q → q.sequence ≡ n → s ≢ Refusal → IsStored n r k
-    → ((after_reply_of s k q x).taken ≡ Some n) × ((after_reply_of s k q x).stored ≡ Some r)
-stored_reply Busy n r k q x above last number other known = (known.1, known.2)
-stored_reply Damage n r k q x above last number other known = (known.1, known.2)
+    → Keeps n r (after_reply_of s k q x)
+stored_reply Busy n r k q x above last number other known = known.1
+stored_reply Damage n r k q x above last number other known = known.1
 stored_reply Refusal n r k q x above last number other known = absurd (other refl)
 stored_reply Answer n r k q x above last number other known =
-    subst (λ o. ((after_answer (is_some o) q.sequence k x).taken ≡ Some n) × ((after_answer (is_some o) q.sequence k x).stored ≡ Some r))
-    (sym (old_repeat k q n above number known.1 ∙ known.2)) (known.1, known.2)
+    subst (λ o. Keeps n r (after_answer (is_some o) q.sequence k x)) (sym (old_repeat k q n above number known.1.0 ∙ known.1.1))
+    (by_number (Keeps n r) true q.sequence k x (λ _. known.1) (λ _. known.1))
 
 stored_step : (a n : ℕ) (r : Packet) → n ≢ 0 → (line : Knowledge) (x : Packet) → IsStored n r (line.devices a) → (x.address ≡ a → RefusesNothing n x)
     → IsRemembered a (PacketItem x) line → IsStored n r ((after_packet line x).devices a)
@@ -269,41 +286,69 @@ stored_step a n r above line x known each is =
     (λ here sent. elim (each here) [
       | inl same ↦
           let kept = stored_sent n r k x k.last above refl same.1 known in
-          ((x, (sent_asked k x).last, same.1), kept.0, kept.1)
+          ((x, (sent_asked k x).last, same.1), kept)
       | inr by ↦ absurd (false≢true (sym sent ∙ by.0))
     ])
-    (λ here reply last before. elim (each here) [
+    (λ here reply last before heard. elim (each here) [
       | inl sent ↦ absurd (false≢true (sym sent.0 ∙ reply))
       | inr by ↦
           let same : known.0.0 ≡ last = same_some known.0.0 last (sym known.0.1 ∙ before) in
           let kept = stored_reply (said x) n r k last x above before (sym (ap (λ (y : Packet). y.sequence) same) ∙ known.0.2) by.1 known in
-          ((known.0.0, last_by (said x) k last x ∙ known.0.1, known.0.2), kept.0, kept.1)
+          by_fate (IsStored n r) k last x (λ _. known) (λ unheard. absurd (false≢true (sym heard ∙ unheard)))
+          ((known.0.0, last_by (said x) k last x ∙ known.0.1, known.0.2), kept)
     ])
 
 -- whatever else comes is accused
 abbrev IsAccused : Option Accusation → Type 0
 IsAccused o = (accusation : Accusation) × (o ≡ Some accusation)
 
+-- it is judged
+none_doubtful : (k : Known) (q s : Packet) (n : ℕ) → n ≢ 0 → q.sequence ≡ n → SaysOther n s → is_doubtful k q s ≡ false
+none_doubtful k q s n above number says =
+    or_from (is_late k q s || is_of_either k q s) (is_unheard k q s)
+    (or_from (is_late k q s) (is_of_either k q s) (in_time says) (and_right (has_earlier_number k s) (eqb q.sequence 0) (ne_eqb q.sequence 0 (λ zero. above (sym number ∙ zero)))))
+    (heard says)
+  where
+    tells_none : said s ≡ Busy → s.sequence ≡ 0 → has_earlier_number k s ≡ false
+    tells_none busy zero =
+        and_left (tells_number (said s) s.sequence) (not k.settled || is_number k.earlier s.sequence)
+        (ap (λ t. tells_number t s.sequence) busy ∙ not_from_true (eqb s.sequence 0) (eq-eqb s.sequence 0 zero))
+
+    in_time : SaysOther n s → is_late k q s ≡ false
+    in_time (inl answer) = own_in_time k q s (answer.1 ∙ sym number)
+    in_time (inr busy) = elim busy.1 [
+      | inl own ↦ own_in_time k q s (own ∙ sym number)
+      | inr zero ↦ and_left (has_earlier_number k s) (not (eqb s.sequence q.sequence)) (tells_none busy.0 zero)
+    ]
+
+    heard : SaysOther n s → is_unheard k q s ≡ false
+    heard (inl answer) = own_heard k q s (answer.1 ∙ sym number)
+    heard (inr busy) =
+        and_left (is_answer (said s) && k.answered) (eqb s.sequence (next_sequence q.sequence))
+        (and_left (is_answer (said s)) k.answered (ap is_answer busy.0))
+
 other_accused : (n : ℕ) (r : Packet) (k : Known) (q s : Packet) → n ≢ 0 → k.last ≡ Some q → q.sequence ≡ n → IsStored n r k
-    → (said s ≡ Answer) ⊎ (said s ≡ Busy) → s ≢ r → IsAccused (reader_accused k q s)
+    → SaysOther n s → s ≢ r → IsAccused (reader_accused k q s)
 other_accused n r k q s above last number known says other =
-    let stored : repeat_reply k q ≡ Some r = old_repeat k q n above number known.1 ∙ known.2 in
-    cond_both (k.replied && not (is_damage (said s))) (Some SecondReply) (reply_accused (said s) k q s) IsAccused (λ _. (SecondReply, refl))
+    let stored : repeat_reply k q ≡ Some r = old_repeat k q n above number known.1.0 ∙ known.1.1 in
+    subst IsAccused (sym (cond-false (is_doubtful k q s) None (cond (is_one_more k s && not (is_owed k)) (Some SecondReply) (reply_accused (said s) k q s))
+    (none_doubtful k q s n above number says)))
+    (cond_both (is_one_more k s && not (is_owed k)) (Some SecondReply) (reply_accused (said s) k q s) IsAccused (λ _. (SecondReply, refl))
     (λ _. elim says [
       | inl answer ↦ (
         AnotherReply,
-        ap (λ t. reply_accused t k q s) answer ∙ ap (λ o. answer_accused o k q s) stored
+        ap (λ t. reply_accused t k q s) answer.0 ∙ ap (λ o. answer_accused o k q s) stored
             ∙ cond-false (same_packet r s) None (Some AnotherReply) (false_from_ne_true (same_packet r s) (λ same. other (sym (packet_is r s same)))),
       )
-      | inr busy ↦ subst (λ t. IsAccused (reply_accused t k q s)) (sym busy)
+      | inr busy ↦ subst (λ t. IsAccused (reply_accused t k q s)) (sym busy.0)
           (cond_both (not (eqb s.sequence q.sequence || eqb s.sequence 0)) (Some AnotherNumber) (cond (not (same_check s.check q.check)) (Some AnotherCheck) (cond (is_some (repeat_reply k q)) (Some BusyToRepeat) None))
           IsAccused (λ _. (AnotherNumber, refl))
           (λ _. cond_both (not (same_check s.check q.check)) (Some AnotherCheck) (cond (is_some (repeat_reply k q)) (Some BusyToRepeat) None)
           IsAccused (λ _. (AnotherCheck, refl)) (λ _. (BusyToRepeat, ap (λ o. cond (is_some o) (Some BusyToRepeat) None) stored))))
-    ])
+    ]))
 
 pub misses_no_other_reply : MissesNoOtherReply
-misses_no_other_reply line a p before r since s to above untaken each_before from answer each_since nothing reply plain says other =
+misses_no_other_reply line a p before r since s to above untaken each_before from answer own each_since nothing reply plain says other =
     let n = p.sequence in
     let line0 = after_packet line p in
     let line1 = after_items line0 before in
@@ -314,7 +359,7 @@ misses_no_other_reply line a p before r since s to above untaken each_before fro
     items_keep a (IsPending n) (TakesNothing n) (pending_step a n) before line0 (first_pending a line p to untaken nothing.0) rest.0 each_before in
     let stored : IsStored n r (line3.devices a) =
     items_keep a (IsStored n r) (RefusesNothing n) (stored_step a n r above) since line2
-    (taken_stored a n line1 r above pending from answer rest.1.0) rest.1.1 each_since in
+    (taken_stored a n line1 r above pending from answer own rest.1.0) rest.1.1 each_since in
     let accused = other_accused n r (line3.devices a) stored.0.0 s above stored.0.1 stored.0.2 stored says other in
     let whole : after_items line (PacketItem p ∷ before ++ PacketItem r ∷ since) ≡ line3 =
     after_one line (PacketItem p) (before ++ PacketItem r ∷ since) ∙ after_append line0 before (PacketItem r ∷ since) ∙ after_one line1 (PacketItem r) since in (

@@ -1,7 +1,7 @@
 -- A panel and a listener on two wires: what the listener knows fits the panel, whatever happens.
 use Rattle.std.proofs.Common.{◌≡◌, inl, inr, ℕ, ◌+◌, Bool, true, false, eqb, ◌&&◌, not, List, [], ◌∷◌, ◌++◌, Option, Some, None, refl, sym, subst, ap, ◌∙◌}
 use Rattle.std.proofs.lemmas.Bool.{cond_both, eq-eqb, eqb-true, false≢true, or_left, or_right}
-use Rattle.std.specs.Prelude.{nat_lt, option_to_list}
+use Rattle.std.specs.Prelude.{is_some, nat_lt, option_to_list}
 use Rattle.osdp_controller.specs.declared.config.ControllerConfig.{ControllerConfig}
 use Rattle.osdp_controller.specs.declared.exchange.Exchange.{Exchange}
 use Rattle.osdp_controller.specs.declared.fault.ControllerFault.{ControllerFault}
@@ -18,10 +18,11 @@ use Rattle.osdp_monitor.specs.declared.said.Said.{Said}
 use Rattle.osdp_monitor.specs.declared.said.Said.TheVariants.{Busy, Damage, Refusal, Answer}
 use Rattle.osdp_monitor.specs.Known.{Known, nothing_known}
 use Rattle.osdp_monitor.specs.Line.{Knowledge, after_packet, no_knowledge}
-use Rattle.osdp_monitor.specs.Reader.{after_reply, after_reply_of}
+use Rattle.osdp_monitor.specs.Reader.{after_reply, after_reply_of, repeat_reply}
 use Rattle.osdp_monitor.specs.Saying.{said}
 use Rattle.osdp_monitor_laws.proofs.Agreeing.{none_some, same_some, sent_asked}
 use Rattle.osdp_monitor_laws.proofs.Knowing.{at_address, sent_in_order}
+use Rattle.osdp_monitor_laws.proofs.Late.{by_fate, by_number, own_counts, own_in_time}
 use Rattle.osdp_monitor_laws.proofs.PanelFits.{Fits, FitsIn, IsOut, IsTaken, MaySend, Sends, TickFits, frame, hear_fits, tick_fits}
 use Rattle.osdp_monitor_laws.specs.PanelLine.{AccusesNoPanel, ADeviceAlone, AreAllowed, Begin, Both, Forget, IsAllowed, ListenerAlone, MaySay, Nobody, PanelAlone, PanelLine, PanelMove, Reaches, Reads, Restart, Retarget, Say, Skip, Submit, TheListener, Tick, Withdraw, accused_of, after_move, after_said, after_sent, new_line, panel_accusations, panel_accused_by, sent_at}
 
@@ -31,18 +32,19 @@ pub last_by : (s : Said) (k : Known) (p q : Packet) → (after_reply_of s k p q)
 last_by Busy k p q = refl
 last_by Damage k p q = refl
 last_by Refusal k p q = refl
-last_by Answer k p q = refl
+last_by Answer k p q = by_number (λ j. j.last ≡ k.last) (is_some (repeat_reply k p)) p.sequence k q (λ _. refl) (λ _. refl)
 
 answered_by : (s : Said) (k : Known) (p q : Packet) → k.answered ≡ true → (after_reply_of s k p q).answered ≡ true
 answered_by Busy k p q is = is
 answered_by Damage k p q is = is
 answered_by Refusal k p q is = is
-answered_by Answer k p q is = or_left k.answered (eqb q.sequence p.sequence) is
+answered_by Answer k p q is = by_number (λ j. j.answered ≡ true) (is_some (repeat_reply k p)) p.sequence k q (λ _. refl) (λ _. is)
 
 answers : (k : Known) (p q : Packet) → said q ≡ Answer → q.sequence ≡ p.sequence → (after_reply k p q).answered ≡ true
 answers k p q says number =
-    subst (λ s. (after_reply_of s k p q).answered ≡ true) (sym says)
-    (or_right k.answered (eqb q.sequence p.sequence) (eq-eqb q.sequence p.sequence number))
+    ap (λ j. j.answered) (own_counts k p q number)
+    ∙ subst (λ s. (after_reply_of s k p q).answered ≡ true) (sym says)
+    (by_number (λ j. j.answered ≡ true) (is_some (repeat_reply k p)) p.sequence k q (λ _. refl) (λ other. absurd (other number)))
 
 -- ---- the panel beside what is known
 
@@ -53,19 +55,25 @@ unknown_fits (Idle due) number config reached k none = λ q is. absurd (none_som
 unknown_fits (Waiting until sends o) number config reached k none = inl (λ q is. absurd (none_some q (sym none ∙ is)))
 unknown_fits (Pausing until o) number config reached k none = inl (λ q is. absurd (none_some q (sym none ∙ is)))
 
-replied_out : (k : Known) (last p f : Packet) (reached : Bool) → reached ≡ true → IsOut reached k f → IsOut reached (after_reply k last p) f
+replied_out : (k : Known) (last p f : Packet) (reached : Bool) → reached ≡ true → IsOut reached k f → IsOut reached (after_reply_of (said p) k last p) f
 replied_out k last p f reached is (inl same) = inl (λ q e. same q (sym (last_by (said p) k last p) ∙ e))
 replied_out k last p f reached is (inr free) = absurd (false≢true (sym free.0 ∙ is))
 
-replied_fits : (state : State) (number : ℕ) (config : ControllerConfig) (reached : Bool) (k : Known) (last p : Packet) → reached ≡ true
-    → FitsIn state number config reached k → FitsIn state number config reached (after_reply k last p)
-replied_fits Closed number config reached k last p is fits = tt
-replied_fits (Quiet until) number config reached k last p is fits = tt
-replied_fits (Idle due) number config reached k last p is fits = λ q e.
+judged_fits : (state : State) (number : ℕ) (config : ControllerConfig) (reached : Bool) (k : Known) (last p : Packet) → reached ≡ true
+    → FitsIn state number config reached k → FitsIn state number config reached (after_reply_of (said p) k last p)
+judged_fits Closed number config reached k last p is fits = tt
+judged_fits (Quiet until) number config reached k last p is fits = tt
+judged_fits (Idle due) number config reached k last p is fits = λ q e.
     let rest = fits q (sym (last_by (said p) k last p) ∙ e) in
     (rest.0, answered_by (said p) k last p rest.1)
-replied_fits (Waiting until sends o) number config reached k last p is fits = replied_out k last p (frame number config o.exchange) reached is fits
-replied_fits (Pausing until o) number config reached k last p is fits = replied_out k last p (frame number config o.exchange) reached is fits
+judged_fits (Waiting until sends o) number config reached k last p is fits = replied_out k last p (frame number config o.exchange) reached is fits
+judged_fits (Pausing until o) number config reached k last p is fits = replied_out k last p (frame number config o.exchange) reached is fits
+
+replied_fits : (state : State) (number : ℕ) (config : ControllerConfig) (reached : Bool) (k : Known) (last p : Packet) → reached ≡ true
+    → FitsIn state number config reached k → FitsIn state number config reached (after_reply k last p)
+replied_fits state number config reached k last p is fits =
+    by_fate (FitsIn state number config reached) k last p (λ _. fits) (λ _. unknown_fits state number config reached nothing_known refl)
+    (judged_fits state number config reached k last p is fits)
 
 -- what is known of the address of its device
 abbrev HoldsOf : Machine → Bool → Knowledge → Type 0
@@ -108,9 +116,15 @@ answers_last known p a reply here =
     at_address (λ k. (q : Packet) → k.last ≡ Some q → p.sequence ≡ q.sequence → said p ≡ Answer → k.answered ≡ true) known p a
     (λ q is. absurd (none_some q is)) (λ other. absurd (other here)) (λ _ _ none q is. absurd (none_some q (sym none ∙ is)))
     (λ _ command. absurd (false≢true (sym command ∙ reply)))
-    (λ _ _ last before q is number says.
-    answers (known.devices a) last p says
-    (number ∙ ap (λ x. x.sequence) (same_some q last (sym is ∙ last_by (said p) (known.devices a) last p ∙ before))))
+    (λ _ _ last before.
+    let k = known.devices a in
+    by_fate (λ j. (q : Packet) → j.last ≡ Some q → p.sequence ≡ q.sequence → said p ≡ Answer → j.answered ≡ true) k last p
+    (λ late q is number says.
+    absurd (false≢true (sym (own_in_time k last p (number ∙ ap (λ x. x.sequence) (same_some q last (sym is ∙ before)))) ∙ late)))
+    (λ _ q is. absurd (none_some q is))
+    (λ q is number says.
+    let own : p.sequence ≡ last.sequence = number ∙ ap (λ x. x.sequence) (same_some q last (sym is ∙ last_by (said p) k last p ∙ before)) in
+    ap (λ j. j.answered) (sym (own_counts k last p own)) ∙ answers k last p says own))
 
 from_parts : (a b c : Bool) → (a && b && c) ≡ true → (a ≡ true) × (b ≡ true)
 from_parts true true c is = (refl, refl)

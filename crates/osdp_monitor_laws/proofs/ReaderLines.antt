@@ -27,7 +27,7 @@ pub record Coming (known : Knowledge) (own : ℕ) (last : Option ℕ) (stored : 
   pub after : Agrees ((after_packet known q).devices own) last stored
 
 -- .. of a reader that may have moved since
-coming_of : (known : Knowledge) (a : ℕ) (q : Packet) (last : Option ℕ) (stored : Option Packet) → IsSaid a q
+pub coming_of : (known : Knowledge) (a : ℕ) (q : Packet) (last : Option ℕ) (stored : Option Packet) → IsSaid a q
     → ((old : Packet) → (known.devices a).last ≡ Some old → reader_accused (known.devices a) old q ≡ None)
     → Agrees (known.devices a) last stored
     → ((old : Packet) → (known.devices a).last ≡ Some old → Agrees (after_reply (known.devices a) old q) last stored)
@@ -47,7 +47,7 @@ coming_of known a q last stored said fine lost came own place = record {
 }
 
 -- nothing is known of the address
-coming_unknown : (known : Knowledge) (a : ℕ) (q : Packet) (last : Option ℕ) (stored : Option Packet) → IsSaid a q → known.devices a ≡ nothing_known
+pub coming_unknown : (known : Knowledge) (a : ℕ) (q : Packet) (last : Option ℕ) (stored : Option Packet) → IsSaid a q → known.devices a ≡ nothing_known
     → (own : ℕ) → (last ≡ None) ⊎ (own ≡ a) → Coming known own last stored q
 coming_unknown known a q last stored said nothing =
     coming_of known a q last stored said (λ old is. absurd (none_some old (sym (ap (λ k. k.last) nothing) ∙ is)))
@@ -55,7 +55,7 @@ coming_unknown known a q last stored said nothing =
     (λ old is. absurd (none_some old (sym (ap (λ k. k.last) nothing) ∙ is)))
 
 -- everything is forgotten
-coming_forgotten : (q : Packet) (last : Option ℕ) (stored : Option Packet) (own : ℕ) → q.reply ≡ true → Coming no_knowledge own last stored q
+pub coming_forgotten : (q : Packet) (last : Option ℕ) (stored : Option Packet) (own : ℕ) → q.reply ≡ true → Coming no_knowledge own last stored q
 coming_forgotten q last stored own reply = record {
   reply = reply;
   fine = reply_in_order no_knowledge q reply (λ old is. absurd (none_some old is));
@@ -64,7 +64,7 @@ coming_forgotten q last stored own reply = record {
       (λ _ command. absurd (false≢true (sym command ∙ reply))) (λ _ _ old is. absurd (none_some old is));
 }
 
-zero_after : (known : Knowledge) (p : Packet) → ((a : ℕ) → TakesZero (known.devices a)) → (a : ℕ) → TakesZero ((after_packet known p).devices a)
+pub zero_after : (known : Knowledge) (p : Packet) → ((a : ℕ) → TakesZero (known.devices a)) → (a : ℕ) → TakesZero ((after_packet known p).devices a)
 zero_after known p zero a =
     at_address TakesZero known p a (zero_untaken nothing_known refl) (λ _. zero a) (λ _ _ _. zero a)
     (λ _ _ _. sent_zero (known.devices a) p (zero a)) (λ _ _ old is. reply_zero (known.devices a) old p is (zero a))

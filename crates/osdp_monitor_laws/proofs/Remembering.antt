@@ -8,7 +8,7 @@ use Rattle.osdp_frame.specs.Reading.{RunItem, PacketItem, SkippedItem, RefusedIt
 use Rattle.osdp_monitor.specs.Known.{Known, nothing_known}
 use Rattle.osdp_monitor.specs.Line.{Knowledge, after_answered, after_item, after_items, after_packet, after_reply_if, devices_after_reply, devices_after_sent, known_at, moves_to, no_knowledge}
 use Rattle.osdp_monitor.specs.Panel.{after_sent}
-use Rattle.osdp_monitor.specs.Reader.{after_reply}
+use Rattle.osdp_monitor.specs.Reader.{after_reply, is_unheard}
 use Rattle.osdp_monitor.specs.Saying.{is_foreign}
 use Rattle.osdp_monitor_laws.proofs.Knowing.{at_known, at_last}
 use Rattle.osdp_monitor_laws.specs.Misses.{Each, IsRemembered, NothingForgotten, OfAddress}
@@ -26,7 +26,8 @@ module _ (a : ℕ) (Q : Known → Type 0) where
       → (p.address ≢ a → Q (line.devices a))
       → (p.address ≡ a → p.reply ≡ true → (line.devices a).last ≡ None → Q (line.devices a))
       → (p.address ≡ a → p.reply ≡ false → Q (after_sent (line.devices a).last (line.devices a) p))
-      → (p.address ≡ a → p.reply ≡ true → (last : Packet) → (line.devices a).last ≡ Some last → Q (after_reply (line.devices a) last p))
+      → (p.address ≡ a → p.reply ≡ true → (last : Packet) → (line.devices a).last ≡ Some last → is_unheard (line.devices a) last p ≡ false
+      → Q (after_reply (line.devices a) last p))
       → Q ((after_packet line p).devices a)
   at_remembered line p is other unknown sent replied =
       let devices = line.devices in
@@ -38,7 +39,7 @@ module _ (a : ℕ) (Q : Known → Type 0) where
       (λ _. cond_both p.reply (devices_after_reply p devices) (devices_after_sent p devices) (λ d. Q (d a))
       (λ reply. at_moved (moves_to (devices p.address).last p) p.address (after_reply_if (devices p.address).last (devices p.address) p) devices (λ place moved. is.2 place reply moved)
       (λ here. subst (λ b. Q (after_reply_if (devices b).last (devices b) p)) (sym here)
-      (at_last Q (devices a) p (devices a).last refl (unknown here reply) (replied here reply)))
+      (at_last Q (devices a) p (devices a).last refl (unknown here reply) (λ last before. replied here reply last before (is.3 last before reply here))))
       other)
       (λ command. at_known Q p.address a (after_sent (devices p.address).last (devices p.address) p) devices
       (λ here. subst (λ b. Q (after_sent (devices b).last (devices b) p)) (sym here) (sent here command)) other)))

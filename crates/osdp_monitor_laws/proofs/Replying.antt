@@ -5,11 +5,12 @@ use Rattle.std.specs.Prelude.{is_some}
 use Rattle.osdp_frame.specs.Packet.{Packet, next_sequence}
 use Rattle.osdp_monitor.specs.declared.accusation.Accusation.TheVariants.{AnotherCheck, AnotherNumber, AnotherReply, BusyToRepeat, RefusedZero, SecondReply, TakenOutOfTurn}
 use Rattle.osdp_monitor.specs.declared.said.Said.{Said}
-use Rattle.osdp_monitor.specs.declared.said.Said.TheVariants.{Busy, Refusal, Answer}
-use Rattle.osdp_monitor.specs.Known.{Known, is_number, same_check, same_packet}
-use Rattle.osdp_monitor.specs.Reader.{after_answer, after_reply, after_reply_of, answer_accused, reader_accused, repeat_reply, reply_accused, taken_accused, turn_accused}
+use Rattle.osdp_monitor.specs.declared.said.Said.TheVariants.{Busy, Damage, Refusal, Answer}
+use Rattle.osdp_monitor.specs.Known.{Known, is_number, nothing_known, same_check, same_packet}
+use Rattle.osdp_monitor.specs.Reader.{after_answer, after_other, after_own, after_reply, after_reply_of, answer_accused, is_doubtful, is_one_more, is_owed, reader_accused, repeat_reply, reply_accused, taken_accused, turn_accused}
 use Rattle.osdp_monitor.specs.Saying.{is_damage, said}
-use Rattle.osdp_monitor_laws.proofs.Agreeing.{Agrees, IsAsked, Level, TakesZero, Unheard, none_some, same_some}
+use Rattle.osdp_monitor_laws.proofs.Agreeing.{Agrees, IsAsked, Level, TakesZero, Unheard, agrees_untaken, none_some, same_some}
+use Rattle.osdp_monitor_laws.proofs.Late.{by_fate, by_number}
 use Rattle.osdp_monitor_laws.proofs.Numbers.{next_above_zero, next_differs}
 use Rattle.osdp_monitor_laws.proofs.Same.{is_packet}
 
@@ -17,12 +18,17 @@ module _ (k : Known) (p q : Packet) (asked : IsAsked k p) where
   -- one reply to one copy: it is judged by what it says
   judged : (s : Said) → said q ≡ s → reply_accused s k p q ≡ None → reader_accused k p q ≡ None
   judged s says fine =
-      cond-false (k.replied && not (is_damage (said q))) (Some SecondReply) (reply_accused (said q) k p q)
-      (and_left k.replied (not (is_damage (said q))) asked.replied)
-      ∙ ap (λ t. reply_accused t k p q) says ∙ fine
+      let by_count = cond (is_one_more k q && not (is_owed k)) (Some SecondReply) (reply_accused (said q) k p q) in
+      cond_both (is_doubtful k p q) None by_count (λ a. a ≡ None) (λ _. refl)
+      (λ _. cond-false (is_one_more k q && not (is_owed k)) (Some SecondReply) (reply_accused (said q) k p q)
+      (and_left (is_one_more k q) (not (is_owed k)) (and_left k.replied (not (is_damage (said q))) asked.replied))
+      ∙ ap (λ t. reply_accused t k p q) says ∙ fine)
 
-  became : (P : Known → Type 0) (s : Said) → said q ≡ s → P (after_reply_of s k p q) → P (after_reply k p q)
-  became P s says h = subst (λ t. P (after_reply_of t k p q)) (sym says) h
+  became : (last : Option ℕ) (stored : Option Packet) (s : Said) → said q ≡ s → Agrees k last stored → Agrees (after_reply_of s k p q) last stored
+      → Agrees (after_reply k p q) last stored
+  became last stored s says late h =
+      by_fate (λ j. Agrees j last stored) k p q (λ _. late) (λ _. agrees_untaken nothing_known last stored refl)
+      (subst (λ t. Agrees (after_reply_of t k p q) last stored) (sym says) h)
 
 -- it is no known repeat
 no_repeat : (k : Known) (p : Packet) → (p.sequence ≡ 0) ⊎ (is_number k.taken p.sequence ≡ false) → repeat_reply k p ≡ None
@@ -83,14 +89,17 @@ numbered k p q number fine =
 -- a reply that takes the number
 taking_agrees : (k : Known) (p q : Packet) (stored : Option Packet) → (p.sequence ≢ 0 → stored ≡ Some q)
     → Agrees (after_answer false p.sequence k q) (Some p.sequence) stored
-taking_agrees k p q stored kept n m taken has =
+taking_agrees k p q stored kept =
+    by_number (λ j. Agrees j (Some p.sequence) stored) false p.sequence k q
+    (λ _ n m taken has.
     let number : p.sequence ≡ m = same_some p.sequence m has in
     inl (record {
       same = sym number ∙ same_some p.sequence n taken;
       keeps = λ s is above.
           let other : p.sequence ≢ 0 = λ zero. above (sym number ∙ zero) in
           kept other ∙ sym (cond-false (eqb p.sequence 0) None (Some q) (ne_eqb p.sequence 0 other)) ∙ is;
-    })
+    }))
+    (λ _ n m taken has. absurd (none_some n taken))
 
 module _ (k : Known) (p : Packet) (last : Option ℕ) (stored : Option Packet) (asked : IsAsked k p) (agrees : Agrees k last stored) (takes : TakesZero k) where
   next_is_new : IsNext last p.sequence → repeat_reply k p ≡ None
@@ -129,11 +138,11 @@ module _ (k : Known) (p : Packet) (last : Option ℕ) (stored : Option Packet) (
       record {
         fine = judged k p q asked Answer says (ap (λ o. answer_accused o k p q) new ∙ numbered k p q number (turn_fine k.taken p q fine (by_next next)));
         lost = taking_lost q kept next fine holds;
-        after = became k p q asked (λ j. Agrees j (Some p.sequence) kept) Answer says
+        after = became k p q asked (Some p.sequence) kept Answer says (taking_lost q kept next fine holds)
             (subst (λ o. Agrees (after_answer (is_some o) p.sequence k q) (Some p.sequence) kept) (sym new) (taking_agrees k p q kept holds));
       }
 
-  -- BUSY, with number 0
+  -- BUSY, with the packet's number or with number 0
   busy_agrees : IsNext last p.sequence → Agrees (after_reply_of Busy k p p) last stored
   busy_agrees next n m taken has = elim (agrees n m taken has) [
     | inl level ↦ inl (record { same = level.same; keeps = level.keeps })
@@ -145,16 +154,23 @@ module _ (k : Known) (p : Packet) (last : Option ℕ) (stored : Option Packet) (
         ])
   ]
 
-  pub busy : (q : Packet) → IsNext last p.sequence → said q ≡ Busy → q.sequence ≡ 0 → same_check q.check p.check ≡ true → Replies k p q last stored
-  busy q next says zero check = record {
+  pub busy : (q : Packet) → IsNext last p.sequence → said q ≡ Busy → (q.sequence ≡ p.sequence) ⊎ (q.sequence ≡ 0) → same_check q.check p.check ≡ true → Replies k p q last stored
+  busy q next says number check = record {
     fine = judged k p q asked Busy says
         (cond-false (not (eqb q.sequence p.sequence || eqb q.sequence 0)) (Some AnotherNumber) (cond (not (same_check q.check p.check)) (Some AnotherCheck) (cond (is_some (repeat_reply k p)) (Some BusyToRepeat) None))
-        (not_from_true (eqb q.sequence p.sequence || eqb q.sequence 0) (or_right (eqb q.sequence p.sequence) (eqb q.sequence 0) (eq-eqb q.sequence 0 zero)))
+        (not_from_true (eqb q.sequence p.sequence || eqb q.sequence 0) (elim number [
+          | inl own ↦ or_left (eqb q.sequence p.sequence) (eqb q.sequence 0) (eq-eqb q.sequence p.sequence own)
+          | inr zero ↦ or_right (eqb q.sequence p.sequence) (eqb q.sequence 0) (eq-eqb q.sequence 0 zero)
+        ]))
         ∙ cond-false (not (same_check q.check p.check)) (Some AnotherCheck) (cond (is_some (repeat_reply k p)) (Some BusyToRepeat) None) (not_from_true (same_check q.check p.check) check)
         ∙ ap (λ o. cond (is_some o) (Some BusyToRepeat) None) (next_is_new next));
     lost = agrees;
-    after = became k p q asked (λ j. Agrees j last stored) Busy says (busy_agrees next);
+    after = became k p q asked last stored Busy says agrees (busy_agrees next);
   }
+
+  -- NAK 1
+  pub damaged : (q : Packet) → said q ≡ Damage → Replies k p q last stored
+  damaged q says = record { fine = judged k p q asked Damage says refl; lost = agrees; after = became k p q asked last stored Damage says agrees agrees }
 
   -- NAK 4
   pub refusing : (q : Packet) → p.sequence ≢ 0 → said q ≡ Refusal → q.sequence ≡ p.sequence → same_check q.check p.check ≡ true → Replies k p q last stored
@@ -165,7 +181,7 @@ module _ (k : Known) (p : Packet) (last : Option ℕ) (stored : Option Packet) (
         ∙ cond-false (not (same_check q.check p.check)) (Some AnotherCheck) (cond (eqb p.sequence 0) (Some RefusedZero) None) (not_from_true (same_check q.check p.check) check)
         ∙ cond-false (eqb p.sequence 0) (Some RefusedZero) None (ne_eqb p.sequence 0 above));
     lost = agrees;
-    after = became k p q asked (λ j. Agrees j last stored) Refusal says (λ n m taken has. absurd (none_some n taken));
+    after = became k p q asked last stored Refusal says agrees (λ n m taken has. absurd (none_some n taken));
   }
 
   -- the stored reply, to a packet with the last number
@@ -199,14 +215,19 @@ module _ (k : Known) (p : Packet) (last : Option ℕ) (stored : Option Packet) (
         ∙ numbered k p q number (turn_again k.taken p q above (λ n other. absurd (none_some n (sym taken ∙ other))))
     answered_again (Some n) taken = known_again n taken (agrees n p.sequence taken has)
 
-    agrees_again : (repeat : Bool) → is_some (repeat_reply k p) ≡ repeat → Agrees (after_answer repeat p.sequence k q) last stored
-    agrees_again true is = λ n m taken other. elim (agrees n m taken other) [
-      | inl level ↦ inl (record { same = level.same; keeps = level.keeps })
+    -- the number and the reply to a known repeat stay
+    again_known : (j : Known) → j.taken ≡ k.taken → j.stored ≡ k.stored → is_some (repeat_reply k p) ≡ true → Agrees j last stored
+    again_known j number reply is n m taken other = elim (agrees n m (sym number ∙ taken) other) [
+      | inl level ↦ inl (record { same = level.same; keeps = λ s kept above. level.keeps s (sym reply ∙ kept) above })
       | inr u ↦
           let same : p.sequence ≡ m = same_some p.sequence m (sym has ∙ other) in
           absurd (false≢true (sym (ap is_some (no_repeat k p (inr (not_taken k.taken p.sequence
-          (λ j known number. next_differs n (sym u.next ∙ sym same ∙ number ∙ same_some j n (sym known ∙ taken))))))) ∙ is))
+          (λ t known now. next_differs n (sym u.next ∙ sym same ∙ now ∙ same_some t n (sym known ∙ sym number ∙ taken))))))) ∙ is))
     ]
+
+    agrees_again : (repeat : Bool) → is_some (repeat_reply k p) ≡ repeat → Agrees (after_answer repeat p.sequence k q) last stored
+    agrees_again true is = by_number (λ j. Agrees j last stored) true p.sequence k q (λ _. again_known (after_own true p.sequence k q) refl refl is)
+        (λ _. again_known (after_other true k) refl refl is)
     agrees_again false is =
         subst (λ o. Agrees (after_answer false p.sequence k q) o stored) (sym has) (taking_agrees k p q stored (λ _. kept))
 
@@ -214,5 +235,5 @@ module _ (k : Known) (p : Packet) (last : Option ℕ) (stored : Option Packet) (
     repeating says = record {
       fine = judged k p q asked Answer says (answered_again k.taken refl);
       lost = agrees;
-      after = became k p q asked (λ j. Agrees j last stored) Answer says (agrees_again (is_some (repeat_reply k p)) refl);
+      after = became k p q asked last stored Answer says agrees (agrees_again (is_some (repeat_reply k p)) refl);
     }

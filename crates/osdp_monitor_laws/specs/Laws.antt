@@ -1,4 +1,6 @@
 -- The statements of the laws, passed on from one place. Declares nothing.
 pub use Rattle.osdp_monitor_laws.specs.Misses.{MissesNoOtherPacket, MissesNoOtherReply, MissesNoUnanswered}
+pub use Rattle.osdp_monitor_laws.specs.AnyReader.{AccusesNoReaderByTheRules}
+pub use Rattle.osdp_monitor_laws.specs.Late.{TellsLateAnswers}
 pub use Rattle.osdp_monitor_laws.specs.PanelLine.{AccusesNoPanel}
 pub use Rattle.osdp_monitor_laws.specs.ReaderLine.{AccusesNoReader}

@@ -1,4 +1,6 @@
 pub mod ReaderLine
+pub mod AnyReader
 pub mod PanelLine
 pub mod Misses
+pub mod Late
 pub mod Laws

@@ -7,6 +7,7 @@ use Rattle.osdp_monitor.specs.declared.accusation.Accusation.{Accusation}
 use Rattle.osdp_monitor.specs.declared.accusation.Accusation.TheVariants.{AnotherPacket, NotAnswered}
 use Rattle.osdp_monitor.specs.declared.said.Said.TheVariants.{Busy, Refusal, Answer}
 use Rattle.osdp_monitor.specs.Line.{Knowledge, after_item, after_items, found_in, moves_to}
+use Rattle.osdp_monitor.specs.Reader.{is_unheard}
 use Rattle.osdp_monitor.specs.Saying.{is_foreign, said}
 
 -- a packet to the device at an address, and one from it
@@ -18,11 +19,12 @@ IsFrom address r = (r.reply ≡ true) × (r.address ≡ address)
 
 -- Nothing is forgotten of an address: neither a refused item nor as many skipped bytes in a row as a packet may have, and no packet of 127.
 -- What it says or is said there has no security block and a code that the tables have, and no COM that answers a COMSET tells that a device
--- has gone there, or away.
+-- has gone there, or away. No answer has the next number after the last packet was answered: then a packet was missed.
 abbrev pub IsRemembered : ℕ → RunItem → Knowledge → Type 0
 IsRemembered address (PacketItem p) line =
     (p.address ≢ 127) × (p.address ≡ address → is_foreign p ≡ false)
     × ((place : ℕ) → p.reply ≡ true → moves_to (line.devices p.address).last p ≡ Some place → (place ≢ address) × (p.address ≢ address))
+    × ((last : Packet) → (line.devices address).last ≡ Some last → p.reply ≡ true → p.address ≡ address → is_unheard (line.devices address) last p ≡ false)
 IsRemembered address (SkippedItem b) line = line.skipped + 1 < smallest Sum
 IsRemembered address (RefusedItem fault) line = ⊥
 
@@ -81,12 +83,16 @@ TakesNothing number x = ((x.reply ≡ false) × (x.sequence ≡ number)) ⊎ ((x
 abbrev pub RefusesNothing : ℕ → Packet → Type 0
 RefusesNothing number x = ((x.reply ≡ false) × (x.sequence ≡ number)) ⊎ ((x.reply ≡ true) × (said x ≢ Refusal))
 
--- A packet with a number other than 0, that is not known to be taken, is answered. Then packets with this number follow, copies or others,
--- and whatever replies but NAK 4. Whatever other reply comes to the last of them is accused, but NAK 1 and NAK 4.
+-- an answer with this number, or a BUSY with this number or 0
+abbrev pub SaysOther : ℕ → Packet → Type 0
+SaysOther number s = ((said s ≡ Answer) × (s.sequence ≡ number)) ⊎ ((said s ≡ Busy) × ((s.sequence ≡ number) ⊎ (s.sequence ≡ 0)))
+
+-- A packet with a number other than 0, that is not known to be taken, is answered by a reply with its number. Then packets with this number
+-- follow, copies or others, and whatever replies but NAK 4. Any other answer with this number to the last of them is accused, and so is a BUSY.
 abbrev pub MissesNoOtherReply : Type 0
 MissesNoOtherReply = (line : Knowledge) (address : ℕ) (p : Packet) (before : List RunItem) (r : Packet) (since : List RunItem) (s : Packet)
     → IsTo address p → p.sequence ≢ 0 → (line.devices address).taken ≢ Some p.sequence → Each address (TakesNothing p.sequence) before
-    → IsFrom address r → said r ≡ Answer → Each address (RefusesNothing p.sequence) since
+    → IsFrom address r → said r ≡ Answer → r.sequence ≡ p.sequence → Each address (RefusesNothing p.sequence) since
     → NothingForgotten address (PacketItem p ∷ before ++ PacketItem r ∷ since) line
-    → IsFrom address s → is_foreign s ≡ false → (said s ≡ Answer) ⊎ (said s ≡ Busy) → s ≢ r
+    → IsFrom address s → is_foreign s ≡ false → SaysOther p.sequence s → s ≢ r
     → (accusation : Accusation) × (accused_after line (PacketItem p ∷ before ++ PacketItem r ∷ since) s ≡ Some accusation)

@@ -2,7 +2,7 @@
 //! their contracts are laws.
 #![tactic(auto)]
 
-ghost use Rattle.osdp_monitor_laws.specs.Laws.{AccusesNoPanel, AccusesNoReader, MissesNoOtherPacket, MissesNoOtherReply, MissesNoUnanswered};
+ghost use Rattle.osdp_monitor_laws.specs.Laws.{AccusesNoPanel, AccusesNoReader, AccusesNoReaderByTheRules, MissesNoOtherPacket, MissesNoOtherReply, MissesNoUnanswered, TellsLateAnswers};
 
 use osdp_reader::Handler;
 
@@ -14,6 +14,11 @@ pub fn accuses_no_reader<H: Handler>()
     osdp_msg_laws::reply_of_reads_the_table();
     osdp_msg_laws::replies_fit_a_packet();
 }
+
+/// The same of any maker's reader that answers by the rules, before anybody speaks again: nothing that it answers is accused.
+pub fn accuses_no_reader_by_the_rules()
+    ensures { AccusesNoReaderByTheRules }
+{}
 
 /// Where no other panel speaks to its device, nothing that a panel sends is accused, whatever is called at whatever moments, whatever
 /// replies come, and however often it starts anew.
@@ -31,7 +36,13 @@ pub fn misses_no_unanswered()
     ensures { MissesNoUnanswered }
 {}
 
-/// Where nothing was forgotten since, whatever answers a repeat, but the reply that its number had, NAK 1 and NAK 4, is accused.
+/// Where nothing was forgotten since, whatever answers a repeat with its number, but the reply that it had, is accused, and so is a BUSY.
 pub fn misses_no_other_reply()
     ensures { MissesNoOtherReply }
+{}
+
+/// Where nothing was forgotten since, a reply to a packet that was sent twice in a row, which comes after the next packet, is told as late, and its
+/// reader is not accused.
+pub fn tells_late_answers()
+    ensures { TellsLateAnswers }
 {}

@@ -73,10 +73,12 @@ look at the rate and the wires: docs/INSTALLING.md, \"A device that doesn't answ
 
 const MONITOR: &str = "osdp monitor: tells what happens on a line, and which end breaks its rules
 
-usage: osdp monitor [--hex] [--packets] [--gap N] [--every N]
+usage: osdp monitor [--hex] [--packets] [--standard] [--recorded] [--gap N] [--every N]
 
   --hex      the input is lines of digits, as show reads them: each line is a run
   --packets  print each packet, skipped byte and refused byte too, as show does
+  --standard leave out accusations by the profile alone, where other makers may do otherwise
+  --recorded the bytes were recorded before: no silence ends a run, as in a file
   --gap N    a run of bytes is over N milliseconds after its last ones, 1 to 3600000; else 20
   --every N  print the table again N seconds after the last one, 1 to 3600000, as bytes come
 
@@ -87,16 +89,17 @@ accusation means.
 Examples:
 
   $ echo 53050700006041 | osdp monitor --hex
-  device  asked  polls repeats  answered  busy  nak  events  opened  moved  accused
-  5           1      1       0         0     0    0       0       0      0        0
-  runs 1 packets 1 skipped 0 refused 0 accused 0
+  device  asked  polls repeats  answered  busy  nak  events  opened  moved  judged  forgot  accused
+  5           1      1       0         0     0    0       0       0      0       0       0        0
+  runs 1 packets 1 skipped 0 refused 0 judged 0 accused 0
+  nothing was judged
 
   $ printf '53050700016040\\n5305070003603E\\n' | osdp monitor --hex
   2:0 device 5: unanswered
-  2:0 panel to 5: a number out of turn
-  device  asked  polls repeats  answered  busy  nak  events  opened  moved  accused
-  5           2      2       0         0     0    0       0       0      0        1
-  runs 2 packets 2 skipped 0 refused 0 accused 1
+  2:0 panel to 5: a number out of turn (standard)
+  device  asked  polls repeats  answered  busy  nak  events  opened  moved  judged  forgot  accused
+  5           2      2       0         0     0    0       0       0      0       1       0        1
+  runs 2 packets 2 skipped 0 refused 0 judged 1 accused 1
 ";
 
 const CHECK: &str = "osdp check: prints the refusals of a capture, and then counts

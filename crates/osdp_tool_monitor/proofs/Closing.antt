@@ -32,12 +32,12 @@ last_in_part : {M : Type 0} (tells : M → ℕ → M → Type 0) (mode : Monitor
 last_in_part tells mode first last i0 i2 start now after pieces following s next text count came t h wrote =
     let events = pieces_events mode nothing_cut pieces in
     let more = last_events following mode (after_pieces mode nothing_cut pieces) in
-    let told : text ≡ events_report mode.detail (after_events nothing_yet events) more =
+    let told : text ≡ events_report mode.detail (after_events (nothing_yet mode.standard) events) more =
     h.text ∙ ap (λ q. events_report q (hearing_of s.line) more) t.prints ∙ ap (λ k. events_report mode.detail k more) t.heard in
     part_of tells mode first last i0 i2 start now after pieces [] following text count (omega arith) (subst (λ l. CameIn tells first last i0 i2 l) (sym (append-nil pieces)) came)
     t.written
-    (ap (input_report following mode) (append-nil pieces) ∙ events_report-append mode.detail nothing_yet events more
-    ∙ ap (λ l. events_report mode.detail nothing_yet events ++ l) (sym told)) wrote
+    (ap (input_report following mode) (append-nil pieces) ∙ events_report-append mode.detail (nothing_yet mode.standard) events more
+    ∙ ap (λ l. events_report mode.detail (nothing_yet mode.standard) events ++ l) (sym told)) wrote
 
 last_kept : {M : Type 0} (tells : M → ℕ → M → Type 0) (mode : MonitorMode) (first last : M) (i0 i2 start now after : Option (List ℕ)) (pieces : List Piece)
     (following : Following) (s : Session) → CameIn tells first last i0 i2 pieces → HasTold mode (pieces_events mode nothing_cut pieces) s start now → Keeps now after
@@ -45,9 +45,9 @@ last_kept : {M : Type 0} (tells : M → ℕ → M → Type 0) (mode : MonitorMod
 last_kept tells mode first last i0 i2 start now after pieces following s came t kept =
     let events = pieces_events mode nothing_cut pieces in
     let more = last_events following mode (after_pieces mode nothing_cut pieces) in
-    part_of tells mode first last i0 i2 start now after pieces [] following (events_report mode.detail (after_events nothing_yet events) more) 0 (omega arith)
+    part_of tells mode first last i0 i2 start now after pieces [] following (events_report mode.detail (after_events (nothing_yet mode.standard) events) more) 0 (omega arith)
     (subst (λ l. CameIn tells first last i0 i2 l) (sym (append-nil pieces)) came) t.written
-    (ap (input_report following mode) (append-nil pieces) ∙ events_report-append mode.detail nothing_yet events more)
+    (ap (input_report following mode) (append-nil pieces) ∙ events_report-append mode.detail (nothing_yet mode.standard) events more)
     (Appends-kept now now after [] (Appends-nil now) kept)
 
 -- because too much was counted

@@ -51,15 +51,15 @@ are_good-more mode c (p ∷ pieces) piece good none =
 pub told_more : (mode : MonitorMode) (events more : List LineEvent) (s next : Session) (start now after : Option (List ℕ)) (text : List ℕ)
     → HasTold mode events s start now → Hears more s.line next.line [] text → Appends now after text → HasTold mode (events ++ more) next start after
 told_more mode events more s next start now after text t h wrote =
-    let heard = after_events nothing_yet events in
+    let heard = after_events (nothing_yet mode.standard) events in
     let p = mode.detail in
     let told : text ≡ events_report p heard more = h.text ∙ ap (λ q. events_report q (hearing_of s.line) more) t.prints ∙ ap (λ k. events_report p k more) t.heard in
     record {
-      heard = h.heard ∙ ap (λ k. after_events k more) t.heard ∙ sym (after_events-append nothing_yet events more);
+      heard = h.heard ∙ ap (λ k. after_events k more) t.heard ∙ sym (after_events-append (nothing_yet mode.standard) events more);
       prints = h.prints ∙ t.prints;
       is_open = h.is_open;
-      written = subst (λ l. Appends start after l) (ap (λ l. events_report p nothing_yet events ++ l) told ∙ sym (events_report-append p nothing_yet events more))
-          (Appends-trans start now after (events_report p nothing_yet events) text t.written wrote);
+      written = subst (λ l. Appends start after l) (ap (λ l. events_report p (nothing_yet mode.standard) events ++ l) told ∙ sym (events_report-append p (nothing_yet mode.standard) events more))
+          (Appends-trans start now after (events_report p (nothing_yet mode.standard) events) text t.written wrote);
     }
 
 -- ---- pieces that came
@@ -99,7 +99,7 @@ came_kept tells first last i0 i1 i2 pieces came kept = record { taken = Consumes
 
 weight_new : (s : Session) → IsNew s → weight s ≡ 0
 weight_new s new =
-    let held : load (hearing_of s.line) ≡ load nothing_yet = ap load new.heard in
+    let held : load (hearing_of s.line) ≡ load (nothing_yet s.mode.standard) = ap load new.heard in
     let line : length s.characters.items ≡ 0 = ap (λ (c : Cut). length c.line) new.cut in
     let ended : s.ended ≡ 0 = ap (λ (c : Cut). c.ended) new.cut in
     omega arith
@@ -157,18 +157,18 @@ broke_in mode pieces piece s next start now after text f b wrote grows = record 
 
 -- ---- in part
 
-pub more_report : (mode : MonitorMode) (pieces : List Piece) → input_report More mode pieces ≡ events_report mode.detail nothing_yet (pieces_events mode nothing_cut pieces)
-more_report mode pieces = ap (events_report mode.detail nothing_yet) (append-nil (pieces_events mode nothing_cut pieces))
+pub more_report : (mode : MonitorMode) (pieces : List Piece) → input_report More mode pieces ≡ events_report mode.detail (nothing_yet mode.standard) (pieces_events mode nothing_cut pieces)
+more_report mode pieces = ap (events_report mode.detail (nothing_yet mode.standard)) (append-nil (pieces_events mode nothing_cut pieces))
 
 -- all that was told before, and a beginning of what comes after it
 unfoldable pub part_of : {M : Type 0} (tells : M → ℕ → M → Type 0) (mode : MonitorMode) (first last : M) (i0 i2 start now after : Option (List ℕ))
     (earlier later : List Piece) (following : Following) (more : List ℕ) (count : ℕ) → length later ≤ 1
     → CameIn tells first last i0 i2 (earlier ++ later)
-    → Appends start now (events_report mode.detail nothing_yet (pieces_events mode nothing_cut earlier))
-    → input_report following mode (earlier ++ later) ≡ events_report mode.detail nothing_yet (pieces_events mode nothing_cut earlier) ++ more
+    → Appends start now (events_report mode.detail (nothing_yet mode.standard) (pieces_events mode nothing_cut earlier))
+    → input_report following mode (earlier ++ later) ≡ events_report mode.detail (nothing_yet mode.standard) (pieces_events mode nothing_cut earlier) ++ more
     → Appends now after (take count more) → IsToldInPart tells mode first last i0 i2 start after
 part_of tells mode first last i0 i2 start now after earlier later following more count few came told is wrote =
-    let front = events_report mode.detail nothing_yet (pieces_events mode nothing_cut earlier) in
+    let front = events_report mode.detail (nothing_yet mode.standard) (pieces_events mode nothing_cut earlier) in
     let sizes : length (input_report More mode earlier) ≡ length front = ap length (more_report mode earlier) in
     record {
       earlier = earlier;
@@ -184,19 +184,19 @@ part_of tells mode first last i0 i2 start now after earlier later following more
 
 -- the report of one piece more
 report_more : (mode : MonitorMode) (pieces : List Piece) (piece : Piece) → input_report More mode (pieces ++ piece ∷ [])
-    ≡ events_report mode.detail nothing_yet (pieces_events mode nothing_cut pieces)
-    ++ events_report mode.detail (after_events nothing_yet (pieces_events mode nothing_cut pieces)) (piece_events mode (after_pieces mode nothing_cut pieces) piece)
+    ≡ events_report mode.detail (nothing_yet mode.standard) (pieces_events mode nothing_cut pieces)
+    ++ events_report mode.detail (after_events (nothing_yet mode.standard) (pieces_events mode nothing_cut pieces)) (piece_events mode (after_pieces mode nothing_cut pieces) piece)
 report_more mode pieces piece =
-    more_report mode (pieces ++ piece ∷ []) ∙ ap (events_report mode.detail nothing_yet) (pieces_events-more mode nothing_cut pieces piece)
-    ∙ events_report-append mode.detail nothing_yet (pieces_events mode nothing_cut pieces) (piece_events mode (after_pieces mode nothing_cut pieces) piece)
+    more_report mode (pieces ++ piece ∷ []) ∙ ap (events_report mode.detail (nothing_yet mode.standard)) (pieces_events-more mode nothing_cut pieces piece)
+    ∙ events_report-append mode.detail (nothing_yet mode.standard) (pieces_events mode nothing_cut pieces) (piece_events mode (after_pieces mode nothing_cut pieces) piece)
 
 text_is : (mode : MonitorMode) (pieces : List Piece) (piece : Piece) (s next : Session) (start now : Option (List ℕ)) (text : List ℕ)
     → HasToldPieces mode pieces s start now → Hears (piece_events s.mode (cut_of s) piece) s.line next.line [] text
-    → text ≡ events_report mode.detail (after_events nothing_yet (pieces_events mode nothing_cut pieces)) (piece_events mode (after_pieces mode nothing_cut pieces) piece)
+    → text ≡ events_report mode.detail (after_events (nothing_yet mode.standard) (pieces_events mode nothing_cut pieces)) (piece_events mode (after_pieces mode nothing_cut pieces) piece)
 text_is mode pieces piece s next start now text f h =
     h.text ∙ ap (λ q. events_report q (hearing_of s.line) (piece_events s.mode (cut_of s) piece)) f.told.prints
     ∙ ap (λ k. events_report mode.detail k (piece_events s.mode (cut_of s) piece)) f.told.heard
-    ∙ ap (events_report mode.detail (after_events nothing_yet (pieces_events mode nothing_cut pieces))) (events_are mode pieces piece s f.mode_is f.cut)
+    ∙ ap (events_report mode.detail (after_events (nothing_yet mode.standard) (pieces_events mode nothing_cut pieces))) (events_are mode pieces piece s f.mode_is f.cut)
 
 hears_of : (good : Bool) (piece : Piece) (s next : Session) (text : List ℕ) → TakesPiece good piece s next [] text
     → Hears (piece_events s.mode (cut_of s) piece) s.line next.line [] text
@@ -209,7 +209,7 @@ pub part_written : {M : Type 0} (tells : M → ℕ → M → Type 0) (mode : Mon
     → TakesPiece good piece s next [] text → Appends now after (take count text) → IsToldInPart tells mode first last i0 i2 start after
 part_written tells mode first last i0 i2 start now after pieces piece s next good text count came f takes wrote =
     part_of tells mode first last i0 i2 start now after pieces (piece ∷ []) More text count (omega arith) came f.told.written
-    (report_more mode pieces piece ∙ ap (λ l. events_report mode.detail nothing_yet (pieces_events mode nothing_cut pieces) ++ l)
+    (report_more mode pieces piece ∙ ap (λ l. events_report mode.detail (nothing_yet mode.standard) (pieces_events mode nothing_cut pieces) ++ l)
     (sym (text_is mode pieces piece s next start now text f (hears_of good piece s next text takes))))
     wrote
 
@@ -236,7 +236,7 @@ unfoldable pub part_here : {M : Type 0} (tells : M → ℕ → M → Type 0) (mo
     → CameIn tells first last i0 i2 pieces → HasToldPieces mode pieces s start now → IsToldInPart tells mode first last i0 i2 start now
 part_here tells mode first last i0 i2 start now pieces s came f =
     part_of tells mode first last i0 i2 start now now pieces [] More [] 0 (omega arith) (subst (λ l. CameIn tells first last i0 i2 l) (sym (append-nil pieces)) came) f.told.written
-    (ap (input_report More mode) (append-nil pieces) ∙ more_report mode pieces ∙ sym (append-nil (events_report mode.detail nothing_yet (pieces_events mode nothing_cut pieces))))
+    (ap (input_report More mode) (append-nil pieces) ∙ more_report mode pieces ∙ sym (append-nil (events_report mode.detail (nothing_yet mode.standard) (pieces_events mode nothing_cut pieces))))
     (Appends-nil now)
 
 -- ---- reading on

@@ -367,24 +367,24 @@ lines_broke_by true piece at count old now next before text after d feeds is b =
 -- ---- a piece
 
 bytes_by : (hex : Bool) (piece : Piece) (old new : Session) (before after : List ℕ) → hex ≡ false
-    → Goes (byte_events old.mode.gap old.last piece) (cut_of old) old new before after
-    → Goes (cond hex (run_events (ended_after old.characters.items piece.bytes)) (byte_events old.mode.gap old.last piece))
+    → Goes (byte_events old.mode.recorded old.mode.gap old.last piece) (cut_of old) old new before after
+    → Goes (cond hex (run_events (ended_after old.characters.items piece.bytes)) (byte_events old.mode.recorded old.mode.gap old.last piece))
     (record (cut_of old) { line = cond hex (kept (unended_after old.characters.items piece.bytes)) old.characters.items; ended = old.ended + length (lines_in hex (cut_of old) piece) })
     old new before after × (bad_line (old.ended + 1) (lines_in hex (cut_of old) piece) ≡ None)
 unfolding bad_line
 bytes_by true piece old new before after form goes = absurd cc
 bytes_by false piece old new before after form goes =
-    (subst (λ n. Goes (byte_events old.mode.gap old.last piece) (record (cut_of old) { ended = n }) old new before after) (omega arith) goes, refl)
+    (subst (λ n. Goes (byte_events old.mode.recorded old.mode.gap old.last piece) (record (cut_of old) { ended = n }) old new before after) (omega arith) goes, refl)
 
 pub took_bytes : (piece : Piece) (old new : Session) (before after : List ℕ) → old.mode.hex ≡ false
-    → Goes (byte_events old.mode.gap old.last piece) (cut_of old) old new before after → TakesBytes true piece old new before after
+    → Goes (byte_events old.mode.recorded old.mode.gap old.last piece) (cut_of old) old new before after → TakesBytes true piece old new before after
 took_bytes piece old new before after form goes = bytes_by old.mode.hex piece old new before after form goes
 
 lines_by : (good hex : Bool) (piece : Piece) (old new : Session) (before after : List ℕ) → hex ≡ true
     → GoesOrBreaks good (run_events (ended_after old.characters.items piece.bytes)) (bad_line (old.ended + 1) (ended_after old.characters.items piece.bytes))
     (record (cut_of old) { line = kept (unended_after old.characters.items piece.bytes); ended = old.ended + length (ended_after old.characters.items piece.bytes) })
     old new before after
-    → GoesOrBreaks good (cond hex (run_events (ended_after old.characters.items piece.bytes)) (byte_events old.mode.gap old.last piece))
+    → GoesOrBreaks good (cond hex (run_events (ended_after old.characters.items piece.bytes)) (byte_events old.mode.recorded old.mode.gap old.last piece))
     (bad_line (old.ended + 1) (lines_in hex (cut_of old) piece))
     (record (cut_of old) { line = cond hex (kept (unended_after old.characters.items piece.bytes)) old.characters.items; ended = old.ended + length (lines_in hex (cut_of old) piece) })
     old new before after

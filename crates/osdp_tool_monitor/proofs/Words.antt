@@ -5,7 +5,7 @@ use Rattle.std.specs.Fmt.{decimal}
 use Rattle.osdp_frame.specs.Times.{IsTime}
 use Rattle.osdp_tool_monitor.specs.declared.mode.MonitorMode.{MonitorMode}
 use Rattle.osdp_tool_monitor.specs.declared.mode.MonitorOption.{MonitorOption}
-use Rattle.osdp_tool_monitor.specs.declared.mode.MonitorOption.TheVariants.{Hex, Packets, Gap, Every}
+use Rattle.osdp_tool_monitor.specs.declared.mode.MonitorOption.TheVariants.{Hex, Packets, Gap, Every, Standard, Recorded}
 use Rattle.osdp_tool_monitor.specs.declared.mode.OptionName.{OptionName}
 use Rattle.osdp_tool_monitor.specs.declared.mode.OptionName.TheVariants as name
 use Rattle.osdp_tool_monitor.specs.Options.{AreOptions, OptionFits, ReadsMode, TakesNumber, TakesOption, Words, default_mode, name_text, numbered, option_words, with_option, with_options}
@@ -35,6 +35,8 @@ left_done given left mode none so_far = record {
     no_words Packets rest e = cc
     no_words (Gap n) rest e = cc
     no_words (Every n) rest e = cc
+    no_words Standard rest e = cc
+    no_words Recorded rest e = cc
 
     by_rest : (options : List MonitorOption) → (rest : List MonitorOption) × AreOptions left rest × (with_options options default_mode ≡ with_options rest mode)
         → Some mode ≡ Some (with_options options default_mode)
@@ -46,6 +48,8 @@ name_of Hex = name.Hex
 name_of Packets = name.Packets
 name_of (Gap n) = name.Gap
 name_of (Every n) = name.Every
+name_of Standard = name.Standard
+name_of Recorded = name.Recorded
 
 -- the first word names the first option
 first_name : (word : List ℕ) (left : Words) (o : MonitorOption) (rest : List MonitorOption) → word ∷ left ≡ option_words o ++ flat_map option_words rest
@@ -55,6 +59,8 @@ first_name word left Hex rest e = cc
 first_name word left Packets rest e = cc
 first_name word left (Gap n) rest e = cc
 first_name word left (Every n) rest e = cc
+first_name word left Standard rest e = cc
+first_name word left Recorded rest e = cc
 
 module _ (word : List ℕ) (left : Words) (found : Option OptionName) (is : (n : OptionName) → (found ≡ Some n) ↔ (word ≡ name_text n)) where
   found_is : (o : MonitorOption) (rest : List MonitorOption) → word ∷ left ≡ option_words o ++ flat_map option_words rest → found ≡ Some (name_of o)
@@ -117,17 +123,22 @@ module _ (word : List ℕ) (left : Words) (found : Option OptionName) (is : (n :
     number_stands : (k : ℕ) (name : List ℕ) (rest : Words) → word ∷ left ≡ name ∷ decimal k ∷ rest → left ≡ decimal k ∷ rest
     number_stands k name rest h = cc
 
+    -- an option without a number
+    with_name : (option : MonitorOption) (m : OptionName) → option_words option ≡ name_text m ∷ [] → OptionFits option → (o : MonitorOption) (rest : List MonitorOption) → n ≡ m
+        → Some o ≡ Some option → next ≡ left → AreOptions next rest → AreOptions (word ∷ left) (o ∷ rest)
+    with_name option m are fits o rest e took same g =
+        let o_is : o ≡ option = cc in
+        record { are = rw (o_is, are) (ap (λ w. w ∷ left) (word_is ∙ ap name_text e) ∙ ap (λ l. name_text m ∷ l) (sym same ∙ g.are)); fit = rw o_is (fits, g.fit) }
+
     -- words that begin with it
     with_it : (m : OptionName) (o : MonitorOption) (rest : List MonitorOption) → n ≡ m → TakesOption m left next (Some o) → AreOptions next rest
         → AreOptions (word ∷ left) (o ∷ rest)
-    with_it name.Hex o rest e (took, same) g =
-        let o_is : o ≡ Hex = cc in
-        record { are = rw o_is (ap (λ w. w ∷ left) (word_is ∙ ap name_text e) ∙ ap (λ l. name_text name.Hex ∷ l) (sym same ∙ g.are)); fit = rw o_is (tt, g.fit) }
-    with_it name.Packets o rest e (took, same) g =
-        let o_is : o ≡ Packets = cc in
-        record { are = rw o_is (ap (λ w. w ∷ left) (word_is ∙ ap name_text e) ∙ ap (λ l. name_text name.Packets ∷ l) (sym same ∙ g.are)); fit = rw o_is (tt, g.fit) }
+    with_it name.Hex o rest e (took, same) g = with_name Hex name.Hex refl tt o rest e took same g
+    with_it name.Packets o rest e (took, same) g = with_name Packets name.Packets refl tt o rest e took same g
     with_it name.Gap o rest e (t, takes, took) g = with_number Gap name.Gap (λ k. refl) (λ k fits. fits) o rest e t takes took g
     with_it name.Every o rest e (t, takes, took) g = with_number Every name.Every (λ k. refl) (λ k fits. fits) o rest e t takes took g
+    with_it name.Standard o rest e (took, same) g = with_name Standard name.Standard refl tt o rest e took same g
+    with_it name.Recorded o rest e (took, same) g = with_name Recorded name.Recorded refl tt o rest e took same g
 
     -- what is left after it
     after_it : (m : OptionName) (o p : MonitorOption) (others : List MonitorOption) → n ≡ m → TakesOption m left next (Some o)
@@ -139,20 +150,44 @@ module _ (word : List ℕ) (left : Words) (found : Option OptionName) (is : (n :
     after_it name.Hex o Packets others e took h fit clash = absurd cc
     after_it name.Hex o (Gap k) others e took h fit clash = absurd cc
     after_it name.Hex o (Every k) others e took h fit clash = absurd cc
+    after_it name.Hex o Standard others e took h fit clash = absurd cc
+    after_it name.Hex o Recorded others e took h fit clash = absurd cc
     after_it name.Packets o Hex others e took h fit clash = absurd cc
     after_it name.Packets o Packets others e (took, same) h fit clash =
         let rest : left ≡ flat_map option_words others = cc in
         (cc, same ∙ rest)
     after_it name.Packets o (Gap k) others e took h fit clash = absurd cc
     after_it name.Packets o (Every k) others e took h fit clash = absurd cc
+    after_it name.Packets o Standard others e took h fit clash = absurd cc
+    after_it name.Packets o Recorded others e took h fit clash = absurd cc
     after_it name.Gap o Hex others e took h fit clash = absurd cc
     after_it name.Gap o Packets others e took h fit clash = absurd cc
     after_it name.Gap o (Gap k) others e (t, takes, took) h fit clash = after_number Gap o k _ t takes took fit (number_stands k _ _ h)
     after_it name.Gap o (Every k) others e took h fit clash = absurd cc
+    after_it name.Gap o Standard others e took h fit clash = absurd cc
+    after_it name.Gap o Recorded others e took h fit clash = absurd cc
     after_it name.Every o Hex others e took h fit clash = absurd cc
     after_it name.Every o Packets others e took h fit clash = absurd cc
     after_it name.Every o (Gap k) others e took h fit clash = absurd cc
     after_it name.Every o (Every k) others e (t, takes, took) h fit clash = after_number Every o k _ t takes took fit (number_stands k _ _ h)
+    after_it name.Every o Standard others e took h fit clash = absurd cc
+    after_it name.Every o Recorded others e took h fit clash = absurd cc
+    after_it name.Standard o Hex others e took h fit clash = absurd cc
+    after_it name.Standard o Packets others e took h fit clash = absurd cc
+    after_it name.Standard o (Gap k) others e took h fit clash = absurd cc
+    after_it name.Standard o (Every k) others e took h fit clash = absurd cc
+    after_it name.Standard o Standard others e (took, same) h fit clash =
+        let rest : left ≡ flat_map option_words others = cc in
+        (cc, same ∙ rest)
+    after_it name.Standard o Recorded others e took h fit clash = absurd cc
+    after_it name.Recorded o Hex others e took h fit clash = absurd cc
+    after_it name.Recorded o Packets others e took h fit clash = absurd cc
+    after_it name.Recorded o (Gap k) others e took h fit clash = absurd cc
+    after_it name.Recorded o (Every k) others e took h fit clash = absurd cc
+    after_it name.Recorded o Standard others e took h fit clash = absurd cc
+    after_it name.Recorded o Recorded others e (took, same) h fit clash =
+        let rest : left ≡ flat_map option_words others = cc in
+        (cc, same ∙ rest)
 
     none_after : (m : OptionName) (p : MonitorOption) (others : List MonitorOption) → TakesOption m left next None → word ∷ left ≡ option_words p ++ flat_map option_words others
         → OptionFits p → m ≡ name_of p → ⊥
@@ -161,18 +196,38 @@ module _ (word : List ℕ) (left : Words) (found : Option OptionName) (is : (n :
     none_after name.Hex Packets others (took, same) h fit clash = cc
     none_after name.Hex (Gap k) others (took, same) h fit clash = cc
     none_after name.Hex (Every k) others (took, same) h fit clash = cc
+    none_after name.Hex Standard others (took, same) h fit clash = cc
+    none_after name.Hex Recorded others (took, same) h fit clash = cc
     none_after name.Packets Hex others (took, same) h fit clash = cc
     none_after name.Packets Packets others (took, same) h fit clash = cc
     none_after name.Packets (Gap k) others (took, same) h fit clash = cc
     none_after name.Packets (Every k) others (took, same) h fit clash = cc
+    none_after name.Packets Standard others (took, same) h fit clash = cc
+    none_after name.Packets Recorded others (took, same) h fit clash = cc
     none_after name.Gap Hex others took h fit clash = cc
     none_after name.Gap Packets others took h fit clash = cc
     none_after name.Gap (Gap k) others (t, takes, took) h fit clash = without_number Gap k _ t takes took fit (number_stands k _ _ h)
     none_after name.Gap (Every k) others took h fit clash = cc
+    none_after name.Gap Standard others took h fit clash = cc
+    none_after name.Gap Recorded others took h fit clash = cc
     none_after name.Every Hex others took h fit clash = cc
     none_after name.Every Packets others took h fit clash = cc
     none_after name.Every (Gap k) others took h fit clash = cc
     none_after name.Every (Every k) others (t, takes, took) h fit clash = without_number Every k _ t takes took fit (number_stands k _ _ h)
+    none_after name.Every Standard others took h fit clash = cc
+    none_after name.Every Recorded others took h fit clash = cc
+    none_after name.Standard Hex others (took, same) h fit clash = cc
+    none_after name.Standard Packets others (took, same) h fit clash = cc
+    none_after name.Standard (Gap k) others (took, same) h fit clash = cc
+    none_after name.Standard (Every k) others (took, same) h fit clash = cc
+    none_after name.Standard Standard others (took, same) h fit clash = cc
+    none_after name.Standard Recorded others (took, same) h fit clash = cc
+    none_after name.Recorded Hex others (took, same) h fit clash = cc
+    none_after name.Recorded Packets others (took, same) h fit clash = cc
+    none_after name.Recorded (Gap k) others (took, same) h fit clash = cc
+    none_after name.Recorded (Every k) others (took, same) h fit clash = cc
+    none_after name.Recorded Standard others (took, same) h fit clash = cc
+    none_after name.Recorded Recorded others (took, same) h fit clash = cc
 
     pub left_more : (given : Words) (mode : MonitorMode) (o : MonitorOption) → Left given (word ∷ left) mode → TakesOption n left next (Some o)
         → Left given next (with_option o mode)

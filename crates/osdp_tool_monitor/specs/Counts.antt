@@ -55,18 +55,21 @@ abbrev pub is_moved : Option Notice → Bool
 is_moved (Some (Moved address)) = true
 is_moved _ = false
 
--- after a packet to a device; `copy` where it is the last one once more
+-- after a packet to a device; `copy` where it is the last one once more; it is judged by what is known, and but for the first one that was
+-- forgotten where it isn't
 abbrev pub after_sent : Packet → Bool → Found → Counts → Counts
 after_sent p copy found c = record c {
   asked = more_if true c.asked;
   polls = more_if (is_poll (asked p)) c.polls;
   repeats = more_if copy c.repeats;
+  judged = more_if found.judged c.judged;
+  forgot = more_if (not found.judged && not (c.asked == 0)) c.forgot;
   accused = more_if (is_some found.accusation) c.accused;
 }
 
 -- after a reply
-abbrev pub after_reply : ReplyKind → Found → Counts → Counts
-after_reply kind found c = record c {
+abbrev pub after_any : ReplyKind → Found → Counts → Counts
+after_any kind found c = record c {
   answered = more_if (not (is_busy kind) && not (is_refused kind)) c.answered;
   busy = more_if (is_busy kind) c.busy;
   nak = more_if (is_refused kind) c.nak;
@@ -76,12 +79,15 @@ after_reply kind found c = record c {
   accused = more_if (is_some found.accusation) c.accused;
 }
 
+abbrev pub after_reply : ReplyKind → Found → Counts → Counts
+after_reply kind found c = after_any kind found (record c { judged = more_if found.judged c.judged })
+
 abbrev pub after_packet : Packet → Bool → Found → Counts → Counts
 after_packet p copy found c =
     if p.reply then after_reply (kind_of_reply (reply_told p)) found c else after_sent p copy found c
 
 abbrev pub no_counts : Counts
-no_counts = record { asked = 0; polls = 0; repeats = 0; answered = 0; busy = 0; nak = 0; events = 0; opened = 0; moved = 0; accused = 0 }
+no_counts = record { asked = 0; polls = 0; repeats = 0; answered = 0; busy = 0; nak = 0; events = 0; opened = 0; moved = 0; judged = 0; forgot = 0; accused = 0 }
 
 -- those of each address, from 0 on
 abbrev pub counts_after : Packet → Bool → Found → List Counts → List Counts
@@ -99,7 +105,7 @@ abbrev pub address_column : ℕ → List ℕ
 address_column address = decimal address ++ replicate (6 - length (decimal address)) 32
 
 unfoldable pub heading : List ℕ
-heading = codes "device  asked  polls repeats  answered  busy  nak  events  opened  moved  accused\n"
+heading = codes "device  asked  polls repeats  answered  busy  nak  events  opened  moved  judged  forgot  accused\n"
 
 -- numbers, each after the room of its column
 unfoldable pub columns : List (ℕ × ℕ) → List ℕ
@@ -109,7 +115,7 @@ columns numbers = flat_map (λ (x : ℕ × ℕ). column x.0 x.1) numbers
 abbrev pub counted_columns : Counts → List (ℕ × ℕ)
 counted_columns c =
     (6, c.asked) ∷ (6, c.polls) ∷ (7, c.repeats) ∷ (9, c.answered) ∷ (5, c.busy) ∷ (4, c.nak) ∷ (7, c.events) ∷ (7, c.opened) ∷ (6, c.moved)
-    ∷ (8, c.accused) ∷ []
+    ∷ (7, c.judged) ∷ (7, c.forgot) ∷ (8, c.accused) ∷ []
 
 -- a line for each address to which or from which something came
 abbrev pub row : ℕ → Counts → List ℕ
@@ -126,10 +132,20 @@ rows_from address [] = []
 rows_from address (c ∷ counts) = row_if address c ++ rows_from (address + 1) counts
 
 -- the line of counts
-abbrev pub counts_line : Tally → ℕ → List ℕ
-counts_line tally accused =
-    counts_then tally.runs tally.packets tally.skipped tally.refused (codes " accused " ++ (decimal accused ++ codes "\n"))
+abbrev pub counts_line : Tally → ℕ → ℕ → List ℕ
+counts_line tally judged accused =
+    counts_then tally.runs tally.packets tally.skipped tally.refused
+    (codes " judged " ++ (decimal judged ++ (codes " accused " ++ (decimal accused ++ codes "\n"))))
 
--- the table, with that line after it
-abbrev pub table_of : Tally → List Counts → ℕ → List ℕ
-table_of tally counts accused = heading ++ (rows_from 0 counts ++ counts_line tally accused)
+-- packets came, and none of them could be judged
+abbrev pub is_unjudged : Tally → ℕ → Bool
+is_unjudged tally judged = judged == 0 && not (tally.packets == 0)
+
+abbrev pub unjudged_line : Bool → List ℕ
+unjudged_line true = codes "nothing was judged\n"
+unjudged_line false = []
+
+-- the table, with these lines after it
+abbrev pub table_of : Tally → List Counts → ℕ → ℕ → List ℕ
+table_of tally counts judged accused =
+    heading ++ (rows_from 0 counts ++ (counts_line tally judged accused ++ unjudged_line (is_unjudged tally judged)))

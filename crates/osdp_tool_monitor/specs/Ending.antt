@@ -17,11 +17,11 @@ Told {M} tells old (moment ∷ moments) new = (next : M) × tells old moment nex
 
 -- what is printed
 abbrev pub input_report : Following → MonitorMode → List Piece → List ℕ
-input_report following mode pieces = events_report mode.detail nothing_yet (input_events following mode pieces)
+input_report following mode pieces = events_report mode.detail (nothing_yet mode.standard) (input_events following mode pieces)
 
 -- somebody is accused in it, or something refused
 abbrev pub is_wrong_input : Following → MonitorMode → List Piece → Bool
-is_wrong_input following mode pieces = is_wrong (after_events nothing_yet (input_events following mode pieces)).heard
+is_wrong_input following mode pieces = is_wrong (after_events (nothing_yet mode.standard) (input_events following mode pieces)).heard
 
 -- the bytes that were read came in these pieces, and one moment was asked for after each
 pub record CameIn {M : Type 0} (tells : M → ℕ → M → Type 0) (clock_before clock_after : M) (input_before input_after : Option (List ℕ))

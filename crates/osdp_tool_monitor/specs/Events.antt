@@ -35,8 +35,12 @@ is_over gap (Some last) now = is_silent_for gap last now
 abbrev pub gap_events : Bool → List LineEvent
 gap_events over = if over then RunEnds [] ∷ [] else []
 
-abbrev pub byte_events : ℕ → Option ℕ → Piece → List LineEvent
-byte_events gap last piece = gap_events (is_over gap last piece.moment) ++ Come piece.bytes ∷ []
+-- but of bytes that were recorded before the moments tell nothing
+abbrev pub is_run_over : Bool → ℕ → Option ℕ → ℕ → Bool
+is_run_over recorded gap last now = if recorded then false else is_over gap last now
+
+abbrev pub byte_events : Bool → ℕ → Option ℕ → Piece → List LineEvent
+byte_events recorded gap last piece = gap_events (is_run_over recorded gap last piece.moment) ++ Come piece.bytes ∷ []
 
 -- ---- lines of digits: each line is a run; a bad line ends the input
 
@@ -71,7 +75,7 @@ bad_in hex c piece = bad_line (c.ended + 1) (lines_in hex c piece)
 -- what its bytes bring
 abbrev pub bytes_events : MonitorMode → Cut → Piece → List LineEvent
 bytes_events mode c piece =
-    if mode.hex then run_events (lines_in true c piece) else byte_events mode.gap c.last piece
+    if mode.hex then run_events (lines_in true c piece) else byte_events mode.recorded mode.gap c.last piece
 
 -- and the table after it, where no bad line has ended
 abbrev pub piece_events : MonitorMode → Cut → Piece → List LineEvent

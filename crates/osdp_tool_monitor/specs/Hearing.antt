@@ -1,5 +1,5 @@
 -- What has been heard of a line whose run goes on, and what is printed of what happens on it.
-use Rattle.std.specs.Prelude.{◌≡◌, ℕ, ◌+◌, ◌*◌, false, true, List, [], ◌∷◌, ◌++◌, length, drop, None}
+use Rattle.std.specs.Prelude.{◌≡◌, ℕ, ◌+◌, ◌*◌, Bool, false, true, List, [], ◌∷◌, ◌++◌, length, drop, None}
 use Rattle.osdp_frame.specs.Bytes.{AreBytes}
 use Rattle.osdp_frame.specs.Held.{Held, decided}
 use Rattle.osdp_frame.specs.Items.{items, left_over}
@@ -17,8 +17,8 @@ pub record Hearing : Type 0 where
   -- the bytes after them
   pub held : List ℕ
 
-abbrev pub nothing_yet : Hearing
-nothing_yet = record { heard = nothing_heard; held = [] }
+abbrev pub nothing_yet : Bool → Hearing
+nothing_yet standard = record { heard = nothing_heard standard; held = [] }
 
 -- what happens: bytes come, the run ends after these bytes, or the table is due
 pub data LineEvent : Type 0 where

@@ -1,5 +1,5 @@
 -- What has been heard of a line so far, and what is printed of it, item by item.
-use Rattle.std.specs.Prelude.{◌≡◌, ℕ, ◌+◌, ◌^◌, ◌≤◌, ◌==◌, not, ◌&&◌, Bool, is_some, List, [], ◌++◌, replicate}
+use Rattle.std.specs.Prelude.{◌≡◌, ℕ, ◌+◌, ◌^◌, ◌≤◌, ◌==◌, not, ◌&&◌, ◌||◌, Bool, is_some, List, [], ◌++◌, replicate}
 use Rattle.osdp_frame.specs.Items.{reading}
 use Rattle.osdp_frame.specs.Reading.{RunItem, PacketItem, SkippedItem, RefusedItem, Stands, item_size}
 use Rattle.osdp_monitor.specs.Monitors.{knowledge_of}
@@ -12,9 +12,11 @@ use Rattle.osdp_tool_streams.specs.declared.fault.ToolFault.TheVariants.{NoMemor
 use Rattle.osdp_tool_show.specs.declared.detail.Detail.{Detail}
 use Rattle.osdp_tool_monitor.specs.declared.counts.Counts.{Counts}
 use Rattle.osdp_tool_monitor.specs.declared.listener.Listener.{Listener}
-use Rattle.osdp_tool_monitor.specs.Counts.{counts_after, more_if, no_counts, table_of}
+use Rattle.osdp_tool_monitor.specs.Counts.{counts_after, is_unjudged, more_if, no_counts, table_of}
 use Rattle.osdp_tool_monitor.specs.InTurn.{after_all, report_of_all}
-use Rattle.osdp_tool_monitor.specs.Text.{expected_bytes, found_text}
+use Rattle.osdp_frame.specs.Packet.{Packet}
+use Rattle.osdp_monitor.specs.declared.found.Found.{Found}
+use Rattle.osdp_tool_monitor.specs.Text.{expected_bytes, found_text, told}
 
 pub record Listening : Type 0 where
   -- what is known of the line
@@ -23,22 +25,35 @@ pub record Listening : Type 0 where
   pub tally : Tally
   -- what is counted of each address
   pub counts : List Counts
-  -- how many accusations there were
+  -- how many packets were judged, and how many accusations there were
+  pub judged : ℕ
   pub accused : ℕ
+  -- whether accusations by the profile alone are left out
+  pub standard : Bool
 
-abbrev pub nothing_heard : Listening
-nothing_heard = record { knowledge = no_knowledge; tally = no_tally; counts = replicate 128 no_counts; accused = 0 }
+abbrev pub nothing_heard : Bool → Listening
+nothing_heard standard =
+    record { knowledge = no_knowledge; tally = no_tally; counts = replicate 128 no_counts; judged = 0; accused = 0; standard = standard }
+
+-- what is told of a packet, after what has been heard
+abbrev pub told_in : Listening → Packet → Found
+told_in l p = told l.standard (found_in l.knowledge p)
 
 -- what is counted of an item
 abbrev pub counts_of : Listening → RunItem → List Counts
-counts_of l (PacketItem p) = counts_after p (copies_last l.knowledge p) (found_in l.knowledge p) l.counts
+counts_of l (PacketItem p) = counts_after p (copies_last l.knowledge p) (told_in l p) l.counts
 counts_of l (SkippedItem b) = l.counts
 counts_of l (RefusedItem fault) = l.counts
 
 abbrev pub accused_of : Listening → RunItem → ℕ
-accused_of l (PacketItem p) = more_if (is_some (found_in l.knowledge p).accusation) l.accused
+accused_of l (PacketItem p) = more_if (is_some (told_in l p).accusation) l.accused
 accused_of l (SkippedItem b) = l.accused
 accused_of l (RefusedItem fault) = l.accused
+
+abbrev pub judged_of : Listening → RunItem → ℕ
+judged_of l (PacketItem p) = more_if (told_in l p).judged l.judged
+judged_of l (SkippedItem b) = l.judged
+judged_of l (RefusedItem fault) = l.judged
 
 -- after an item
 abbrev pub heard_item : Listening → RunItem → Listening
@@ -46,13 +61,15 @@ heard_item l part = record {
   knowledge = after_item l.knowledge part;
   tally = tally_after l.tally part;
   counts = counts_of l part;
+  judged = judged_of l part;
   accused = accused_of l part;
+  standard = l.standard;
 }
 
 -- what is found in an item
 abbrev pub item_found : Listening → RunItem → List ℕ
 item_found l (PacketItem p) =
-    found_text (l.tally.runs + 1) l.tally.place p (found_in l.knowledge p) (expected_bytes (expected_in l.knowledge p))
+    found_text (l.tally.runs + 1) l.tally.place p (told_in l p) (expected_bytes (expected_in l.knowledge p))
 item_found l (SkippedItem b) = []
 item_found l (RefusedItem fault) = []
 
@@ -79,11 +96,11 @@ abbrev pub run_report : Detail → Listening → List ℕ → List ℕ
 run_report detail l run = items_report detail l (reading run)
 
 abbrev pub table : Listening → List ℕ
-table l = table_of l.tally l.counts l.accused
+table l = table_of l.tally l.counts l.judged l.accused
 
--- somebody was accused, or something refused
+-- somebody was accused, something refused, or of all packets none was judged
 abbrev pub is_wrong : Listening → Bool
-is_wrong l = not (l.accused == 0 && l.tally.refused == 0)
+is_wrong l = not (l.accused == 0 && l.tally.refused == 0) || is_unjudged l.tally l.judged
 
 -- why a line is not told any more: out of memory, or 2^60 were counted
 abbrev pub IsLineFault : ℕ → ToolFault → Type 0
@@ -94,7 +111,7 @@ IsLineFault count fault = ⊥
 -- ---- a listener
 
 abbrev pub listening_of : Listener → Listening
-listening_of l = record { knowledge = knowledge_of l.monitor; tally = l.tally; counts = l.counts.items; accused = l.accused }
+listening_of l = record { knowledge = knowledge_of l.monitor; tally = l.tally; counts = l.counts.items; judged = l.judged; accused = l.accused; standard = l.standard }
 
 -- which items are printed
 abbrev pub detail_of : Listener → Detail

@@ -6,7 +6,7 @@ use Rattle.osdp_frame.specs.Times.{IsTime}
 use Rattle.osdp_tool_show.specs.declared.detail.Detail.TheVariants.{Full, Refusals}
 use Rattle.osdp_tool_monitor.specs.declared.mode.MonitorMode.{MonitorMode}
 use Rattle.osdp_tool_monitor.specs.declared.mode.MonitorOption.{MonitorOption}
-use Rattle.osdp_tool_monitor.specs.declared.mode.MonitorOption.TheVariants.{Hex, Packets, Gap, Every}
+use Rattle.osdp_tool_monitor.specs.declared.mode.MonitorOption.TheVariants.{Hex, Packets, Gap, Every, Standard, Recorded}
 use Rattle.osdp_tool_monitor.specs.declared.mode.OptionName.{OptionName}
 use Rattle.osdp_tool_monitor.specs.declared.mode.OptionName.TheVariants as name
 
@@ -18,6 +18,8 @@ name_text name.Hex = codes "--hex"
 name_text name.Packets = codes "--packets"
 name_text name.Gap = codes "--gap"
 name_text name.Every = codes "--every"
+name_text name.Standard = codes "--standard"
+name_text name.Recorded = codes "--recorded"
 
 -- the words of an option: its name, and its number in decimal digits where it has one
 abbrev pub option_words : MonitorOption → Words
@@ -25,6 +27,8 @@ option_words Hex = name_text name.Hex ∷ []
 option_words Packets = name_text name.Packets ∷ []
 option_words (Gap n) = name_text name.Gap ∷ decimal n ∷ []
 option_words (Every n) = name_text name.Every ∷ decimal n ∷ []
+option_words Standard = name_text name.Standard ∷ []
+option_words Recorded = name_text name.Recorded ∷ []
 
 -- milliseconds of a gap, or seconds between two tables: both have the range of a time of the link
 abbrev pub OptionFits : MonitorOption → Type 0
@@ -32,16 +36,20 @@ OptionFits Hex = Unit {0}
 OptionFits Packets = Unit {0}
 OptionFits (Gap n) = IsTime n
 OptionFits (Every n) = IsTime n
+OptionFits Standard = Unit {0}
+OptionFits Recorded = Unit {0}
 
 abbrev pub with_option : MonitorOption → MonitorMode → MonitorMode
 with_option Hex mode = record mode { hex = true }
 with_option Packets mode = record mode { detail = Full }
 with_option (Gap n) mode = record mode { gap = n }
 with_option (Every n) mode = record mode { every = Some n }
+with_option Standard mode = record mode { standard = true }
+with_option Recorded mode = record mode { recorded = true }
 
--- without options the input is bytes, findings alone are printed, and a run is over after 20 milliseconds
+-- without options the input is bytes, findings alone are printed, a run is over after 20 milliseconds, and no accusation is left out
 abbrev pub default_mode : MonitorMode
-default_mode = record { hex = false; detail = Refusals; gap = 20; every = None }
+default_mode = record { hex = false; detail = Refusals; gap = 20; every = None; standard = false; recorded = false }
 
 -- each after those before it
 abbrev pub with_options : List MonitorOption → MonitorMode → MonitorMode
@@ -75,3 +83,5 @@ TakesOption name.Hex old new result = (result ≡ Some Hex) × (new ≡ old)
 TakesOption name.Packets old new result = (result ≡ Some Packets) × (new ≡ old)
 TakesOption name.Gap old new result = (n : Option ℕ) × TakesNumber old new n × (result ≡ numbered Gap n)
 TakesOption name.Every old new result = (n : Option ℕ) × TakesNumber old new n × (result ≡ numbered Every n)
+TakesOption name.Standard old new result = (result ≡ Some Standard) × (new ≡ old)
+TakesOption name.Recorded old new result = (result ≡ Some Recorded) × (new ≡ old)

@@ -54,10 +54,10 @@ TellsEvents events old new before after failed (Err fault) = ⊥
 
 -- these events were told, and nothing else was written
 pub record HasTold (mode : MonitorMode) (events : List LineEvent) (s : Session) (start now : Option (List ℕ)) : Type 0 where
-  pub heard : hearing_of s.line ≡ after_events nothing_yet events
+  pub heard : hearing_of s.line ≡ after_events (nothing_yet mode.standard) events
   pub prints : line_detail s.line ≡ mode.detail
   pub is_open : IsOpen s.line
-  pub written : Appends start now (events_report mode.detail nothing_yet events)
+  pub written : Appends start now (events_report mode.detail (nothing_yet mode.standard) events)
 
 -- these pieces were told, in which no bad line has ended
 pub record HasToldPieces (mode : MonitorMode) (pieces : List Piece) (s : Session) (start now : Option (List ℕ)) : Type 0 where

@@ -62,5 +62,5 @@ pub record EndsAll (good : Bool) (old new : Session) (before after : List ℕ) :
 -- nothing was heard yet
 pub record IsNew (s : Session) : Type 0 where
   pub cut : cut_of s ≡ nothing_cut
-  pub heard : hearing_of s.line ≡ nothing_yet
+  pub heard : hearing_of s.line ≡ nothing_yet s.mode.standard
   pub prints : line_detail s.line ≡ s.mode.detail

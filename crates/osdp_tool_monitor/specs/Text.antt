@@ -1,11 +1,14 @@
 -- What is printed of what a monitor finds.
-use Rattle.std.specs.Prelude.{ℕ, Bool, true, false, List, [], ◌∷◌, ◌++◌, codes, Option, None, Some}
+use Rattle.std.specs.Prelude.{ℕ, ◌&&◌, if◌then◌else◌, Bool, true, false, List, [], ◌∷◌, ◌++◌, codes, Option, None, Some}
 use Rattle.std.specs.Fmt.{decimal}
 use Rattle.osdp_frame.specs.Packet.{Packet}
 use Rattle.osdp_frame.specs.Spelling.{spelling}
 use Rattle.osdp_words.specs.Word.{bytes, printed}
 use Rattle.osdp_monitor.specs.declared.accusation.Accusation.{Accusation}
 use Rattle.osdp_monitor.specs.declared.accusation.Accusation.TheVariants as accusation
+use Rattle.osdp_monitor.specs.Accused.{basis}
+use Rattle.osdp_monitor.specs.declared.accusation.Basis.{Basis}
+use Rattle.osdp_monitor.specs.declared.accusation.Basis.TheVariants as basis_is
 use Rattle.osdp_monitor.specs.declared.found.Found.{Found}
 use Rattle.osdp_monitor.specs.declared.found.Notice.{Notice}
 use Rattle.osdp_monitor.specs.declared.found.Notice.TheVariants as notice
@@ -32,11 +35,30 @@ accusation_text accusation.UnreadReply = codes "a reply that can't be read"
 accusation_text accusation.UnfitReply = codes "a reply that doesn't fit the command"
 accusation_text accusation.EventAtZero = codes "an event at number 0"
 
+-- what asks for the rule
+abbrev pub basis_text : Basis → List ℕ
+basis_text basis_is.Standard = codes " (standard)"
+basis_text basis_is.Profile = codes " (profile)"
+
+abbrev pub is_profile : Basis → Bool
+is_profile basis_is.Standard = false
+is_profile basis_is.Profile = true
+
+-- an accusation by the profile alone may be left out
+abbrev pub is_left_out : Bool → Option Accusation → Bool
+is_left_out standard None = false
+is_left_out standard (Some found) = standard && is_profile (basis found)
+
+abbrev pub told : Bool → Found → Found
+told standard found = if is_left_out standard found.accusation then record found { accusation = None } else found
+
 abbrev pub notice_text : Notice → List ℕ
 notice_text notice.Opened = codes "opened"
 notice_text (notice.Moved address) = codes "moved to " ++ decimal address
 notice_text notice.Restarted = codes "restarted"
 notice_text notice.Unanswered = codes "unanswered"
+notice_text notice.Late = codes "a late answer: the reader takes longer than the panel waits"
+notice_text notice.Unsure = codes "heard too little to judge"
 
 -- a line about a packet's address: the number of its run, from 1, its place in the run, and who it speaks of
 abbrev pub address_line : ℕ → ℕ → List ℕ → ℕ → List ℕ → List ℕ
@@ -49,7 +71,7 @@ notice_line run place address (Some found) = address_line run place (codes " dev
 
 abbrev pub accusation_line : ℕ → ℕ → Packet → Option Accusation → List ℕ
 accusation_line run place p None = []
-accusation_line run place p (Some found) = address_line run place (accused_text p.reply) p.address (accusation_text found)
+accusation_line run place p (Some found) = address_line run place (accused_text p.reply) p.address (accusation_text found ++ basis_text (basis found))
 
 -- the bytes of the packet that had to come, where only one might
 abbrev pub expected_bytes : Option Packet → List ℕ

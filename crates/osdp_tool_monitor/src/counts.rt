@@ -1,7 +1,6 @@
 //! What is counted of an address.
 
-ghost use Rattle.std.specs.Prelude.{◌≡◌, true};
-ghost use Rattle.osdp_monitor.specs.Line.{nothing_found};
+ghost use Rattle.std.specs.Prelude.{◌≡◌, None, true};
 ghost use Rattle.osdp_monitor.specs.Saying.{asked, reply_told};
 ghost use Rattle.osdp_tool_monitor.specs.Counts.{is_poll, kind_of_reply, more_if};
 
@@ -30,6 +29,10 @@ pub struct Counts {
     pub opened: u64,
     /// Moves to another address.
     pub moved: u64,
+    /// Packets to the device and replies that were held to the rules.
+    pub judged: u64,
+    /// Packets to the device that could not be judged, but the first: what was known of it had been forgotten.
+    pub forgot: u64,
     /// Accusations of either end.
     pub accused: u64,
 }
@@ -97,7 +100,8 @@ fn by_reading(read: &Result<Reply, MsgFault>) -> ReplyKind
 /// Whether nothing is counted of a reply but an answer.
 fn is_answer_alone(kind: ReplyKind, found: &Found) -> bool
     ensures kind { result ≡ true → kind ≡ ReplyKind.Other }
-    ensures found { result ≡ true → found.now ≡ nothing_found }
+    ensures accusation { result ≡ true → found.now.accusation ≡ None }
+    ensures notice { result ≡ true → found.now.notice ≡ None }
 {
     matches!(
         (kind, found.accusation, found.notice),
@@ -106,7 +110,7 @@ fn is_answer_alone(kind: ReplyKind, found: &Found) -> bool
 }
 
 impl Counts {
-    ghost use Rattle.osdp_tool_monitor.specs.Counts.{after_packet, after_reply, after_sent, is_silent, no_counts};
+    ghost use Rattle.osdp_tool_monitor.specs.Counts.{after_any, after_packet, after_reply, after_sent, is_silent, no_counts};
 
     /// Nothing came.
     pub const NONE: Counts = Counts {
@@ -119,6 +123,8 @@ impl Counts {
         events: 0,
         opened: 0,
         moved: 0,
+        judged: 0,
+        forgot: 0,
         accused: 0,
     };
 
@@ -144,6 +150,8 @@ impl Counts {
     fn count_sent(&mut self, packet: &FrameView<'_>, copy: bool, found: &Found)
         ensures { self.new ≡ after_sent packet.now copy found.now self.old }
     {
+        self.forgot = more_if(!found.judged && self.asked != 0, self.forgot);
+        self.judged = more_if(found.judged, self.judged);
         self.asked = more_if(true, self.asked);
         self.polls = more_if(counts_as_poll(packet), self.polls);
         if !copy && found.accusation.is_none() {
@@ -157,6 +165,7 @@ impl Counts {
     fn count_reply(&mut self, kind: ReplyKind, found: &Found)
         ensures { self.new ≡ after_reply kind found.now self.old }
     {
+        self.judged = more_if(found.judged, self.judged);
         if is_answer_alone(kind, found) {
             self.answered = more_if(true, self.answered);
             return;
@@ -164,10 +173,10 @@ impl Counts {
         self.count_any(kind, found);
     }
 
-    /// The same of any reply.
+    /// All that is counted of any reply, but whether it was judged.
     #[inline(never)]
     fn count_any(&mut self, kind: ReplyKind, found: &Found)
-        ensures { self.new ≡ after_reply kind found.now self.old }
+        ensures { self.new ≡ after_any kind found.now self.old }
     {
         let is_busy = matches!(kind, ReplyKind::Busy);
         let is_refused = matches!(kind, ReplyKind::Refused);

@@ -7,8 +7,8 @@ ghost use Rattle.osdp_frame.specs.Shown.{item_of, item_read};
 ghost use Rattle.osdp_tool_show.specs.Tally.{counted};
 
 use crate::counts::{Counts, more_if};
-use crate::table::push_table;
-use crate::text::push_found;
+use crate::table::{is_unjudged, push_table};
+use crate::text::{push_found, told};
 use osdp_frame::{Burst, FrameView, Item, ReadItem, read_at, whole_item};
 use osdp_monitor::Monitor;
 use osdp_tool_show::{Detail, Tally, tell};
@@ -28,21 +28,24 @@ pub struct Listener {
     monitor: Monitor,
     tally: Tally,
     counts: Vec<Counts>,
+    judged: u64,
     accused: u64,
+    standard: bool,
     expected: Burst,
     ghost addresses: { length counts.items ≡ 128 },
 }
 
 impl Listener {
-    ghost use Rattle.osdp_monitor.specs.Line.{after_packet, copies_last, expected_in, found_in};
+    ghost use Rattle.osdp_monitor.specs.Line.{after_packet, copies_last, expected_in};
     ghost use Rattle.osdp_monitor.specs.Monitors.{knowledge_of};
     ghost use Rattle.osdp_tool_monitor.specs.Counts.{counts_after, more_if};
-    ghost use Rattle.osdp_tool_monitor.specs.Listening.{HearsFirst, HearsItem, HearsRun, IsLineFault, ended, is_wrong, listening_of, nothing_heard, table, detail_of};
+    ghost use Rattle.osdp_tool_monitor.specs.Listening.{HearsFirst, HearsItem, HearsRun, IsLineFault, ended, is_wrong, listening_of, nothing_heard, table, told_in, detail_of};
     ghost use Rattle.osdp_tool_monitor.specs.Text.{expected_bytes, found_text};
 
-    /// A listener that has heard nothing. It prints each item of the line, or refusals and what it finds alone.
-    pub fn new(alloc: Global, detail: Detail) -> Result<Listener, ToolFault>
-        ensures heard { IfOk result (λ l. listening_of l ≡ nothing_heard) }
+    /// A listener that has heard nothing. It prints each item of the line, or refusals and what it finds alone. With `standard` it leaves out what only
+    /// the profile asks for.
+    pub fn new(alloc: Global, detail: Detail, standard: bool) -> Result<Listener, ToolFault>
+        ensures heard { IfOk result (λ l. listening_of l ≡ nothing_heard standard) }
         ensures tells { IfOk result (λ l. detail_of l ≡ detail) }
         ensures fault { IfErr result (λ fault. fault ≡ ToolFault.NoMemory) }
     {
@@ -53,7 +56,9 @@ impl Listener {
             monitor,
             tally: Tally::new(),
             counts,
+            judged: 0,
             accused: 0,
+            standard,
             expected: Burst::new(),
         })
     }
@@ -70,19 +75,22 @@ impl Listener {
         ensures tells { OnOk result (detail_of self.new ≡ detail_of self.old) }
         ensures tally { OnOk result (self.new.tally ≡ self.old.tally) }
         ensures knowledge { OnOk result (knowledge_of self.new.monitor ≡ after_packet (knowledge_of self.old.monitor) packet.now) }
-        ensures counts { OnOk result (let k = knowledge_of self.old.monitor in
-            self.new.counts.items ≡ counts_after packet.now (copies_last k packet.now) (found_in k packet.now) self.old.counts.items) }
-        ensures accused { OnOk result (self.new.accused ≡ more_if (is_some (found_in (knowledge_of self.old.monitor) packet.now).accusation) self.old.accused) }
-        ensures text { OnOk result (let k = knowledge_of self.old.monitor in string_bytes text.new
-            ≡ string_bytes text.old ++ found_text run place packet.now (found_in k packet.now) (expected_bytes (expected_in k packet.now))) }
+        ensures counts { OnOk result (self.new.counts.items
+            ≡ counts_after packet.now (copies_last (knowledge_of self.old.monitor) packet.now) (told_in (listening_of self.old) packet.now) self.old.counts.items) }
+        ensures judged { OnOk result (self.new.judged ≡ more_if (told_in (listening_of self.old) packet.now).judged self.old.judged) }
+        ensures accused { OnOk result (self.new.accused ≡ more_if (is_some (told_in (listening_of self.old) packet.now).accusation) self.old.accused) }
+        ensures standard { OnOk result (self.new.standard ≡ self.old.standard) }
+        ensures text { OnOk result (string_bytes text.new
+            ≡ string_bytes text.old ++ found_text run place packet.now (told_in (listening_of self.old) packet.now) (expected_bytes (expected_in (knowledge_of self.old.monitor) packet.now))) }
     {
         let copy = self.monitor.copies_last(packet);
         let found = match self.monitor.hear(packet, &mut self.expected) {
-            Ok(found) => found,
+            Ok(found) => told(self.standard, found),
             Err(_) => return Err(ToolFault::NoMemory),
         };
         let counts = &mut self.counts[usize::from(packet.address().get())];
         counts.count(packet, copy, &found);
+        self.judged = more_if(found.judged, self.judged);
         self.accused = more_if(found.accusation.is_some(), self.accused);
         let expected = self.expected.as_slice();
         match push_found(text, run, place, packet, &found, expected) {
@@ -188,17 +196,17 @@ impl Listener {
         ensures text { OnOk result (string_bytes text.new ≡ string_bytes text.old ++ table (listening_of self.now)) }
         ensures fault { IfErr result (λ fault. fault ≡ ToolFault.NoMemory) }
     {
-        match push_table(text, &self.tally, &self.counts, self.accused) {
+        match push_table(text, &self.tally, &self.counts, self.judged, self.accused) {
             Ok(()) => Ok(()),
             Err(_) => Err(ToolFault::NoMemory),
         }
     }
 
-    /// Whether somebody was accused, or something refused.
+    /// Whether somebody was accused, something refused, or of all packets none was judged.
     pub fn is_wrong(&self) -> bool
         ensures { result ≡ is_wrong (listening_of self.now) }
     {
-        !(self.accused == 0 && self.tally.refused == 0)
+        !(self.accused == 0 && self.tally.refused == 0) || is_unjudged(&self.tally, self.judged)
     }
 }
 

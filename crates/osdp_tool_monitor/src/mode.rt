@@ -24,6 +24,10 @@ pub struct MonitorMode {
     pub gap: u32,
     /// After how many seconds the table is printed again, 1 to 3,600,000, where it is.
     pub every: Option<u32>,
+    /// Whether accusations by the profile alone are left out.
+    pub standard: bool,
+    /// Whether bytes were recorded before, so that no moment at which they come ends a run.
+    pub recorded: bool,
 }
 
 /// A word of the command `monitor`, with its number.
@@ -37,6 +41,10 @@ pub enum MonitorOption {
     Gap(u32),
     /// `--every` and the seconds.
     Every(u32),
+    /// `--standard`
+    Standard,
+    /// `--recorded`
+    Recorded,
 }
 
 /// Which option a word names.
@@ -46,6 +54,8 @@ pub(crate) enum OptionName {
     Packets,
     Gap,
     Every,
+    Standard,
+    Recorded,
 }
 
 /// The option of this name.
@@ -57,6 +67,8 @@ fn option_name(word: &str) -> Option<OptionName>
         "--packets" => Some(OptionName::Packets),
         "--gap" => Some(OptionName::Gap),
         "--every" => Some(OptionName::Every),
+        "--standard" => Some(OptionName::Standard),
+        "--recorded" => Some(OptionName::Recorded),
         _ => None,
     }
 }
@@ -89,6 +101,8 @@ impl MonitorOption {
             OptionName::Packets => Some(MonitorOption::Packets),
             OptionName::Gap => Some(MonitorOption::Gap(take_wait(words)?)),
             OptionName::Every => Some(MonitorOption::Every(take_wait(words)?)),
+            OptionName::Standard => Some(MonitorOption::Standard),
+            OptionName::Recorded => Some(MonitorOption::Recorded),
         }
     }
 
@@ -101,12 +115,14 @@ impl MonitorOption {
             MonitorOption::Packets => mode.detail = Detail::Full,
             MonitorOption::Gap(gap) => mode.gap = gap,
             MonitorOption::Every(seconds) => mode.every = Some(seconds),
+            MonitorOption::Standard => mode.standard = true,
+            MonitorOption::Recorded => mode.recorded = true,
         }
     }
 }
 
 /// How the words after `monitor` ask to listen: options in any order, of which a later one of a kind holds. Without options the input is bytes, only
-/// what is found is printed, a run is over after 20 milliseconds, and the table comes at the end alone. None where the words are no options.
+/// what is found is printed, a run is over after 20 milliseconds, the table comes at the end alone, and no accusation is left out. None where the words are no options.
 pub fn monitor_mode(words: &[&str]) -> Option<MonitorMode>
     ensures { ReadsMode (texts words.now) result }
 {
@@ -115,6 +131,8 @@ pub fn monitor_mode(words: &[&str]) -> Option<MonitorMode>
         detail: Detail::Refusals,
         gap: GAP,
         every: None,
+        standard: false,
+        recorded: false,
     };
     let mut fields = Fields::new(words);
     'options: while let Some(word) = fields.word() {

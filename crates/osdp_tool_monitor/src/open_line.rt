@@ -22,14 +22,14 @@ impl OpenLine {
     ghost use Rattle.osdp_tool_monitor.specs.Listening.{IsLineFault, is_wrong, listening_of};
 
     /// A line of which nothing was heard. It prints each item, or refusals and what it finds alone.
-    pub fn new(alloc: Global, detail: Detail) -> Result<OpenLine, ToolFault>
-        ensures heard { IfOk result (λ l. hearing_of l ≡ nothing_yet) }
+    pub fn new(alloc: Global, detail: Detail, standard: bool) -> Result<OpenLine, ToolFault>
+        ensures heard { IfOk result (λ l. hearing_of l ≡ nothing_yet standard) }
         ensures prints { IfOk result (λ l. line_detail l ≡ detail) }
         ensures is_open { IfOk result (λ l. IsOpen l) }
         ensures fault { IfErr result (λ fault. fault ≡ ToolFault.NoMemory) }
     {
         Ok(OpenLine {
-            listener: Listener::new(alloc, detail)?,
+            listener: Listener::new(alloc, detail, standard)?,
             framer: Framer::new(),
         })
     }

@@ -5,7 +5,7 @@ ghost use Rattle.osdp_frame.specs.Silence.{is_silent_for};
 ghost use Rattle.osdp_tool_streams.specs.Cut.{IsLine, ended_after, line_feed, unended_after};
 ghost use Rattle.osdp_tool_streams.specs.Line.{kept};
 ghost use Rattle.osdp_tool_streams.specs.Runs.{bad_line};
-ghost use Rattle.osdp_tool_monitor.specs.Events.{bad_in, byte_events, gap_events, is_due, is_over, nothing_cut, run_events, table_events, tabled_after};
+ghost use Rattle.osdp_tool_monitor.specs.Events.{bad_in, byte_events, gap_events, is_due, is_over, is_run_over, nothing_cut, run_events, table_events, tabled_after};
 ghost use Rattle.osdp_tool_monitor.specs.Hearing.{TableDue, hearing_of, load, nothing_yet, line_detail};
 ghost use Rattle.osdp_tool_monitor.specs.Listening.{IsLineFault};
 
@@ -53,6 +53,13 @@ fn is_over(wait: u64, since: Option<u64>, now: u64) -> bool
     }
 }
 
+/// Whether a run of bytes is over at this moment. Of bytes that were recorded before the moments tell nothing.
+fn is_run_over(recorded: bool, gap: u32, last: Option<u64>, now: u64) -> bool
+    ensures { result ≡ is_run_over recorded gap last now }
+{
+    !recorded && is_over(u64::from(gap), last, now)
+}
+
 /// Whether the table is due.
 fn is_due(every: Option<u32>, tabled: Option<u64>, now: u64) -> bool
     ensures { result ≡ is_due every tabled now }
@@ -94,7 +101,7 @@ impl Session {
     {
         Ok(Session {
             mode,
-            line: OpenLine::new(alloc, mode.detail)?,
+            line: OpenLine::new(alloc, mode.detail, mode.standard)?,
             last: None,
             tabled: None,
             digits: Digits::new(),
@@ -122,12 +129,13 @@ impl Session {
     fn take_bytes(&mut self, bytes: &[u8], now: u64, text: &mut String) -> Result<(), ToolFault>
         requires ready { IsReady self.old }
         requires form { self.old.mode.hex ≡ false }
-        ensures goes { OnOk result (Goes (byte_events self.old.mode.gap self.old.last (record { bytes = bytes.now; moment = now })) (cut_of self.old)
+        ensures goes { OnOk result (Goes (byte_events self.old.mode.recorded self.old.mode.gap self.old.last (record { bytes = bytes.now; moment = now })) (cut_of self.old)
             self.old self.new (string_bytes text.old) (string_bytes text.new)) }
         ensures weighs { OnOk result (weight self.new ≤ weight self.old + 5 * length bytes.now) }
         ensures fault { IfErr result (IsLineFault (weight self.old + 5 * length bytes.now)) }
     {
-        self.end_if(is_over(u64::from(self.mode.gap), self.last, now), text)?;
+        let over = is_run_over(self.mode.recorded, self.mode.gap, self.last, now);
+        self.end_if(over, text)?;
         self.line.come(bytes, text)
     }
 

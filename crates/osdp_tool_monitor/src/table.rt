@@ -1,7 +1,7 @@
 //! The table of what was counted.
 
 ghost use Rattle.std.specs.Prelude.{◌≡◌, ◌++◌, ◌-◌, ◌<◌, ◌≤◌, OnOk, Some, slice_get, length, replicate, string_bytes};
-ghost use Rattle.osdp_tool_monitor.specs.Counts.{address_column, column, columns, counted_columns, counts_line, heading, row, row_if, rows_from, table_of};
+ghost use Rattle.osdp_tool_monitor.specs.Counts.{address_column, column, columns, counted_columns, counts_line, heading, is_unjudged, row, row_if, rows_from, table_of, unjudged_line};
 
 use crate::counts::Counts;
 use itoa::Buffer;
@@ -64,6 +64,8 @@ fn push_counted(text: &mut String, counts: &Counts) -> Result<(), AllocError>
         (7, counts.events),
         (7, counts.opened),
         (6, counts.moved),
+        (7, counts.judged),
+        (7, counts.forgot),
         (8, counts.accused),
     ];
     push_columns(text, &counted)
@@ -109,11 +111,34 @@ pub(crate) fn push_rows(text: &mut String, counts: &[Counts]) -> Result<(), Allo
 }
 
 /// Writes the line of counts.
-fn push_counts_line(text: &mut String, tally: &Tally, accused: u64) -> Result<(), AllocError>
-    ensures { OnOk result (string_bytes text.new ≡ string_bytes text.old ++ counts_line tally.now accused) }
+fn push_counts_line(
+    text: &mut String,
+    tally: &Tally,
+    judged: u64,
+    accused: u64,
+) -> Result<(), AllocError>
+    ensures { OnOk result (string_bytes text.new ≡ string_bytes text.old ++ counts_line tally.now judged accused) }
 {
-    push_counts(text, tally, " accused ")?;
-    write!(text, "{accused}\n")
+    push_counts(text, tally, " judged ")?;
+    write!(text, "{judged} accused {accused}\n")
+}
+
+/// Whether packets came, and none of them could be judged.
+pub(crate) fn is_unjudged(tally: &Tally, judged: u64) -> bool
+    ensures { result ≡ is_unjudged tally.now judged }
+{
+    judged == 0 && tally.packets != 0
+}
+
+/// Says where nothing was judged.
+fn push_unjudged(text: &mut String, unjudged: bool) -> Result<(), AllocError>
+    ensures { OnOk result (string_bytes text.new ≡ string_bytes text.old ++ unjudged_line unjudged) }
+{
+    if unjudged {
+        text.push_str("nothing was judged\n")
+    } else {
+        Ok(())
+    }
 }
 
 /// Writes the heading of the table.
@@ -122,21 +147,23 @@ fn push_heading(text: &mut String) -> Result<(), AllocError>
     ensures { OnOk result (string_bytes text.new ≡ string_bytes text.old ++ heading) }
 {
     text.push_str(
-        "device  asked  polls repeats  answered  busy  nak  events  opened  moved  accused\n",
+        "device  asked  polls repeats  answered  busy  nak  events  opened  moved  judged  forgot  accused\n",
     )
 }
 
-/// Writes the table, and the line of counts.
+/// Writes the table, the line of counts, and where nothing was judged a line that says so.
 pub(crate) fn push_table(
     text: &mut String,
     tally: &Tally,
     counts: &[Counts],
+    judged: u64,
     accused: u64,
 ) -> Result<(), AllocError>
     requires { length counts.now ≤ 128 }
-    ensures { OnOk result (string_bytes text.new ≡ string_bytes text.old ++ table_of tally.now counts.now accused) }
+    ensures { OnOk result (string_bytes text.new ≡ string_bytes text.old ++ table_of tally.now counts.now judged accused) }
 {
     push_heading(text)?;
     push_rows(text, counts)?;
-    push_counts_line(text, tally, accused)
+    push_counts_line(text, tally, judged, accused)?;
+    push_unjudged(text, is_unjudged(tally, judged))
 }

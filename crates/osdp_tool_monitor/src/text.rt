@@ -2,10 +2,10 @@
 
 ghost use Rattle.std.specs.Prelude.{◌≡◌, ◌++◌, OnOk, string_bytes, codes};
 ghost use Rattle.std.specs.Fmt.{decimal};
-ghost use Rattle.osdp_tool_monitor.specs.Text.{accusation_line, accusation_text, accused_text, address_line, both_lines, expected_lines, found_text, notice_line, notice_text};
+ghost use Rattle.osdp_tool_monitor.specs.Text.{accusation_line, accusation_text, accused_text, address_line, basis_text, both_lines, expected_lines, found_text, is_left_out, notice_line, notice_text, told};
 
 use osdp_frame::FrameView;
-use osdp_monitor::{Accusation, Found, Notice};
+use osdp_monitor::{Accusation, Basis, Found, Notice};
 use osdp_words::ByteList;
 use std::alloc::AllocError;
 
@@ -37,6 +37,41 @@ fn accusation_text(accusation: Accusation) -> &'static str
     }
 }
 
+/// What asks for the rule that was broken.
+fn basis_text(basis: Basis) -> &'static str
+    ensures { result.now ≡ basis_text basis }
+{
+    match basis {
+        Basis::Standard => " (standard)",
+        Basis::Profile => " (profile)",
+    }
+}
+
+/// Whether an accusation by the profile alone is left out.
+fn is_left_out(standard: bool, accusation: Option<Accusation>) -> bool
+    ensures { result ≡ is_left_out standard accusation }
+{
+    match accusation {
+        None => false,
+        Some(accusation) => standard && matches!(accusation.basis(), Basis::Profile),
+    }
+}
+
+/// What is told of what was found: all, or no accusation by the profile alone.
+pub(crate) fn told(standard: bool, found: Found) -> Found
+    ensures { result ≡ told standard found }
+{
+    if is_left_out(standard, found.accusation) {
+        Found {
+            accusation: None,
+            notice: found.notice,
+            judged: found.judged,
+        }
+    } else {
+        found
+    }
+}
+
 /// Writes a line about a packet's address.
 fn push_line(
     text: &mut String,
@@ -61,13 +96,16 @@ fn push_notice(
 ) -> Result<(), AllocError>
     ensures { OnOk result (string_bytes text.new ≡ string_bytes text.old ++ notice_line run place address notice) }
 {
-    match notice {
-        None => Ok(()),
-        Some(Notice::Opened) => push_line(text, run, place, " device ", address, "opened"),
-        Some(Notice::Restarted) => push_line(text, run, place, " device ", address, "restarted"),
-        Some(Notice::Unanswered) => push_line(text, run, place, " device ", address, "unanswered"),
-        Some(Notice::Moved(moved)) => push_moved(text, run, place, address, moved),
-    }
+    let told = match notice {
+        None => return Ok(()),
+        Some(Notice::Moved(moved)) => return push_moved(text, run, place, address, moved),
+        Some(Notice::Opened) => "opened",
+        Some(Notice::Restarted) => "restarted",
+        Some(Notice::Unanswered) => "unanswered",
+        Some(Notice::Late) => "a late answer: the reader takes longer than the panel waits",
+        Some(Notice::Unsure) => "heard too little to judge",
+    };
+    push_line(text, run, place, " device ", address, told)
 }
 
 /// Writes the line of a move.
@@ -97,14 +135,10 @@ fn push_accusation(
         return Ok(());
     };
     let party = accused_text(packet.is_reply());
-    push_line(
-        text,
-        run,
-        place,
-        party,
-        packet.address().get(),
-        accusation_text(accusation),
-    )
+    let address = packet.address().get();
+    let what = accusation_text(accusation);
+    let basis = basis_text(accusation.basis());
+    write!(text, "{run}:{place}{party}{address}: {what}{basis}\n")
 }
 
 /// Writes the packet that had to come, and the one that came.

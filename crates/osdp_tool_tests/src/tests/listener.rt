@@ -21,14 +21,14 @@ FF
 /// What is printed of them, worked out by hand from the rules.
 const REPORT: &str = "\
 2:0 device 5: opened
-6:0 reader 5: a repeat is answered by something else
+6:0 reader 5: a repeat is answered by something else (standard)
      expected 53850A00015300013198
      seen     538507000140E0
 8:0 device 5: unanswered
-8:0 panel to 5: the next number, but the last one was not answered
-device  asked  polls repeats  answered  busy  nak  events  opened  moved  accused
-5           5      5       1         3     0    0       1       1      0        2
-runs 9 packets 8 skipped 1 refused 0 accused 2
+8:0 panel to 5: the next number, but the last one was not answered (standard)
+device  asked  polls repeats  answered  busy  nak  events  opened  moved  judged  forgot  accused
+5           5      5       1         3     0    0       1       1      0       6       0        2
+runs 9 packets 8 skipped 1 refused 0 judged 6 accused 2
 ";
 
 /// A run comes.
@@ -40,7 +40,7 @@ fn hears(rt: &impl Abort, listener: &mut Listener, digits: &str, text: &mut Stri
 
 /// One listener hears all runs, and prints this of them.
 fn prints(rt: &(impl Abort + AllocGlobal), runs: &str, report: &str) {
-    let mut listener = Listener::new(rt.alloc(), Detail::Refusals).expect(rt, "memory");
+    let mut listener = Listener::new(rt.alloc(), Detail::Refusals, false).expect(rt, "memory");
     let mut text = String::new(rt.alloc());
     for digits in runs.lines() {
         hears(rt, &mut listener, digits, &mut text);

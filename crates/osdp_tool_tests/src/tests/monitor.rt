@@ -43,21 +43,23 @@ const READER: &str = "\
 5305070002603F none none none
 538507000140E0 another-number none none
 5305070003603E not-answered none none
-5385080007405DDA another-check none none
-53050B0001680002000032 none none none
-53850A00015300013198 unfit-reply none none
-5305070002603F none none none
-53850A00025300023196 unread-reply none none
-5305070002603F none none none
-538507000079A8 busy-to-repeat none none
-5305070003603E none none none
-538507000079A8 none none none
-5305070003603E none none none
-538507000379A5 none none none
-5305070003603E none none none
-53850800034104D8 none restarted none
-5305070003603E none none none
 538507000340DE none none none
+53050700016040 none none none
+5385080005403FBC another-check none none
+53050B0002680002000031 none none none
+53850A00025300013197 unfit-reply none none
+5305070003603E none none none
+53850A00035300023195 unread-reply none none
+5305070003603E none none none
+538507000079A8 busy-to-repeat none none
+53050700016040 none none none
+538507000079A8 none none none
+53050700016040 none none none
+538507000179A7 none none none
+53050700016040 none none none
+53850800014104DA none restarted none
+53050700016040 none none none
+538507000140E0 none none none
 53050700006041 none none none
 53850800004104DB refused-zero restarted none
 53050700006041 none none none
@@ -67,6 +69,67 @@ const READER: &str = "\
 5305070003603E none none none
 53850800034101DB none none none
 538507000340DE none none none
+53850800034101DB none none none
+";
+
+/// Late answers: a panel that doesn't wait for them, and what stays an accusation.
+const LATE: &str = "\
+53050700006041 none none none
+538507000040E1 none opened none
+53050700016040 none none none
+53050700016040 none unanswered none
+538507000140E0 none none none
+538507000140E0 none late none
+5305070002603F none none none
+538507000140E0 none late none
+538507000240DF none none none
+538507000240DF second-reply none none
+5305070003603E none none none
+538507000240DF another-number none none
+538507000340DE second-reply none none
+53050700016040 none none none
+538507000140E0 none none none
+5305070002603F none none none
+53050700006041 none unanswered none
+538507000240DF none late none
+538507000040E1 none opened none
+53050700016040 none none none
+538507000140E0 none none none
+5305070002603F none none none
+538507000340DE another-number none none
+5305070002603F none none none
+538507000240DF none none none
+5305070003603E none none none
+5305070003603E none unanswered none
+538507000079A8 none none none
+538507000079A8 none late none
+538507000340DE none late none
+53050700006041 none none none
+530508000061003F none unanswered none
+538507000040E1 none opened none
+53851300004553494D010101000000010000E3 none late none
+";
+
+/// Where too little was heard: before a second packet, and where a packet was missed.
+const UNSURE: &str = "\
+5305070002603F none none none
+538507000140E0 none unsure none
+538507000240DF none none none
+538507000240DF none unsure none
+5305070003603E none none none
+538507000240DF none late none
+538507000340DE none none none
+53050700016040 none none none
+538507000140E0 none none none
+538507000240DF none unsure none
+5305070003603E none none none
+538507000340DE none none none
+53050700016040 none none none
+538507000240DF another-number none none
+53060700006040 none none none
+538607000140DF none unsure none
+5306070001603F not-answered unanswered none
+5306070002603E not-answered none none
 ";
 
 /// After what nothing is known.
@@ -135,6 +198,8 @@ fn notice_name(notice: Option<Notice>) -> &'static str {
         Some(Notice::Moved(_)) => "moved",
         Some(Notice::Restarted) => "restarted",
         Some(Notice::Unanswered) => "unanswered",
+        Some(Notice::Late) => "late",
+        Some(Notice::Unsure) => "unsure",
     }
 }
 
@@ -197,6 +262,16 @@ fn accuses_the_panel(rt: HostRuntime) {
 #[test]
 fn accuses_the_reader(rt: HostRuntime) {
     hold(&rt, rt.alloc(), READER);
+}
+
+#[test]
+fn tells_late_answers(rt: HostRuntime) {
+    hold(&rt, rt.alloc(), LATE);
+}
+
+#[test]
+fn is_unsure(rt: HostRuntime) {
+    hold(&rt, rt.alloc(), UNSURE);
 }
 
 #[test]

@@ -1,7 +1,7 @@
-use Rattle.std.proofs.Common.{◌++◌, [], ◌∷◌, ◌∙◌, ap, subst, string_bytes}
+use Rattle.std.proofs.Common.{◌++◌, [], ◌∷◌, subst, string_bytes}
 use Rattle.osdp_tool_monitor.specs.Hearing.{Come, Hears}
 use Rattle.osdp_tool_streams.proofs.Answered.{on_ok}
-use Rattle.osdp_tool_monitor.specs.Events.{gap_events, is_over}
+use Rattle.osdp_tool_monitor.specs.Events.{gap_events}
 use Rattle.osdp_tool_monitor.specs.Session.{Goes, cut_of}
 use Rattle.osdp_tool_monitor.proofs.Sessions.{bytes_came}
 use Rattle.osdp_tool_monitor.proofs.session.Session.take_bytes.Goals as goal
@@ -11,6 +11,6 @@ returns-clause-goes c =
     on_ok c.come.result
     (λ (h : Hears (Come c.args.bytes.now ∷ []) c.end_if.new.self.line c.come.new.self (string_bytes c.end_if.new.text) (string_bytes c.come.new.text)).
     subst (λ over. Goes (gap_events over ++ Come c.args.bytes.now ∷ []) (cut_of c.args.self.now) c.args.self.now (record c.end_if.new.self { line = c.come.new.self })
-    (string_bytes c.args.text.now) (string_bytes c.come.new.text)) (c.is_over.ensures ∙ ap (λ gap. is_over gap c.args.self.now.last c.args.now) c.from.ensures)
-    (bytes_came c.is_over.result c.args.bytes.now c.args.self.now c.end_if.new.self c.come.new.self _ _ _ c.requires.form c.in_ok-end_if.ensures.goes h))
+    (string_bytes c.args.text.now) (string_bytes c.come.new.text)) c.is_run_over-over.ensures
+    (bytes_came c.is_run_over-over.result c.args.bytes.now c.args.self.now c.end_if.new.self c.come.new.self _ _ _ c.requires.form c.in_ok-end_if.ensures.goes h))
     c.come.ensures.hears

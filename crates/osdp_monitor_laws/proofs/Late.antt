@@ -1,0 +1,37 @@
+-- What a reply does to what is known, by whether it comes late, whether its packet was heard, and its number.
+use Rattle.std.proofs.Common.{◌≡◌, ◌≢◌, ℕ, Bool, true, false, cond, eqb, not, ◌&&◌, sym, ◌∙◌}
+use Rattle.std.proofs.lemmas.Bool.{and_right, cond-false, cond_both, eq-eqb, eqb-false, eqb-true, ne_eqb, not_from_true}
+use Rattle.osdp_frame.specs.Packet.{Packet, next_sequence}
+use Rattle.osdp_monitor.specs.Known.{Known, nothing_known}
+use Rattle.osdp_monitor.specs.Reader.{after_answer, after_other, after_own, after_reply, after_reply_of, has_earlier_number, is_late, is_unheard}
+use Rattle.osdp_monitor.specs.Saying.{is_answer, said}
+use Rattle.osdp_monitor_laws.proofs.Numbers.{next_differs}
+
+-- nothing is new after a late one, and nothing is known where its packet wasn't heard
+pub by_fate : (P : Known → Type 0) (k : Known) (p q : Packet) → (is_late k p q ≡ true → P k) → (is_unheard k p q ≡ true → P nothing_known)
+    → P (after_reply_of (said q) k p q) → P (after_reply k p q)
+by_fate P k p q late unheard judged =
+    cond_both (is_late k p q) k (cond (is_unheard k p q) nothing_known (after_reply_of (said q) k p q)) P late
+    (λ _. cond_both (is_unheard k p q) nothing_known (after_reply_of (said q) k p q) P unheard (λ _. judged))
+
+-- one with the packet's number never comes late, and its packet was heard
+pub own_in_time : (k : Known) (p q : Packet) → q.sequence ≡ p.sequence → is_late k p q ≡ false
+own_in_time k p q number =
+    and_right (has_earlier_number k q) (not (eqb q.sequence p.sequence)) (not_from_true (eqb q.sequence p.sequence) (eq-eqb q.sequence p.sequence number))
+
+pub own_heard : (k : Known) (p q : Packet) → q.sequence ≡ p.sequence → is_unheard k p q ≡ false
+own_heard k p q number =
+    and_right (is_answer (said q) && k.answered) (eqb q.sequence (next_sequence p.sequence))
+    (ne_eqb q.sequence (next_sequence p.sequence) (λ next. next_differs p.sequence (sym next ∙ number)))
+
+pub own_counts : (k : Known) (p q : Packet) → q.sequence ≡ p.sequence → after_reply k p q ≡ after_reply_of (said q) k p q
+own_counts k p q number =
+    cond-false (is_late k p q) k (cond (is_unheard k p q) nothing_known (after_reply_of (said q) k p q)) (own_in_time k p q number)
+    ∙ cond-false (is_unheard k p q) nothing_known (after_reply_of (said q) k p q) (own_heard k p q number)
+
+-- an answer with the packet's number, or with another one
+pub by_number : (P : Known → Type 0) (repeat : Bool) (number : ℕ) (k : Known) (q : Packet) → (q.sequence ≡ number → P (after_own repeat number k q))
+    → (q.sequence ≢ number → P (after_other repeat k)) → P (after_answer repeat number k q)
+by_number P repeat number k q own other =
+    cond_both (eqb q.sequence number) (after_own repeat number k q) (after_other repeat k) P
+    (λ e. own (eqb-true q.sequence number e)) (λ e. other (eqb-false q.sequence number e))

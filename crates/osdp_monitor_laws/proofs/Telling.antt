@@ -1,0 +1,210 @@
+-- A reply that comes late is told so.
+use Rattle.std.proofs.Common.{◌≡◌, ◌≢◌, ◌⊎◌, inl, inr, ℕ, Bool, true, false, cond, eqb, ◌&&◌, ◌||◌, not, ◌∷◌, ◌++◌, Option, Some, None, refl, sym, subst, ap, ◌∙◌}
+use Rattle.std.proofs.lemmas.Bool.{and_from, cond-false, cond-true, cond_both, eq-eqb, false≢true, ne_eqb, not_from_false, or_from, or_left, or_right}
+use Rattle.std.specs.Prelude.{is_some}
+use Rattle.osdp_frame.specs.Packet.{Packet}
+use Rattle.osdp_frame.specs.Reading.{PacketItem}
+use Rattle.osdp_monitor.specs.declared.accusation.Accusation.TheVariants.{SecondReply}
+use Rattle.osdp_monitor.specs.declared.found.Found.{Found}
+use Rattle.osdp_monitor.specs.declared.found.Notice.TheVariants.{Late, Unsure}
+use Rattle.osdp_monitor.specs.declared.said.Said.{Said}
+use Rattle.osdp_monitor.specs.declared.said.Said.TheVariants.{Busy, Damage, Refusal, Answer}
+use Rattle.osdp_monitor.specs.Known.{Known, is_number, same_packet}
+use Rattle.osdp_monitor.specs.Line.{Knowledge, after_items, after_packet, found_in, found_in_reply, found_in_sent, late_notice, moves_to, nothing_found, reply_notice}
+use Rattle.osdp_monitor.specs.Panel.{after_another, after_copy, after_sent, is_waiting, keeps_number, left_waiting}
+use Rattle.osdp_monitor.specs.Reader.{after_reply_of, has_earlier_number, is_doubtful, is_late, is_of_either, is_one_more, is_owed, is_unheard, reader_accused, repeat_reply, reply_accused, tells_number}
+use Rattle.osdp_monitor.specs.Saying.{is_foreign, said}
+use Rattle.osdp_monitor_laws.proofs.Agreeing.{none_some, same_some, sent_asked}
+use Rattle.osdp_monitor_laws.proofs.Late.{by_fate, by_number}
+use Rattle.osdp_monitor_laws.proofs.PanelLines.{last_by}
+use Rattle.osdp_monitor_laws.proofs.Remembering.{after_append, after_one, at_remembered, forgotten_append, items_keep}
+use Rattle.osdp_monitor_laws.proofs.Same.{is_packet, packet_is}
+use Rattle.osdp_monitor_laws.specs.Late.{HasItsNumber, IsCopyOrOther, IsNone, TellsLateAnswers}
+use Rattle.osdp_monitor_laws.specs.Misses.{IsCopyOrReply, IsFrom, IsRemembered, IsTo}
+
+-- what no reply changes
+owing_by : (s : Said) (k : Known) (p x : Packet) → (after_reply_of s k p x).owing ≡ k.owing
+owing_by Busy k p x = refl
+owing_by Damage k p x = refl
+owing_by Refusal k p x = refl
+owing_by Answer k p x = by_number (λ j. j.owing ≡ k.owing) (is_some (repeat_reply k p)) p.sequence k x (λ _. refl) (λ _. refl)
+
+settled_by : (s : Said) (k : Known) (p x : Packet) → (after_reply_of s k p x).settled ≡ k.settled
+settled_by Busy k p x = refl
+settled_by Damage k p x = refl
+settled_by Refusal k p x = refl
+settled_by Answer k p x = by_number (λ j. j.settled ≡ k.settled) (is_some (repeat_reply k p)) p.sequence k x (λ _. refl) (λ _. refl)
+
+-- .. nor one with another number
+earlier_by : (s : Said) (k : Known) (p x : Packet) → x.sequence ≢ p.sequence → (after_reply_of s k p x).earlier ≡ k.earlier
+earlier_by Busy k p x other = refl
+earlier_by Damage k p x other = refl
+earlier_by Refusal k p x other = refl
+earlier_by Answer k p x other =
+    by_number (λ j. j.earlier ≡ k.earlier) (is_some (repeat_reply k p)) p.sequence k x (λ own. absurd (other own)) (λ _. refl)
+
+-- ---- the first copy
+
+abbrev IsSilent : Packet → Known → Type 0
+IsSilent p k = (k.last ≡ Some p) × (k.replied ≡ false)
+
+silent_first : (a : ℕ) (line : Knowledge) (p : Packet) → IsTo a p → IsRemembered a (PacketItem p) line → IsSilent p ((after_packet line p).devices a)
+silent_first a line p to is =
+    let k = line.devices a in
+    at_remembered a (IsSilent p) line p is (λ other. absurd (other to.1)) (λ _ reply. absurd (false≢true (sym to.0 ∙ reply)))
+    (λ _ _. ((sent_asked k p).last, (sent_asked k p).replied)) (λ _ reply. absurd (false≢true (sym to.0 ∙ reply)))
+
+silent_step : (a : ℕ) (p : Packet) (line : Knowledge) (x : Packet) → IsSilent p (line.devices a) → (x.address ≡ a → IsNone x)
+    → IsRemembered a (PacketItem x) line → IsSilent p ((after_packet line x).devices a)
+silent_step a p line x known each is =
+    at_remembered a (IsSilent p) line x is (λ _. known) (λ _ _ _. known) (λ here _. absurd (each here)) (λ here _ _ _ _. absurd (each here))
+
+-- ---- the second
+
+abbrev IsOwing : Packet → Known → Type 0
+IsOwing p k = (k.last ≡ Some p) × (k.owing ≡ true)
+
+copied : (k : Known) (p : Packet) (o : Option Packet) → o ≡ Some p → is_waiting k ≡ true → (after_sent o k p).owing ≡ true
+copied k p None last waits = absurd (none_some p last)
+copied k p (Some old) last waits =
+    cond_both (same_packet old p) (after_copy k) (after_another (keeps_number old k p) (left_waiting old k) k p) (λ j. j.owing ≡ true) (λ _. waits)
+    (λ other. absurd (false≢true (sym other ∙ subst (λ x. same_packet x p ≡ true) (same_some p old (sym last)) (is_packet p))))
+
+owing_first : (a : ℕ) (line : Knowledge) (p : Packet) → IsTo a p → IsSilent p (line.devices a) → IsRemembered a (PacketItem p) line
+    → IsOwing p ((after_packet line p).devices a)
+owing_first a line p to known is =
+    let k = line.devices a in
+    at_remembered a (IsOwing p) line p is (λ other. absurd (other to.1)) (λ _ reply. absurd (false≢true (sym to.0 ∙ reply)))
+    (λ _ _. ((sent_asked k p).last, copied k p k.last known.0 (or_right k.owing (not k.replied) (not_from_false k.replied known.1))))
+    (λ _ reply. absurd (false≢true (sym to.0 ∙ reply)))
+
+owing_step : (a : ℕ) (p : Packet) (line : Knowledge) (x : Packet) → IsOwing p (line.devices a) → (x.address ≡ a → IsCopyOrReply p x)
+    → IsRemembered a (PacketItem x) line → IsOwing p ((after_packet line x).devices a)
+owing_step a p line x known each is =
+    let k = line.devices a in
+    at_remembered a (IsOwing p) line x is (λ _. known) (λ _ _ _. known)
+    (λ here sent. elim (each here) [
+      | inl same ↦ (
+        (sent_asked k x).last ∙ ap Some same,
+        copied k x k.last (known.0 ∙ ap Some (sym same)) (or_left k.owing (not k.replied) known.1),
+      )
+      | inr reply ↦ absurd (false≢true (sym sent ∙ reply))
+    ])
+    (λ _ _ last _ heard. by_fate (IsOwing p) k last x (λ _. known) (λ unheard. absurd (false≢true (sym heard ∙ unheard)))
+    (last_by (said x) k last x ∙ known.0, owing_by (said x) k last x ∙ known.1))
+
+-- ---- the next packet
+
+abbrev Owes : ℕ → Known → Type 0
+Owes n k = (k.earlier ≡ Some n) × (k.settled ≡ true)
+
+abbrev IsLeft : ℕ → Packet → Known → Type 0
+IsLeft n q k = (k.last ≡ Some q) × Owes n k
+
+left_sent : (k : Known) (p q : Packet) (o : Option Packet) → o ≡ Some p → q.sequence ≢ p.sequence → k.owing ≡ true
+    → Owes p.sequence (after_sent o k q)
+left_sent k p q None last other owing = absurd (none_some p last)
+left_sent k p q (Some old) last other owing =
+    let same : p ≡ old = same_some p old (sym last) in
+    cond_both (same_packet old q) (after_copy k) (after_another (keeps_number old k q) (left_waiting old k) k q)
+    (Owes p.sequence)
+    (λ copy. absurd (other (sym (ap (λ (x : Packet). x.sequence) (same ∙ packet_is old q copy)))))
+    (λ _. (
+      cond-true (is_waiting k) (Some old.sequence) None (or_left k.owing (not k.replied) owing) ∙ ap (λ (x : Packet). Some x.sequence) (sym same),
+      refl,
+    ))
+
+left_first : (a : ℕ) (p : Packet) (line : Knowledge) (q : Packet) → IsTo a q → q.sequence ≢ p.sequence → IsOwing p (line.devices a)
+    → IsRemembered a (PacketItem q) line → IsLeft p.sequence q ((after_packet line q).devices a)
+left_first a p line q to other known is =
+    let k = line.devices a in
+    at_remembered a (IsLeft p.sequence q) line q is (λ away. absurd (away to.1)) (λ _ reply. absurd (false≢true (sym to.0 ∙ reply)))
+    (λ _ _. ((sent_asked k q).last, left_sent k p q k.last known.0 other known.1)) (λ _ reply. absurd (false≢true (sym to.0 ∙ reply)))
+
+left_copied : (n : ℕ) (k : Known) (q : Packet) (o : Option Packet) → o ≡ Some q → Owes n k → Owes n (after_sent o k q)
+left_copied n k q None last known = absurd (none_some q last)
+left_copied n k q (Some old) last known =
+    cond_both (same_packet old q) (after_copy k) (after_another (keeps_number old k q) (left_waiting old k) k q)
+    (Owes n) (λ _. known)
+    (λ other. absurd (false≢true (sym other ∙ subst (λ x. same_packet x q ≡ true) (same_some q old (sym last)) (is_packet q))))
+
+left_step : (a n : ℕ) (q : Packet) → q.reply ≡ false → (line : Knowledge) (x : Packet) → IsLeft n q (line.devices a) → (x.address ≡ a → IsCopyOrOther q x)
+    → IsRemembered a (PacketItem x) line → IsLeft n q ((after_packet line x).devices a)
+left_step a n q command line x known each is =
+    let k = line.devices a in
+    at_remembered a (IsLeft n q) line x is (λ _. known) (λ _ _ _. known)
+    (λ here sent. elim (each here) [
+      | inl same ↦ ((sent_asked k x).last ∙ ap Some same, left_copied n k x k.last (known.0 ∙ ap Some (sym same)) known.1)
+      | inr by ↦ absurd (false≢true (sym sent ∙ by.0))
+    ])
+    (λ here reply last before heard. elim (each here) [
+      | inl same ↦ absurd (false≢true (sym command ∙ sym (ap (λ (y : Packet). y.reply) same) ∙ reply))
+      | inr by ↦
+          let other : x.sequence ≢ last.sequence = subst (λ (y : Packet). x.sequence ≢ y.sequence) (same_some q last (sym known.0 ∙ before)) by.1 in
+          by_fate (IsLeft n q) k last x (λ _. known) (λ unheard. absurd (false≢true (sym heard ∙ unheard)))
+          (last_by (said x) k last x ∙ known.0, (earlier_by (said x) k last x other ∙ known.1.0, settled_by (said x) k last x ∙ known.1.1))
+    ])
+
+-- ---- the reply
+
+tells : (r : Packet) → HasItsNumber r → tells_number (said r) r.sequence ≡ true
+tells r (inl answer) = ap (λ s. tells_number s r.sequence) answer
+tells r (inr (inl refusal)) = ap (λ s. tells_number s r.sequence) refusal
+tells r (inr (inr busy)) =
+    ap (λ s. tells_number s r.sequence) busy.0 ∙ not_from_false (eqb r.sequence 0) (ne_eqb r.sequence 0 busy.1)
+
+comes_late : (k : Known) (n : ℕ) (q r : Packet) → Owes n k → q.sequence ≢ n → HasItsNumber r → r.sequence ≡ n → is_late k q r ≡ true
+comes_late k n q r owes other says number =
+    and_from (has_earlier_number k r) (not (eqb r.sequence q.sequence))
+    (and_from (tells_number (said r) r.sequence) (not k.settled || is_number k.earlier r.sequence) (tells r says)
+    (or_right (not k.settled) (is_number k.earlier r.sequence)
+    (subst (λ o. is_number o r.sequence ≡ true) (sym owes.0) (eq-eqb n r.sequence (sym number)))))
+    (not_from_false (eqb r.sequence q.sequence) (ne_eqb r.sequence q.sequence (λ same. other (sym same ∙ number))))
+
+late_accused : (k : Known) (q r : Packet) → is_late k q r ≡ true → reader_accused k q r ≡ None
+late_accused k q r late =
+    cond-true (is_doubtful k q r) None (cond (is_one_more k r && not (is_owed k)) (Some SecondReply) (reply_accused (said r) k q r))
+    (or_left (is_late k q r || is_of_either k q r) (is_unheard k q r) (or_left (is_late k q r) (is_of_either k q r) late))
+
+late_told : (k : Known) (q r : Packet) (o : Option ℕ) → o ≡ None → is_late k q r ≡ true → k.settled ≡ true → reply_notice o k q r ≡ Some Late
+late_told k q r (Some place) none late settled = cc
+late_told k q r None none late settled =
+    cond-true (is_late k q r) (Some (late_notice k)) _ late ∙ ap Some (cond-true k.settled Late Unsure settled)
+
+-- what is found in a reply from the address
+reply_found : (P : Found → Type 0) (line : Knowledge) (a : ℕ) (q r : Packet) → IsFrom a r → a ≢ 127 → is_foreign r ≡ false → (line.devices a).last ≡ Some q
+    → P (found_in_reply (Some q) (line.devices a) r) → P (found_in line r)
+reply_found P line a q r from device plain last holds =
+    let k = line.devices r.address in
+    subst P (sym (cond-false (eqb r.address 127 || is_foreign r) nothing_found (cond r.reply (found_in_reply k.last k r) (found_in_sent k r))
+    (or_from (eqb r.address 127) (is_foreign r) (ne_eqb r.address 127 (λ all. device (sym from.1 ∙ all))) plain)))
+    (subst P (sym (cond-true r.reply (found_in_reply k.last k r) (found_in_sent k r) from.0))
+    (subst (λ b. P (found_in_reply (line.devices b).last (line.devices b) r)) (sym from.1)
+    (subst (λ o. P (found_in_reply o (line.devices a) r)) (sym last) holds)))
+
+pub tells_late_answers : TellsLateAnswers
+tells_late_answers line a p between since q after r to quiet copies next other others nothing from plain says number stays =
+    let line0 = after_packet line p in
+    let line1 = after_items line0 between in
+    let line2 = after_packet line1 p in
+    let line3 = after_items line2 since in
+    let line4 = after_packet line3 q in
+    let line5 = after_items line4 after in
+    let rest = forgotten_append a line0 between (PacketItem p ∷ (since ++ PacketItem q ∷ after)) nothing.1 in
+    let last = forgotten_append a line2 since (PacketItem q ∷ after) rest.1.1 in
+    let silent : IsSilent p (line1.devices a) =
+    items_keep a (IsSilent p) IsNone (silent_step a p) between line0 (silent_first a line p to nothing.0) rest.0 quiet in
+    let owing : IsOwing p (line3.devices a) =
+    items_keep a (IsOwing p) (IsCopyOrReply p) (owing_step a p) since line2 (owing_first a line1 p to silent rest.1.0) last.0 copies in
+    let left : IsLeft p.sequence q (line5.devices a) =
+    items_keep a (IsLeft p.sequence q) (IsCopyOrOther q) (left_step a p.sequence q next.0) after line4 (left_first a p line3 q next other owing last.1.0) last.1.1 others in
+    let k = line5.devices a in
+    let late : is_late k q r ≡ true = comes_late k p.sequence q r left.1 other says number in
+    let whole : after_items line (PacketItem p ∷ between ++ PacketItem p ∷ (since ++ PacketItem q ∷ after)) ≡ line5 =
+    after_one line (PacketItem p) (between ++ PacketItem p ∷ (since ++ PacketItem q ∷ after))
+    ∙ after_append line0 between (PacketItem p ∷ (since ++ PacketItem q ∷ after))
+    ∙ after_one line1 (PacketItem p) (since ++ PacketItem q ∷ after)
+    ∙ after_append line2 since (PacketItem q ∷ after) ∙ after_one line3 (PacketItem q) after in
+    subst (λ (known : Knowledge). ((found_in known r).accusation ≡ None) × ((found_in known r).notice ≡ Some Late)) (sym whole)
+    (reply_found (λ (f : Found). (f.accusation ≡ None) × (f.notice ≡ Some Late)) line5 a q r from (λ all. nothing.0.0 (to.1 ∙ all)) plain left.0
+    (late_accused k q r late, late_told k q r (moves_to (Some q) r) stays late left.1.1))

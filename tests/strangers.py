@@ -1,0 +1,331 @@
+"""Lines of panels and readers that aren't ours, for `monitor`. Takes the path of the program.
+
+Both ends are written here, by the rules of the standard alone, with habits of several makers. Each burst may be lost to the end that it is for, or damaged for
+all. A line whose ends keep the rules has nobody accused. A line with one fault has the words that tell it, and no others of those that accuse. The counts of
+what was found and of what was falsely told are printed. Moments are made up."""
+import bisect
+import heapq
+import itertools
+import random
+import re
+import subprocess
+import sys
+from collections import Counter
+from pathlib import Path
+
+PROGRAM = str(Path(sys.argv[1]).resolve())
+ACK, NAK, PDID, COM, RAW, BUSY = 0x40, 0x41, 0x45, 0x54, 0x50, 0x79
+POLL, ID, OUT, COMSET, LED = 0x60, 0x61, 0x68, 0x6E, 0x69
+OWN = bytes.fromhex("4553494D010105000000010000")
+ACCUSED = re.compile(r"^\d+:\d+ (panel to|reader) (\d+): (.*) \((?:standard|profile)\)$", re.M)
+NOTICED = re.compile(r"^\d+:\d+ device (\d+): (.*)$", re.M)
+ALL = "537F07000060C7"
+counts, faults = Counter(), 0
+
+
+def crc(data):
+    value = 0x1D0F
+    for byte in data:
+        value ^= byte << 8
+        for _ in range(8):
+            value = (value << 1 ^ 0x1021 if value & 0x8000 else value << 1) & 0xFFFF
+    return value
+
+
+def packet(address, number, code, data=b"", reply=False, check="sum"):
+    size = 6 + len(data) + (1 if check == "sum" else 2)
+    body = bytes([0x53, address | (0x80 if reply else 0), size & 255, size >> 8, number | (4 if check == "crc" else 0), code]) + data
+    return body + (bytes([-sum(body) & 255]) if check == "sum" else crc(body).to_bytes(2, "little"))
+
+
+class Habits:
+    """What makers do differently, all within the rules."""
+
+    def __init__(self, chance, **words):
+        self.check = chance.choice(("sum", "crc"))
+        self.marks = chance.choice((0, 1, 3))  # FF before each packet
+        self.resets = chance.choice((0, 0.02))  # number 0 at any time
+        self.repeats = chance.choice((0, 3, 8))  # how often a packet is sent again before number 0
+        self.pause = chance.choice((5, 50, 200))  # between two exchanges
+        self.busy = chance.choice((0, 0.1))
+        self.busy_number = chance.choice((True, False))  # BUSY with the packet's number, or 0
+        self.restarts = chance.choice((0, 0.01))
+        self.moves = chance.choice((0, 0.01))
+        self.wait, self.delay = 200, chance.choice((3, 40, 199))
+        self.__dict__.update(words)
+
+
+class Reader:
+    """A reader by the rules: it takes number 0 and the next, answers the last as before, and refuses any other."""
+
+    def __init__(self, line, address):
+        self.line, self.address = line, address
+        self.taken = self.stored = None
+
+    def answer(self, number, code, data):
+        habits, chance = self.line.habits, self.line.chance
+        if number and number == self.taken:
+            return self.repeat()
+        if habits.busy and chance.random() < habits.busy:
+            return self.reply(number if habits.busy_number else 0, BUSY)
+        if number and (self.taken is None or number != self.taken % 3 + 1):
+            self.taken = self.stored = None
+            return self.reply(number, NAK, bytes([4]))
+        reply = self.reply(number, *self.act(number, code, data))
+        self.taken, self.stored = number, reply
+        if code == COMSET and data[0] != self.address:
+            self.address, self.taken = data[0], None
+        return reply
+
+    def repeat(self):
+        return self.stored
+
+    def act(self, number, code, data):
+        if code == ID:
+            return PDID, OWN
+        if code == COMSET:
+            return COM, data
+        if code == POLL and number and self.line.chance.random() < 0.1:
+            return RAW, bytes([0, 1, 8, 0, self.line.chance.randrange(256)])
+        return ACK, b""
+
+    def reply(self, number, code, data=b""):
+        return packet(self.address, number, code, data, True, self.line.habits.check)
+
+
+class Panel:
+    """A panel by the rules: number 0 first, the next number after an answer, and else the same packet once more."""
+
+    def __init__(self, line, address):
+        self.line, self.address = line, address
+        self.number, self.code, self.data = 0, ID, bytes([0])
+        self.sent = self.answered = 0
+
+    def is_answered(self, reply):
+        """A reply with the packet's number, but BUSY, NAK 1 and NAK 4."""
+        return reply[4] & 3 == self.number and reply[5] != BUSY and not (reply[5] == NAK and reply[6] in (1, 4))
+
+    def opens(self):
+        self.number, self.code, self.data, self.sent = 0, ID, bytes([0]), 0
+
+    def next(self):
+        self.number, self.sent = self.number % 3 + 1, 0
+        self.code, self.data = self.line.chance.choice(((POLL, b""), (POLL, b""), (POLL, b""), (OUT, bytes([0, self.line.chance.randint(1, 2), 0, 0]))))
+        if self.line.chance.random() < self.line.habits.moves:
+            self.code, self.data = COMSET, bytes([self.line.chance.choice((5, 6, 7)), *(9600).to_bytes(4, "little")])
+
+    def burst(self):
+        self.sent += 1
+        return packet(self.address, self.number, self.code, self.data, check=self.line.habits.check)
+
+
+class Line:
+    """One panel, one reader, and what a listener hears, a line of digits for each burst."""
+
+    def __init__(self, seed, loss, unheard=0.0, panel=Panel, reader=Reader, **words):
+        self.chance = random.Random(seed)
+        self.habits = Habits(self.chance, **words)
+        self.loss, self.unheard = loss, unheard
+        self.panel, self.reader = panel(self, 5), reader(self, 5)
+        self.heard, self.events, self.order = [], [], 0
+        self.waits = self.heard_of = 0  # the number of the packet that is waited for, and of the last one that was answered
+
+    def at(self, moment, what, *data):
+        self.order += 1
+        heapq.heappush(self.events, (moment, self.order, what, data))
+
+    def say(self, burst):
+        """A burst goes over the line: whether the end that it is for reads it."""
+        fate = self.chance.random()
+        if self.unheard and self.chance.random() < self.unheard:
+            return True
+        if fate < self.loss:
+            at = self.chance.randrange(1, len(burst))
+            burst = burst[:at] + bytes([burst[at] ^ 1 << self.chance.randrange(8)]) + burst[at + 1:]
+        marks = bytes([0xFF] * (self.habits.marks + (8 if fate < self.loss else 0)))  # damage has a mark of its own
+        self.heard.append((marks + burst).hex().upper())
+        return fate >= 2 * self.loss
+
+    def send(self, now):
+        """The panel's packet goes out, and is due again after its wait."""
+        burst = self.panel.burst()
+        if self.say(burst):
+            self.at(now + self.habits.delay, "answer", burst)
+        self.waits += 1
+        self.at(now + self.habits.wait, "wait", self.waits)
+
+    def run(self, rounds):
+        self.at(0, "begin")
+        while self.events and len(self.heard) < rounds:
+            now, _, what, data = heapq.heappop(self.events)
+            getattr(self, f"on_{what}")(now, *data)
+        return self.heard
+
+    def on_begin(self, now):
+        self.send(now)
+
+    def on_answer(self, now, burst):
+        if burst[1] & 0x7F != self.reader.address:
+            return
+        size = 7 if self.habits.check == "sum" else 8
+        for reply in self.replies(burst[4] & 3, burst[5], burst[6:len(burst) - size + 6]):
+            if self.say(reply):
+                self.hears(now, reply)
+
+    def replies(self, number, code, data):
+        if self.habits.restarts and self.chance.random() < self.habits.restarts:
+            self.reader.taken = self.reader.stored = None
+        return [self.reader.answer(number, code, data)]
+
+    def hears(self, now, reply):
+        """The panel reads a reply: it goes on, waits, or begins anew."""
+        if self.waits == self.heard_of:
+            return
+        if reply[5] == NAK and reply[6] == 4 and reply[4] & 3 == self.panel.number:
+            self.ends_wait()
+            self.panel.opens()
+            self.at(now + 300, "begin")
+        elif self.panel.is_answered(reply):
+            self.ends_wait()
+            if reply[5] == COM and self.panel.code == COMSET:
+                self.panel.address = reply[6]
+                self.panel.opens()
+            else:
+                self.panel.next()
+            if self.chance.random() < self.habits.resets:
+                self.panel.opens()
+            self.at(now + self.habits.pause, "begin")
+
+    def ends_wait(self):
+        """What was sent last was answered."""
+        self.waits += 1
+        self.heard_of = self.waits
+
+    def on_wait(self, now, sent):
+        """No answer came within the wait: the same once more, or number 0."""
+        if sent != self.waits:
+            return
+        if self.panel.sent > self.habits.repeats:
+            self.panel.opens()
+        self.send(now)
+
+
+class Case:
+    """A line, what must be told of it, whom it may accuse of what besides, and what may not be noticed."""
+
+    def __init__(self, name, line, wanted=(), allowed=(), noticed=(), unwanted=()):
+        self.name, self.lines = name, line.run(600)
+        self.wanted, self.allowed, self.noticed, self.unwanted = wanted, allowed, noticed, unwanted
+
+    def judge(self, text):
+        """What is missing in the text, and what is told falsely."""
+        accused = [f"{end} {what}" for end, _, what in ACCUSED.findall(text)]
+        told = {what for _, what in NOTICED.findall(text)}
+        missing = [word for word in self.wanted if word not in accused] + [word for word in self.noticed if not any(what.startswith(word) for what in told)]
+        false = [word for word in accused if word not in (*self.wanted, *self.allowed)]
+        false += [word for word in self.unwanted if any(what.startswith(word) for what in told)]
+        for what, more in (("lines", 1), ("packets", len(self.lines)), ("found", not missing), ("accusations", len(accused)), ("falsely told", len(false))):
+            counts[self.name, what] += more
+        return missing + false
+
+
+def listen(cases):
+    """What is told of each case. All are one input, with a packet to all devices after each: then nothing is known any more."""
+    capture = "".join("".join(f"{line}\n" for line in [*case.lines, ALL]) for case in cases)
+    done = subprocess.run([PROGRAM, "monitor", "--hex"], input=capture.encode(), capture_output=True, check=False)
+    ends = list(itertools.accumulate(len(case.lines) + 1 for case in cases))
+    texts = [[] for _ in cases]
+    for line in done.stdout.decode().splitlines(keepends=True):
+        run = re.match(r"(\d+):", line)
+        if run:
+            texts[bisect.bisect_left(ends, int(run[1]))].append(line)
+    return ["".join(lines) for lines in texts]
+
+
+class AnotherNumber(Reader):
+    """Its answer has the number of the packet before, now and then."""
+
+    def reply(self, number, code, data=b""):
+        if number and code not in (BUSY, NAK) and self.line.chance.random() < 0.05:
+            number = (number + 1) % 3 + 1
+        return super().reply(number, code, data)
+
+
+class ActsAgain(Reader):
+    """It answers a repeat anew."""
+
+    def repeat(self):
+        return self.reply(self.taken, RAW, bytes([0, 1, 8, 0, self.line.chance.randrange(256)]))
+
+
+class GivesUp(Panel):
+    """It goes on to the next number without an answer."""
+
+    def opens(self):
+        if self.number:
+            self.next()
+        else:
+            super().opens()
+
+
+class Twin(Line):
+    """Two devices at one address, which don't collide: each answers."""
+
+    def replies(self, number, code, data):
+        self.twin = getattr(self, "twin", None) or Reader(self, 5)
+        return [each.answer(number, code, data) for each in (self.reader, self.twin)]
+
+
+LATE = "a late answer"
+LOSSES = (0, 0.01, 0.05)
+QUIET = {"resets": 0, "busy": 0, "restarts": 0, "moves": 0}
+PLAIN = {"delay": 20, "wait": 200, "repeats": 3, "pause": 50, **QUIET}
+SECOND = "reader a second reply to one packet"
+
+
+def good_lines():
+    """Nobody who keeps the rules is accused, whatever the habits and the losses."""
+    for seed in range(60):
+        for loss in LOSSES:
+            yield Case(f"good lines, losses {loss:.0%}", Line(f"good {seed}", loss), unwanted=(LATE,) if loss == 0 else ())
+
+
+def late_readers():
+    """A reader that takes longer than its panel waits is told as late, and nobody is accused."""
+    for loss in LOSSES:
+        for delay in range(205, 591, 35):
+            yield Case(f"late by 205 to 590 ms, losses {loss:.0%}", Line(f"late {delay}", loss, delay=delay, wait=200, repeats=8, pause=50, **QUIET), noticed=(LATE,))
+        yield Case(f"a hasty panel, losses {loss:.0%}", Line("hasty", loss, delay=100, wait=60, repeats=8, pause=5, **QUIET), noticed=(LATE,))
+
+
+def faulty_lines():
+    """Each fault is told by its words, and nobody is accused of anything that doesn't follow from it."""
+    for seed in range(10):
+        for loss in LOSSES:
+            wrong = Line(f"number {seed}", loss, reader=AnotherNumber, **PLAIN)
+            yield Case(f"another number, losses {loss:.0%}", wrong, ("reader another number",), (SECOND,))
+            twins = Twin(f"twin {seed}", loss, **PLAIN)
+            yield Case(f"two devices at one address, losses {loss:.0%}", twins, (SECOND,), ("reader another number", "reader a number out of turn was taken", "reader a repeat is answered by something else"))
+        for loss in (0.02, 0.05):  # these show only where something is lost
+            again = Line(f"again {seed}", loss, reader=ActsAgain, **PLAIN)
+            yield Case(f"a repeat acted on again, losses {loss:.0%}", again, ("reader a repeat is answered by something else",))
+            up = Line(f"up {seed}", loss, panel=GivesUp, **PLAIN | {"repeats": 0})
+            yield Case(f"a panel that gives up, losses {loss:.0%}", up, ("panel to the next number, but the last one was not answered",))
+
+
+def deaf_listeners():
+    """The listener alone loses bursts: nothing tells that from a fault of the ends, and the figures are for the manual."""
+    for seed in range(20):
+        yield Case("a listener that loses 1%", Line(f"deaf {seed}", 0, unheard=0.01, **QUIET))
+
+
+CASES = [*good_lines(), *late_readers(), *faulty_lines(), *deaf_listeners()]
+for case, text in zip(CASES, listen(CASES)):
+    wrong = case.judge(text)
+    if wrong and not case.name.startswith("a listener"):
+        faults += 1
+        print(f"strangers: {case.name}: {', '.join(dict.fromkeys(wrong))}")
+for name in dict.fromkeys(name for name, _ in counts):
+    print(f"{name}: {', '.join(f'{what} {counts[name, what]}' for what in ('lines', 'packets', 'found', 'accusations', 'falsely told'))}")
+print(f"strangers: {faults} faults")
+sys.exit(1 if faults else 0)
