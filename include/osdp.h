@@ -20,7 +20,7 @@
  * Writing.    A struct is written whole but for its arrays: of an array as many bytes as its length says are written, and the
  *             others stay as they were. Nothing beyond a struct is written. No struct that a call reads or writes has padding.
  * Heap.       `osdp_panel_new` takes 6,912 bytes in two blocks, and `osdp_panel_add` 1,768, and 1,648 for each command that may
- *             wait, in two. `osdp_device_new` takes 14,000 bytes, and 1,456 for each event that may wait, in two blocks. `free`
+ *             wait, in two. `osdp_device_new` takes 14,048 bytes, and 1,464 for each event that may wait, in three. `free`
  *             gives all back. No other call takes memory. Where there is none, a call says so, and nothing has changed.
  * Stack.      Each call takes at most 17 KiB of stack, and those of a panel's line 14, as measured and counted on 64-bit x86.
  * Targets.    64-bit x86 and ARM, where a `size_t` has 64 bits.

@@ -343,9 +343,7 @@ impl Device {
     pub fn is_offline(&mut self, now: Moment) -> Result<bool, Error> {
         let mut offline = 0;
         // SAFETY: the handle is ours alone, and the number is one.
-        check(unsafe {
-            sys::osdp_device_is_offline(&mut self.0, now.as_millis(), &mut offline)
-        })?;
+        check(unsafe { sys::osdp_device_is_offline(&mut self.0, now.as_millis(), &mut offline) })?;
         Ok(offline != 0)
     }
 
@@ -355,11 +353,7 @@ impl Device {
     /// # Errors
     ///
     /// `MomentTooFar`: nothing has changed.
-    pub fn expire_event(
-        &mut self,
-        now: Moment,
-        limit: Duration,
-    ) -> Result<Option<Expired>, Error> {
+    pub fn expire_event(&mut self, now: Moment, limit: Duration) -> Result<Option<Expired>, Error> {
         let limit = u64::try_from(limit.as_millis()).unwrap_or(u64::MAX);
         let (mut expired, mut event) = (0, no_message());
         // SAFETY: the handle is ours alone, and the number and the event are one each.

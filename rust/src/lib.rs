@@ -81,9 +81,7 @@ mod panel;
 pub mod sys;
 mod time;
 
-pub use device::{
-    Answer, Device, DeviceAnswer, DeviceConfig, Expired, Moved, Order, Said, Step,
-};
+pub use device::{Answer, Device, DeviceAnswer, DeviceConfig, Expired, Moved, Order, Said, Step};
 pub use error::Error;
 pub use fields::{
     Buzzer, Bytes, Capabilities, Capability, Card, Led, LedState, Nak, NakReason, Output, PdId,
