@@ -378,7 +378,8 @@ def small_panel(c, rust, language):
             script.process.kill()
             script.process.wait()
             line.scripts.remove(script)
-            fcntl.ioctl(line.reader_ends[0].other, termios.TIOCNXCL)
+            for terminal in (line.panel_end, line.reader_ends[0]):
+                fcntl.ioctl(terminal.other, termios.TIOCNXCL)
 
         is_open = lambda script, times: lambda: sum(each.lower().removeprefix("report ").startswith("opened") for each in script.lines) >= times
         panel, device = start(), reader(1)
