@@ -3,6 +3,7 @@
 Takes the path of the program, and the folder of the examples in C, where those are to run. Each part runs a panel, readers, or both, on
 pseudo terminals. A line hands a burst on only between terminals of the same rate.
 """
+import fcntl
 import os
 import re
 import select
@@ -54,11 +55,13 @@ class Line:
             terminal.close()
 
     def panel(self, addresses, *settings, options=(), **streams):
+        fcntl.ioctl(self.panel_end.other, termios.TIOCNXCL)  # a program that was killed leaves its terminal to itself
         script = Script(*self.panel_words, *options, self.panel_end.path, 9600, addresses, *self.panel_program, *(settings or PANEL), **streams)
         self.scripts.append(script)
         return script
 
     def reader(self, at, address, options=(), **streams):
+        fcntl.ioctl(self.reader_ends[at].other, termios.TIOCNXCL)
         words = [*self.reader_words, *options, self.reader_ends[at].path, 9600, *self.reader_program, "address", address, *READER]
         script = Script(*words, **streams)
         self.scripts.append(script)

@@ -1,7 +1,7 @@
 """Panels and readers in C and in Rust, by what their users see where something goes wrong: a port that another program reads or has, an adapter that is pulled,
 Ctrl-C, answers to a COMSET that are lost, a panel that starts again, another device at a reader's place, and power that is lost between a deed and its answer.
 
-Takes the folder of the examples in C and that of those in Rust. Each case has pseudo terminals of its own, and the cases run beside each other.
+Takes the folder of the examples in C, that of those in Rust, and that of the crates, where `osdp_example_panel` was built. Each case has pseudo terminals of its own, and the cases run beside each other.
 """
 import fcntl
 import os
@@ -20,6 +20,8 @@ import examples
 from examples import ACK, COM, COMSET, ID, NAK, PDID, Device, Line, asks, has, opened, taken
 from terminals import Script, Terminal, packet
 
+TOP = Path(__file__).resolve().parent.parent
+CRATES = sys.argv[3]
 OUT = 0x68
 FAST = "check sum poll-interval 20 reply-wait 300 sends 2 quiet-wait 60".split()
 SETTINGS = {"fast": FAST, "the defaults": ["check", "sum"], "reply-wait 400": ["check", "sum", "reply-wait", "400"]}
@@ -355,14 +357,15 @@ def another_device(c, _):
 
 def small_panel(c, rust, language):
     """A small panel keeps where its door is: it is found there by a panel that starts again, and another device opens no door."""
-    program = {"C": c, "Rust": rust}[language] + "/door_panel"
+    rattle = [sys.executable, "-B", TOP / "tests/carry.py", Path(CRATES) / "osdp_example_panel/out/osdp_example_panel"]
+    program = {"C": [f"{c}/door_panel"], "Rust": [f"{rust}/door_panel"], "Rattle": rattle}[language]
     card = "event RAW 0 0 26 12345640"
     with tempfile.TemporaryDirectory() as folder, Line(all_words(c)) as line:
         kept = Path(folder) / "panel"
 
         def start():
             fcntl.ioctl(line.panel_end.other, termios.TIOCNXCL)
-            script = Script(program, "--keep", kept, line.panel_end.path, 9600)
+            script = Script(*program, "--keep", kept, line.panel_end.path, 9600)
             line.scripts.append(script)
             return script
 
@@ -375,9 +378,10 @@ def small_panel(c, rust, language):
             script.process.kill()
             script.process.wait()
             line.scripts.remove(script)
-            fcntl.ioctl(line.reader_ends[0].other, termios.TIOCNXCL)
+            for terminal in (line.panel_end, line.reader_ends[0]):
+                fcntl.ioctl(terminal.other, termios.TIOCNXCL)
 
-        is_open = lambda script, times: lambda: sum(each.lower().startswith("opened") for each in script.lines) >= times
+        is_open = lambda script, times: lambda: sum(each.lower().removeprefix("report ").startswith("opened") for each in script.lines) >= times
         panel, device = start(), reader(1)
         asks(line.run(is_open(panel, 1)), f"{language}: the session doesn't open")
         line.rests(0.2)
@@ -407,8 +411,10 @@ def small_panel(c, rust, language):
         asks(line.run(has(device, "taken OUT 0:5:30")), f"{language}: after the word the card opens nothing")
         asks(kept.read_text() == "5 at 7 19200 is 000000 0 2\n", f"{language}: after the word the file has {kept.read_text()!r}")
         stop(panel)
+        if language == "Rattle":
+            return  # there the program beside it looks at the other lines of its file
         kept.write_text("6 at 5 9600\n")
-        done = subprocess.run([program, "--keep", kept, line.panel_end.path, "9600"], stdin=subprocess.DEVNULL, capture_output=True, text=True, timeout=20)
+        done = subprocess.run([*program, "--keep", kept, line.panel_end.path, "9600"], stdin=subprocess.DEVNULL, capture_output=True, text=True, timeout=20)
         asks(done.returncode in (1, 2) and "device 6, which is kept, may be" in done.stderr, f"{language}: at a place of another device it ends with {done.returncode}, {done.stderr!r}")
 
 
@@ -456,7 +462,7 @@ def run(case, c, rust, more):
 def cases():
     for name in ("stolen", "stolen_from_rust", "taken_port", "ends_of_orders", "many_stops", "sentences", "one_is_dead", "refused_rate", "swapped", "kept_before", "another_device"):
         yield name, ()
-    for language in ("C", "Rust"):
+    for language in ("C", "Rust", "Rattle"):
         yield "small_panel", (language,)
     for name in ("reader in C", "door_device in C", "door_device in Rust"):
         yield "deed_first", (name,)
@@ -470,7 +476,7 @@ def cases():
             yield "lost_burst", (count, at)
 
 
-def main(c, rust, *names):
+def main(c, rust, _, *names):
     begun = time.monotonic()
     wanted = [(name, more) for name, more in cases() if not names or name in names]
     with ProcessPoolExecutor(max_workers=8) as pool:

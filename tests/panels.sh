@@ -1,7 +1,8 @@
 #!/usr/bin/env bash
 # Runs panels and readers in C and in Rust where something goes wrong (`panels.py`), over the archive that `c.sh` has built. Before that, a small panel whose
-# heap has no room for its door says so.
+# heap has no room for its door says so. Takes the path of the program, beside which the crates stand.
 set -u
+crates=$(cd "$(dirname "$1")/../.." && pwd) || exit 1
 cd "$(dirname "$0")/.." || exit 1
 . tests/passes.bash
 archive=$PWD/crates/osdp_c/out/libosdp_c.a
@@ -15,5 +16,5 @@ cargo build --quiet --offline --locked --examples --manifest-path rust/Cargo.tom
 "$work/little" /dev/null 9600 >"$work/said" 2>&1
 [ $? -eq 4 ] && [ "$(cat "$work/said")" = "out of memory" ] || fail "door_panel without memory for its door says: $(cat "$work/said")"
 
-timeout 900 python3 tests/panels.py "$work" "$work/target/debug/examples" || failed=1
+timeout 900 python3 tests/panels.py "$work" "$work/target/debug/examples" "$crates" || failed=1
 exit "$failed"

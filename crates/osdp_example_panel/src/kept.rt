@@ -187,7 +187,7 @@ fn a_stand_is_told_as_it_is_read(rt: HostRuntime) {
 
 #[test]
 fn a_place_takes_its_turn(rt: HostRuntime) {
-    let (old, new) = (place(5, 9600), place(7, 19200));
+    let (old, new) = (place_at(5, 9600), place_at(7, 19200));
     let mut stand = Stand::new(old);
     stand.take_turn();
     assert!(rt; stand.place == old);
@@ -199,7 +199,7 @@ fn a_place_takes_its_turn(rt: HostRuntime) {
 }
 
 #[cfg(test)]
-fn place(address: u8, rate: u32) -> Place {
+fn place_at(address: u8, rate: u32) -> Place {
     Place { address, rate }
 }
 
@@ -210,7 +210,7 @@ fn another_number_is_another_device(rt: HostRuntime) {
         model,
         serial,
     };
-    let mut stand = Stand::new(place(5, 9600));
+    let mut stand = Stand::new(place_at(5, 9600));
     assert!(rt; stand.may_be(identity(1, 2)));
     stand.identity = Some(identity(1, 2));
     assert!(rt;
