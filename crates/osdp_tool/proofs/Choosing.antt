@@ -19,7 +19,8 @@ module _ (word other : List ℕ) where
 help_chooses : (asked : Topic) (words : Words) → AskForHelp asked words → choice_of words ≡ Help asked
 help_chooses topic.Program words (inl is) = rw is
 help_chooses topic.Program words (inr (inl is)) = rw is
-help_chooses topic.Program words (inr (inr is)) = rw is
+help_chooses topic.Program words (inr (inr (inl is))) = rw is
+help_chooses topic.Program words (inr (inr (inr is))) = rw is
 help_chooses topic.Show words is = rw is
 help_chooses topic.Monitor words is = rw is
 help_chooses topic.Check words is = rw is
@@ -62,7 +63,7 @@ names name = go (bytes_eq name (codes "show")) (bytes_eq name (codes "monitor"))
 
 -- `help`, and what follows it
 after_help : (rest : Words) → Chooses (codes "help" ∷ rest)
-after_help [] = inl (Help topic.Program, refl, inl refl, refl)
+after_help [] = inl (Help topic.Program, refl, inr (inl refl), refl)
 after_help (name ∷ []) = elim (names name) [
   | inl named ↦ inl (Help named.0, named.1, named.2, refl)
   | inr none ↦ inr none
@@ -70,11 +71,11 @@ after_help (name ∷ []) = elim (names name) [
 after_help (name ∷ more ∷ rest) = inr refl
 
 after_long_help : (rest : Words) → Chooses (codes "--help" ∷ rest)
-after_long_help [] = inl (Help topic.Program, refl, inr (inl refl), refl)
+after_long_help [] = inl (Help topic.Program, refl, inr (inr (inl refl)), refl)
 after_long_help (word ∷ rest) = inr refl
 
 after_short_help : (rest : Words) → Chooses (codes "-h" ∷ rest)
-after_short_help [] = inl (Help topic.Program, refl, inr (inr refl), refl)
+after_short_help [] = inl (Help topic.Program, refl, inr (inr (inr refl)), refl)
 after_short_help (word ∷ rest) = inr refl
 
 after_version : (rest : Words) → Chooses (codes "--version" ∷ rest)
@@ -82,7 +83,7 @@ after_version [] = inl (Version, refl, refl, refl)
 after_version (word ∷ rest) = inr refl
 
 choose : (words : Words) → Chooses words
-choose [] = inr refl
+choose [] = inl (Help topic.Program, refl, inl refl, refl)
 choose (first ∷ rest) = go (bytes_eq first (codes "help")) (bytes_eq first (codes "monitor")) (bytes_eq first (codes "panel")) (bytes_eq first (codes "reader")) (bytes_eq first (codes "--help")) (bytes_eq first (codes "-h")) (bytes_eq first (codes "--version")) refl refl refl refl refl refl refl
   where
     by : (word : List ℕ) → bytes_eq first word ≡ true → Chooses (word ∷ rest) → Chooses (first ∷ rest)

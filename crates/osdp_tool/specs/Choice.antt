@@ -32,7 +32,7 @@ alone choice (word ∷ rest) = Job
 
 -- what the words choose: the first decides
 abbrev pub choice_of : Words → Choice
-choice_of [] = Job
+choice_of [] = Help topic.Program
 choice_of (first ∷ rest) =
     if bytes_eq first (codes "help") then help_of rest
     else (if bytes_eq first (codes "monitor") then Monitor
@@ -47,7 +47,7 @@ choice_of (first ∷ rest) =
 -- the words that ask for the help of a topic
 abbrev pub AskForHelp : Topic → Words → Type 0
 AskForHelp topic.Program words =
-    (words ≡ codes "help" ∷ []) ⊎ ((words ≡ codes "--help" ∷ []) ⊎ (words ≡ codes "-h" ∷ []))
+    (words ≡ []) ⊎ ((words ≡ codes "help" ∷ []) ⊎ ((words ≡ codes "--help" ∷ []) ⊎ (words ≡ codes "-h" ∷ [])))
 AskForHelp topic.Show words = words ≡ codes "help" ∷ codes "show" ∷ []
 AskForHelp topic.Monitor words = words ≡ codes "help" ∷ codes "monitor" ∷ []
 AskForHelp topic.Check words = words ≡ codes "help" ∷ codes "check" ∷ []

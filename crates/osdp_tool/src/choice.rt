@@ -71,13 +71,13 @@ fn help_of(words: &[&str]) -> Choice
 
 /// What the words after the program's name choose.
 ///
-/// `help` alone, `--help` and `-h` ask for the help of the program, `help` and the name of a command for the help of that. `--version` stands
+/// No words, `help` alone, `--help` and `-h` ask for the help of the program, `help` and the name of a command for the help of that. `--version` stands
 /// alone. After `monitor`, `panel` and `reader` any words may stand, which are read as options and settings. All other words are for `job`.
 pub fn choose(words: &[&str]) -> Choice
     ensures { result ≡ choice_of (texts_of words.now) }
 {
     let [first, rest @ ..] = words else {
-        return Choice::Job;
+        return Choice::Help(Topic::Program);
     };
     match *first {
         "help" => help_of(rest),
