@@ -3,20 +3,20 @@ import fcntl
 import os
 import re
 import shutil
-import signal
 import socket
 import subprocess
 import tempfile
 import termios
 import threading
 import time
+from pathlib import Path
 
 import serial
 import serial.rfc2217
 
 import port_line
-from port_line import PANEL, PORT, Line, asks, has, opened, tells
-from terminals import Script, Terminal
+from port_line import ID, IDENTITY, PANEL, PDID, PORT, Line, asks, has, opened, tells
+from terminals import Script, Terminal, packet
 
 
 def serves(kind, path, ready):
@@ -108,12 +108,18 @@ def bad_words():
                                   (["--osdp", "/nowhere/osdp", terminal.path, "9600", "show"], 127, "/nowhere/osdp")):
         done = subprocess.run([PORT, *words], capture_output=True, text=True, timeout=60, stdin=subprocess.DEVNULL)
         asks(done.returncode == status and wanted in done.stdout + done.stderr, f"{words}: {done}")
-    script = subprocess.Popen([PORT, "--osdp", port_line.osdp, terminal.path, "9600", "show"], stdin=subprocess.DEVNULL, stdout=subprocess.PIPE, stderr=subprocess.PIPE)
-    script.stdout.readline()
-    script.stdout.close()
-    script.send_signal(signal.SIGINT)
-    script.wait(timeout=60)
-    asks(b"Traceback" not in script.stderr.read(), "a closed pipe: a traceback")
+    for words in (["show"], ["monitor", "--all"], ["--all", "panel", "5"], ["reader", "5"]):
+        script = subprocess.Popen([PORT, "--osdp", port_line.osdp, terminal.path, "9600", *words], stdin=subprocess.DEVNULL, stdout=subprocess.PIPE, stderr=subprocess.PIPE)
+        script.stdout.readline()
+        script.stdout.close()
+        for burst in (packet(5, 0, ID, b"\0"), packet(0x85, 0, PDID, IDENTITY)) * 3:
+            os.write(terminal.end, burst)
+            time.sleep(0.3)
+        asks(script.wait(timeout=60) == 3 and b"Traceback" not in (said := script.stderr.read()), f"a closed pipe: {words}: {script.returncode}: {said}")
+    with tempfile.TemporaryDirectory() as folder:
+        Path(folder, "serial.py").write_text("raise ImportError\n")
+        done = subprocess.run([PORT, "--osdp", port_line.osdp, terminal.path, "9600", "show"], env={**os.environ, "PYTHONPATH": folder}, capture_output=True, text=True, timeout=60)
+        asks(done.returncode == 127 and "sudo apt-get install python3-serial" in done.stderr, f"no pyserial: {done}")
     terminal.close()
 
 
