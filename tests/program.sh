@@ -37,7 +37,8 @@ expect 'the version and more' 2 '' "$bad" --version show </dev/null
 expect 'help of a word that is no command' 2 '' "$bad" help nothing </dev/null
 expect 'help of two commands' 2 '' "$bad" help show check </dev/null
 expect 'help and more' 2 '' "$bad" --help show </dev/null
-expect 'help after a command' 2 '' "$bad" show --help </dev/null
+expect 'help after a command' 0 "$("$program" help show </dev/null)"$'\n' '' show --help </dev/null
+expect 'help after a command, and more' 2 '' "$bad" make --help --help </dev/null
 expect 'short help and more' 2 '' "$bad" -h -h </dev/null
 
 expect 'a packet made' 0 $'53050C000568000200005183\n' '' make 5 1 crc OUT 0:2:0 </dev/null
