@@ -176,6 +176,34 @@ def gone():
     line.close()
 
 
+def eight():
+    """Eight devices whose answers to the COMSET are lost: each is reached within two rounds, which take no longer than the manual page says."""
+    names = list(range(5, 13))
+    line = Line(osdp)
+    for serial, name in enumerate(names, 1):
+        line.add_reader(name, serial=serial)
+    line.add_panel(names)
+    asks(line.run(line.all_open, 60), "eight: the sessions don't open")
+    line.loses = lambda way, burst: burst[5] == COM and burst[1] & 0x7F != 9  # one device has moved: the others are in doubt
+    line.order("5 rate 19200")
+    asks(line.run(lambda: not any(device.orders for device in line.panel.devices), 60), "eight: an order has no end")
+    line.loses = lambda way, burst: burst[5] != POLL and burst[1] & 0x7F == 12  # and one is gone for a while
+    began, moments = line.panel.rounds.number, {}
+
+    def looks():
+        moments.setdefault(line.panel.rounds.number, line.now)
+        return line.panel.rounds.number >= began + 5
+
+    line.run(looks, 120)
+    spans = [later - sooner for sooner, later in zip(list(moments.values())[1:], list(moments.values())[2:])]
+    asks(spans and max(spans) <= 400 + 8 * 3 * 200 + 500, f"eight: rounds take {spans} ms")
+    line.loses = lambda way, burst: False
+    asks(line.run(lambda: is_settled(line), 120), f"eight: not all are reached: {line.told[-5:]}")
+    asks({reader.port.rate for reader in line.readers.values()} == {line.panel.port.rate}, "eight: they are at several rates")
+    order_each(line, "eight")
+    line.close()
+
+
 def swapped_places(folder):
     """The wrong door: two devices change addresses, the panel is killed and started with the same words, and an order goes to the right one."""
     keep = Path(folder) / "swapped"
@@ -263,6 +291,7 @@ def main(path):
     new_addresses()
     refusing()
     gone()
+    eight()
     with tempfile.TemporaryDirectory() as folder:
         swapped_places(folder)
         killed_in_doubt(folder)
