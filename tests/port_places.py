@@ -11,7 +11,7 @@ import tempfile
 import time
 from pathlib import Path
 
-from simulated import Line
+from simulated import Line, Panel, Port, Reader, new_devices
 
 COMSET, COM, NAK, ID, POLL = 0x6E, 0x54, 0x41, 0x61, 0x60
 SETTINGS = ((), ("reply-wait", "400"), ("sends", "1"), ("sends", "2", "reply-wait", "50", "poll-interval", "10", "quiet-wait", "150"), ("check", "sum", "quiet-wait", "1000"))
@@ -270,6 +270,33 @@ def another_device(folder):
     line.close()
 
 
+class Told:
+    """A program that tells what it was given, once, at a tick."""
+
+    def __init__(self, last, *told):
+        self.last, self.told = last, list(told)
+
+    def call(self, line):
+        told, self.told = (self.told, []) if line == "tick" else ([], self.told)
+        return [*told, self.last]
+
+
+def new_lines():
+    """Lines that a later `osdp` may tell are printed, with the address of the device where they name it. A card that may have been told before is a card."""
+    said = []
+    line = Line(osdp)
+    panel = Panel(Port(line, 9600), Told("due none", "opened 1 PDID 000000 0 0 1 0 0 0", "maybe-again 1 RAW 0 1 26 88889100", "offline 1", "new 1 words", "strange", "refused B9"),
+                  new_devices([5], 9600, None), line.clock, said.append)
+    panel.turn(b"", [])
+    asks(said == ["opened 5 PDID 000000 0 0 1 0 0 0", "maybe-again 5 RAW 0 1 26 88889100 bits 10001000100010001001000100 facility 17 number 4386", "offline 5", "new 5 words", "strange"],
+         f"new lines: the panel prints {said}")
+    asks(not panel.devices[0].orders, "new lines: an order was made")
+    said.clear()
+    told = ["offline", "online", "withdrawn KEYPAD 0 31", "in doubt KEYPAD 0 31", "strange 1 2"]
+    Reader(Port(line, 9600), Told("waiting 0", *told), line.clock, said.append).turn(b"", [])
+    asks(said == told, f"new lines: the reader prints {said}")
+
+
 def bad_files(folder):
     """A file that keeps something else is refused, with its line."""
     for at, text in enumerate(("5\n", "5 at 7\n", "5 at 7 x\n", "5 at 127 9600\n", "5 at 5 9600 is 1\n", "5 at 5 9600\n5 at 6 9600\n", "x at 5 9600\n")):
@@ -292,6 +319,7 @@ def main(path):
     refusing()
     gone()
     eight()
+    new_lines()
     with tempfile.TemporaryDirectory() as folder:
         swapped_places(folder)
         killed_in_doubt(folder)
