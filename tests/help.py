@@ -1,7 +1,8 @@
 #!/usr/bin/env python3
 """Holds the helps of the program to its manual pages, and runs their examples and recipes. Takes the path of the program.
 
-- `help`, `--help`, `-h` and `help COMMAND` print on standard output, with status 0; the three first print the same.
+- No words, `help`, `--help`, `-h` and `help COMMAND` print on standard output, with status 0; the four first print the same.
+  `COMMAND --help` and `COMMAND -h` print what `help COMMAND` does.
 - Each usage is a line of the page's synopsis, and each command of `help` has one, a help of its own, and a name in the page's description.
 - The rows of a help's settings, options and calls are those of the page's part, and each number of a row stands in the page's entry.
 - Each help of a command has two examples or more, which print what it says. Each recipe of `help show` makes of a text, which is written here,
@@ -207,8 +208,8 @@ def judge_version():
 
 def main():
     whole = asked("help")
-    if asked("--help") != whole or asked("-h") != whole:
-        tell("--help and -h print something else than help")
+    if asked() != whole or asked("--help") != whole or asked("-h") != whole:
+        tell("no words, --help or -h print something else than help")
     pages = {name: page(name) for name in ("osdp", "osdp-monitor", "osdp-panel", "osdp-reader")}
     commands = [name for name, _ in rows(part_of(whole, "usage")) if re.match(r"[a-z]", name)]
     if commands != [*TOPICS, "help"]:
@@ -220,6 +221,8 @@ def main():
             tell(f"man osdp: {command} isn't described")
     for topic in TOPICS:
         text = asked("help", topic)
+        if asked(topic, "--help") != text or asked(topic, "-h") != text:
+            tell(f"{topic} --help or {topic} -h prints something else than help {topic}")
         parts = pages.get(f"osdp-{topic}", pages["osdp"])
         usage = re.search(r"^usage: (.*)$", text, re.M)
         for known in {id(parts): parts, id(pages["osdp"]): pages["osdp"]}.values():

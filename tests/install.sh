@@ -91,6 +91,10 @@ printf '#!/bin/sh\necho "cargo 1.85.0"\n' >"$work/stand_in/cargo" && chmod +x "$
 PATH=$work/stand_in:$PATH ./install --check >"$work/said" 2>&1
 grep -q '^missing, and can be done without: cargo [0-9.]* or later: ' "$work/said" || fail '--check does not say that cargo is too old'
 
+# without pyserial: it is told, and can be done without
+python3 -c 'import runpy; it = runpy.run_path("install"); it["missing"].__globals__["SYSTEM_PYTHON"] = "/nowhere/python3"; print(it["missing"]())' >"$work/said"
+grep -qF "('pyserial: osdp-port speaks to ports by it: Debian package python3-serial', False)" "$work/said" || fail '--check does not tell that pyserial is missing'
+
 python=$(python3 -c 'import sys; print(sys.executable)')
 PATH=$work "$python" ./install --check >"$work/said" 2>&1
 [ $? -eq 1 ] || fail 'on a machine without tools --check ends well'

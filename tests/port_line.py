@@ -16,6 +16,7 @@ LIMIT = 60.0
 ID, POLL, OUT, COMSET = 0x61, 0x60, 0x68, 0x6E
 ACK, NAK, PDID, COM = 0x40, 0x41, 0x45, 0x54
 IDENTITY = bytes.fromhex("53494D010101000000010000")
+osdp = ""  # the path of the program, which a test sets
 faults = []
 
 
@@ -27,8 +28,7 @@ def asks(holds, what):
 class Line:
     """A line: terminals of a panel and of readers, the bursts that went over it, and the programs that run on it."""
 
-    def __init__(self, osdp, readers=1):
-        self.osdp = osdp
+    def __init__(self, readers=1):
         self.panel_end, self.reader_ends = Terminal(), [Terminal() for _ in range(readers)]
         self.scripts, self.bursts = [], []  # bursts with their ways: `out` from the panel, `in` to it
         self.loses = lambda way, burst: False
@@ -50,7 +50,7 @@ class Line:
                 pass  # it was pulled
 
     def start(self, terminal, rate, *words, options=(), **streams):
-        script = Script(PORT, "--plain", "--osdp", self.osdp, *options, terminal.path, rate, *words, **streams)
+        script = Script(PORT, "--plain", "--osdp", osdp, *options, terminal.path, rate, *words, **streams)
         self.scripts.append(script)
         return script
 

@@ -11,7 +11,7 @@ import tempfile
 import time
 from pathlib import Path
 
-from simulated import Line
+from simulated import Line, Panel, Port, Reader, new_devices
 
 COMSET, COM, NAK, ID, POLL = 0x6E, 0x54, 0x41, 0x61, 0x60
 SETTINGS = ((), ("reply-wait", "400"), ("sends", "1"), ("sends", "2", "reply-wait", "50", "poll-interval", "10", "quiet-wait", "150"), ("check", "sum", "quiet-wait", "1000"))
@@ -176,6 +176,34 @@ def gone():
     line.close()
 
 
+def eight():
+    """Eight devices whose answers to the COMSET are lost: each is reached within two rounds, which take no longer than the manual page says."""
+    names = list(range(5, 13))
+    line = Line(osdp)
+    for serial, name in enumerate(names, 1):
+        line.add_reader(name, serial=serial)
+    line.add_panel(names)
+    asks(line.run(line.all_open, 60), "eight: the sessions don't open")
+    line.loses = lambda way, burst: burst[5] == COM and burst[1] & 0x7F != 9  # one device has moved: the others are in doubt
+    line.order("5 rate 19200")
+    asks(line.run(lambda: not any(device.orders for device in line.panel.devices), 60), "eight: an order has no end")
+    line.loses = lambda way, burst: burst[5] != POLL and burst[1] & 0x7F == 12  # and one is gone for a while
+    began, moments = line.panel.rounds.number, {}
+
+    def looks():
+        moments.setdefault(line.panel.rounds.number, line.now)
+        return line.panel.rounds.number >= began + 5
+
+    line.run(looks, 120)
+    spans = [later - sooner for sooner, later in zip(list(moments.values())[1:], list(moments.values())[2:])]
+    asks(spans and max(spans) <= 400 + 8 * 3 * 200 + 500, f"eight: rounds take {spans} ms")
+    line.loses = lambda way, burst: False
+    asks(line.run(lambda: is_settled(line), 120), f"eight: not all are reached: {line.told[-5:]}")
+    asks({reader.port.rate for reader in line.readers.values()} == {line.panel.port.rate}, "eight: they are at several rates")
+    order_each(line, "eight")
+    line.close()
+
+
 def swapped_places(folder):
     """The wrong door: two devices change addresses, the panel is killed and started with the same words, and an order goes to the right one."""
     keep = Path(folder) / "swapped"
@@ -242,6 +270,33 @@ def another_device(folder):
     line.close()
 
 
+class Told:
+    """A program that tells what it was given, once, at a tick."""
+
+    def __init__(self, last, *told):
+        self.last, self.told = last, list(told)
+
+    def call(self, line):
+        told, self.told = (self.told, []) if line == "tick" else ([], self.told)
+        return [*told, self.last]
+
+
+def new_lines():
+    """Lines that a later `osdp` may tell are printed, with the address of the device where they name it. A card that may have been told before is a card."""
+    said = []
+    line = Line(osdp)
+    panel = Panel(Port(line, 9600), Told("due none", "opened 1 PDID 000000 0 0 1 0 0 0", "maybe-again 1 RAW 0 1 26 88889100", "offline 1", "new 1 words", "strange", "refused B9"),
+                  new_devices([5], 9600, None), line.clock, said.append)
+    panel.turn(b"", [])
+    asks(said == ["opened 5 PDID 000000 0 0 1 0 0 0", "maybe-again 5 RAW 0 1 26 88889100 bits 10001000100010001001000100 facility 17 number 4386", "offline 5", "new 5 words", "strange"],
+         f"new lines: the panel prints {said}")
+    asks(not panel.devices[0].orders, "new lines: an order was made")
+    said.clear()
+    told = ["offline", "online", "withdrawn KEYPAD 0 31", "in doubt KEYPAD 0 31", "strange 1 2"]
+    Reader(Port(line, 9600), Told("waiting 0", *told), line.clock, said.append).turn(b"", [])
+    asks(said == told, f"new lines: the reader prints {said}")
+
+
 def bad_files(folder):
     """A file that keeps something else is refused, with its line."""
     for at, text in enumerate(("5\n", "5 at 7\n", "5 at 7 x\n", "5 at 127 9600\n", "5 at 5 9600 is 1\n", "5 at 5 9600\n5 at 6 9600\n", "x at 5 9600\n")):
@@ -263,6 +318,8 @@ def main(path):
     new_addresses()
     refusing()
     gone()
+    eight()
+    new_lines()
     with tempfile.TemporaryDirectory() as folder:
         swapped_places(folder)
         killed_in_doubt(folder)

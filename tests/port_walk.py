@@ -2,38 +2,29 @@
 
 No reader, a wrong rate and address, an echo, two at one address, late answers, stolen bytes, a pulled adapter, a second panel, a COMSET whose answers
 are lost, 30 seconds of noise, Ctrl-C in each command, a reader and a panel that are killed, a trace, and bad words and ports."""
-import fcntl
 import json
 import os
 import random
-import re
 import select
-import shutil
-import signal
-import socket
 import subprocess
 import sys
 import tempfile
-import termios
-import threading
 import time
 from concurrent.futures import ThreadPoolExecutor
 from pathlib import Path
 
-import serial
-import serial.rfc2217
-
+import port_line
+import port_words
 from port_line import ACK, COM, ID, OUT, PANEL, PDID, POLL, PORT, IDENTITY, Device, Line, asks, faults, has, opened, taken, tells
-from terminals import Script, Terminal, packet
+from terminals import Terminal, packet
 
 QUICK = "poll-interval 20 reply-wait 100 sends 2 quiet-wait 60 check sum".split()
-osdp = ""
 
 
 def no_reader():
     """Nobody answers, or at another rate or address: what to do is said once, and Ctrl-C ends with status 1."""
     for what, at in (("no reader", None), ("a wrong rate", (5, 19200)), ("a wrong address", (6, 9600))):
-        with Line(osdp) as line:
+        with Line() as line:
             if at:
                 line.reader(0, at[0], rate=at[1])
             panel = line.panel("5", *QUICK)
@@ -45,7 +36,7 @@ def no_reader():
 
 def echo():
     """An adapter that hands back what is sent does no harm, and is told."""
-    with Line(osdp) as line:
+    with Line() as line:
         reader, panel = line.reader(0, 5), line.panel("5")
         line.loses = lambda way, burst: way == "out" and os.write(line.panel_end.end, burst) < 0
         asks(line.run(opened(panel, 5)), "echo: the session doesn't open")
@@ -57,7 +48,7 @@ def echo():
 
 def two_at_one_address():
     """Two devices at one address damage each other's answers: it is told that bytes come, and what that may be."""
-    with Line(osdp) as line:
+    with Line() as line:
         panel = line.panel("5", *QUICK)
         device = Device(line.panel_end)
         write = device.write
@@ -68,7 +59,7 @@ def two_at_one_address():
 
 def late_answers():
     """A device that answers later than its panel waits: half of all packets are repeats, and a longer wait is advised."""
-    with Line(osdp) as line:
+    with Line() as line:
         line.delay = 0.15
         line.reader(0, 5)
         panel = line.panel("5", "poll-interval", "20", "reply-wait", "100", "sends", "5", "quiet-wait", "60", "check", "sum")
@@ -77,7 +68,7 @@ def late_answers():
 
 def stolen_bytes():
     """A second program takes what comes: the panel goes on, tells what is lost, and takes orders again when the other one has ended."""
-    with Line(osdp) as line:
+    with Line() as line:
         line.reader(0, 5)
         panel = line.panel("5", *PANEL, stderr=subprocess.PIPE)
         asks(line.run(opened(panel, 5)), "stolen: the session doesn't open")
@@ -113,7 +104,7 @@ class Adapter:
 
 def pulled_adapter():
     """An adapter that is pulled: the orders get their ends, and when it is back the session opens again by itself."""
-    with tempfile.TemporaryDirectory() as folder, Line(osdp) as line:
+    with tempfile.TemporaryDirectory() as folder, Line() as line:
         adapter = Adapter(line, folder)
         reader, panel = line.reader(0, 5), line.panel("5", *PANEL)
         asks(line.run(opened(panel, 5)), "pulled: the session doesn't open")
@@ -137,12 +128,12 @@ def pulled_adapter():
 
 def second_panel():
     """A second program is refused, and says whose port it is."""
-    with Line(osdp) as line:
+    with Line() as line:
         line.reader(0, 5)
         panel = line.panel("5")
         asks(line.run(opened(panel, 5)), "second: the session doesn't open")
         for words in (["panel", "6"], ["reader", "6"], ["show"], ["monitor"], ["find"], ["trace", "/tmp/none"]):
-            second = subprocess.run([PORT, "--osdp", osdp, line.panel_end.path, "9600", *words], capture_output=True, text=True, timeout=60, stdin=subprocess.DEVNULL)
+            second = subprocess.run([PORT, "--osdp", port_line.osdp, line.panel_end.path, "9600", *words], capture_output=True, text=True, timeout=60, stdin=subprocess.DEVNULL)
             asks(second.returncode == 3 and f"{line.panel_end.path} is in use by" in second.stderr and f"process {panel.process.pid}" in second.stderr,
                  f"second: {words}: {second}")
         asks(not any(each.startswith("lost") for each in panel.lines), "second: the first one was disturbed")
@@ -150,7 +141,7 @@ def second_panel():
 
 def new_rate():
     """A COMSET of the rate whose answers are all lost: two devices are found again, at the new rate."""
-    with Line(osdp, 2) as line:
+    with Line(readers=2) as line:
         readers = [line.reader(0, 5), line.reader(1, 6)]
         panel = line.panel("5,6", *PANEL)
         asks(line.run(lambda: opened(panel, 5)() and opened(panel, 6)()), "rate: the sessions don't open")
@@ -166,7 +157,7 @@ def new_rate():
 
 def noise():
     """30 seconds of noise between and over packets: no order is done twice, none is without an end, and all goes on after it."""
-    with Line(osdp) as line:
+    with Line() as line:
         chance = random.Random(7)
         reader, panel = line.reader(0, 5), line.panel("5", *QUICK)
         asks(line.run(opened(panel, 5)), "noise: the session doesn't open")
@@ -192,7 +183,7 @@ def noise():
 
 def ctrl_c():
     """Ctrl-C in each command: the table of the monitor comes out, the ends of orders are told, and nothing else is said."""
-    with Line(osdp) as line:
+    with Line() as line:
         reader, panel = line.reader(0, 5), line.panel("5")
         asks(line.run(opened(panel, 5)), "Ctrl-C: the session doesn't open")
         line.loses = lambda way, burst: burst[5] == OUT
@@ -201,7 +192,7 @@ def ctrl_c():
         asks(line.stops(panel) == 1, "Ctrl-C: a panel whose session was lost has another status")
         asks(has(panel, "lost 5 no-reply OUT 0:2:1", "withdrawn 5 OUT 0:2:2")(), f"Ctrl-C: orders have no end: {panel.lines[-3:]}")
         asks(line.stops(reader) == 0, "Ctrl-C: a reader has another status")
-    with Line(osdp) as line:
+    with Line() as line:
         line.reader(0, 5)
         panel = line.panel("5")
         line.run(opened(panel, 5))
@@ -210,7 +201,7 @@ def ctrl_c():
         said = bytes.fromhex("530508000061003F") + packet(0x85, 0, PDID, bytes.fromhex("53494D010101000000010000")) + packet(5, 1, POLL) + packet(0x85, 1, ACK) + packet(5, 2, 0x68, bytes([0, 2, 0, 0]))
         for words, status, wanted in ((["monitor"], 0, "device  asked"), (["show"], 0, "cmd 5 seq 0 sum ID 0"), (["trace", f"{folder}/trace"], 0, f"trace {folder}/trace: "),
                                       (["find"], 1, "stopped: 0 devices found so far")):
-            with Line(osdp) as line:
+            with Line() as line:
                 script = line.start(line.panel_end, 9600, *words, stderr=subprocess.PIPE)
                 asks(line.run(lambda: script.lines), f"Ctrl-C: {words} doesn't begin")
                 os.write(line.panel_end.end, said)
@@ -223,7 +214,7 @@ def ctrl_c():
 
 def killed():
     """A reader that is killed is found where it was, by its file; so does a panel find its devices by its own."""
-    with tempfile.TemporaryDirectory() as folder, Line(osdp, 2) as line:
+    with tempfile.TemporaryDirectory() as folder, Line(readers=2) as line:
         kept = [Path(folder) / f"reader{at}" for at in range(2)]
         places = Path(folder) / "panel"
         readers = [line.reader(at, 5 + at, options=["--keep", kept[at]]) for at in range(2)]
@@ -251,7 +242,7 @@ def killed():
 
 def finds():
     """A bench with one device: its address, rate and check; another place for it, confirmed there. Two devices, and none."""
-    with Line(osdp, 2) as line:
+    with Line(readers=2) as line:
         reader = line.reader(0, 9, "serial", "77", rate=38400)
         line.run(lambda: line.reader_ends[0].rate is not None and reader.lines)
         script = line.start(line.panel_end, 9600, "find")
@@ -272,7 +263,7 @@ def finds():
 
 def another_panel():
     """Where another panel speaks, `find` says so, and asks no further."""
-    with Line(osdp) as line:
+    with Line() as line:
         script = line.start(line.panel_end, 9600, "find", stderr=subprocess.PIPE)
         line.run(lambda: any(way == "out" for way, _ in line.bursts))
         end = time.monotonic() + 30
@@ -289,7 +280,7 @@ def listens():
             (["monitor"], ["--address", "5"], ["device 5: opened", "5 "], ["device 6", "6  "]), (["monitor"], ["--every", "1"], ["device  asked"] , ["POLL"]),
             (["monitor"], ["--all"], ["cmd 6 seq 1 sum POLL"], []))
     for words, options, wanted, unwanted in rows:
-        with Line(osdp) as line:
+        with Line() as line:
             script = line.start(line.panel_end, 9600, *words, options=options)
             line.run(lambda: script.lines)
             for burst in said:
@@ -307,7 +298,7 @@ def listens():
 
 def traces():
     """A trace has each burst and its moment; a full one is put aside; `osdp show` reads it. The same as a JSON object a line."""
-    with tempfile.TemporaryDirectory() as folder, Line(osdp) as line:
+    with tempfile.TemporaryDirectory() as folder, Line() as line:
         path = Path(folder) / "trace"
         line.reader(0, 5)
         panel = line.panel("5", options=["--trace", path, "--all"])
@@ -316,7 +307,7 @@ def traces():
         asks(line.run(has(panel, "settled 5 OUT 0:2:0 = ACK")), "trace: no order is done")
         line.rests(0.5)
         line.stops(panel)
-        shown = subprocess.run([osdp, "show"], input=path.read_text(), capture_output=True, text=True).stdout
+        shown = subprocess.run([port_line.osdp, "show"], input=path.read_text(), capture_output=True, text=True).stdout
         asks(all(each in shown for each in ("cmd 5 seq 0 sum ID 0", "PDID 53494D", "OUT 0:2:0", "POLL", "ACK")), f"trace: shown is {shown[:400]}")
         asks(tells(panel, "cmd 5 seq 1 sum POLL")() and tells(panel, " ACK")(), f"trace: --all doesn't show each packet: {panel.lines[:9]}")
         for options in ([], ["--osdpcap"]):
@@ -341,7 +332,7 @@ def traces():
 
 def wrong_rate_heard():
     """A listener at another rate than the line's: after a thousand bytes without a packet it is told what that means."""
-    with Line(osdp) as line:
+    with Line() as line:
         script = line.start(line.panel_end, 9600, "show", stderr=subprocess.PIPE)
         line.run(lambda: script.lines)
         chance = random.Random(3)
@@ -355,7 +346,7 @@ def wrong_rate_heard():
 
 def acts_first():
     """A reader that is killed between its deed and its answer has done it; the panel's order isn't done a second time."""
-    with Line(osdp) as line:
+    with Line() as line:
         end = line.reader_ends[0]
         reader = line.reader(0, 5)
         line.run(lambda: reader.lines)
@@ -368,162 +359,18 @@ def acts_first():
         asks(packet(0x85, 1, ACK) not in end.held, "acts first: the answer has gone out before the deed was told")
 
 
-def serves(kind, path, ready):
-    """A server on the network that has a port: of bytes alone, or by RFC 2217."""
-    listener = socket.create_server(("127.0.0.1", 0))
-    ready.append(listener.getsockname()[1])
-    client, _ = listener.accept()
-    port = serial.Serial(path, 9600, timeout=0.01)
-    manager = None
-    if kind == "rfc2217":
-        made = type(port)  # a pseudo terminal has no lines of a modem
-        made.cts = made.dsr = made.ri = made.cd = property(lambda _: False)
-        made._update_dtr_state = made._update_rts_state = lambda _: None
-        manager = serial.rfc2217.PortManager(port, type("Answers", (), {"write": staticmethod(client.sendall)}))
-
-    def hands_up():
-        while True:
-            try:
-                read = port.read(max(1, port.in_waiting))
-                client.sendall(b"".join(manager.escape(read)) if manager else read)
-            except (OSError, TypeError):
-                return  # the line, or the client, is gone
-
-    threading.Thread(target=hands_up, daemon=True).start()
-    while read := client.recv(1024):
-        port.write(b"".join(manager.filter(read)) if manager else read)
-    client.close()
-
-
-def over_the_network():
-    """A port that a server on the network has, by its bytes alone and by RFC 2217; only the second one has another rate."""
-    for kind in ("socket", "rfc2217"):
-        with Line(osdp) as line:
-            ready = []
-            threading.Thread(target=serves, args=(kind, line.panel_end.path, ready), daemon=True).start()
-            while not ready:
-                time.sleep(0.01)
-            reader = line.reader(0, 5)
-            line.scripts.append(panel := Script(PORT, "--plain", "--osdp", osdp, f"{kind}://127.0.0.1:{ready[0]}", 9600, "panel", "5", *PANEL))
-            asks(line.run(opened(panel, 5)), f"{kind}: the session doesn't open: {panel.lines}")
-            panel.say("5 rate 19200")
-            if kind == "socket":
-                asks(line.run(tells(panel, "not taken 5 rate 19200: the port has no rate 19200")), f"{kind}: {panel.lines[-3:]}")
-            else:
-                asks(line.run(opened(panel, 5, 2)), f"{kind}: not found at the new rate: {panel.lines[-5:]}")
-            panel.say("5 on")
-            asks(line.run(has(reader, "taken OUT 0:2:0")), f"{kind}: no order is done")
-
-
-BAD_WORDS = (
-    [], ["PORT"], ["PORT", "9600"], ["PORT", "fast", "show"], ["PORT", "0", "show"], ["PORT", "-9600", "show"], ["PORT", "9600", "shows"],
-    ["PORT", "9600", "panel"], ["PORT", "9600", "panel", "127"], ["PORT", "9600", "panel", "5,5"], ["PORT", "9600", "panel", "5,"], ["PORT", "9600", "panel", "9-5"],
-    ["PORT", "9600", "panel", "x"], ["PORT", "9600", "panel", "0-16"], ["PORT", "9600", "panel", "5", "gap", "0"], ["PORT", "9600", "panel", "5", "gap"],
-    ["PORT", "9600", "reader"], ["PORT", "9600", "reader", "5,6"], ["PORT", "9600", "reader", "5", "model", "256"], ["PORT", "9600", "trace"],
-    ["PORT", "9600", "show", "more"], ["PORT", "9600", "find", "more"], ["PORT", "9600", "trace", "/tmp/a", "more"], ["--keep"], ["--keep", "file", "PORT", "9600", "show"],
-    ["--nonsense", "PORT", "9600", "show"], ["--address", "127", "PORT", "9600", "show"], ["--address", "x", "PORT", "9600", "show"], ["--every", "0", "PORT", "9600", "monitor"],
-    ["--size", "0", "PORT", "9600", "trace", "/tmp/a"], ["--set-rate", "12345", "PORT", "9600", "find"], ["PORT", "12345", "show"], ["--all", "PORT", "9600", "find"],
-)
-BAD_PORTS = (
-    ["/nowhere/port", "9600", "show"], ["/dev/null", "9600", "panel", "5"], ["/etc/passwd", "9600", "monitor"], ["/", "9600", "show"], ["nonsense://x", "9600", "show"],
-    ["socket://localhost:1", "9600", "show"], ["rfc2217://localhost:1", "9600", "panel", "5"], ["--trace", "/nowhere/file", "PORT", "9600", "panel", "5"], ["PORT", "9600", "trace", "/nowhere/file"],
-    ["--keep", "/dev", "PORT", "9600", "panel", "5"], ["--keep", "/dev", "PORT", "9600", "reader", "5"],
-)
-
-
-def version():
-    """The version that the header for C has."""
-    return re.search(r'^#define OSDP_VERSION "(.*)"$', (PORT.parent.parent / "include/osdp.h").read_text(), re.M)[1]
-
-
-def bad_words():
-    """Bad words end with status 2, bad ports and files with 3, each with a sentence that names what is wrong, and no traceback."""
-    terminal = Terminal()
-
-    def ends(words, status):
-        words = [terminal.path if word == "PORT" else word for word in words]
-        done = subprocess.run([PORT, *(["--osdp", osdp] if words else []), *words], capture_output=True, text=True, timeout=60, stdin=subprocess.DEVNULL)
-        said = done.stderr + (done.stdout if not words else "")
-        is_told = not words or done.stderr.startswith(("osdp-port: ", "osdp: ")) and len(done.stderr.splitlines()) <= 3
-        asks(done.returncode == status and "Traceback" not in said and is_told, f"bad words {words}: status {done.returncode}: {said[:300]}")
-        named = [word for word in words if "/" in word and not word.startswith("/dev/pts") and word != "/tmp/a"]
-        asks(status != 3 or not named or any(word in said for word in named), f"bad words {words}: {said} doesn't name it")
-
-    for words in BAD_WORDS:
-        ends(words, 2)
-    for words in BAD_PORTS:
-        ends(words, 3)
-    for words, status, wanted in ((["--help"], 0, "usage: osdp-port"), (["--version"], 0, f"osdp-port {version()}\n"), (["PORT", "9600", "show", "--help"], 0, "usage: osdp-port"),
-                                  (["--osdp", "/nowhere/osdp", terminal.path, "9600", "show"], 127, "/nowhere/osdp")):
-        done = subprocess.run([PORT, *words], capture_output=True, text=True, timeout=60, stdin=subprocess.DEVNULL)
-        asks(done.returncode == status and wanted in done.stdout + done.stderr, f"{words}: {done}")
-    script = subprocess.Popen([PORT, "--osdp", osdp, terminal.path, "9600", "show"], stdin=subprocess.DEVNULL, stdout=subprocess.PIPE, stderr=subprocess.PIPE)
-    script.stdout.readline()
-    script.stdout.close()
-    script.send_signal(signal.SIGINT)
-    script.wait(timeout=60)
-    asks(b"Traceback" not in script.stderr.read(), "a closed pipe: a traceback")
-    terminal.close()
-
-
-def no_permission():
-    """A user who may not open the port is told what to do; one who may, and comes second, is refused by the system."""
-    if os.getuid() != 0:
-        return  # only root can be another user
-    terminal, nobody = Terminal(), {"user": 65534, "group": 65534}
-    with tempfile.TemporaryDirectory() as folder:
-        os.chmod(folder, 0o755)
-        shutil.copytree(PORT.parent, f"{folder}/port", ignore=shutil.ignore_patterns("__pycache__"))
-        shutil.copy(osdp, f"{folder}/osdp")
-        for mode, wanted in ((0o600, "no permission: add yourself to dialout"), (0o666, "is in use by")):
-            os.chmod(terminal.path, mode)
-            holder = serial.Serial(terminal.path, 9600) if mode == 0o666 else None
-            if holder:
-                fcntl.ioctl(holder.fileno(), termios.TIOCEXCL)
-            done = subprocess.run([f"{folder}/port/osdp-port", "--osdp", f"{folder}/osdp", terminal.path, "9600", "show"], capture_output=True, text=True, stdin=subprocess.DEVNULL,
-                                  timeout=60, **nobody)
-            asks(done.returncode == 3 and f"{terminal.path}" in done.stderr and wanted in done.stderr, f"no permission: {done}")
-            if holder:
-                holder.close()
-    terminal.close()
-
-
-def bad_lines():
-    """Lines that aren't orders are told with the word that is wrong, and nothing ends by them."""
-    with Line(osdp) as line:
-        reader, panel = line.reader(0, 5), line.panel("5")
-        asks(line.run(opened(panel, 5)), "lines: the session doesn't open")
-        rows = (("9 open", "word 1, 9: the address of a device of this line: 5"), ("5 opne", "word 2, opne: one of open,"), ("5 led pink", "word 3, pink: a colour"),
-                ("5 open 3", "word 3, 3: a time"), ("5 move 127", "word 3, 127: the new address"), ("5 OUT 0:5", "osdp doesn't read this command"),
-                ("5 COMSET 7 12345", "the port has no rate 12345"), ("5", "word 2 is missing"), ("5 POLL", "word 2, POLL"), ("5 beep 0", "word 3, 0"), ("5 accept", "is the one that stood there"))
-        for order, why in rows:
-            panel.say(order)
-            asks(line.run(lambda: any(each.startswith(f"not taken {order}: ") and why in each for each in panel.lines), 10), f"lines: {order}: {panel.lines[-2:]}")
-        for each in (b"\xff\xfe 1\n", b"5 OUT 0:2:0\0\n", b"x" * 8193 + b"\n"):
-            panel.process.stdin.write(each)
-        panel.process.stdin.write(b"5 led green")  # without a line feed
-        panel.process.stdin.close()
-        asks(line.run(has(reader, "taken LED 0:0:0:0:0:0:0:0:1:1:0:2:0")), "lines: the last order isn't done")
-        asks(sum("refused line" in each for each in panel.lines) == 3, f"lines: {panel.lines[-6:]}")
-        for said, told in (("card 17 4386", "event RAW 0 1 26 88889100"), ("keys 12#", "event KEYPAD 0 313223"), ("nonsense", "refused osdp doesn't read this line"), ("bytes 00", "refused bytes 00")):
-            reader.say(said)
-            asks(line.run(tells(reader, told), 10), f"lines: {said}: {reader.lines[-2:]}")
-        asks(line.run(lambda: tells(panel, "facility 17 number 4386")() and tells(panel, "keys 12#")()), f"lines: the card is told as {panel.lines[-2:]}")
-
-
 PARTS = {part.__name__: part for part in (noise, no_reader, echo, two_at_one_address, late_answers, stolen_bytes, pulled_adapter, second_panel, new_rate, ctrl_c, killed,
-                                          finds, traces, wrong_rate_heard, another_panel, listens, over_the_network, acts_first, bad_words, no_permission, bad_lines)}
+                                          finds, traces, wrong_rate_heard, another_panel, listens, acts_first, *port_words.PARTS)}
 
 
 def run_part(name):
     """Runs a part in a process of its own. What it has found."""
-    done = subprocess.run([sys.executable, "-B", __file__, osdp, name], capture_output=True, text=True, timeout=400)
+    done = subprocess.run([sys.executable, "-B", __file__, port_line.osdp, name], capture_output=True, text=True, timeout=400)
     return name, done.returncode, (done.stdout + done.stderr).strip()
 
 
 def main(path, *names):
-    global osdp
-    osdp, begun = path, time.monotonic()
+    port_line.osdp, begun = path, time.monotonic()
     if names:
         for name in names:
             PARTS[name]()

@@ -27,7 +27,7 @@ expect 'a bad line, counted' 2 $'runs 1 packets 1 skipped 0 refused 0\n' $'osdp:
 expect 'comments and blank lines' 0 $'1:0 cmd 0 seq 0 sum POLL\n' '' show < <(printf ' \t# a capture\r\n\r\n 53 00\t07 00\r00 60 46')
 
 bad=$'osdp: bad words\n'
-expect 'no words' 2 '' "$bad" </dev/null
+expect 'no words' 0 "$("$program" help </dev/null)"$'\n' '' </dev/null
 expect 'unknown word' 2 '' "$bad" shows </dev/null
 expect 'unknown option' 2 '' "$bad" show --all </dev/null
 expect 'an option twice' 2 '' "$bad" show --raw --raw </dev/null
@@ -37,7 +37,8 @@ expect 'the version and more' 2 '' "$bad" --version show </dev/null
 expect 'help of a word that is no command' 2 '' "$bad" help nothing </dev/null
 expect 'help of two commands' 2 '' "$bad" help show check </dev/null
 expect 'help and more' 2 '' "$bad" --help show </dev/null
-expect 'help after a command' 2 '' "$bad" show --help </dev/null
+expect 'help after a command' 0 "$("$program" help show </dev/null)"$'\n' '' show --help </dev/null
+expect 'help after a command, and more' 2 '' "$bad" make --help --help </dev/null
 expect 'short help and more' 2 '' "$bad" -h -h </dev/null
 
 expect 'a packet made' 0 $'53050C000568000200005183\n' '' make 5 1 crc OUT 0:2:0 </dev/null

@@ -39,6 +39,11 @@ class Console:
         if self.stops > 1:
             raise Stop("", 128 + number)
 
+    def wake(self):
+        """Ends the program as Ctrl-C does, from another thread."""
+        self.stops = max(self.stops, 1)
+        os.write(self.woken, b"x")
+
     @staticmethod
     def ends():
         """All was told: nothing is left that Ctrl-C could end."""

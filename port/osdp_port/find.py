@@ -12,6 +12,7 @@ from .serial_port import RATES, has_rate
 EVERYBODY = 127  # the configuration address: each device answers there
 ANSWER = 0.2  # seconds that an answer may take
 GAP = 0.03  # seconds of silence after which an answer is over
+QUICK = 0.05  # seconds that an answer is waited for at least, where it is known how long the device takes
 SETTLES = 0.05  # seconds that a port is left after its rate was changed
 CHECKS = ("crc", "sum")
 LINE = re.compile(r"^\d+:\d+ (.*)$", re.M)
@@ -39,6 +40,7 @@ class Line:
     def __init__(self, port, console, osdp):
         self.port, self.console, self.osdp = port, console, osdp
         self.wait = ANSWER
+        self.latency = 0.0  # how long the last answer took
         self.made = {}
 
     def goes(self, rate):
@@ -71,6 +73,7 @@ class Line:
             read = self.port.read()
             if read:
                 came, last = came + read, time.monotonic()
+                self.latency = last - begun
                 if came == packet:
                     came = b""
         return came.removeprefix(packet)
@@ -99,19 +102,30 @@ class Search:
         self.line, self.say, self.found, self.several = line, say, [], False
 
     def everybody(self, check):
-        """Asks the configuration address. The identity of the one that answers; an empty text where several do, and none where nobody does."""
+        """Asks the configuration address. The identity of the one that answers, and the address that its answer has; an empty text where several do, and
+        none where nobody does."""
         replies, is_broken = self.line.replies(self.line.ask(EVERYBODY, 0, check, "ID 0"))
         told = [text for _, text in replies if text.startswith("PDID ")]
         if not replies and not is_broken:
-            return None
-        return told[0].removeprefix("PDID ") if len(replies) == 1 and told and not is_broken else ""
+            return None, EVERYBODY
+        return (told[0].removeprefix("PDID "), replies[0][0]) if len(replies) == 1 and told and not is_broken else ("", EVERYBODY)
 
-    def each_address(self, check, identity=None):
+    def the_one(self, check, identity, at):
+        """Looks for the device that is alone on the line: first with the wait that its answer needed, at the address that this answer had. How many were found."""
+        for self.line.wait in (min(ANSWER, max(QUICK, 3 * self.line.latency)), ANSWER):
+            if self.each_address(check, identity, [at, *(address for address in range(EVERYBODY) if address != at)]):
+                break
+        self.line.wait = ANSWER
+        return len(self.found)
+
+    def each_address(self, check, identity=None, addresses=range(EVERYBODY)):
         """Asks address by address; where one device is known to be there, until it has answered. How many were found."""
         before = len(self.found)
-        for address in range(EVERYBODY):
+        for address in addresses:
             if not self.line.is_going():
                 break
+            if address == EVERYBODY:
+                continue
             replies, is_broken = self.line.replies(self.line.ask(address, 0, check, "ID 0"))
             if is_broken or len(replies) > 1:
                 self.say(f"several devices answer at address {address}, rate {self.line.port.rate}: give each an address of its own, one device on the line at a time")
@@ -141,15 +155,15 @@ class Search:
             for check in CHECKS:
                 if not self.line.is_going():
                     return
-                identity = self.everybody(check)
+                identity, at = self.everybody(check)
                 if identity is None:
                     continue
                 if not identity:
                     self.several = True
                     self.say(f"several devices answer at rate {rate}, or one with noise: each address is asked")
-                if self.each_address(check, identity):
-                    if identity:
-                        return  # it was alone, as its answer could be read
+                if identity and self.the_one(check, identity, at):
+                    return  # it was alone, as its answer could be read
+                if not identity and self.each_address(check):
                     break
 
     def goes_by_address(self):

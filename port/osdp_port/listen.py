@@ -1,10 +1,9 @@
 """Listening: `monitor`, `show` and `trace`. Nothing is said on the line."""
 import re
-import threading
 
-from .console import wait_for, write_all
-from .program import start
-from .shown import Shown, printed
+from .console import wait_for
+from .program import Stream
+from .shown import Shown
 from .trace import Bursts, Trace, digits, osdpcap
 
 OF_DEVICE = re.compile(r"^(?:\d+:\d+ )?(?:(?:device|panel to|reader) )?(\d+)\b")
@@ -21,7 +20,7 @@ def until_stopped(port, console, takes):
 
 
 def show(words, port, console, osdp):
-    shown = Shown(osdp, printed(console), words.get("--address"), words.get("--all", False), console.note)
+    shown = Shown(osdp, console, words.get("--address"), words.get("--all", False))
     bursts = Bursts(shown.takes)
     until_stopped(port, console, bursts.came)
     bursts.flush()
@@ -37,50 +36,27 @@ def trace(words, port, console, _):
     return 0
 
 
-class Monitor:
+class Monitor(Stream):
     """`osdp monitor` beside the program: its lines with their moments, and its table at the end."""
 
     def __init__(self, words, console, osdp):
-        self.console, self.address = console, words.get("--address")
+        self.address = words.get("--address")
         options = ["--every", str(words.get("--every"))] if words.get("--every") else []
-        self.process = start(osdp, ["monitor", *options, *(["--packets"] if words.get("--all") else [])])
-        self.is_table = False
-        self.reader = threading.Thread(target=self.read, daemon=True)
-        self.reader.start()
-
-    def takes(self, read):
-        if read:
-            try:
-                write_all(self.process.stdin.fileno(), read)
-            except OSError:
-                pass  # it has ended, and its status tells
-
-    def read(self):
-        for text in self.process.stdout:
-            self.prints(text.decode().rstrip("\n"))
+        super().__init__(osdp, ["monitor", *options, *(["--packets"] if words.get("--all") else [])], console)
 
     def prints(self, line):
         """Prints a line; one of another device is left out."""
         is_table = line.startswith(HEADS) or re.match(r"\d+ ", line)
         found = OF_DEVICE.match(line)
-        is_other = self.address is not None and found and int(found[1]) != self.address and not line.startswith(HEADS)
-        if is_other:
+        if self.address is not None and found and int(found[1]) != self.address and not line.startswith(HEADS):
             return
         if is_table or line.startswith(" "):
             self.console.raw(line)
         else:
             self.console.say(re.sub(r"^\d+:\d+ ", "", line))
 
-    def ends(self):
-        try:
-            self.process.stdin.close()
-        except OSError:
-            pass
-        self.reader.join(5)
-        return self.process.wait()
-
 
 def monitor(words, port, console, osdp):
     listener = Monitor(words, console, osdp)
-    until_stopped(port, console, listener.takes)
+    until_stopped(port, console, listener.write)
     return listener.ends()

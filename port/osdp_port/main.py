@@ -10,7 +10,7 @@ from .panel import Panel, first_rate, new_devices
 from .program import Lines, find_program
 from .reader import Reader
 from .serial_port import Port, needs_pyserial
-from .shown import Shown, printed
+from .shown import Shown
 from .trace import Bursts, Trace, digits, osdpcap
 from .words import HELP, Words, addresses, bad
 
@@ -31,7 +31,7 @@ def taps(words, port, console, osdp):
         port.taps.append(Bursts(file.takes))
         ends += [port.taps[-1].flush, file.ended]
     if words.get("--all"):
-        shown = Shown(osdp, printed(console), is_all=True)
+        shown = Shown(osdp, console, is_all=True)
         port.taps.append(Bursts(shown.takes))
         ends += [port.taps[-1].flush, shown.ends]
     return ends

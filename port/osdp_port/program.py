@@ -4,6 +4,7 @@ import shutil
 import signal
 import subprocess
 import sys
+import threading
 from pathlib import Path
 
 from .console import write_all
@@ -29,6 +30,43 @@ def start(path, words, **streams):
         return subprocess.Popen([path, *words], start_new_session=True, **pipes)
     except OSError:
         raise Stop(f"the program can't be started: {path}", NO_PROGRAM) from None
+
+
+class Stream:
+    """The program with a stream of bytes or lines: what it prints is read beside, line by line."""
+
+    def __init__(self, path, words, console):
+        self.console, self.stop = console, None
+        self.process = start(path, words)
+        self.thread = threading.Thread(target=self.read, daemon=True)
+        self.thread.start()
+
+    def write(self, data):
+        try:
+            write_all(self.process.stdin.fileno(), data)
+        except OSError:
+            pass  # it has ended, and its status tells
+
+    def read(self):
+        """Hands on each line. Where it can't be printed the program ends, as the main thread is told."""
+        try:
+            for text in self.process.stdout:
+                self.prints(text.decode().rstrip("\n"))
+        except Stop as stop:
+            self.stop = stop
+            self.console.wake()
+
+    def ends(self):
+        """The input has ended: the last lines come out. The status."""
+        try:
+            self.process.stdin.close()
+        except OSError:
+            pass
+        self.thread.join(5)
+        if self.stop:
+            self.process.kill()
+            raise self.stop
+        return self.process.wait()
 
 
 class Lines:

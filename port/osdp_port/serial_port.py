@@ -74,6 +74,10 @@ class Port:
                 fcntl.ioctl(made.fileno(), termios.TIOCEXCL)
             except OSError:
                 pass  # a port without it still has the lock
+            try:
+                made.set_low_latency_mode(True)  # a USB adapter hands its bytes on at once
+            except (*FAULTS, AttributeError):
+                pass  # it has no such timer
         self.serial = made
 
     @property

@@ -3,70 +3,47 @@ import re
 import threading
 from collections import deque
 
-from .console import stamp, write_all
-from .program import start
+from .console import stamp
+from .program import Stream
 
 LINE = re.compile(r"(\d+):(\d+) (.*)")
 OF_DEVICE = re.compile(r"(?:cmd|reply) (\d+) ")
 HOPELESS = 1000  # so many bytes with nothing but skips and refusals are of another rate, or no bytes of the line
 
 
-class Shown:
+class Shown(Stream):
     """`osdp show` beside the program. Each burst is a run of it."""
 
-    def __init__(self, path, say, address=None, is_all=False, note=lambda line: None):
-        self.say, self.address, self.is_all, self.note = say, address, is_all, note
-        self.process = start(path, ["show"])
-        self.runs, self.first = deque(), 1  # the moments and ways of the runs whose lines may come, and the number of the first one
+    def __init__(self, path, console, address=None, is_all=False):
+        self.address, self.is_all = address, is_all
+        self.runs, self.first = deque(), 1  # the moments of the runs whose lines may come, and the number of the first one
         self.bytes = self.packets = 0
         self.lock = threading.Lock()
-        self.reader = threading.Thread(target=self.read, daemon=True)
-        self.reader.start()
+        super().__init__(path, ["show"], console)
 
-    def takes(self, since, way, burst):
+    def takes(self, since, _, burst):
         with self.lock:
-            self.runs.append((since, way))
+            self.runs.append(since)
             self.bytes += len(burst)
-        try:
-            write_all(self.process.stdin.fileno(), burst.hex().encode() + b"\n")
-        except OSError:
-            pass  # it has ended, and its status tells
+        self.write(burst.hex().encode() + b"\n")
 
-    def read(self):
-        for text in self.process.stdout:
-            found = LINE.match(text.decode().rstrip("\n"))
-            if found:
-                self.prints(int(found[1]), found[3])
-
-    def prints(self, run, text):
+    def prints(self, line):
         """Prints a line of a run, unless it is left out."""
+        found = LINE.match(line)
+        if not found:
+            return
+        run, text = int(found[1]), found[3]
         with self.lock:
             while self.first < run and len(self.runs) > 1:
                 self.runs.popleft()
                 self.first += 1
-            since = self.runs[0][0] if self.runs else None
+            since = self.runs[0] if self.runs else None
         device = OF_DEVICE.match(text)
         self.packets += bool(device)
         if self.packets == 0 and self.bytes >= HOPELESS:
             self.packets = -1
-            self.note(f"{self.bytes} bytes and no packet: another rate, or the two wires are swapped; osdp-port PORT RATE find tells the rate")
+            self.console.note(f"{self.bytes} bytes and no packet: another rate, or the two wires are swapped; osdp-port PORT RATE find tells the rate")
         if self.address is not None and (not device or int(device[1]) != self.address):
             return
         if self.is_all or not text.endswith((" POLL", " ACK")):
-            self.say(text, since)
-
-    def ends(self):
-        """The input has ended: the last lines come out. The status."""
-        try:
-            self.process.stdin.close()
-        except OSError:
-            pass
-        self.reader.join(5)
-        return self.process.wait()
-
-
-def printed(console):
-    """Prints a line with the moment of its burst."""
-    def say(text, since):
-        console.raw(f"{stamp(since)} {text}" if console.has_times and since else text)
-    return say
+            self.console.raw(f"{stamp(since)} {text}" if self.console.has_times and since else text)

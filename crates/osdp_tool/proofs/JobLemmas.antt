@@ -8,7 +8,7 @@ use Rattle.osdp_tool_streams.specs.declared.fault.ToolFault.TheVariants.{BadWord
 use Rattle.osdp_tool.specs.declared.jobs.Job.{Job}
 use Rattle.osdp_tool.specs.declared.jobs.Job.TheVariants.{Show, Check, Make, Sim}
 use Rattle.osdp_tool_streams.specs.declared.mode.Mode.{Mode}
-use Rattle.osdp_tool.specs.Job.{Words, are_options, mode_of, job_in_mode, job_of, AreOptionsOf, IsWordsOfJob, ChoosesJobByWords}
+use Rattle.osdp_tool.specs.Job.{Words, are_options, mode_of, job_in_mode, job_of, wants_help, AreOptionsOf, IsWordsOfJob, ChoosesJobByWords}
 use Rattle.osdp_tool.proofs.OptionLemmas.{are_options-listed, AreOptionsOf-options, AreOptionsOf-mode}
 
 -- a command in a mode chooses the job of its options' mode, or none
@@ -39,12 +39,13 @@ choose_alone command rest no_show no_check no_make = go (bytes_eq command (codes
 
 choose_without_mode : (command : List ℕ) (rest : Words) → bytes_eq command (codes "show") ≡ false → bytes_eq command (codes "check") ≡ false
     → Chooses (command ∷ rest)
-choose_without_mode command rest no_show no_check = go (bytes_eq command (codes "make")) refl
+choose_without_mode command rest no_show no_check = go (bytes_eq command (codes "make")) (wants_help rest) refl refl
   where
-    go : (make : Bool) → bytes_eq command (codes "make") ≡ make → Chooses (command ∷ rest)
-    go true is_make =
-        inl (Make, rw (no_show, no_check, is_make), (rest, ap (λ word. word ∷ rest) ((bytes_eq-Decides command (codes "make")).0 is_make)))
-    go false is_make = choose_alone command rest no_show no_check is_make
+    go : (make asks : Bool) → bytes_eq command (codes "make") ≡ make → wants_help rest ≡ asks → Chooses (command ∷ rest)
+    go true false is_make plain =
+        inl (Make, rw (no_show, no_check, is_make, plain), (rest, ap (λ word. word ∷ rest) ((bytes_eq-Decides command (codes "make")).0 is_make), plain))
+    go true true is_make asks = inr (rw (no_show, no_check, is_make, asks))
+    go false asks is_make is = choose_alone command rest no_show no_check is_make
 
 choose : (words : Words) → Chooses words
 choose [] = inr refl
@@ -71,7 +72,7 @@ job_in_mode-options command mode options listed =
 words_choose : (job : Job) (words : Words) → IsWordsOfJob job words → job_of words ≡ Ok job
 words_choose (Show mode) words (options, is, listed) = rw is (job_in_mode-options Show mode options listed)
 words_choose (Check mode) words (options, is, listed) = rw is (job_in_mode-options Check mode options listed)
-words_choose Make words (rest, is) = rw is
+words_choose Make words (rest, is, plain) = rw (is, plain)
 words_choose Sim words is = rw is
 
 pub ChoosesJobByWords-all : (words : Words) → ChoosesJobByWords words

@@ -1,7 +1,7 @@
 -- What the words after the program's name choose, before `job` is asked.
-use Rattle.std.specs.Prelude.{◌≡◌, ◌⊎◌, ◌↔◌, ℕ, List, [], ◌∷◌, codes, Err, if◌then◌else◌}
+use Rattle.std.specs.Prelude.{◌≡◌, ◌⊎◌, ◌↔◌, ℕ, List, [], ◌∷◌, codes, Err, if◌then◌else◌, false}
 use Rattle.std.specs.Str.{bytes_eq}
-use Rattle.osdp_tool.specs.Job.{Words, job_of}
+use Rattle.osdp_tool.specs.Job.{Words, job_of, wants_help}
 use Rattle.osdp_tool_streams.specs.declared.fault.ToolFault.TheVariants.{BadWords}
 use Rattle.osdp_tool.specs.declared.choice.Choice.{Choice}
 use Rattle.osdp_tool.specs.declared.choice.Choice.TheVariants.{Help, Version, Monitor, Panel, Reader, Job}
@@ -30,10 +30,9 @@ abbrev pub alone : Choice → Words → Choice
 alone choice [] = choice
 alone choice (word ∷ rest) = Job
 
--- what the words choose: the first decides
-abbrev pub choice_of : Words → Choice
-choice_of [] = Job
-choice_of (first ∷ rest) =
+-- what the first word chooses, with the words after it
+abbrev pub by_first : List ℕ → Words → Choice
+by_first first rest =
     if bytes_eq first (codes "help") then help_of rest
     else (if bytes_eq first (codes "monitor") then Monitor
     else (if bytes_eq first (codes "panel") then Panel
@@ -42,27 +41,37 @@ choice_of (first ∷ rest) =
     else (if bytes_eq first (codes "-h") then alone (Help topic.Program) rest
     else (if bytes_eq first (codes "--version") then alone Version rest else Job))))))
 
+-- what the words choose: a flag that asks for help, alone after the name of a command, and else the first word
+abbrev pub choice_of : Words → Choice
+choice_of [] = Help topic.Program
+choice_of (first ∷ rest) = if wants_help rest then topic_named first else by_first first rest
+
 -- ---- the same, word for word
+
+-- the words that ask for the help of the command of this name
+abbrev pub AskOf : List ℕ → Words → Type 0
+AskOf command words =
+    (words ≡ codes "help" ∷ command ∷ []) ⊎ ((words ≡ command ∷ codes "--help" ∷ []) ⊎ (words ≡ command ∷ codes "-h" ∷ []))
 
 -- the words that ask for the help of a topic
 abbrev pub AskForHelp : Topic → Words → Type 0
 AskForHelp topic.Program words =
-    (words ≡ codes "help" ∷ []) ⊎ ((words ≡ codes "--help" ∷ []) ⊎ (words ≡ codes "-h" ∷ []))
-AskForHelp topic.Show words = words ≡ codes "help" ∷ codes "show" ∷ []
-AskForHelp topic.Monitor words = words ≡ codes "help" ∷ codes "monitor" ∷ []
-AskForHelp topic.Check words = words ≡ codes "help" ∷ codes "check" ∷ []
-AskForHelp topic.Make words = words ≡ codes "help" ∷ codes "make" ∷ []
-AskForHelp topic.Sim words = words ≡ codes "help" ∷ codes "sim" ∷ []
-AskForHelp topic.Panel words = words ≡ codes "help" ∷ codes "panel" ∷ []
-AskForHelp topic.Reader words = words ≡ codes "help" ∷ codes "reader" ∷ []
+    (words ≡ []) ⊎ ((words ≡ codes "help" ∷ []) ⊎ ((words ≡ codes "--help" ∷ []) ⊎ (words ≡ codes "-h" ∷ [])))
+AskForHelp topic.Show words = AskOf (codes "show") words
+AskForHelp topic.Monitor words = AskOf (codes "monitor") words
+AskForHelp topic.Check words = AskOf (codes "check") words
+AskForHelp topic.Make words = AskOf (codes "make") words
+AskForHelp topic.Sim words = AskOf (codes "sim") words
+AskForHelp topic.Panel words = AskOf (codes "panel") words
+AskForHelp topic.Reader words = AskOf (codes "reader") words
 
 -- the words of a choice; those left to `job` are none of them
 abbrev pub IsWordsOf : Choice → Words → Type 0
 IsWordsOf (Help asked) words = AskForHelp asked words
 IsWordsOf Version words = words ≡ codes "--version" ∷ []
-IsWordsOf Monitor words = (rest : Words) × (words ≡ codes "monitor" ∷ rest)
-IsWordsOf Panel words = (rest : Words) × (words ≡ codes "panel" ∷ rest)
-IsWordsOf Reader words = (rest : Words) × (words ≡ codes "reader" ∷ rest)
+IsWordsOf Monitor words = (rest : Words) × (words ≡ codes "monitor" ∷ rest) × (wants_help rest ≡ false)
+IsWordsOf Panel words = (rest : Words) × (words ≡ codes "panel" ∷ rest) × (wants_help rest ≡ false)
+IsWordsOf Reader words = (rest : Words) × (words ≡ codes "reader" ∷ rest) × (wants_help rest ≡ false)
 IsWordsOf Job words = ⊥
 
 -- words choose what they are the words of, and are left to `job` exactly where they are the words of nothing; `job` takes none of the others

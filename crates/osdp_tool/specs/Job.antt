@@ -1,5 +1,5 @@
 -- The words after the program's name, and the jobs that they choose.
-use Rattle.std.specs.Prelude.{◌≡◌, ◌+◌, ◌==◌, ◌&&◌, ◌⊎◌, ◌↔◌, ℕ, Bool, true, false, List, [], ◌∷◌, map, length, Result, Ok, Err, if◌then◌else◌, MatchBool, IsOkAnd, ⊤, nat_le, codes, count_by}
+use Rattle.std.specs.Prelude.{◌≡◌, ◌+◌, ◌==◌, ◌&&◌, ◌||◌, ◌⊎◌, ◌↔◌, ℕ, Bool, true, false, List, [], ◌∷◌, map, length, Result, Ok, Err, if◌then◌else◌, MatchBool, IsOkAnd, ⊤, nat_le, codes, count_by}
 use Rattle.std.specs.List.{list_any}
 use Rattle.std.specs.Str.{bytes_eq}
 use Rattle.std.specs.Borrow.{Bor}
@@ -45,10 +45,16 @@ ReadsMode words mode = MatchBool (are_options words) ((mode ≡ Ok (mode_of word
 abbrev pub job_in_mode : (Mode → Job) → Words → Result Job ToolFault
 job_in_mode command rest = if are_options rest then Ok (command (mode_of rest)) else Err BadWords
 
--- a command that takes no mode, with the words after it: `make` with whatever follows it, and `sim` where nothing does
+-- a flag that asks for help stands alone
+abbrev pub wants_help : Words → Bool
+wants_help [] = false
+wants_help (word ∷ []) = bytes_eq word (codes "--help") || bytes_eq word (codes "-h")
+wants_help (word ∷ more ∷ rest) = false
+
+-- a command that takes no mode, with the words after it: `make` with whatever follows it but such a flag, and `sim` where nothing does
 abbrev pub job_without_mode : List ℕ → Words → Result Job ToolFault
 job_without_mode command rest =
-    if bytes_eq command (codes "make") then Ok Make
+    if bytes_eq command (codes "make") then (if wants_help rest then Err BadWords else Ok Make)
     else (if bytes_eq command (codes "sim") && length rest == 0 then Ok Sim else Err BadWords)
 
 -- the job that the words choose: the first is the command
@@ -88,7 +94,7 @@ IsCommandIn mode command words =
 abbrev pub IsWordsOfJob : Job → Words → Type 0
 IsWordsOfJob (Show mode) words = IsCommandIn mode (codes "show") words
 IsWordsOfJob (Check mode) words = IsCommandIn mode (codes "check") words
-IsWordsOfJob Make words = (rest : Words) × (words ≡ codes "make" ∷ rest)
+IsWordsOfJob Make words = (rest : Words) × (words ≡ codes "make" ∷ rest) × (wants_help rest ≡ false)
 IsWordsOfJob Sim words = words ≡ codes "sim" ∷ []
 
 -- words choose a job exactly where they are its words, and are bad exactly where they are no job's

@@ -2,7 +2,9 @@
 
 ghost use Rattle.std.specs.Prelude.{◌≡◌};
 ghost use Rattle.osdp_tool.specs.Job.{texts_of};
-ghost use Rattle.osdp_tool.specs.Choice.{choice_of, help_of, topic_named};
+ghost use Rattle.osdp_tool.specs.Choice.{by_first, choice_of, help_of, topic_named};
+
+use crate::words::wants_help;
 
 /// What a help tells of.
 #[derive(Clone, Copy, Debug, PartialEq, Eq)]
@@ -69,17 +71,11 @@ fn help_of(words: &[&str]) -> Choice
     }
 }
 
-/// What the words after the program's name choose.
-///
-/// `help` alone, `--help` and `-h` ask for the help of the program, `help` and the name of a command for the help of that. `--version` stands
-/// alone. After `monitor`, `panel` and `reader` any words may stand, which are read as options and settings. All other words are for `job`.
-pub fn choose(words: &[&str]) -> Choice
-    ensures { result ≡ choice_of (texts_of words.now) }
+/// What the first word chooses, with the words after it.
+fn by_first(first: &str, rest: &[&str]) -> Choice
+    ensures { result ≡ by_first first.now (texts_of rest.now) }
 {
-    let [first, rest @ ..] = words else {
-        return Choice::Job;
-    };
-    match *first {
+    match first {
         "help" => help_of(rest),
         "monitor" => Choice::Monitor,
         "panel" => Choice::Panel,
@@ -88,4 +84,20 @@ pub fn choose(words: &[&str]) -> Choice
         "--version" if rest.is_empty() => Choice::Version,
         _ => Choice::Job,
     }
+}
+
+/// What the words after the program's name choose.
+///
+/// No words, `help` alone, `--help` and `-h` ask for the help of the program, `help` and the name of a command, or the name and one of
+/// these flags alone, for the help of that. `--version` stands alone. After `monitor`, `panel` and `reader` any other words may stand, which are read as options and settings. All other words are for `job`.
+pub fn choose(words: &[&str]) -> Choice
+    ensures { result ≡ choice_of (texts_of words.now) }
+{
+    let [first, rest @ ..] = words else {
+        return Choice::Help(Topic::Program);
+    };
+    if wants_help(rest) {
+        return topic_named(first);
+    }
+    by_first(first, rest)
 }

@@ -6,7 +6,7 @@ ghost use Rattle.osdp_tool.specs.Choice.{ChoosesByWords};
 ghost use Rattle.osdp_tool.specs.Laws.{HasOneOrder, ReadsBack};
 
 /// Words choose a job exactly where they are its words: `show` or `check`, and the options of its
-/// mode in any order, or `make` and any words, or `sim` alone. They are bad exactly where they are no job's.
+/// mode in any order, or `make` and any words but a lone flag for help, or `sim` alone. They are bad exactly where they are no job's.
 pub fn words_choose_jobs()
     ensures { (words : Words) → ChoosesJobByWords words }
 {}

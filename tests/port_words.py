@@ -1,0 +1,171 @@
+"""Parts of the walk of `port_walk.py` that are about words, ports and who may open them."""
+import fcntl
+import os
+import re
+import shutil
+import socket
+import subprocess
+import tempfile
+import termios
+import threading
+import time
+from pathlib import Path
+
+import serial
+import serial.rfc2217
+
+import port_line
+from port_line import ID, IDENTITY, PANEL, PDID, PORT, Line, asks, has, opened, tells
+from terminals import Script, Terminal, packet
+
+
+def serves(kind, path, ready):
+    """A server on the network that has a port: of bytes alone, or by RFC 2217."""
+    listener = socket.create_server(("127.0.0.1", 0))
+    ready.append(listener.getsockname()[1])
+    client, _ = listener.accept()
+    port = serial.Serial(path, 9600, timeout=0.01)
+    manager = None
+    if kind == "rfc2217":
+        made = type(port)  # a pseudo terminal has no lines of a modem
+        made.cts = made.dsr = made.ri = made.cd = property(lambda _: False)
+        made._update_dtr_state = made._update_rts_state = lambda _: None
+        manager = serial.rfc2217.PortManager(port, type("Answers", (), {"write": staticmethod(client.sendall)}))
+
+    def hands_up():
+        while True:
+            try:
+                read = port.read(max(1, port.in_waiting))
+                client.sendall(b"".join(manager.escape(read)) if manager else read)
+            except (OSError, TypeError):
+                return  # the line, or the client, is gone
+
+    threading.Thread(target=hands_up, daemon=True).start()
+    while read := client.recv(1024):
+        port.write(b"".join(manager.filter(read)) if manager else read)
+    client.close()
+
+
+def over_the_network():
+    """A port that a server on the network has, by its bytes alone and by RFC 2217; only the second one has another rate."""
+    for kind in ("socket", "rfc2217"):
+        with Line() as line:
+            ready = []
+            threading.Thread(target=serves, args=(kind, line.panel_end.path, ready), daemon=True).start()
+            while not ready:
+                time.sleep(0.01)
+            reader = line.reader(0, 5)
+            line.scripts.append(panel := Script(PORT, "--plain", "--osdp", port_line.osdp, f"{kind}://127.0.0.1:{ready[0]}", 9600, "panel", "5", *PANEL))
+            asks(line.run(opened(panel, 5)), f"{kind}: the session doesn't open: {panel.lines}")
+            panel.say("5 rate 19200")
+            if kind == "socket":
+                asks(line.run(tells(panel, "not taken 5 rate 19200: the port has no rate 19200")), f"{kind}: {panel.lines[-3:]}")
+            else:
+                asks(line.run(opened(panel, 5, 2)), f"{kind}: not found at the new rate: {panel.lines[-5:]}")
+            panel.say("5 on")
+            asks(line.run(has(reader, "taken OUT 0:2:0")), f"{kind}: no order is done")
+
+
+BAD_WORDS = (
+    [], ["PORT"], ["PORT", "9600"], ["PORT", "fast", "show"], ["PORT", "0", "show"], ["PORT", "-9600", "show"], ["PORT", "9600", "shows"],
+    ["PORT", "9600", "panel"], ["PORT", "9600", "panel", "127"], ["PORT", "9600", "panel", "5,5"], ["PORT", "9600", "panel", "5,"], ["PORT", "9600", "panel", "9-5"],
+    ["PORT", "9600", "panel", "x"], ["PORT", "9600", "panel", "0-16"], ["PORT", "9600", "panel", "5", "gap", "0"], ["PORT", "9600", "panel", "5", "gap"],
+    ["PORT", "9600", "reader"], ["PORT", "9600", "reader", "5,6"], ["PORT", "9600", "reader", "5", "model", "256"], ["PORT", "9600", "trace"],
+    ["PORT", "9600", "show", "more"], ["PORT", "9600", "find", "more"], ["PORT", "9600", "trace", "/tmp/a", "more"], ["--keep"], ["--keep", "file", "PORT", "9600", "show"],
+    ["--nonsense", "PORT", "9600", "show"], ["--address", "127", "PORT", "9600", "show"], ["--address", "x", "PORT", "9600", "show"], ["--every", "0", "PORT", "9600", "monitor"],
+    ["--size", "0", "PORT", "9600", "trace", "/tmp/a"], ["--set-rate", "12345", "PORT", "9600", "find"], ["PORT", "12345", "show"], ["--all", "PORT", "9600", "find"],
+)
+BAD_PORTS = (
+    ["/nowhere/port", "9600", "show"], ["/dev/null", "9600", "panel", "5"], ["/etc/passwd", "9600", "monitor"], ["/", "9600", "show"], ["nonsense://x", "9600", "show"],
+    ["socket://localhost:1", "9600", "show"], ["rfc2217://localhost:1", "9600", "panel", "5"], ["--trace", "/nowhere/file", "PORT", "9600", "panel", "5"], ["PORT", "9600", "trace", "/nowhere/file"],
+    ["--keep", "/dev", "PORT", "9600", "panel", "5"], ["--keep", "/dev", "PORT", "9600", "reader", "5"],
+)
+
+
+def version():
+    """The version that the header for C has."""
+    return re.search(r'^#define OSDP_VERSION "(.*)"$', (PORT.parent.parent / "include/osdp.h").read_text(), re.M)[1]
+
+
+def bad_words():
+    """Bad words end with status 2, bad ports and files with 3, each with a sentence that names what is wrong, and no traceback."""
+    terminal = Terminal()
+
+    def ends(words, status):
+        words = [terminal.path if word == "PORT" else word for word in words]
+        done = subprocess.run([PORT, *(["--osdp", port_line.osdp] if words else []), *words], capture_output=True, text=True, timeout=60, stdin=subprocess.DEVNULL)
+        said = done.stderr + (done.stdout if not words else "")
+        is_told = not words or done.stderr.startswith(("osdp-port: ", "osdp: ")) and len(done.stderr.splitlines()) <= 3
+        asks(done.returncode == status and "Traceback" not in said and is_told, f"bad words {words}: status {done.returncode}: {said[:300]}")
+        named = [word for word in words if "/" in word and not word.startswith("/dev/pts") and word != "/tmp/a"]
+        asks(status != 3 or not named or any(word in said for word in named), f"bad words {words}: {said} doesn't name it")
+
+    for words in BAD_WORDS:
+        ends(words, 2)
+    for words in BAD_PORTS:
+        ends(words, 3)
+    for words, status, wanted in ((["--help"], 0, "usage: osdp-port"), (["--version"], 0, f"osdp-port {version()}\n"), (["PORT", "9600", "show", "--help"], 0, "usage: osdp-port"),
+                                  (["--osdp", "/nowhere/osdp", terminal.path, "9600", "show"], 127, "/nowhere/osdp")):
+        done = subprocess.run([PORT, *words], capture_output=True, text=True, timeout=60, stdin=subprocess.DEVNULL)
+        asks(done.returncode == status and wanted in done.stdout + done.stderr, f"{words}: {done}")
+    for words in (["show"], ["monitor", "--all"], ["--all", "panel", "5"], ["reader", "5"]):
+        script = subprocess.Popen([PORT, "--osdp", port_line.osdp, terminal.path, "9600", *words], stdin=subprocess.DEVNULL, stdout=subprocess.PIPE, stderr=subprocess.PIPE)
+        script.stdout.readline()
+        script.stdout.close()
+        for burst in (packet(5, 0, ID, b"\0"), packet(0x85, 0, PDID, IDENTITY)) * 3:
+            os.write(terminal.end, burst)
+            time.sleep(0.3)
+        asks(script.wait(timeout=60) == 3 and b"Traceback" not in (said := script.stderr.read()), f"a closed pipe: {words}: {script.returncode}: {said}")
+    with tempfile.TemporaryDirectory() as folder:
+        Path(folder, "serial.py").write_text("raise ImportError\n")
+        done = subprocess.run([PORT, "--osdp", port_line.osdp, terminal.path, "9600", "show"], env={**os.environ, "PYTHONPATH": folder}, capture_output=True, text=True, timeout=60)
+        asks(done.returncode == 127 and "sudo apt-get install python3-serial" in done.stderr, f"no pyserial: {done}")
+    terminal.close()
+
+
+def no_permission():
+    """A user who may not open the port is told what to do; one who may, and comes second, is refused by the system."""
+    if os.getuid() != 0:
+        return  # only root can be another user
+    terminal, nobody = Terminal(), {"user": 65534, "group": 65534}
+    with tempfile.TemporaryDirectory() as folder:
+        os.chmod(folder, 0o755)
+        shutil.copytree(PORT.parent, f"{folder}/port", ignore=shutil.ignore_patterns("__pycache__"))
+        shutil.copy(port_line.osdp, f"{folder}/osdp")
+        for mode, wanted in ((0o600, "no permission: add yourself to dialout"), (0o666, "is in use by")):
+            os.chmod(terminal.path, mode)
+            holder = serial.Serial(terminal.path, 9600) if mode == 0o666 else None
+            if holder:
+                fcntl.ioctl(holder.fileno(), termios.TIOCEXCL)
+            done = subprocess.run([f"{folder}/port/osdp-port", "--osdp", f"{folder}/osdp", terminal.path, "9600", "show"], capture_output=True, text=True, stdin=subprocess.DEVNULL,
+                                  timeout=60, **nobody)
+            asks(done.returncode == 3 and f"{terminal.path}" in done.stderr and wanted in done.stderr, f"no permission: {done}")
+            if holder:
+                holder.close()
+    terminal.close()
+
+
+def bad_lines():
+    """Lines that aren't orders are told with the word that is wrong, and nothing ends by them."""
+    with Line() as line:
+        reader, panel = line.reader(0, 5), line.panel("5")
+        asks(line.run(opened(panel, 5)), "lines: the session doesn't open")
+        rows = (("9 open", "word 1, 9: the address of a device of this line: 5"), ("5 opne", "word 2, opne: one of open,"), ("5 led pink", "word 3, pink: a colour"),
+                ("5 open 3", "word 3, 3: a time"), ("5 move 127", "word 3, 127: the new address"), ("5 OUT 0:5", "osdp doesn't read this command"),
+                ("5 COMSET 7 12345", "the port has no rate 12345"), ("5", "word 2 is missing"), ("5 POLL", "word 2, POLL"), ("5 beep 0", "word 3, 0"), ("5 accept", "is the one that stood there"))
+        for order, why in rows:
+            panel.say(order)
+            asks(line.run(lambda: any(each.startswith(f"not taken {order}: ") and why in each for each in panel.lines), 10), f"lines: {order}: {panel.lines[-2:]}")
+        for each in (b"\xff\xfe 1\n", b"5 OUT 0:2:0\0\n", b"x" * 8193 + b"\n"):
+            panel.process.stdin.write(each)
+        panel.process.stdin.write(b"5 led green")  # without a line feed
+        panel.process.stdin.close()
+        asks(line.run(has(reader, "taken LED 0:0:0:0:0:0:0:0:1:1:0:2:0")), "lines: the last order isn't done")
+        asks(sum("refused line" in each for each in panel.lines) == 3, f"lines: {panel.lines[-6:]}")
+        for said, told in (("card 17 4386", "event RAW 0 1 26 88889100"), ("keys 12#", "event KEYPAD 0 313223"), ("nonsense", "refused osdp doesn't read this line"), ("bytes 00", "refused bytes 00")):
+            reader.say(said)
+            asks(line.run(tells(reader, told), 10), f"lines: {said}: {reader.lines[-2:]}")
+        asks(line.run(lambda: tells(panel, "facility 17 number 4386")() and tells(panel, "keys 12#")()), f"lines: the card is told as {panel.lines[-2:]}")
+
+
+PARTS = (over_the_network, bad_words, no_permission, bad_lines)
