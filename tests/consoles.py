@@ -26,7 +26,7 @@ def statuses(wanted):
     """The statuses that a command may end with that prints this, as the manual pages have them."""
     if re.search(r"^osdp\w*: ", wanted, re.M):
         return (2, 3, 4)
-    return (1,) if re.search(r"\brefused (F[1-4]|M[23])\b|\baccused [1-9]", wanted) else (0,)
+    return (1,) if re.search(r"\brefused (F[1-4]|M[23])\b|\baccused [1-9]|^nothing was judged$", wanted, re.M) else (0,)
 
 
 def tell(page, what, wanted="", got=""):

@@ -66,11 +66,11 @@ class Reader:
         habits, chance = self.line.habits, self.line.chance
         if number and number == self.taken:
             return self.repeat()
-        if habits.busy and chance.random() < habits.busy:
-            return self.reply(number if habits.busy_number else 0, BUSY)
         if number and (self.taken is None or number != self.taken % 3 + 1):
             self.taken = self.stored = None
             return self.reply(number, NAK, bytes([4]))
+        if habits.busy and chance.random() < habits.busy:
+            return self.reply(number if habits.busy_number else 0, BUSY)
         reply = self.reply(number, *self.act(number, code, data))
         self.taken, self.stored = number, reply
         if code == COMSET and data[0] != self.address:

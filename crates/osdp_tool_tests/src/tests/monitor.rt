@@ -225,6 +225,7 @@ fn comes(rt: &impl Abort, monitor: &mut Monitor, item: &str, expected: &mut Burs
     let mut found = Found {
         accusation: None,
         notice: None,
+        judged: false,
     };
     match item {
         "skip" => monitor.skip(),
