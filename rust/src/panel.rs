@@ -233,7 +233,8 @@ impl Panel {
     ///
     /// # Errors
     ///
-    /// `NoEntry`, `AddressTaken`, `PollSubmitted`, `Full`.
+    /// `NoEntry`; `PollSubmitted`; `AddressOutOfRange` for a COMSET to an address above 126, where the device would be out of reach; `AddressTaken`;
+    /// `Full`.
     pub fn submit(&mut self, entry: Entry, command: &Command) -> Result<(), Error> {
         let index = self.index(entry)?;
         let (code, data) = (command.code(), command.data());

@@ -118,6 +118,8 @@ static void refusals(void)
     demand(osdp_panel_submit(&panel, 0, 0x60, out, 0) == OSDP_POLL_SUBMITTED);
     demand(osdp_panel_submit_text(&panel, 0, "OUT 0:2", 7) == OSDP_BAD_TEXT);
     demand(osdp_panel_submit_text(&panel, 0, "COMSET 6 9600", 13) == OSDP_ADDRESS_TAKEN);
+    demand(osdp_panel_submit_text(&panel, 0, "COMSET 127 9600", 15) == OSDP_ADDRESS_OUT_OF_RANGE);
+    demand(osdp_panel_submit_text(&panel, 7, "COMSET 127 9600", 15) == OSDP_NO_ENTRY);
     demand(osdp_panel_begin(&panel, 7, now) == OSDP_NO_ENTRY);
     demand(osdp_panel_retarget(&panel, 0, 6) == OSDP_ADDRESS_TAKEN);
     demand(osdp_panel_retarget(&panel, 0, 127) == OSDP_PANEL_OUT_OF_RANGE);

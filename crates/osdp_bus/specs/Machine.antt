@@ -13,7 +13,7 @@ pub use Rattle.osdp_controller.specs.Machine.{changed_unless, unless_refused}
 use Rattle.osdp_bus.specs.declared.config.BusConfig.{BusConfig}
 use Rattle.osdp_bus.specs.declared.device.Device.{Device}
 use Rattle.osdp_bus.specs.declared.fault.BusFault.{BusFault}
-use Rattle.osdp_bus.specs.declared.fault.BusFault.TheVariants.{NoMemory, TooMany, AddressTaken, NoEntry, OutOfRange, Full, PollSubmitted, NotClosed}
+use Rattle.osdp_bus.specs.declared.fault.BusFault.TheVariants.{NoMemory, TooMany, AddressTaken, NoEntry, OutOfRange, AddressOutOfRange, Full, PollSubmitted, NotClosed}
 use Rattle.osdp_bus.specs.Buses.{BusState, device_of, new_bus, seen}
 use Rattle.osdp_bus.specs.Devices.{freed_with, is_taken, is_taken_beside, reserved_for}
 use Rattle.osdp_bus.specs.Settings.{IsBusConfig, controller_config}
@@ -99,6 +99,20 @@ submit_refusal_of entry command (Some d) b =
 
 abbrev pub submit_refusal_at : ℕ → Command → BusState → Option BusFault
 submit_refusal_at entry command b = submit_refusal_of entry command (device_of entry b) b
+
+-- a COMSET to an address that no device has: the configuration address, which is 127, and those above
+abbrev pub leads_nowhere : Option Communication → Bool
+leads_nowhere None = false
+leads_nowhere (Some asked) = nat_le 127 asked.address
+
+-- a panel's order: such a COMSET is refused, since a device that follows it is out of reach; else as submitting is
+abbrev pub order_refusal_of : ℕ → Command → Option Device → BusState → Option BusFault
+order_refusal_of entry command None b = Some NoEntry
+order_refusal_of entry command (Some d) b =
+    if leads_nowhere (comset_of command) then Some AddressOutOfRange else submit_refusal_of entry command (Some d) b
+
+abbrev pub order_refusal_at : ℕ → Command → BusState → Option BusFault
+order_refusal_at entry command b = order_refusal_of entry command (device_of entry b) b
 
 -- the command waits, and a COMSET reserves its address
 abbrev pub device_submits : Command → Device → Device

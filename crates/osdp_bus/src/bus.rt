@@ -46,7 +46,7 @@ impl Bus {
     ghost use Rattle.osdp_bus.specs.Buses.{device_of};
     ghost use Rattle.osdp_bus.specs.Deadlines.{IsDeadline};
     ghost use Rattle.osdp_bus.specs.Hearing.{after_bytes, after_silence};
-    ghost use Rattle.osdp_bus.specs.Machine.{AddEnds, NewEnds, after_begin_at, after_next_report, after_retarget_at, after_submit_at, after_withdraw_at, begin_refusal_at, changed_unless, retarget_refusal_at, submit_refusal_at, unless_refused, withdrawal_at};
+    ghost use Rattle.osdp_bus.specs.Machine.{AddEnds, NewEnds, after_begin_at, after_next_report, after_retarget_at, after_submit_at, after_withdraw_at, begin_refusal_at, changed_unless, order_refusal_at, retarget_refusal_at, submit_refusal_at, unless_refused, withdrawal_at};
     ghost use Rattle.osdp_bus.specs.Sending.{IsSentAs};
     ghost use Rattle.osdp_controller.specs.Lent.{IsWritten};
     ghost use Rattle.osdp_bus.specs.Ticking.{bus_ticks};
@@ -113,10 +113,28 @@ impl Bus {
     /// reserves its address for the device until it is told settled or moved, or is withdrawn; told unsettled or unread,
     /// it reserves it until `retarget`.
     ///
-    /// NoEntry (B4); else PollSubmitted (C4) for a POLL; else AddressTaken (B3) for a COMSET to an address of another
-    /// device or reserved for one, or where an address is reserved for this device already; else Full (C3) where as many
-    /// commands wait as there is room for. The command comes back, and nothing has changed.
+    /// NoEntry (B4); else PollSubmitted (C4) for a POLL; else AddressOutOfRange (B6) for a COMSET to an address that no
+    /// device has, 127 and above, where the device would be out of reach; else AddressTaken (B3) for a COMSET to an address
+    /// of another device or reserved for one, or where an address is reserved for this device already; else Full (C3) where
+    /// as many commands wait as there is room for. The command comes back, and nothing has changed.
     pub fn submit(&mut self, entry: Entry, command: Command) -> Result<(), (BusFault, Command)>
+        ensures ok { OnOk result (order_refusal_at entry command self.old ≡ None) }
+        ensures accepted { OnOk result (self.new ≡ after_submit_at entry command self.old) }
+        ensures err { IfErr result (λ e. order_refusal_at entry command self.old ≡ Some e.0) }
+        ensures back { IfErr result (λ e. (e.1 ≡ command) × (self.new ≡ self.old)) }
+    {
+        self.line.order(entry, command)
+    }
+
+    /// As `submit`, but a COMSET to whatever address is accepted as any other: for a simulation, which shows what a reader
+    /// answers to one. A device that confirms one to 127 or above is out of reach.
+    ///
+    /// The refusals of `submit` but for AddressOutOfRange (B6).
+    pub fn submit_anywhere(
+        &mut self,
+        entry: Entry,
+        command: Command,
+    ) -> Result<(), (BusFault, Command)>
         ensures ok { OnOk result (submit_refusal_at entry command self.old ≡ None) }
         ensures accepted { OnOk result (self.new ≡ after_submit_at entry command self.old) }
         ensures err { IfErr result (λ e. submit_refusal_at entry command self.old ≡ Some e.0) }

@@ -17,6 +17,7 @@ pub mod Staying
 pub mod Silences
 pub mod Reports
 pub mod Rooms
+pub mod Ordering
 pub mod Refusing
 pub mod Moments
 pub mod Retargeting

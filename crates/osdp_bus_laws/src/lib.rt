@@ -91,7 +91,8 @@ pub fn sessions_begin_alone()
     ensures { (b : BusState) → SessionsBeginAlone b }
 {}
 
-/// Each refusal comes exactly where its cause holds and no cause that is judged before it does, and nothing has changed then.
+/// Each refusal comes exactly where its cause holds and no cause that is judged before it does, and nothing has changed then. What `submit` accepts
+/// is what `submit_anywhere` would; a COMSET to an address that no device has it refuses before.
 pub fn refusals_come_in_order()
     ensures { Always RefusesInOrder }
 {}

@@ -5,7 +5,7 @@ use Rattle.osdp_bus.specs.declared.fault.BusFault.{BusFault}
 use Rattle.osdp_bus.specs.Buses.{BusState, new_bus}
 use Rattle.osdp_bus.specs.Deadlines.{IsDeadline}
 use Rattle.osdp_bus.specs.Hearing.{after_bytes, after_silence}
-use Rattle.osdp_bus.specs.Machine.{add_refusal, after_add, after_begin_at, after_next_report, after_retarget_at, after_submit_at, after_withdraw_at, begin_refusal_at, changed_unless, retarget_refusal_at, submit_refusal_at, withdrawal_at}
+use Rattle.osdp_bus.specs.Machine.{add_refusal, after_add, after_begin_at, after_next_report, after_retarget_at, after_submit_at, after_withdraw_at, begin_refusal_at, changed_unless, order_refusal_at, retarget_refusal_at, withdrawal_at}
 use Rattle.osdp_bus.specs.Ticking.{BusTicked, bus_ticks}
 use Rattle.osdp_line_calls.specs.LineAnswers.{CalledIn}
 use Rattle.osdp_line_calls.specs.declared.panel_call.PanelCall.{PanelCall}
@@ -42,7 +42,7 @@ does (call.At now) s = record { text = []; session = record s { now = now } }
 does (call.Add address) s = unless_refused (add_refusal address s.bus) (after_add address s.bus) s
 does (call.Begin entry) s = unless_refused (begin_refusal_at entry s.bus) (after_begin_at entry s.now s.bus) s
 does (call.Submit entry command) s =
-    unless_refused (submit_refusal_at entry command s.bus) (after_submit_at entry command s.bus) s
+    unless_refused (order_refusal_at entry command s.bus) (after_submit_at entry command s.bus) s
 does (call.Withdraw entry) s = writes (withdrawal_line entry (withdrawal_at entry s.bus)) (after_withdraw_at entry s.bus) s
 does (call.Retarget entry address) s =
     unless_refused (retarget_refusal_at entry address s.bus) (after_retarget_at entry address s.bus) s

@@ -2,7 +2,7 @@
 use Rattle.std.specs.Prelude.{ℕ, ◌+◌, List, [], ◌∷◌, ◌++◌, codes, Option, Some, None, Result, Ok, Err}
 use Rattle.std.specs.Fmt.{decimal}
 use Rattle.osdp_bus.specs.declared.fault.BusFault.{BusFault}
-use Rattle.osdp_bus.specs.declared.fault.BusFault.TheVariants.{NoMemory, TooMany, AddressTaken, NoEntry, OutOfRange, Full, PollSubmitted, NotClosed}
+use Rattle.osdp_bus.specs.declared.fault.BusFault.TheVariants.{NoMemory, TooMany, AddressTaken, NoEntry, OutOfRange, AddressOutOfRange, Full, PollSubmitted, NotClosed}
 use Rattle.osdp_controller.specs.Causes.{cause_name}
 use Rattle.osdp_controller.specs.declared.report.Report.{Report}
 use Rattle.osdp_controller.specs.declared.report.Report.TheVariants.{Opened, Settled, Moved, Event, PollAnswered, Unread, Lost}
@@ -58,6 +58,7 @@ fault_name TooMany = codes "B2"
 fault_name AddressTaken = codes "B3"
 fault_name NoEntry = codes "B4"
 fault_name OutOfRange = codes "B5"
+fault_name AddressOutOfRange = codes "B6"
 -- of the controller of an entry
 fault_name Full = codes "C3"
 fault_name PollSubmitted = codes "C4"

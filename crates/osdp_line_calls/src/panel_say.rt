@@ -85,6 +85,7 @@ fn fault_name(fault: BusFault) -> &'static str
         BusFault::AddressTaken => "B3",
         BusFault::NoEntry => "B4",
         BusFault::OutOfRange => "B5",
+        BusFault::AddressOutOfRange => "B6",
         // Of the controller of an entry.
         BusFault::Full => "C3",
         BusFault::PollSubmitted => "C4",

@@ -221,6 +221,7 @@ Answers: before the last line of an answer stand lines like these.
   refused line          no call: its name, how many words it has, or one that is no value or out of its range
   refused B2, B3        sixteen devices are there; the address is another device's, or reserved for one
   refused B4, B5        there is no device I; the address is above 126
+  refused B6            a COMSET goes to an address above 126
   refused C3, C4        no room for another command; a POLL is not submitted
   refused C5            the session is not closed
   due MOMENT, due none  the last line: the moment of the next tick
