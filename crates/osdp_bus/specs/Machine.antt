@@ -1,10 +1,11 @@
 -- The calls of a bus's user: when each is refused, and what it changes.
-use Rattle.std.specs.Prelude.{◌≡◌, ℕ, Bool, false, ◌||◌, nat_le, nat_lt, if◌then◌else◌, max, [], ◌∷◌, ◌++◌, length, Option, Some, None, is_some, option_map, slice_set, Result, Ok, Err}
+use Rattle.std.specs.Prelude.{◌≡◌, ℕ, Bool, false, ◌||◌, ◌==◌, nat_le, nat_lt, if◌then◌else◌, max, [], ◌∷◌, ◌++◌, length, Option, Some, None, is_some, option_map, slice_set, Result, Ok, Err}
 use Rattle.std.specs.Option.{option_map_or}
 use Rattle.osdp_msg.specs.declared.command.Command.{Command}
 use Rattle.osdp_msg.specs.declared.command_fields.Communication.{Communication}
 use Rattle.osdp_controller.specs.declared.fault.ControllerFault.{ControllerFault}
 use Rattle.osdp_controller.specs.declared.fault.ControllerFault.TheVariants as controllers
+use Rattle.osdp_controller.specs.declared.report.Report.{Report}
 use Rattle.osdp_controller.specs.Comsets.{has_comset}
 use Rattle.osdp_controller.specs.Hearing.{comset_of}
 use Rattle.osdp_controller.specs.Machine.{after_begin, after_retarget, after_submit, after_withdraw, begin_refusal, new_machine, retarget_refusal, submit_refusal, withdrawn_in}
@@ -16,6 +17,7 @@ use Rattle.osdp_bus.specs.declared.fault.BusFault.{BusFault}
 use Rattle.osdp_bus.specs.declared.fault.BusFault.TheVariants.{NoMemory, TooMany, AddressTaken, NoEntry, OutOfRange, AddressOutOfRange, Full, PollSubmitted, NotClosed}
 use Rattle.osdp_bus.specs.Buses.{BusState, device_of, new_bus, seen}
 use Rattle.osdp_bus.specs.Devices.{freed_with, is_taken, is_taken_beside, reserved_for}
+use Rattle.osdp_bus.specs.Remembering.{Remembered, remembers}
 use Rattle.osdp_bus.specs.Settings.{IsBusConfig, controller_config}
 
 -- how many devices there may be
@@ -169,6 +171,17 @@ withdrawal_at entry b = withdrawal_of (device_of entry b)
 abbrev pub after_withdraw_at : ℕ → BusState → BusState
 after_withdraw_at entry b = changes_device entry device_withdraws b
 
--- the report that waits is taken
+-- the report that waits is taken, and remembered of its entry
+abbrev pub remembered_of : ℕ → Report → (ℕ → Remembered) → ℕ → Remembered
+remembered_of entry report remembered = λ k. if k == entry then remembers report (remembered k) else remembered k
+
+abbrev pub remembered_after : Option (ℕ × Report) → BusState → ℕ → Remembered
+remembered_after None b = b.remembered
+remembered_after (Some (entry, report)) b =
+    option_map_or (λ d. remembered_of entry report b.remembered) (device_of entry b) b.remembered
+
 abbrev pub after_next_report : BusState → BusState
-after_next_report b = record b { devices = record b.devices { report = None } }
+after_next_report b = record b {
+  devices = record b.devices { report = None };
+  remembered = remembered_after b.devices.report b;
+}

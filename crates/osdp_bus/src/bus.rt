@@ -9,16 +9,15 @@ use crate::boxed_device::BoxedDevice;
 use crate::config::BusConfig;
 use crate::device_list::{DeviceList, is_taken};
 use crate::fault::BusFault;
-use crate::line::Line;
+use crate::line::{Line, MOST_DEVICES};
+use crate::memory::BoxedMemory;
 use crate::told::Told;
+use arrayvec::ArrayVec;
 use osdp_controller::Report;
 use osdp_frame::{Address, Burst, Receiver};
 use osdp_msg::Command;
 use std::alloc::Global;
 use std::marker::Model;
-
-/// How many devices there may be.
-const MOST_DEVICES: usize = 16;
 
 /// The panel's end of a line with up to sixteen devices, each with a controller of its own.
 ///
@@ -43,7 +42,7 @@ impl Model for Bus {
 }
 
 impl Bus {
-    ghost use Rattle.osdp_bus.specs.Buses.{device_of};
+    ghost use Rattle.osdp_bus.specs.Buses.{device_of, is_maybe_again};
     ghost use Rattle.osdp_bus.specs.Deadlines.{IsDeadline};
     ghost use Rattle.osdp_bus.specs.Hearing.{after_bytes, after_silence};
     ghost use Rattle.osdp_bus.specs.Machine.{AddEnds, NewEnds, after_begin_at, after_next_report, after_retarget_at, after_submit_at, after_withdraw_at, begin_refusal_at, changed_unless, order_refusal_at, retarget_refusal_at, submit_refusal_at, unless_refused, withdrawal_at};
@@ -69,6 +68,7 @@ impl Bus {
                 entries,
                 report: Told::new(),
             },
+            memories: ArrayVec::new(),
             receiver: Receiver::new(config.gap),
             first: 0,
         };
@@ -94,7 +94,9 @@ impl Bus {
             return Err(BusFault::AddressTaken);
         }
         let device = BoxedDevice::new(self.alloc, address, &self.line.config)?;
+        let memory = BoxedMemory::new(self.alloc)?;
         self.line.devices.entries.push_reserved(device);
+        self.line.memories.push(memory);
         Ok(entry)
     }
 
@@ -219,7 +221,7 @@ impl Bus {
         ensures report { result ≡ self.old.devices.report }
         ensures bus { self.new ≡ after_next_report self.old }
     {
-        self.line.devices.report.take()
+        self.line.next_report()
     }
 
     /// The report that waits, where it lies, with the entry of the device whose controller told it. It waits until `drop_report` or `next_report`.
@@ -229,11 +231,21 @@ impl Bus {
         self.line.devices.report.as_ref()
     }
 
+    /// Whether the report that waits is an event that may have been reported before: the first of its session, and equal in all its bytes to the one
+    /// that was reported last for its entry. All others are new. A new bus has reported none. False where no report waits.
+    ///
+    /// A device whose session was lost tells the event again whose answer may have been lost. So the card or key that it tells may be the one before.
+    pub fn is_maybe_again(&self) -> bool
+        ensures { result ≡ is_maybe_again self.now }
+    {
+        self.line.is_maybe_again()
+    }
+
     /// Lets the report that waits go, once it was read where it lies. Where none waits nothing changes.
     pub fn drop_report(&mut self)
         ensures { self.new ≡ after_next_report self.old }
     {
-        self.line.devices.report.clear();
+        self.line.drop_report();
     }
 
     /// How many devices there are.

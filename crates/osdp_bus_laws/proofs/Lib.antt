@@ -16,6 +16,7 @@ pub mod Holding
 pub mod Staying
 pub mod Silences
 pub mod Reports
+pub mod Repeating
 pub mod Rooms
 pub mod Ordering
 pub mod Refusing

@@ -9,7 +9,7 @@ use Rattle.osdp_bus.specs.declared.config.BusConfig.{BusConfig}
 use Rattle.osdp_bus.specs.declared.fault.BusFault.{BusFault}
 use Rattle.osdp_bus.specs.declared.fault.BusFault.TheVariants.{NoEntry, OutOfRange}
 use Rattle.osdp_bus.specs.declared.device.Device.{Device}
-use Rattle.osdp_bus.specs.Buses.{BusState, device_of, seen}
+use Rattle.osdp_bus.specs.Buses.{BusState, device_of, is_maybe_again, seen}
 use Rattle.osdp_bus.specs.Deadlines.{IsDeadline}
 use Rattle.osdp_bus.specs.Devices.{address_of}
 use Rattle.osdp_bus.specs.Hearing.{after_bytes, after_silence}
@@ -173,7 +173,7 @@ IsDueIn (Some m) out out' = (due : Option ℕ) × IsDeadline m.bus due × (out' 
 
 -- the report that waits is written
 abbrev pub writes_report : BusState → ReportStruct → ReportStruct
-writes_report b out = report_struct b.devices.report out
+writes_report b out = report_struct b.devices.report (is_maybe_again b) out
 
 -- the burst that goes out is written
 abbrev pub IsSentIn : Option Packet → BurstStruct → BurstStruct → Type 0

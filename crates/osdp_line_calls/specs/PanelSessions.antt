@@ -11,7 +11,7 @@ use Rattle.osdp_line_calls.specs.LineAnswers.{CalledIn}
 use Rattle.osdp_line_calls.specs.declared.panel_call.PanelCall.{PanelCall}
 use Rattle.osdp_line_calls.specs.declared.panel_call.PanelCall.TheVariants as call
 use Rattle.osdp_line_calls.specs.Passing.{Listening, Overheard, hears_begin, hears_bytes, hears_end, hears_nothing, hears_silence, new_listening, opened_by, sees}
-use Rattle.osdp_line_calls.specs.PanelTexts.{due_line, refusal_line, report_line, send_line, withdrawal_line}
+use Rattle.osdp_line_calls.specs.PanelTexts.{due_line, refusal_line, send_line, next_report_line, withdrawal_line}
 
 -- a bus, the moment of the calls to come, and what is heard beside the bus
 pub record Session : Type 0 where
@@ -53,7 +53,7 @@ does call.Tick s = sends (bus_ticks s.now s.bus) s
 -- the report that waits then is taken and told; it may say that a session is open, or isn't any more
 abbrev pub then_reports : Called → Called
 then_reports c = record {
-  text = c.text ++ report_line c.session.bus.devices.report;
+  text = c.text ++ next_report_line c.session.bus;
   session = record c.session {
     bus = after_next_report c.session.bus;
     listening = record c.session.listening { opened = opened_by c.session.bus.devices.report c.session.listening.opened };

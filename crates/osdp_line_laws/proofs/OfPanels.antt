@@ -14,7 +14,7 @@ use Rattle.osdp_line_calls.specs.declared.panel_call.PanelCall.TheVariants as li
 use Rattle.osdp_line_calls.specs.PanelCalls.{CallFits, call_words}
 use Rattle.osdp_line_calls.specs.PanelLines.{Answers, IsAnswered, refuses}
 use Rattle.osdp_line_calls.specs.PanelSessions.{Called, IsDue, Session, answered, does, ended, overhears, then_reports}
-use Rattle.osdp_line_calls.specs.PanelTexts.{due_line, refusal_line, report_line}
+use Rattle.osdp_line_calls.specs.PanelTexts.{due_line, refusal_line, next_report_line}
 use Rattle.osdp_line_laws.proofs.Lines.{of_all}
 use Rattle.osdp_line_laws.specs.PanelLines.{Calls, Refused, calls_text, kept_back, ordered}
 
@@ -44,7 +44,7 @@ order_done entry command b = ap after_next_report (order_made entry command b) �
 
 order_text : (entry : ℕ) (command : Command) (b : BusState)
     → refusal_line (order_refusal_at entry command b)
-    ++ report_line (changed_unless (order_refusal_at entry command b) b (after_submit_at entry command b)).devices.report
+    ++ next_report_line (changed_unless (order_refusal_at entry command b) b (after_submit_at entry command b))
     ≡ kept_back (line.Submit entry command) b ++ calls_text (orders entry command ++ NextReport ∷ []) b
 order_text entry command b = by_test (leads_nowhere (comset_of command)) refl
   where
@@ -52,19 +52,19 @@ order_text entry command b = by_test (leads_nowhere (comset_of command)) refl
     after = after_submit_at entry command b
 
     by_test : (t : Bool) → leads_nowhere (comset_of command) ≡ t
-        → refusal_line refused ++ report_line (changed_unless refused b after).devices.report
+        → refusal_line refused ++ next_report_line (changed_unless refused b after)
         ≡ (if t then refusal_line refused else []) ++ calls_text ((if t then [] else Submit entry command ∷ []) ++ NextReport ∷ []) b
     by_test true nowhere =
-        with_report (refusal_line refused) (report_line (changed_unless refused b after).devices.report)
-        ∙ ap (λ (x : BusState). refusal_line refused ++ (report_line x.devices.report ++ []))
+        with_report (refusal_line refused) (next_report_line (changed_unless refused b after))
+        ∙ ap (λ (x : BusState). refusal_line refused ++ (next_report_line x ++ []))
         (nowhere_stays entry command (device_of entry b) b b after nowhere)
     by_test false elsewhere =
-        with_report (refusal_line refused) (report_line (changed_unless refused b after).devices.report)
-        ∙ ap (λ f. refusal_line f ++ (report_line (changed_unless f b after).devices.report ++ []))
+        with_report (refusal_line refused) (next_report_line (changed_unless refused b after))
+        ∙ ap (λ f. refusal_line f ++ (next_report_line (changed_unless f b after) ++ []))
         (elsewhere_same entry command (device_of entry b) b elsewhere)
 
 pub made : (call : PanelCall) (s : Session) → Made call s
-made (line.At later) s = record { bus = refl; text = sym (append-nil (report_line s.bus.devices.report)) }
+made (line.At later) s = record { bus = refl; text = sym (append-nil (next_report_line s.bus)) }
 made (line.Add address) s = record { bus = refl; text = with_report _ _ }
 made (line.Begin entry) s = record { bus = refl; text = with_report _ _ }
 made (line.Submit entry command) s = record { bus = order_done entry command s.bus; text = order_text entry command s.bus }

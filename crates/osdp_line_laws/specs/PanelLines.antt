@@ -13,7 +13,7 @@ use Rattle.osdp_line_calls.specs.declared.panel_call.PanelCall.TheVariants as li
 use Rattle.osdp_line_calls.specs.PanelCalls.{CallFits, call_words}
 use Rattle.osdp_line_calls.specs.PanelLines.{Answers}
 use Rattle.osdp_line_calls.specs.PanelSessions.{IsDue, Session, new_session, overhears}
-use Rattle.osdp_line_calls.specs.PanelTexts.{due_line, no_line, refusal_line, report_line, send_line, withdrawal_line}
+use Rattle.osdp_line_calls.specs.PanelTexts.{due_line, no_line, refusal_line, send_line, next_report_line, withdrawal_line}
 
 -- the call of the bus that a line orders, at the moment of the session; a moment is none, nor is a COMSET to an address that no device has
 abbrev pub ordered : PanelCall → ℕ → List Call
@@ -37,7 +37,7 @@ call_text (Retarget entry address) b = refusal_line (retarget_refusal_at entry a
 call_text (OnBytes bytes now) b = []
 call_text (OnSilence now) b = []
 call_text (Tick now) b = send_line (bus_ticks now b).sent
-call_text NextReport b = report_line b.devices.report
+call_text NextReport b = next_report_line b
 
 -- of a list of calls, each as those before it have left the bus
 abbrev pub calls_text : List Call → BusState → List ℕ

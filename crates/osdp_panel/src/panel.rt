@@ -1,7 +1,7 @@
 //! A panel, whose turns write into what its program has.
 
 ghost use Rattle.std.specs.Prelude.{◌≡◌, ◌↔◌, IfErr, IsSome, None, OnOk, Some, length, option_map};
-ghost use Rattle.osdp_bus.specs.Buses.{device_of};
+ghost use Rattle.osdp_bus.specs.Buses.{device_of, is_maybe_again};
 ghost use Rattle.osdp_bus.specs.Deadlines.{IsDeadline};
 ghost use Rattle.osdp_bus.specs.Devices.{address_of};
 ghost use Rattle.osdp_bus.specs.Machine.{AddEnds, NewEnds, after_begin_at, after_retarget_at, after_submit_at, after_withdraw_at, begin_refusal_at, changed_unless, order_refusal_at, retarget_refusal_at, unless_refused, withdrawal_at};
@@ -94,11 +94,13 @@ impl Panel {
         ensures unsent { IsSome result ↔ IsSome turn.new.burst }
         ensures panel { self.new ≡ after_turn bytes.now now self.old }
         ensures heard { turn.new.heard ≡ (heard_in bytes.now now self.old).devices.report }
+        ensures maybe_again { turn.new.maybe_again ≡ is_maybe_again (heard_in bytes.now now self.old) }
         ensures sent { IsSentAs (ticked_in bytes.now now self.old).sent turn.new.burst }
         ensures ticked { turn.new.ticked ≡ (ticked_in bytes.now now self.old).bus.devices.report }
         ensures sleep_until { IsDeadline self.new turn.new.sleep_until }
     {
         self.bus.on_bytes(bytes, now);
+        turn.maybe_again = self.bus.is_maybe_again();
         turn.heard = self.bus.next_report();
         turn.burst = self.bus.tick(now);
         turn.ticked = self.bus.next_report();
