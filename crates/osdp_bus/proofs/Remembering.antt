@@ -1,24 +1,32 @@
--- What is remembered of each entry, by the list of what is remembered of them.
-use Rattle.std.proofs.Common.{◌≡◌, ℕ, zero, suc, ◌<◌, ◌==◌, Bool, true, false, List, [], ◌∷◌, ◌++◌, length, Option, Some, None, refl, ap, arith}
-use Rattle.std.specs.Prelude.{if◌then◌else◌, slice_get, slice_set}
+-- What is remembered of each entry that there may be, by the list of what is remembered of those that are there.
+use Rattle.std.proofs.Common.{◌≡◌, ◌∙◌, ℕ, zero, suc, ◌-◌, ◌<◌, ◌≤◌, Bool, true, false, List, [], ◌∷◌, ◌++◌, length, replicate, Option, Some, None, refl, sym, ap, arith, append_assoc}
+use Rattle.std.specs.Prelude.{slice_get, slice_set}
+use Rattle.std.specs.Option.{option_map_or}
 use Rattle.osdp_controller.specs.declared.report.Report.{Report}
 use Rattle.osdp_controller.specs.declared.report.Report.TheVariants as report
-use Rattle.osdp_bus.specs.Machine.{remembered_of}
-use Rattle.osdp_bus.specs.Private.{memories_of, memory_at}
-use Rattle.osdp_bus.specs.Remembering.{Remembered, may_be_again, nothing_yet, remembers}
+use Rattle.osdp_bus.specs.declared.device.Device.{Device}
+use Rattle.osdp_bus.specs.Private.{memories_of}
+use Rattle.osdp_bus.specs.Remembering.{Remembered, may_be_again, memory_at, nothing_yet, remembers, remembers_at}
 
 -- a new entry has told nothing, as one that isn't there
-one_more_at : (ms : List Remembered) (k : ℕ) → memory_at k (ms ++ nothing_yet ∷ []) ≡ memory_at k ms
-one_more_at [] zero = refl
-one_more_at [] (suc k) = refl
-one_more_at (m ∷ ms) zero = refl
-one_more_at (m ∷ ms) (suc k) = one_more_at ms k
+pad : (n : ℕ) → 0 < n → nothing_yet ∷ replicate (n - 1) nothing_yet ≡ replicate n nothing_yet
+pad zero some = absurd (omega (arith, some))
+pad (suc n) some = refl
 
-pub one_more : (ms : List Remembered) → memories_of (ms ++ nothing_yet ∷ []) ≡ memories_of ms
-one_more ms = (λ i k. one_more_at ms k i)
+pub one_more : (ms : List Remembered) → length ms < 16 → memories_of (ms ++ nothing_yet ∷ []) ≡ memories_of ms
+one_more ms few =
+    append_assoc ms (nothing_yet ∷ []) (replicate (16 - length (ms ++ nothing_yet ∷ [])) nothing_yet)
+    ∙ ap (λ n. ms ++ nothing_yet ∷ replicate n nothing_yet) count ∙ ap (λ l. ms ++ l) (pad (16 - length ms) (omega (arith, few)))
+  where
+    one_longer : (xs : List Remembered) → length (xs ++ nothing_yet ∷ []) ≡ suc (length xs)
+    one_longer [] = refl
+    one_longer (x ∷ xs) = ap suc (one_longer xs)
+
+    count : 16 - length (ms ++ nothing_yet ∷ []) ≡ (16 - length ms) - 1
+    count = let e = one_longer ms in omega (arith, e)
 
 -- nothing was told before
-pub never_again : (r : Report) → may_be_again r nothing_yet ≡ false
+never_again : (r : Report) → may_be_again r nothing_yet ≡ false
 never_again (report.Event e) = refl
 never_again (report.Opened id) = refl
 never_again (report.Settled command reply) = refl
@@ -27,11 +35,61 @@ never_again (report.PollAnswered reply) = refl
 never_again (report.Unread command code) = refl
 never_again (report.Lost cause command) = refl
 
--- an entry's is set
-set_at : (ms : List Remembered) (entry : ℕ) (m : Remembered) (k : ℕ) → entry < length ms
-    → memory_at k (slice_set ms entry m) ≡ (if k == entry then m else memory_at k ms)
-set_at [] entry m k within = absurd (omega (arith, within))
-set_at (x ∷ ms) zero m zero within = refl
-set_at (x ∷ ms) zero m (suc k) within = refl
-set_at (x ∷ ms) (suc entry) m zero within = refl
-set_at (x ∷ ms) (suc entry) m (suc k) within = set_at ms entry m k (omega (arith, within))
+nothing_at : (n k : ℕ) → memory_at k (replicate n nothing_yet) ≡ nothing_yet
+nothing_at zero zero = refl
+nothing_at zero (suc k) = refl
+nothing_at (suc n) zero = refl
+nothing_at (suc n) (suc k) = nothing_at n k
+
+not_there : (ms : List Remembered) (n k : ℕ) → length ms ≤ k → memory_at k (ms ++ replicate n nothing_yet) ≡ nothing_yet
+not_there [] n k beyond = nothing_at n k
+not_there (m ∷ ms) n zero beyond = absurd (omega (arith, beyond))
+not_there (m ∷ ms) n (suc k) beyond = not_there ms n k (omega (arith, beyond))
+
+pub never_there : (r : Report) (ms : List Remembered) (k : ℕ) → length ms ≤ k → false ≡ may_be_again r (memory_at k (memories_of ms))
+never_there r ms k beyond = sym (ap (may_be_again r) (not_there ms (16 - length ms) k beyond) ∙ never_again r)
+
+there : (ms more : List Remembered) (k : ℕ) (m : Remembered) → slice_get ms k ≡ Some m → memory_at k (ms ++ more) ≡ m
+there [] more k m at = absurd cc
+there (x ∷ ms) more zero m at = cc
+there (x ∷ ms) more (suc k) m at = there ms more k m at
+
+pub judged_there : (r : Report) (ms : List Remembered) (k : ℕ) (m : Remembered) → slice_get ms k ≡ Some m
+    → may_be_again r m ≡ may_be_again r (memory_at k (memories_of ms))
+judged_there r ms k m at = sym (ap (may_be_again r) (there ms (replicate (16 - length ms) nothing_yet) k m at))
+
+-- a report is remembered at its place
+set_there : (ms more : List Remembered) (k : ℕ) (m : Remembered) (r : Report) → slice_get ms k ≡ Some m
+    → slice_set ms k (remembers r m) ++ more ≡ remembers_at k r (ms ++ more)
+set_there [] more k m r at = absurd cc
+set_there (x ∷ ms) more zero m r at = let same : m ≡ x = cc in ap (λ y. remembers r y ∷ (ms ++ more)) same
+set_there (x ∷ ms) more (suc k) m r at = ap (λ l. x ∷ l) (set_there ms more k m r at)
+
+set_length : (ms : List Remembered) (k : ℕ) (m : Remembered) → length (slice_set ms k m) ≡ length ms
+set_length [] k m = refl
+set_length (x ∷ ms) zero m = refl
+set_length (x ∷ ms) (suc k) m = ap suc (set_length ms k m)
+
+is_there : (ds : List Device) (k : ℕ) → k < length ds → (d : Device) × (slice_get ds k ≡ Some d)
+is_there [] k within = absurd (omega (arith, within))
+is_there (d ∷ ds) zero within = (d, refl)
+is_there (d ∷ ds) (suc k) within = is_there ds k (omega (arith, within))
+
+pub remembered_there : (ms : List Remembered) (ds : List Device) (k : ℕ) (m : Remembered) (r : Report) → slice_get ms k ≡ Some m → k < length ds
+    → memories_of (slice_set ms k (remembers r m)) ≡ option_map_or (λ d. remembers_at k r (memories_of ms)) (slice_get ds k) (memories_of ms)
+remembered_there ms ds k m r at within =
+    let d = is_there ds k within in
+    ap (λ n. slice_set ms k (remembers r m) ++ replicate (16 - n) nothing_yet) (set_length ms k (remembers r m))
+    ∙ set_there ms (replicate (16 - length ms) nothing_yet) k m r at
+    ∙ sym (ap (λ o. option_map_or (λ d. remembers_at k r (memories_of ms)) o (memories_of ms)) d.1)
+
+gone : (ds : List Device) (k : ℕ) → length ds ≤ k → slice_get ds k ≡ None
+gone [] k beyond = refl
+gone (d ∷ ds) zero beyond = absurd (omega (arith, beyond))
+gone (d ∷ ds) (suc k) beyond = gone ds k (omega (arith, beyond))
+
+pub nowhere_remembered : (ms : List Remembered) (ds : List Device) (k : ℕ) (r : Report) → length ds ≤ k
+    → memories_of ms ≡ option_map_or (λ d. remembers_at k r (memories_of ms)) (slice_get ds k) (memories_of ms)
+nowhere_remembered ms ds k r beyond = sym (ap (λ o. option_map_or (λ d. remembers_at k r (memories_of ms)) o (memories_of ms)) (gone ds k beyond))
+
+pub ruleset remembering = (one_more, never_there, judged_there, remembered_there, nowhere_remembered)

@@ -153,7 +153,7 @@ any_at test (x ∷ ds) (suc n) d is passes = by_test (test x) (any_at test ds n 
 
 -- ---- what a bus without a report does at a moment
 
-abbrev bus : BusConfig → (ℕ → Remembered) → List Device → ℕ → ℕ → List ℕ → ℕ → BusState
+abbrev bus : BusConfig → List Remembered → List Device → ℕ → ℕ → List ℕ → ℕ → BusState
 bus c m ds first last held greatest = record {
   config = c;
   devices = record { entries = ds; report = None };
@@ -173,7 +173,7 @@ told_some : (n : ℕ) (report : Option Report) → is_some (waiting_after n repo
 told_some n None = refl
 told_some n (Some report) = refl
 
-ticked_acts : (c : BusConfig) (m : ℕ → Remembered) (ds : List Device) (first last greatest n : ℕ) (old : BusState) (d : Device) → slice_get ds n ≡ Some d
+ticked_acts : (c : BusConfig) (m : List Remembered) (ds : List Device) (first last greatest n : ℕ) (old : BusState) (d : Device) → slice_get ds n ≡ Some d
     → is_device_due greatest d ≡ true → has_acted old (ticks_at (Some n) (bus c m ds first last [] greatest)) ≡ true
 ticked_acts c m ds first last greatest n old d there due =
     ap (λ o. has_acted old (ticks_with n o (bus c m ds first last [] greatest))) there
@@ -195,12 +195,12 @@ nothing_silent b held = by_test (is_silent b)
     by_test false = refl
 
 -- nobody holds the line and nothing is held: it does something where a device is due
-pub free_acts : (c : BusConfig) (m : ℕ → Remembered) (ds : List Device) (first last greatest now : ℕ) → first_from 0 holds ds ≡ None
+pub free_acts : (c : BusConfig) (m : List Remembered) (ds : List Device) (first last greatest now : ℕ) → first_from 0 holds ds ≡ None
     → acts now (bus c m ds first last [] greatest) ≡ any_due ds (max greatest now)
 free_acts c m ds first last greatest now nobody =
     let g = max greatest now in
-    let b = bus c ds first last [] g in
-    let old = bus c ds first last [] greatest in
+    let b = bus c m ds first last [] g in
+    let old = bus c m ds first last [] greatest in
     ap (λ s. has_acted old (ticks_on s)) (nothing_silent (bus c m ds first last [] g) refl)
     ∙ ap (λ o. has_acted old (ticks_by o b)) nobody
     ∙ ap (λ s. has_acted old (ticks_free s)) (nothing_ends (bus c m ds first last [] g) refl)
@@ -214,12 +214,12 @@ free_acts c m ds first last greatest now nobody =
         ∙ sym (any_at (is_device_due (max greatest now)) ds n here.0 here.1.0 here.1.1)
 
 -- a device holds the line and nothing is held: it does something where this device is due
-pub held_acts : (c : BusConfig) (m : ℕ → Remembered) (ds : List Device) (first last greatest now n : ℕ) (d : Device) → first_from 0 holds ds ≡ Some n
+pub held_acts : (c : BusConfig) (m : List Remembered) (ds : List Device) (first last greatest now n : ℕ) (d : Device) → first_from 0 holds ds ≡ Some n
     → slice_get ds n ≡ Some d → holds d ≡ true → acts now (bus c m ds first last [] greatest) ≡ is_device_due (max greatest now) d
 held_acts c m ds first last greatest now n d holder_is there stands =
     let g = max greatest now in
-    let b = bus c ds first last [] g in
-    let old = bus c ds first last [] greatest in
+    let b = bus c m ds first last [] g in
+    let old = bus c m ds first last [] greatest in
     ap (λ s. has_acted old (ticks_on s)) (nothing_silent (bus c m ds first last [] g) refl)
     ∙ ap (λ o. has_acted old (ticks_by o b)) holder_is
     ∙ ap (λ o. has_acted old (cond (option_map_or (is_device_due g) o false) (ticks_held n (ends_run b)) (stays b))) there
@@ -230,8 +230,8 @@ held_acts c m ds first last greatest now n d holder_is there stands =
     by_due false is = refl
     by_due true is =
         let g = max greatest now in
-        let b = bus c ds first last [] g in
-        let old = bus c ds first last [] greatest in
+        let b = bus c m ds first last [] g in
+        let old = bus c m ds first last [] greatest in
         ap (λ s. has_acted old (ticks_held n s)) (nothing_ends (bus c m ds first last [] g) refl)
         ∙ ap (λ o. has_acted old (cond (not (option_map_or holds o false && option_map_or (is_device_due g) o false)) (stays b) (ticks_at (Some n) b))) there
         ∙ ap (λ t. has_acted old (cond (not (t && is_device_due g d)) (stays b) (ticks_at (Some n) b))) stands
@@ -272,7 +272,7 @@ by_empty None s none = free_empty (ends_run s) refl
 by_empty (Some n) s none = choice_empty (is_due_at n s) (ticks_held n (ends_run s)) (stays s) (held_empty n (ends_run s) refl) none
 
 -- nobody holds the line and bytes are held: a tick ends their run at once
-pub free_ends : (c : BusConfig) (m : ℕ → Remembered) (ds : List Device) (first last greatest now byte : ℕ) (bytes : List ℕ) → first_from 0 holds ds ≡ None
+pub free_ends : (c : BusConfig) (m : List Remembered) (ds : List Device) (first last greatest now byte : ℕ) (bytes : List ℕ) → first_from 0 holds ds ≡ None
     → acts now (bus c m ds first last (byte ∷ bytes) greatest) ≡ true
 free_ends c m ds first last greatest now byte bytes nobody = by_silent (is_silent (bus c m ds first last (byte ∷ bytes) (max greatest now)))
   where
@@ -282,12 +282,12 @@ free_ends c m ds first last greatest now byte bytes nobody = by_silent (is_silen
         let s = ends_run (bus c m ds first last (byte ∷ bytes) (max greatest now)) in
         ended_acts (bus c m ds first last (byte ∷ bytes) greatest) byte bytes (ticks_on s) refl (by_empty (holder s) s refl)
     by_silent false =
-        let s = bus c ds first last (byte ∷ bytes) (max greatest now) in
+        let s = bus c m ds first last (byte ∷ bytes) (max greatest now) in
         ended_acts (bus c m ds first last (byte ∷ bytes) greatest) byte bytes (ticks_on s) refl
         (ap (λ o. (ticks_by o s).bus.held) nobody ∙ free_empty (ends_run s) refl)
 
 -- a device holds the line and bytes are held: their run ends where the line was silent long enough, or where this device is due
-pub held_ends : (c : BusConfig) (m : ℕ → Remembered) (ds : List Device) (first last greatest now byte n : ℕ) (bytes : List ℕ) (d : Device) → first_from 0 holds ds ≡ Some n
+pub held_ends : (c : BusConfig) (m : List Remembered) (ds : List Device) (first last greatest now byte n : ℕ) (bytes : List ℕ) (d : Device) → first_from 0 holds ds ≡ Some n
     → slice_get ds n ≡ Some d
     → acts now (bus c m ds first last (byte ∷ bytes) greatest) ≡ (is_device_due (max greatest now) d || is_silent_for c.gap last (max greatest now))
 held_ends c m ds first last greatest now byte n bytes d holder_is there =
@@ -310,8 +310,8 @@ held_ends c m ds first last greatest now byte n bytes d holder_is there =
         ∙ sym (or_true (is_device_due (max greatest now) d))
     by_silent false =
         let g = max greatest now in
-        let s = bus c ds first last (byte ∷ bytes) g in
-        let old = bus c ds first last (byte ∷ bytes) greatest in
+        let s = bus c m ds first last (byte ∷ bytes) g in
+        let old = bus c m ds first last (byte ∷ bytes) greatest in
         ap (λ o. has_acted old (ticks_by o s)) holder_is
         ∙ ap (λ o. has_acted old (cond (option_map_or (is_device_due g) o false) (ticks_held n (ends_run s)) (stays s))) there
         ∙ by_due (is_device_due g d) ∙ sym (or_false (is_device_due g d))

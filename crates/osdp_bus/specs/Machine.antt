@@ -1,5 +1,5 @@
 -- The calls of a bus's user: when each is refused, and what it changes.
-use Rattle.std.specs.Prelude.{◌≡◌, ℕ, Bool, false, ◌||◌, ◌==◌, nat_le, nat_lt, if◌then◌else◌, max, [], ◌∷◌, ◌++◌, length, Option, Some, None, is_some, option_map, slice_set, Result, Ok, Err}
+use Rattle.std.specs.Prelude.{◌≡◌, ℕ, Bool, false, ◌||◌, nat_le, nat_lt, if◌then◌else◌, max, List, [], ◌∷◌, ◌++◌, length, Option, Some, None, is_some, option_map, slice_set, Result, Ok, Err}
 use Rattle.std.specs.Option.{option_map_or}
 use Rattle.osdp_msg.specs.declared.command.Command.{Command}
 use Rattle.osdp_msg.specs.declared.command_fields.Communication.{Communication}
@@ -17,7 +17,7 @@ use Rattle.osdp_bus.specs.declared.fault.BusFault.{BusFault}
 use Rattle.osdp_bus.specs.declared.fault.BusFault.TheVariants.{NoMemory, TooMany, AddressTaken, NoEntry, OutOfRange, AddressOutOfRange, Full, PollSubmitted, NotClosed}
 use Rattle.osdp_bus.specs.Buses.{BusState, device_of, new_bus, seen}
 use Rattle.osdp_bus.specs.Devices.{freed_with, is_taken, is_taken_beside, reserved_for}
-use Rattle.osdp_bus.specs.Remembering.{Remembered, remembers}
+use Rattle.osdp_bus.specs.Remembering.{Remembered, remembers_at}
 use Rattle.osdp_bus.specs.Settings.{IsBusConfig, controller_config}
 
 -- how many devices there may be
@@ -172,13 +172,10 @@ abbrev pub after_withdraw_at : ℕ → BusState → BusState
 after_withdraw_at entry b = changes_device entry device_withdraws b
 
 -- the report that waits is taken, and remembered of its entry
-abbrev pub remembered_of : ℕ → Report → (ℕ → Remembered) → ℕ → Remembered
-remembered_of entry report remembered = λ k. if k == entry then remembers report (remembered k) else remembered k
-
-abbrev pub remembered_after : Option (ℕ × Report) → BusState → ℕ → Remembered
+abbrev pub remembered_after : Option (ℕ × Report) → BusState → List Remembered
 remembered_after None b = b.remembered
 remembered_after (Some (entry, report)) b =
-    option_map_or (λ d. remembered_of entry report b.remembered) (device_of entry b) b.remembered
+    option_map_or (λ d. remembers_at entry report b.remembered) (device_of entry b) b.remembered
 
 abbrev pub after_next_report : BusState → BusState
 after_next_report b = record b {

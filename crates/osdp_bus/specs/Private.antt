@@ -1,6 +1,5 @@
 -- How the parts of a bus make up what it is to its callers. No row of a table and no law speaks of these.
-use Rattle.std.specs.Prelude.{◌≡◌, ◌≤◌, ℕ, false, List, ◌++◌, length, drop, slice_get, vec_capacity}
-use Rattle.std.specs.Option.{option_map_or}
+use Rattle.std.specs.Prelude.{◌≡◌, ◌≤◌, ◌-◌, ℕ, false, List, ◌++◌, length, drop, replicate, vec_capacity}
 use Rattle.osdp_frame.specs.Items.{items, left_over}
 use Rattle.osdp_frame.specs.Receiving.{IsAllRead, Received}
 use Rattle.osdp_bus.specs.declared.device_list.DeviceList.{DeviceList}
@@ -14,12 +13,9 @@ use Rattle.osdp_bus.specs.Settings.{IsBusConfig}
 abbrev pub devices_of : DeviceList → Devices
 devices_of l = record { entries = l.entries.items; report = l.report }
 
--- what is remembered of an entry, by the list of what is remembered of each; one that isn't there has told nothing yet
-abbrev pub memory_at : ℕ → List Remembered → Remembered
-memory_at k memories = option_map_or (λ m. m) (slice_get memories k) nothing_yet
-
-abbrev pub memories_of : List Remembered → ℕ → Remembered
-memories_of memories = λ k. memory_at k memories
+-- what is remembered of each entry that there may be, by the list of what is remembered of those that are there
+abbrev pub memories_of : List Remembered → List Remembered
+memories_of memories = memories ++ replicate (16 - length memories) nothing_yet
 
 abbrev pub state_of : Line → BusState
 state_of l = record {
@@ -45,6 +41,7 @@ pub record IsLine (l : Line) : Type 0 where
   pub read : IsAllRead l.receiver
   pub first : l.first ≤ length l.devices.entries.items
   pub memories : length l.memories.items ≡ length l.devices.entries.items
+  pub memories_room : most_devices ≤ vec_capacity l.memories
 
 -- the first `count` bytes were read by themselves, by devices and a receiver that has read all before them: what comes of these and the
 -- others is what comes of all, and so is what is left of them

@@ -9,15 +9,17 @@ use crate::boxed_device::BoxedDevice;
 use crate::config::BusConfig;
 use crate::device_list::{DeviceList, is_taken};
 use crate::fault::BusFault;
-use crate::line::{Line, MOST_DEVICES};
+use crate::line::Line;
 use crate::memory::BoxedMemory;
 use crate::told::Told;
-use arrayvec::ArrayVec;
 use osdp_controller::Report;
 use osdp_frame::{Address, Burst, Receiver};
 use osdp_msg::Command;
 use std::alloc::Global;
 use std::marker::Model;
+
+/// How many devices there may be.
+const MOST_DEVICES: usize = 16;
 
 /// The panel's end of a line with up to sixteen devices, each with a controller of its own.
 ///
@@ -50,7 +52,7 @@ impl Bus {
     ghost use Rattle.osdp_controller.specs.Lent.{IsWritten};
     ghost use Rattle.osdp_bus.specs.Ticking.{bus_ticks};
 
-    /// A bus without devices. It takes the memory for a list of sixteen, and none for these themselves.
+    /// A bus without devices. It takes the memory for two lists of sixteen, and none for these themselves.
     ///
     /// OutOfRange (B5) where a setting is out of its range; else NoMemory (B1) where there is none.
     pub fn new(alloc: Global, config: BusConfig) -> Result<Bus, BusFault>
@@ -62,24 +64,29 @@ impl Bus {
         let Ok(entries) = Vec::with_capacity(alloc, MOST_DEVICES) else {
             return Err(BusFault::NoMemory);
         };
+        let Ok(memories) = Vec::with_capacity(alloc, MOST_DEVICES) else {
+            return Err(BusFault::NoMemory);
+        };
         let line = Line {
             config,
             devices: DeviceList {
                 entries,
                 report: Told::new(),
             },
-            memories: ArrayVec::new(),
+            memories,
             receiver: Receiver::new(config.gap),
             first: 0,
         };
         Ok(Bus { alloc, line })
     }
 
-    /// Adds a device at this address, whose session is closed. It takes the memory for the device and for its waiting commands.
+    /// Adds a device at this address, whose session is closed. It takes the memory for the device, for its
+    /// waiting commands and for the last event that it tells.
     ///
     /// TooMany (B2) where sixteen are there; else OutOfRange (B5) for the configuration address; else AddressTaken (B3)
     /// where the address is that of a device or reserved for one; else NoMemory (B1) where there is none. Nothing has
     /// changed then.
+    #[tactic(auto, using(crate::proofs::Remembering::remembering))]
     pub fn add(&mut self, address: Address) -> Result<Entry, BusFault>
         ensures { AddEnds address self.old self.new result }
     {
@@ -96,7 +103,7 @@ impl Bus {
         let device = BoxedDevice::new(self.alloc, address, &self.line.config)?;
         let memory = BoxedMemory::new(self.alloc)?;
         self.line.devices.entries.push_reserved(device);
-        self.line.memories.push(memory);
+        self.line.memories.push_reserved(memory);
         Ok(entry)
     }
 

@@ -14,12 +14,8 @@ use crate::Entry;
 use crate::config::BusConfig;
 use crate::device_list::{DeviceList, first_holding, next_due};
 use crate::memory::BoxedMemory;
-use arrayvec::ArrayVec;
 use osdp_controller::Report;
 use osdp_frame::{Burst, Receiver, whole_item};
-
-/// How many devices there may be.
-pub(crate) const MOST_DEVICES: usize = 16;
 
 /// The parts of a bus. Moments are in milliseconds.
 #[derive(Debug, Drop)]
@@ -27,7 +23,7 @@ pub struct Line {
     pub config: BusConfig,
     pub devices: DeviceList,
     /// What is remembered of the events of each entry.
-    pub memories: ArrayVec<BoxedMemory, MOST_DEVICES>,
+    pub memories: Vec<BoxedMemory>,
     /// What has come of the run that goes on, and when.
     pub receiver: Receiver,
     /// The entry that is asked first once nobody holds the line.
@@ -268,6 +264,7 @@ impl Line {
     }
 
     /// Whether the report that waits is an event that may have been reported before.
+    #[tactic(auto, using(crate::proofs::Remembering::remembering))]
     pub(crate) fn is_maybe_again(&self) -> bool
         ensures { result ≡ is_maybe_again (state_of self.now) }
     {
@@ -280,6 +277,7 @@ impl Line {
     }
 
     /// Remembers the report that waits.
+    #[tactic(auto, using(crate::proofs::Remembering::remembering))]
     fn remember(&mut self)
         requires { IsLine self.old }
         ensures line { state_of self.new ≡ record (state_of self.old) { remembered = remembered_after self.old.devices.report (state_of self.old) } }

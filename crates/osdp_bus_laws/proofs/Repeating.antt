@@ -1,5 +1,5 @@
 -- What a bus remembers of each entry is what was taken of it.
-use Rattle.std.proofs.Common.{◌≡◌, ◌∙◌, ap, sym, subst, inl, inr, ℕ, zero, suc, ◌<◌, ◌==◌, ◌&&◌, Bool, true, false, max, not, List, [], ◌∷◌, ◌++◌, length, Option, Some, None, refl, arith, append_assoc, append-nil}
+use Rattle.std.proofs.Common.{◌≡◌, ◌∙◌, ap, sym, subst, inl, inr, ℕ, zero, suc, ◌<◌, ◌==◌, ◌&&◌, Bool, true, false, max, not, List, [], ◌∷◌, ◌++◌, length, replicate, Option, Some, None, refl, arith, append_assoc, append-nil}
 use Rattle.std.specs.Prelude.{◌⊎◌, All, Any, if◌then◌else◌, option_to_list, slice_get, slice_set}
 use Rattle.std.specs.Option.{option_map_or}
 use Rattle.std.specs.Str.{bytes_eq}
@@ -16,8 +16,8 @@ use Rattle.osdp_bus.specs.declared.fault.BusFault.{BusFault}
 use Rattle.osdp_bus.specs.Buses.{BusState, Devices, device_of, has_report, holder, is_maybe_again, is_silent, is_told_maybe_again, new_bus, seen, waiting_after}
 use Rattle.osdp_bus.specs.Devices.{device_hears, device_ticks, step_of, told_of}
 use Rattle.osdp_bus.specs.Hearing.{after_bytes, ends_run, ends_silent, hears_bytes, hears_with}
-use Rattle.osdp_bus.specs.Machine.{add_refusal, after_add, after_begin_at, after_next_report, after_retarget_at, after_submit_at, begin_refusal_at, changed_unless, changes_device, device_begins, device_retargets, device_submits, device_withdraws, remembered_after, remembered_of, retarget_refusal_at, submit_refusal_at}
-use Rattle.osdp_bus.specs.Remembering.{Remembered, event_bytes, may_be_again, nothing_yet, remembers}
+use Rattle.osdp_bus.specs.Machine.{add_refusal, after_add, after_begin_at, after_next_report, after_retarget_at, after_submit_at, begin_refusal_at, changed_unless, changes_device, device_begins, device_retargets, device_submits, device_withdraws, remembered_after, retarget_refusal_at, submit_refusal_at}
+use Rattle.osdp_bus.specs.Remembering.{Remembered, event_bytes, may_be_again, memory_at, nothing_yet, remembers, remembers_at}
 use Rattle.osdp_bus.specs.Ticking.{BusTicked, bus_ticks, is_due_at, next_due, stays, ticks_at, ticks_by, ticks_free, ticks_held, ticks_on, ticks_with}
 use Rattle.osdp_bus_laws.specs.Calls.{Call, Add, Begin, Submit, Withdraw, Retarget, OnBytes, OnSilence, Tick, NextReport, after_call, after_calls}
 use Rattle.osdp_bus_laws.specs.Repeating.{CameBefore, IsNoEvent, IsOpening, MarksExactly, MarksWhatMayComeAgain, of_entry}
@@ -289,7 +289,7 @@ longer ds d within = λ k r is. let at = within k r is in omega (arith, at, one_
 -- ---- what is remembered along calls
 
 record IsRemembered (b : BusState) (taken : List (ℕ × Report)) : Type 0 where
-  all : (k : ℕ) → b.remembered k ≡ recalls nothing_yet (of_entry k taken)
+  all : (k : ℕ) → memory_at k b.remembered ≡ recalls nothing_yet (of_entry k taken)
   within : Within b.devices
 
 entry_more : (k entry : ℕ) (r : Report) (taken : List (ℕ × Report))
@@ -310,25 +310,37 @@ there (x ∷ xs) (suc k) within = there xs k (omega (arith, within))
 
 kept : (b c : BusState) (taken : List (ℕ × Report)) → Keeps b c → IsRemembered b taken → IsRemembered c (taken ++ [])
 kept b c taken keeps is = record {
-  all = λ k. ap (λ (m : ℕ → Remembered). m k) keeps.remembered ∙ is.all k ∙ ap (λ l. recalls nothing_yet (of_entry k l)) (sym (append-nil taken));
+  all = λ k. ap (memory_at k) keeps.remembered ∙ is.all k ∙ ap (λ l. recalls nothing_yet (of_entry k l)) (sym (append-nil taken));
   within = keeps.within is.within;
 }
+
+-- what is remembered at one place, after a report of an entry
+at_place : (entry k : ℕ) (r : Report) (ms : List Remembered)
+    → memory_at k (remembers_at entry r ms) ≡ (if k == entry then remembers r (memory_at k ms) else memory_at k ms)
+at_place zero zero r [] = refl
+at_place zero (suc k) r [] = refl
+at_place zero zero r (m ∷ ms) = refl
+at_place zero (suc k) r (m ∷ ms) = refl
+at_place (suc entry) zero r [] = refl
+at_place (suc entry) zero r (m ∷ ms) = refl
+at_place (suc entry) (suc k) r [] = at_place entry k r []
+at_place (suc entry) (suc k) r (m ∷ ms) = at_place entry k r ms
 
 taken_next : (b : BusState) (taken : List (ℕ × Report)) → IsRemembered b taken → IsRemembered (after_next_report b) (taken ++ taken_in NextReport b)
 taken_next b taken is = record { all = λ k. by_report k b.devices.report refl; within = λ k r none. absurd cc }
   where
     by_test : (k entry : ℕ) (r : Report) (t : Bool)
-        → (if t then remembers r (b.remembered k) else b.remembered k) ≡ recalls nothing_yet (of_entry k taken ++ (if t then r ∷ [] else []))
+        → (if t then remembers r (memory_at k b.remembered) else memory_at k b.remembered) ≡ recalls nothing_yet (of_entry k taken ++ (if t then r ∷ [] else []))
     by_test k entry r true = ap (remembers r) (is.all k) ∙ sym (recalls_more nothing_yet (of_entry k taken) (r ∷ []))
     by_test k entry r false = is.all k ∙ ap (recalls nothing_yet) (sym (append-nil (of_entry k taken)))
 
     by_report : (k : ℕ) (o : Option (ℕ × Report)) → b.devices.report ≡ o
-        → remembered_after o b k ≡ recalls nothing_yet (of_entry k (taken ++ option_to_list o))
+        → memory_at k (remembered_after o b) ≡ recalls nothing_yet (of_entry k (taken ++ option_to_list o))
     by_report k None none = is.all k ∙ ap (λ l. recalls nothing_yet (of_entry k l)) (sym (append-nil taken))
     by_report k (Some (entry, r)) some =
         let d = there b.devices.entries entry (is.within entry r some) in
-        ap (λ o. option_map_or (λ d. remembered_of entry r b.remembered) o b.remembered k) d.1
-        ∙ by_test k entry r (k == entry) ∙ ap (recalls nothing_yet) (sym (entry_more k entry r taken))
+        ap (λ o. memory_at k (option_map_or (λ d. remembers_at entry r b.remembered) o b.remembered)) d.1
+        ∙ at_place entry k r b.remembered ∙ by_test k entry r (k == entry) ∙ ap (recalls nothing_yet) (sym (entry_more k entry r taken))
 
 one_call : (call : Call) (b : BusState) (taken : List (ℕ × Report)) → IsRemembered b taken → IsRemembered (after_call call b) (taken ++ taken_in call b)
 one_call (Add address) b taken is = kept b (after_call (Add address) b) taken
@@ -364,7 +376,7 @@ marks_exactly b taken is = record {
       ap (λ o. is_told_maybe_again o b.remembered) some ∙ ap (may_be_again (report.Event e)) (is.all entry) ∙ marks_it e (of_entry entry taken) came_before;
 }
   where
-    by_kind : (entry : ℕ) (r : Report) → b.devices.report ≡ Some (entry, r) → may_be_again r (b.remembered entry) ≡ true
+    by_kind : (entry : ℕ) (r : Report) → b.devices.report ≡ Some (entry, r) → may_be_again r (memory_at entry b.remembered) ≡ true
         → (entry : ℕ) × (e : Event) × (b.devices.report ≡ Some (entry, report.Event e)) × CameBefore e (of_entry entry taken)
     by_kind entry (report.Event e) some h =
         (entry, e, some, came e (of_entry entry taken) (sym (ap (may_be_again (report.Event e)) (is.all entry)) ∙ h))
@@ -380,7 +392,13 @@ marks_exactly b taken is = record {
     by_report None none h = absurd cc
     by_report (Some (entry, r)) some h = by_kind entry r some h
 
+none_at : (n k : ℕ) → memory_at k (replicate n nothing_yet) ≡ nothing_yet
+none_at zero zero = refl
+none_at zero (suc k) = refl
+none_at (suc n) zero = refl
+none_at (suc n) (suc k) = none_at n k
+
 pub marks_what_may_come_again : MarksWhatMayComeAgain
 marks_what_may_come_again config calls set =
     marks_exactly (after_calls calls (new_bus config)) (taken_along calls (new_bus config))
-    (along calls (new_bus config) [] (record { all = λ k. refl; within = λ k r none. absurd cc }))
+    (along calls (new_bus config) [] (record { all = λ k. none_at 16 k; within = λ k r none. absurd cc }))
