@@ -538,7 +538,7 @@ enum {
     /* `command`, a COMSET, was answered by `reply`, a COM with the same address: the device is there, and the session has ended. Its rate
        is the COM's, which may be another than was ordered: data[1] to data[4], low byte first. */
     OSDP_REPORT_MOVED = 3,
-    /* The device told an event; `reply` is the reply that tells it. */
+    /* The device told an event; `reply` is the reply that tells it. `detail` is OSDP_EVENT_MAYBE_AGAIN where it may have been reported before. */
     OSDP_REPORT_EVENT = 4,
     /* A POLL was answered by `reply`, which is neither an ACK nor an event. */
     OSDP_REPORT_ANSWERED = 5,
@@ -559,13 +559,22 @@ enum {
     OSDP_LOST_NUMBER_REFUSED = 3
 };
 
+/*
+ * An event is new, or it may have been reported before: it is the first of its session, and equal in all its bytes to the event of that device that
+ * was reported last. A lost session may lose the answer to an event, and the device tells it again then. Make no second order of one that may be
+ * told again, within a time that you set. A panel that is made anew has forgotten, and tells the first event of each device as new.
+ */
+enum {
+    OSDP_EVENT_MAYBE_AGAIN = 1
+};
+
 /* A report. 2,888 bytes. */
 struct osdp_report {
     /* The device of which it tells. 0 where no report waits. */
     size_t entry;
     /* OSDP_REPORT_NONE to OSDP_REPORT_LOST. */
     uint32_t kind;
-    /* As the kind says, else 0. */
+    /* As the kind says, else 0. Of an event OSDP_EVENT_MAYBE_AGAIN where it may have been reported before. */
     uint32_t detail;
     /* The command and the reply that the kind names; else none. */
     struct osdp_message command;

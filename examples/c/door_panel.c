@@ -42,7 +42,8 @@ static void take_reports(uint64_t now)
     static struct osdp_raw card;
     while (osdp_panel_next_report(&panel, &report) == OSDP_OK && report.kind != OSDP_REPORT_NONE) {
         tell_report(&report);
-        if (report.kind == OSDP_REPORT_EVENT && osdp_raw_of(&report.reply, &card) == OSDP_OK && may_enter(&card)) {
+        /* a card that may have been told before makes no second order */
+        if (report.kind == OSDP_REPORT_EVENT && report.detail != OSDP_EVENT_MAYBE_AGAIN && osdp_raw_of(&report.reply, &card) == OSDP_OK && may_enter(&card)) {
             open_door();
         } else if (report.kind == OSDP_REPORT_LOST || report.kind == OSDP_REPORT_MOVED) {
             begins = now + (report.kind == OSDP_REPORT_LOST ? PAUSE : 0);

@@ -36,7 +36,11 @@ fn take_reports(panel: &mut Panel, door: &mut Door, now: Moment) -> Result<(), E
     while let Some((_, report)) = panel.next_report() {
         println!("{report:?}");
         match report {
-            Report::Event(Reply::Raw(card)) if may_enter(&card) => {
+            // a card that may have been told before makes no second order
+            Report::Event {
+                event: Reply::Raw(card),
+                maybe_again: false,
+            } if may_enter(&card) => {
                 match panel.submit(door.entry, &Command::out(&[STRIKE])?) {
                     Err(Error::Full) => {} // as many orders wait as may: the door stays closed
                     done => done?,

@@ -85,6 +85,7 @@ pub const OSDP_REPORT_LOST: u32 = 7;
 
 pub const OSDP_LOST_NO_REPLY: u32 = 1;
 pub const OSDP_LOST_TOO_BUSY: u32 = 2;
+pub const OSDP_EVENT_MAYBE_AGAIN: u32 = 1;
 pub const OSDP_LOST_NUMBER_REFUSED: u32 = 3;
 
 pub const OSDP_SAID_NONE: u32 = 0;

@@ -51,9 +51,10 @@ fn begin(panel: &mut Panel, now: u64) {
 }
 
 /// Does what is to be done about a report. The moment at which the door's session is to begin again, if it has ended.
-fn decide(panel: &mut Panel, report: &Report, now: u64) -> Option<u64> {
+fn decide(panel: &mut Panel, report: &Report, maybe_again: bool, now: u64) -> Option<u64> {
     match report {
-        Report::Event(Event::Raw(card)) if may_enter(card) => open(panel),
+        // a card that may have been told before makes no second order
+        Report::Event(Event::Raw(card)) if may_enter(card) && !maybe_again => open(panel),
         Report::Lost(..) => return Some(now.saturating_add(PAUSE)),
         Report::Moved(..) => return Some(now),
         _ => {}
@@ -68,7 +69,7 @@ fn turn(rt: &HostRuntime, panel: &mut Panel, bytes: &[u8], now: u64) -> io::Resu
         send(rt, unsent.bytes(&turn))?;
     }
     for (_, report) in [&turn.heard, &turn.ticked].into_iter().flatten() {
-        begins = decide(panel, report, now).or(begins);
+        begins = decide(panel, report, turn.maybe_again, now).or(begins);
         println!(rt; "report {report:?}")?;
     }
     Ok(begins)
