@@ -9,21 +9,17 @@ use Rattle.osdp_bus.specs.Private.{memories_of}
 use Rattle.osdp_bus.specs.Remembering.{Remembered, may_be_again, memory_at, nothing_yet, remembers, remembers_at}
 
 -- a new entry has told nothing, as one that isn't there
-pad : (n : ℕ) → 0 < n → nothing_yet ∷ replicate (n - 1) nothing_yet ≡ replicate n nothing_yet
-pad zero some = absurd (omega (arith, some))
-pad (suc n) some = refl
-
 pub one_more : (ms : List Remembered) → length ms < 16 → memories_of (ms ++ nothing_yet ∷ []) ≡ memories_of ms
 one_more ms few =
     append_assoc ms (nothing_yet ∷ []) (replicate (16 - length (ms ++ nothing_yet ∷ [])) nothing_yet)
-    ∙ ap (λ n. ms ++ nothing_yet ∷ replicate n nothing_yet) count ∙ ap (λ l. ms ++ l) (pad (16 - length ms) (omega (arith, few)))
+    ∙ sym (ap (λ n. ms ++ replicate n nothing_yet) count)
   where
     one_longer : (xs : List Remembered) → length (xs ++ nothing_yet ∷ []) ≡ suc (length xs)
     one_longer [] = refl
     one_longer (x ∷ xs) = ap suc (one_longer xs)
 
-    count : 16 - length (ms ++ nothing_yet ∷ []) ≡ (16 - length ms) - 1
-    count = let e = one_longer ms in omega (arith, e)
+    count : 16 - length ms ≡ suc (16 - length (ms ++ nothing_yet ∷ []))
+    count = let e = one_longer ms in omega (arith, few, e)
 
 -- nothing was told before
 never_again : (r : Report) → may_be_again r nothing_yet ≡ false

@@ -1,5 +1,5 @@
 -- Events that may have been reported before: what a bus remembers of those that it told.
-use Rattle.std.specs.Prelude.{ℕ, suc, Bool, true, false, not, ◌&&◌, List, [], ◌∷◌}
+use Rattle.std.specs.Prelude.{ℕ, zero, suc, Bool, true, false, not, ◌&&◌, List, [], ◌∷◌}
 use Rattle.std.specs.Str.{bytes_eq}
 use Rattle.osdp_msg.specs.Events.{event_reply}
 use Rattle.osdp_msg.specs.ReplyTable.{reply_code, reply_data}
@@ -33,12 +33,12 @@ remembers _ m = m
 -- what is remembered of an entry, by the list of what is remembered of each; one that isn't there has told nothing yet
 abbrev pub memory_at : ℕ → List Remembered → Remembered
 memory_at k [] = nothing_yet
-memory_at 0 (m ∷ ms) = m
+memory_at zero (m ∷ ms) = m
 memory_at (suc k) (m ∷ ms) = memory_at k ms
 
 -- a report of an entry is remembered at its place
 abbrev pub remembers_at : ℕ → Report → List Remembered → List Remembered
-remembers_at 0 r [] = remembers r nothing_yet ∷ []
-remembers_at 0 r (m ∷ ms) = remembers r m ∷ ms
+remembers_at zero r [] = remembers r nothing_yet ∷ []
+remembers_at zero r (m ∷ ms) = remembers r m ∷ ms
 remembers_at (suc k) r [] = nothing_yet ∷ remembers_at k r []
 remembers_at (suc k) r (m ∷ ms) = m ∷ remembers_at k r ms
