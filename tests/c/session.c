@@ -51,7 +51,7 @@ static void new_panel(void)
         before = bytes_given;
         status = osdp_panel_new(&panel, &config);
     }
-    demand(status == OSDP_OK && bytes_given - before == counted(6912));
+    demand(status == OSDP_OK && bytes_given - before == counted(7064));
     demand(osdp_panel_new(&panel, &config) == OSDP_IN_USE);
     demand(osdp_panel_add(&panel, 127, &entry) == OSDP_PANEL_OUT_OF_RANGE);
 }
@@ -66,7 +66,7 @@ static void add_device(size_t i)
         before = bytes_given;
         status = osdp_panel_add(&panel, address, &entry);
     }
-    demand(status == OSDP_OK && entry == i && bytes_given - before == counted(1768 + 4 * 1648));
+    demand(status == OSDP_OK && entry == i && bytes_given - before == counted(1768 + 1456 + 4 * 1648));
     demand(osdp_panel_add(&panel, address, &entry) == OSDP_ADDRESS_TAKEN && entry == i);
 }
 
