@@ -1,8 +1,9 @@
 -- What a bus remembers of each entry is what was taken of it.
 use Rattle.std.proofs.Common.{◌≡◌, ◌∙◌, ap, sym, subst, inl, inr, ℕ, zero, suc, ◌<◌, ◌==◌, ◌&&◌, Bool, true, false, max, not, List, [], ◌∷◌, ◌++◌, length, replicate, Option, Some, None, refl, arith, append_assoc, append-nil}
-use Rattle.std.specs.Prelude.{◌⊎◌, All, Any, if◌then◌else◌, option_to_list, slice_get, slice_set}
+use Rattle.std.specs.Prelude.{◌⊎◌, ◌≢◌, if◌then◌else◌, option_to_list, slice_get, slice_set}
 use Rattle.std.specs.Option.{option_map_or}
 use Rattle.std.specs.Str.{bytes_eq}
+use Rattle.std.proofs.lemmas.Bool.{eqb-true, eqb-false}
 use Rattle.std.proofs.lemmas.Option.{slice_get_within}
 use Rattle.std.proofs.lemmas.Slice.Eq.{bytes_eq-Decides}
 use Rattle.osdp_frame.specs.Packet.{Packet}
@@ -20,14 +21,14 @@ use Rattle.osdp_bus.specs.Machine.{add_refusal, after_add, after_begin_at, after
 use Rattle.osdp_bus.specs.Remembering.{Remembered, event_bytes, may_be_again, memory_at, nothing_yet, remembers, remembers_at}
 use Rattle.osdp_bus.specs.Ticking.{BusTicked, bus_ticks, is_due_at, next_due, stays, ticks_at, ticks_by, ticks_free, ticks_held, ticks_on, ticks_with}
 use Rattle.osdp_bus_laws.specs.Calls.{Call, Add, Begin, Submit, Withdraw, Retarget, OnBytes, OnSilence, Tick, NextReport, after_call, after_calls}
-use Rattle.osdp_bus_laws.specs.Repeating.{CameBefore, IsNoEvent, IsOpening, MarksExactly, MarksWhatMayComeAgain, of_entry}
+use Rattle.osdp_bus_laws.specs.Repeating.{CameBefore, IsNoEvent, IsOpening, MarksExactly, MarksWhatMayComeAgain, NoEventAmong, OpeningAmong, of_entry}
 use Rattle.osdp_bus_laws.specs.Reports.{taken_along, taken_in}
 use Rattle.osdp_bus_laws.proofs.Hearing.{items_keep}
 use Rattle.osdp_bus_laws.proofs.Sound.{either_held}
 
 -- ---- what is remembered of one entry, by its reports
 
-recalls : Remembered → List Report → Remembered
+abbrev recalls : Remembered → List Report → Remembered
 recalls m [] = m
 recalls m (r ∷ rs) = recalls (remembers r m) rs
 
@@ -36,7 +37,7 @@ recalls_more m [] ys = refl
 recalls_more m (x ∷ xs) ys = recalls_more (remembers x m) xs ys
 
 -- reports without an event leave the bytes, and a session that opens is no more that of the last event
-bytes_stay : (m : Remembered) (rs : List Report) → All IsNoEvent rs → (recalls m rs).bytes ≡ m.bytes
+bytes_stay : (m : Remembered) (rs : List Report) → NoEventAmong rs → (recalls m rs).bytes ≡ m.bytes
 bytes_stay m [] none = refl
 bytes_stay m (report.Event e ∷ rs) none = absurd none.0
 bytes_stay m (report.Opened id ∷ rs) none = bytes_stay (record m { in_session = false }) rs none.1
@@ -46,7 +47,7 @@ bytes_stay m (report.PollAnswered reply ∷ rs) none = bytes_stay m rs none.1
 bytes_stay m (report.Unread command code ∷ rs) none = bytes_stay m rs none.1
 bytes_stay m (report.Lost cause command ∷ rs) none = bytes_stay m rs none.1
 
-stays_shut : (m : Remembered) (rs : List Report) → All IsNoEvent rs → m.in_session ≡ false → (recalls m rs).in_session ≡ false
+stays_shut : (m : Remembered) (rs : List Report) → NoEventAmong rs → m.in_session ≡ false → (recalls m rs).in_session ≡ false
 stays_shut m [] none shut = shut
 stays_shut m (report.Event e ∷ rs) none shut = absurd none.0
 stays_shut m (report.Opened id ∷ rs) none shut = stays_shut (record m { in_session = false }) rs none.1 refl
@@ -56,7 +57,7 @@ stays_shut m (report.PollAnswered reply ∷ rs) none shut = stays_shut m rs none
 stays_shut m (report.Unread command code ∷ rs) none shut = stays_shut m rs none.1 shut
 stays_shut m (report.Lost cause command ∷ rs) none shut = stays_shut m rs none.1 shut
 
-opened_shuts : (m : Remembered) (rs : List Report) → All IsNoEvent rs → Any IsOpening rs → (recalls m rs).in_session ≡ false
+opened_shuts : (m : Remembered) (rs : List Report) → NoEventAmong rs → OpeningAmong rs → (recalls m rs).in_session ≡ false
 opened_shuts m [] none some = absurd some
 opened_shuts m (report.Event e ∷ rs) none some = absurd none.0
 opened_shuts m (report.Opened id ∷ rs) none some = stays_shut (record m { in_session = false }) rs none.1 refl
@@ -75,13 +76,13 @@ opened_shuts m (report.Lost cause command ∷ rs) none (inl it) = absurd it
 marks_it : (e : Event) (rs : List Report) → CameBefore e rs → may_be_again (report.Event e) (recalls nothing_yet rs) ≡ true
 marks_it e rs came =
     let first = recalls nothing_yet came.before in
-    let then : Remembered = record { bytes = event_bytes came.last; in_session = true } in
-    let is : recalls nothing_yet rs ≡ recalls then came.after =
+    let told : Remembered = record { bytes = event_bytes came.last; in_session = true } in
+    let is : recalls nothing_yet rs ≡ recalls told came.after =
     ap (recalls nothing_yet) came.whole ∙ recalls_more nothing_yet came.before (report.Event came.last ∷ came.after) in
     let bytes : (recalls nothing_yet rs).bytes ≡ event_bytes e =
-    ap (λ (m : Remembered). m.bytes) is ∙ bytes_stay then came.after came.none_later ∙ sym came.equal in
+    ap (λ (m : Remembered). m.bytes) is ∙ bytes_stay told came.after came.none_later ∙ sym came.equal in
     let shut : (recalls nothing_yet rs).in_session ≡ false =
-    ap (λ (m : Remembered). m.in_session) is ∙ opened_shuts then came.after came.none_later came.opened in
+    ap (λ (m : Remembered). m.in_session) is ∙ opened_shuts told came.after came.none_later came.opened in
     ap (λ t. not t && bytes_eq (event_bytes e) (recalls nothing_yet rs).bytes) shut
     ∙ ap (bytes_eq (event_bytes e)) bytes ∙ (bytes_eq-Decides (event_bytes e) (event_bytes e)).1 refl
 
@@ -93,22 +94,22 @@ record LastTold (rs : List Report) (m : Remembered) : Type 0 where
   after : List Report
   whole : rs ≡ before ++ report.Event last ∷ after
   bytes : m.bytes ≡ event_bytes last
-  none_later : All IsNoEvent after
-  opened : m.in_session ≡ false → Any IsOpening after
+  none_later : NoEventAmong after
+  opened : m.in_session ≡ false → OpeningAmong after
 
 abbrev WasTold : List Report → Remembered → Type 0
 WasTold rs m = (m.bytes ≡ []) ⊎ LastTold rs m
 
-all_more : (rs : List Report) (r : Report) → All IsNoEvent rs → IsNoEvent r → All IsNoEvent (rs ++ r ∷ [])
+all_more : (rs : List Report) (r : Report) → NoEventAmong rs → IsNoEvent r → NoEventAmong (rs ++ r ∷ [])
 all_more [] r none it = (it, tt)
 all_more (x ∷ rs) r none it = (none.0, all_more rs r none.1 it)
 
-any_more : (rs : List Report) (r : Report) → Any IsOpening rs → Any IsOpening (rs ++ r ∷ [])
+any_more : (rs : List Report) (r : Report) → OpeningAmong rs → OpeningAmong (rs ++ r ∷ [])
 any_more [] r some = absurd some
 any_more (x ∷ rs) r (inl it) = inl it
 any_more (x ∷ rs) r (inr some) = inr (any_more rs r some)
 
-any_last : (rs : List Report) (r : Report) → IsOpening r → Any IsOpening (rs ++ r ∷ [])
+any_last : (rs : List Report) (r : Report) → IsOpening r → OpeningAmong (rs ++ r ∷ [])
 any_last [] r it = inl it
 any_last (x ∷ rs) r it = inr (any_last rs r it)
 
@@ -126,7 +127,7 @@ told_more rs r m n none same shut (inr told) = inr (record {
   opened = λ is. by_either (shut is);
 })
   where
-    by_either : IsOpening r ⊎ (m.in_session ≡ false) → Any IsOpening (told.after ++ r ∷ [])
+    by_either : IsOpening r ⊎ (m.in_session ≡ false) → OpeningAmong (told.after ++ r ∷ [])
     by_either (inl it) = any_last told.after r it
     by_either (inr is) = any_more told.after r (told.opened is)
 
@@ -164,6 +165,7 @@ not_true false h = refl
 came : (e : Event) (rs : List Report) → may_be_again (report.Event e) (recalls nothing_yet rs) ≡ true → CameBefore e rs
 came e rs marked = by_told (all_told [] rs nothing_yet (inl refl))
   where
+    parts : (not (recalls nothing_yet rs).in_session ≡ true) × (bytes_eq (event_bytes e) (recalls nothing_yet rs).bytes ≡ true)
     parts = both_true (not (recalls nothing_yet rs).in_session) (bytes_eq (event_bytes e) (recalls nothing_yet rs).bytes) marked
     same : event_bytes e ≡ (recalls nothing_yet rs).bytes
     same = (bytes_eq-Decides (event_bytes e) (recalls nothing_yet rs).bytes).0 parts.1
@@ -193,7 +195,7 @@ set_length (d ∷ ds) (suc i) e = ap suc (set_length ds i e)
 within_put : (ds : Devices) (i : ℕ) (e : Device) (told : Option Report) → i < length ds.entries → Within ds
     → Within (record { entries = slice_set ds.entries i e; report = waiting_after i told ds.report })
 within_put ds i e None inside within = λ k r is. let at = within k r is in omega (arith, at, set_length ds.entries i e)
-within_put ds i e (Some report) inside within = λ k r is. let same : i ≡ k = cc in omega (arith, inside, same, set_length ds.entries i e)
+within_put ds i e (Some report) inside within = λ k r is. let same : i ≡ k = ap (λ o. option_map_or (λ (told : ℕ × Report). told.0) o 0) is in omega (arith, inside, same, set_length ds.entries i e)
 
 within_packet : (now : ℕ) (p : Packet) (i : ℕ) (d : Device) (ds : Devices) → slice_get ds.entries i ≡ Some d → Within ds
     → Within (hears_with p now i (Some d) ds)
@@ -315,16 +317,30 @@ kept b c taken keeps is = record {
 }
 
 -- what is remembered at one place, after a report of an entry
+at_itself : (entry : ℕ) (r : Report) (ms : List Remembered) → memory_at entry (remembers_at entry r ms) ≡ remembers r (memory_at entry ms)
+at_itself zero r [] = refl
+at_itself zero r (m ∷ ms) = refl
+at_itself (suc entry) r [] = at_itself entry r []
+at_itself (suc entry) r (m ∷ ms) = at_itself entry r ms
+
+at_another : (entry k : ℕ) (r : Report) (ms : List Remembered) → k ≢ entry → memory_at k (remembers_at entry r ms) ≡ memory_at k ms
+at_another zero zero r ms other = absurd (other refl)
+at_another zero (suc k) r [] other = refl
+at_another zero (suc k) r (m ∷ ms) other = refl
+at_another (suc entry) zero r [] other = refl
+at_another (suc entry) zero r (m ∷ ms) other = refl
+at_another (suc entry) (suc k) r [] other = at_another entry k r [] (λ same. other (ap suc same))
+at_another (suc entry) (suc k) r (m ∷ ms) other = at_another entry k r ms (λ same. other (ap suc same))
+
 at_place : (entry k : ℕ) (r : Report) (ms : List Remembered)
     → memory_at k (remembers_at entry r ms) ≡ (if k == entry then remembers r (memory_at k ms) else memory_at k ms)
-at_place zero zero r [] = refl
-at_place zero (suc k) r [] = refl
-at_place zero zero r (m ∷ ms) = refl
-at_place zero (suc k) r (m ∷ ms) = refl
-at_place (suc entry) zero r [] = refl
-at_place (suc entry) zero r (m ∷ ms) = refl
-at_place (suc entry) (suc k) r [] = at_place entry k r []
-at_place (suc entry) (suc k) r (m ∷ ms) = at_place entry k r ms
+at_place entry k r ms = by_test (k == entry) refl
+  where
+    by_test : (t : Bool) → (k == entry) ≡ t → memory_at k (remembers_at entry r ms) ≡ (if t then remembers r (memory_at k ms) else memory_at k ms)
+    by_test true is =
+        let same : k ≡ entry = eqb-true k entry is in
+        subst (λ n. memory_at n (remembers_at entry r ms) ≡ remembers r (memory_at n ms)) (sym same) (at_itself entry r ms)
+    by_test false is = at_another entry k r ms (eqb-false k entry is)
 
 taken_next : (b : BusState) (taken : List (ℕ × Report)) → IsRemembered b taken → IsRemembered (after_next_report b) (taken ++ taken_in NextReport b)
 taken_next b taken is = record { all = λ k. by_report k b.devices.report refl; within = λ k r none. absurd cc }

@@ -1,5 +1,5 @@
 -- Events that may have been reported before.
-use Rattle.std.specs.Prelude.{◌≡◌, ℕ, true, ◌==◌, if◌then◌else◌, All, Any, List, [], ◌∷◌, ◌++◌, Option, Some}
+use Rattle.std.specs.Prelude.{◌≡◌, ℕ, true, ◌==◌, ◌⊎◌, if◌then◌else◌, List, [], ◌∷◌, ◌++◌, Option, Some}
 use Rattle.osdp_controller.specs.declared.report.Report.{Report}
 use Rattle.osdp_controller.specs.declared.report.Report.TheVariants as report
 use Rattle.osdp_msg.specs.declared.event.Event.{Event}
@@ -23,6 +23,15 @@ abbrev pub IsOpening : Report → Type 0
 IsOpening (report.Opened id) = Unit {0}
 IsOpening _ = ⊥
 
+-- none of these reports tells an event; one of them tells that a session has opened
+abbrev pub NoEventAmong : List Report → Type 0
+NoEventAmong [] = Unit {0}
+NoEventAmong (r ∷ rs) = IsNoEvent r × NoEventAmong rs
+
+abbrev pub OpeningAmong : List Report → Type 0
+OpeningAmong [] = ⊥
+OpeningAmong (r ∷ rs) = IsOpening r ⊎ OpeningAmong rs
+
 -- the last event among these reports has the same bytes, and a session opened after it
 pub record CameBefore (e : Event) (reports : List Report) : Type 0 where
   pub before : List Report
@@ -30,8 +39,8 @@ pub record CameBefore (e : Event) (reports : List Report) : Type 0 where
   pub after : List Report
   pub whole : reports ≡ before ++ report.Event last ∷ after
   pub equal : event_bytes e ≡ event_bytes last
-  pub none_later : All IsNoEvent after
-  pub opened : Any IsOpening after
+  pub none_later : NoEventAmong after
+  pub opened : OpeningAmong after
 
 -- the report that waits is told as one that may have come before exactly where it is an event of which this holds, by what was taken before it
 pub record MarksExactly (b : BusState) (taken : List (ℕ × Report)) : Type 0 where
