@@ -167,6 +167,7 @@ came e rs marked = by_told (all_told [] rs nothing_yet (inl refl))
   where
     parts : (not (recalls nothing_yet rs).in_session ≡ true) × (bytes_eq (event_bytes e) (recalls nothing_yet rs).bytes ≡ true)
     parts = both_true (not (recalls nothing_yet rs).in_session) (bytes_eq (event_bytes e) (recalls nothing_yet rs).bytes) marked
+
     same : event_bytes e ≡ (recalls nothing_yet rs).bytes
     same = (bytes_eq-Decides (event_bytes e) (recalls nothing_yet rs).bytes).0 parts.1
 

@@ -231,6 +231,9 @@ impl MessageStruct {
         if address >= u32::from(Address::CONFIGURATION) {
             return Status::Panel(BusFault::AddressOutOfRange);
         }
-        self.make(Some(Command::Comset(Communication { address: address as u8, baud_rate })))
+        self.make(Some(Command::Comset(Communication {
+            address: address as u8,
+            baud_rate,
+        })))
     }
 }

@@ -44,7 +44,10 @@ fn addresses_have_one_device(rt: HostRuntime) {
     );
     assert_eq!(rt; submit(&rt, &mut bus, 0, &["COMSET", "7", "9600"]), None);
     assert_eq!(rt; bus.waiting(0), Some(1));
-    assert!(rt; bus.submit_anywhere(1, command(&rt, &["COMSET", "127", "9600"])).is_ok());
+    assert!(rt;
+        bus.submit_anywhere(1, command(&rt, &["COMSET", "127", "9600"]))
+            .is_ok()
+    );
     assert_eq!(rt; (bus.waiting(1), bus.is_maybe_again()), (Some(1), false));
     assert_eq!(rt; add(&rt, &mut bus, 7), Err(BusFault::AddressTaken));
     assert_eq!(rt;
