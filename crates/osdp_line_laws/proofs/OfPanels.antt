@@ -1,9 +1,10 @@
 -- Lines to a panel as calls of its bus.
 use Rattle.std.specs.Prelude.{if◌then◌else◌}
-use Rattle.std.proofs.Common.{◌≡◌, ◌∙◌, ◌⊎◌, ap, sym, subst, refl, ℕ, Bool, true, false, List, [], ◌∷◌, ◌++◌, inl, inr, append-nil, append_assoc}
+use Rattle.std.proofs.Common.{◌≡◌, ◌∙◌, ◌⊎◌, ap, sym, subst, refl, ℕ, Bool, true, false, List, [], ◌∷◌, ◌++◌, Option, inl, inr, append-nil, append_assoc}
 use Rattle.osdp_controller.specs.Hearing.{comset_of}
 use Rattle.osdp_msg.specs.declared.command.Command.{Command}
 use Rattle.osdp_bus.specs.Buses.{BusState, device_of}
+use Rattle.osdp_bus.specs.declared.fault.BusFault.{BusFault}
 use Rattle.osdp_bus.specs.Machine.{after_next_report, after_submit_at, changed_unless, leads_nowhere, order_refusal_at}
 use Rattle.osdp_bus_laws.proofs.Ordering.{elsewhere_same, nowhere_stays, order_made}
 use Rattle.osdp_bus_laws.specs.Calls.{Call, NextReport, Submit, after_call, after_calls, orders}
@@ -48,7 +49,10 @@ order_text : (entry : ℕ) (command : Command) (b : BusState)
     ≡ kept_back (line.Submit entry command) b ++ calls_text (orders entry command ++ NextReport ∷ []) b
 order_text entry command b = by_test (leads_nowhere (comset_of command)) refl
   where
+    refused : Option BusFault
     refused = order_refusal_at entry command b
+
+    after : BusState
     after = after_submit_at entry command b
 
     by_test : (t : Bool) → leads_nowhere (comset_of command) ≡ t

@@ -21,13 +21,13 @@ use Rattle.osdp_line_laws.specs.PanelRuns.{RunsAreCalls, Tells, after_said, call
 whole : (call : PanelCall) (s : Session) → (answered call s).session ≡ after_said (Some call) s
 whole (At later) s = refl
 whole (Submit entry command) s =
-    let from = λ (b c : BusState). record {
+    let from : BusState → BusState → Session = λ b c. record {
       bus = c;
       now = s.now;
       listening = record s.listening { opened = opened_by b.devices.report s.listening.opened };
     } in
-    let made = order_made entry command s.bus in
-    ap (λ b. from b (after_next_report b)) made ∙ ap (from (after_calls (orders entry command) s.bus)) (sym (order_taken entry command s.bus))
+    let done = order_made entry command s.bus in
+    ap (λ b. from b (after_next_report b)) done ∙ ap (from (after_calls (orders entry command) s.bus)) (sym (order_taken entry command s.bus))
 whole call s = refl
 
 -- one line: what it says, the panel after it, and what is told
