@@ -45,6 +45,8 @@ const char *osdp_status_text(osdp_status status)
     case OSDP_PANEL_OUT_OF_RANGE:
     case OSDP_DEVICE_OUT_OF_RANGE:
         return "an address or a setting is out of its range";
+    case OSDP_ADDRESS_OUT_OF_RANGE:
+        return "no device has an address above 126";
     case OSDP_COMMANDS_FULL:
         return "as many commands wait as there is room for";
     case OSDP_POLL_SUBMITTED:

@@ -34,8 +34,8 @@
  *   its handle while it runs. So two calls at once find no machine (OSDP_NO_MACHINE), or both find it, and anything may happen.
  *   Another thread may take a handle over where the heap is one that threads may share.
  * - Each pointer is good and aligned: to as much as the call reads or writes, and to memory that is initialised where it is read;
- *   else anything may happen. One to bytes, a text or records may be null where their length is 0, by the functions at the end of
- *   this page; no other may be null.
+ *   else anything may happen. One to bytes, a text or records may be null where their length is 0; with another
+ *   length the call is refused with OSDP_BAD_LENGTH, by the functions at the end of this page. No other may be null.
  * - What one call writes overlaps nothing else that the same call gets: else anything may be written. So the bytes of an answer
  *   aren't given to `osdp_device_step` together with the struct that they stand in: copy them, or take another struct.
  * - The stack has room (see above): else other memory is overwritten. `struct osdp_report` and `struct osdp_answer` have 2.9 KB
@@ -111,7 +111,7 @@ typedef enum OSDP_CHECKED osdp_status {
 
     /* M1: the code isn't in the table of commands, or of replies. */
     OSDP_UNKNOWN_CODE = 11,
-    /* M2: more than 1,432 bytes, or a length that the table doesn't allow for the code. */
+    /* M2: more than 1,432 bytes, or a length that the table doesn't allow for the code; or a null pointer where bytes are to be. */
     OSDP_BAD_LENGTH = 12,
     /* M3: a count inside the data disagrees with their length. */
     OSDP_BAD_COUNT = 13,
@@ -126,6 +126,8 @@ typedef enum OSDP_CHECKED osdp_status {
     OSDP_NO_ENTRY = 24,
     /* B5: the address is above 126, or a setting is out of its range. */
     OSDP_PANEL_OUT_OF_RANGE = 25,
+    /* B6: a COMSET goes to an address that no device has: 127 and above. */
+    OSDP_ADDRESS_OUT_OF_RANGE = 26,
 
     /* C3: as many commands wait as there is room for. */
     OSDP_COMMANDS_FULL = 33,
@@ -383,16 +385,14 @@ osdp_status osdp_output_of(const struct osdp_message *command, size_t at, struct
 /*
  * Each writes a command: `osdp_panel_submit(&panel, entry, command.code, command.data, command.length)` orders it.
  *
- * The address of a COMSET is from 0 to 126. C cuts a larger number to its lowest byte, so 261 becomes 5. A device of ours answers 127 to 255
- * by NAK 9.
- *
- * OSDP_BAD_LENGTH (M2): there is no record, or more than 358 of an OUT or 102 of a LED; nothing is written.
+ * OSDP_BAD_LENGTH (M2): there is no record, or more than 358 of an OUT or 102 of a LED; nothing is written. OSDP_ADDRESS_OUT_OF_RANGE (B6): the
+ * address of a COMSET is above 126, which are those that devices have; nothing is written.
  */
 static inline osdp_status osdp_out(const struct osdp_output *outputs, size_t count, struct osdp_message *command);
 static inline osdp_status osdp_led(const struct osdp_led *leds, size_t count, struct osdp_message *command);
 void osdp_buzzer(const struct osdp_buzzer *buzzer, struct osdp_message *command);
 void osdp_text(const struct osdp_text *text, struct osdp_message *command);
-void osdp_comset(uint8_t address, uint32_t baud_rate, struct osdp_message *command);
+osdp_status osdp_comset(uint32_t address, uint32_t baud_rate, struct osdp_message *command);
 
 /* ---- Numbers in the fields ---- */
 
@@ -612,8 +612,9 @@ osdp_status osdp_panel_begin(osdp_panel *panel, size_t entry, uint64_t now);
  * Puts a command after those that wait for a device, whether or not its session has begun. What becomes of it comes as a report.
  *
  * OSDP_NO_MACHINE. OSDP_UNKNOWN_CODE (M1), OSDP_BAD_LENGTH (M2), OSDP_BAD_COUNT (M3): the code and data stand for no command.
- * OSDP_NO_ENTRY (B4). OSDP_ADDRESS_TAKEN (B3): a COMSET to an address of another device or reserved for one, or where one is reserved
- * for this device already. OSDP_POLL_SUBMITTED (C4): a POLL. OSDP_COMMANDS_FULL (C3).
+ * OSDP_NO_ENTRY (B4). OSDP_POLL_SUBMITTED (C4): a POLL. OSDP_ADDRESS_OUT_OF_RANGE (B6): a COMSET to an address above 126, where the device would
+ * be out of reach. OSDP_ADDRESS_TAKEN (B3): a COMSET to an address of another device or reserved for one, or where one is reserved for this device
+ * already. OSDP_COMMANDS_FULL (C3).
  */
 static inline osdp_status osdp_panel_submit(osdp_panel *panel, size_t entry, uint8_t code, const uint8_t *data, size_t length);
 
@@ -687,7 +688,7 @@ enum {
     /* `command`, a COMSET, was answered by `reply`, a COM with the same address: the device is there, and the session has ended. Its rate
        is the COM's, which may be another than was ordered: data[1] to data[4], low byte first. */
     OSDP_REPORT_MOVED = 3,
-    /* The device told an event; `reply` is the reply that tells it. */
+    /* The device told an event; `reply` is the reply that tells it. `detail` is OSDP_EVENT_MAYBE_AGAIN where it may have been reported before. */
     OSDP_REPORT_EVENT = 4,
     /* A POLL was answered by `reply`, which is neither an ACK nor an event. */
     OSDP_REPORT_ANSWERED = 5,
@@ -708,13 +709,22 @@ enum {
     OSDP_LOST_NUMBER_REFUSED = 3
 };
 
+/*
+ * An event is new, or it may have been reported before: it is the first of its session, and equal in all its bytes to the event of that device that
+ * was reported last. A lost session may lose the answer to an event, and the device tells it again then. Make no second order of one that may be
+ * told again, within a time that you set. A panel that is made anew has forgotten, and tells the first event of each device as new.
+ */
+enum {
+    OSDP_EVENT_MAYBE_AGAIN = 1
+};
+
 /* A report. 2,888 bytes. */
 struct osdp_report {
     /* The device of which it tells. 0 where no report waits. */
     size_t entry;
     /* OSDP_REPORT_NONE to OSDP_REPORT_LOST. */
     uint32_t kind;
-    /* As the kind says, else 0. */
+    /* As the kind says, else 0. Of an event OSDP_EVENT_MAYBE_AGAIN where it may have been reported before. */
     uint32_t detail;
     /* The command and the reply that the kind names; else none. */
     struct osdp_message command;
@@ -1003,8 +1013,9 @@ void rattle_dealloc(void *block);
 /* ---- Null pointers for no bytes ---- */
 
 /*
- * The functions of the archive take no null pointer. Those above that may get one, since there are no bytes, are these: a null
- * pointer becomes one to some byte, of which nothing is read or written where the length is 0.
+ * The functions of the archive take no null pointer. Those above that may get one, since there are no bytes, are these. A null
+ * pointer becomes one to some byte where the length is 0, so that nothing of it is read or written. With another length the call is
+ * refused with OSDP_BAD_LENGTH, and the archive is not called.
  */
 osdp_status osdp_command_text_nonnull(uint8_t code, const uint8_t *data, size_t length, char *text, size_t room, size_t *text_length);
 osdp_status osdp_reply_text_nonnull(uint8_t code, const uint8_t *data, size_t length, char *text, size_t room, size_t *text_length);
@@ -1023,6 +1034,12 @@ osdp_status osdp_device_step_nonnull(
     osdp_device *device, const uint8_t *bytes, size_t length, uint64_t now, size_t *taken, struct osdp_answer *answer);
 osdp_status osdp_device_answer_list_nonnull(osdp_device *device, const uint8_t *states, size_t length);
 osdp_status osdp_device_answer_maker_nonnull(osdp_device *device, const uint8_t *vendor, const uint8_t *bytes, size_t length);
+
+/* Whether there is nothing at a pointer, though so many bytes or records are to be there. */
+static inline int osdp_is_missing(const void *pointer, size_t length)
+{
+    return pointer == NULL && length != 0;
+}
 
 static inline const uint8_t *osdp_some_bytes(const uint8_t *bytes)
 {
@@ -1056,82 +1073,130 @@ static inline const struct osdp_led *osdp_some_leds(const struct osdp_led *leds)
 
 static inline osdp_status osdp_command_text(uint8_t code, const uint8_t *data, size_t length, char *text, size_t room, size_t *text_length)
 {
+    if (osdp_is_missing(data, length) || osdp_is_missing(text, room)) {
+        return OSDP_BAD_LENGTH;
+    }
     return osdp_command_text_nonnull(code, osdp_some_bytes(data), length, osdp_some_room(text), room, text_length);
 }
 
 static inline osdp_status osdp_reply_text(uint8_t code, const uint8_t *data, size_t length, char *text, size_t room, size_t *text_length)
 {
+    if (osdp_is_missing(data, length) || osdp_is_missing(text, room)) {
+        return OSDP_BAD_LENGTH;
+    }
     return osdp_reply_text_nonnull(code, osdp_some_bytes(data), length, osdp_some_room(text), room, text_length);
 }
 
 static inline osdp_status osdp_out(const struct osdp_output *outputs, size_t count, struct osdp_message *command)
 {
+    if (osdp_is_missing(outputs, count)) {
+        return OSDP_BAD_LENGTH;
+    }
     return osdp_out_nonnull(osdp_some_outputs(outputs), count, command);
 }
 
 static inline osdp_status osdp_led(const struct osdp_led *leds, size_t count, struct osdp_message *command)
 {
+    if (osdp_is_missing(leds, count)) {
+        return OSDP_BAD_LENGTH;
+    }
     return osdp_led_nonnull(osdp_some_leds(leds), count, command);
 }
 
 static inline osdp_status osdp_panel_submit(osdp_panel *panel, size_t entry, uint8_t code, const uint8_t *data, size_t length)
 {
+    if (osdp_is_missing(data, length)) {
+        return OSDP_BAD_LENGTH;
+    }
     return osdp_panel_submit_nonnull(panel, entry, code, osdp_some_bytes(data), length);
 }
 
 static inline osdp_status osdp_panel_submit_text(osdp_panel *panel, size_t entry, const char *text, size_t length)
 {
+    if (osdp_is_missing(text, length)) {
+        return OSDP_BAD_LENGTH;
+    }
     return osdp_panel_submit_text_nonnull(panel, entry, osdp_some_text(text), length);
 }
 
 static inline osdp_status osdp_panel_bytes(osdp_panel *panel, const uint8_t *bytes, size_t length, uint64_t now)
 {
+    if (osdp_is_missing(bytes, length)) {
+        return OSDP_BAD_LENGTH;
+    }
     return osdp_panel_bytes_nonnull(panel, osdp_some_bytes(bytes), length, now);
 }
 
 static inline osdp_status osdp_device_new(osdp_device *device, const struct osdp_device_config *config, const uint8_t *capabilities, size_t length)
 {
+    if (osdp_is_missing(capabilities, length)) {
+        return OSDP_BAD_LENGTH;
+    }
     return osdp_device_new_nonnull(device, config, osdp_some_bytes(capabilities), length);
 }
 
 static inline osdp_status osdp_device_set_inputs(osdp_device *device, const uint8_t *states, size_t length)
 {
+    if (osdp_is_missing(states, length)) {
+        return OSDP_BAD_LENGTH;
+    }
     return osdp_device_set_inputs_nonnull(device, osdp_some_bytes(states), length);
 }
 
 static inline osdp_status osdp_device_set_outputs(osdp_device *device, const uint8_t *states, size_t length)
 {
+    if (osdp_is_missing(states, length)) {
+        return OSDP_BAD_LENGTH;
+    }
     return osdp_device_set_outputs_nonnull(device, osdp_some_bytes(states), length);
 }
 
 static inline osdp_status osdp_device_set_readers(osdp_device *device, const uint8_t *states, size_t length)
 {
+    if (osdp_is_missing(states, length)) {
+        return OSDP_BAD_LENGTH;
+    }
     return osdp_device_set_readers_nonnull(device, osdp_some_bytes(states), length);
 }
 
 static inline osdp_status osdp_device_event(osdp_device *device, uint8_t code, const uint8_t *data, size_t length)
 {
+    if (osdp_is_missing(data, length)) {
+        return OSDP_BAD_LENGTH;
+    }
     return osdp_device_event_nonnull(device, code, osdp_some_bytes(data), length);
 }
 
 static inline osdp_status osdp_device_event_text(osdp_device *device, const char *text, size_t length)
 {
+    if (osdp_is_missing(text, length)) {
+        return OSDP_BAD_LENGTH;
+    }
     return osdp_device_event_text_nonnull(device, osdp_some_text(text), length);
 }
 
 static inline osdp_status osdp_device_step(
     osdp_device *device, const uint8_t *bytes, size_t length, uint64_t now, size_t *taken, struct osdp_answer *answer)
 {
+    if (osdp_is_missing(bytes, length)) {
+        return OSDP_BAD_LENGTH;
+    }
     return osdp_device_step_nonnull(device, osdp_some_bytes(bytes), length, now, taken, answer);
 }
 
 static inline osdp_status osdp_device_answer_list(osdp_device *device, const uint8_t *states, size_t length)
 {
+    if (osdp_is_missing(states, length)) {
+        return OSDP_BAD_LENGTH;
+    }
     return osdp_device_answer_list_nonnull(device, osdp_some_bytes(states), length);
 }
 
 static inline osdp_status osdp_device_answer_maker(osdp_device *device, const uint8_t *vendor, const uint8_t *bytes, size_t length)
 {
+    if (osdp_is_missing(bytes, length)) {
+        return OSDP_BAD_LENGTH;
+    }
     return osdp_device_answer_maker_nonnull(device, vendor, osdp_some_bytes(bytes), length);
 }
 

@@ -153,6 +153,32 @@ at 540 > due 520
 bytes none > due 540
 bytes 00 > passed over 1 NAK 6;due none
 TABLE
+answers 'an event that may have been told before' panel check sum <<'TABLE'
+add 5 > due none
+begin 1 > due 400
+at 400 > due 400
+tick > send 530508000061003F;due 600
+bytes 53851300004553494D010101000000010000E3 > opened 1 PDID 53494D 1 1 1 1 0 0;due 450
+at 450 > due 450
+tick > send 53050700016040;due 650
+bytes 53850A00015300013198 > event 1 KEYPAD 0 31;due 500
+at 500 > due 500
+tick > send 5305070002603F;due 700
+bytes 53850A00025300013197 > event 1 KEYPAD 0 31;due 550
+at 550 > due 550
+tick > send 5305070003603E;due 750
+bytes 53850800034104D8 > lost 1 number-refused;due none
+begin 1 > due 950
+at 950 > due 950
+tick > send 530508000061003F;due 1150
+bytes 53851300004553494D010101000000010000E3 > opened 1 PDID 53494D 1 1 1 1 0 0;due 1000
+at 1000 > due 1000
+tick > send 53050700016040;due 1200
+bytes 53850A00015300013198 > maybe-again 1 KEYPAD 0 31;due 1050
+at 1050 > due 1050
+tick > send 5305070002603F;due 1250
+bytes 53850A00025300013197 > event 1 KEYPAD 0 31;due 1100
+TABLE
 answers 'a command that waits is taken back, and a device goes to another address' panel check sum capacity 1 <<'TABLE'
 add 5 > due none
 submit 1 COMSET 7 9600 > due none
@@ -171,6 +197,8 @@ withdraw 2 > refused B4;due none
 retarget 2 5 > refused B4;due none
 submit 2 ID 0 > refused B4;due none
 submit 1 POLL > refused C4;due none
+submit 1 COMSET 127 9600 > refused B6;due none
+submit 2 COMSET 255 9600 > refused B4;due none
 submit 1 ID 0 > due none
 submit 1 ID 0 > refused C3;due none
 begin 1 > due 400

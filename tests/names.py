@@ -28,6 +28,7 @@ NUMBERED = (
     ("Settings", r"nat_le s\.(?P<name>check) (?P<number>\d+)", "OSDP_CHECK_"),
     ("Reports", r"^report_of \((?P<name>\w+) .*\) r = tells (?P<number>\d+) ", "OSDP_REPORT_"),
     ("Reports", r"^report_struct (?P<name>None) r = tells (?P<number>\d+) ", "OSDP_REPORT_"),
+    ("Reports", r"^(?P<name>maybe_again) = (?P<number>\d+)$", "OSDP_EVENT_"),
     ("Reports", r"^cause_number (?P<name>\w+) = (?P<number>\d+)$", "OSDP_LOST_"),
     ("Answers", r"^kind_number (?P<name>\w+) = (?P<number>\d+)$", "OSDP_SAID_"),
     ("Readers", r"^how_expired \(?(?:Some \()?(?P<name>\w+).* = (?P<number>\d+)$", "OSDP_EXPIRED_"),
@@ -48,7 +49,7 @@ TERMS = {
     "Output": "OUT", "Led": "LED", "Buzzer": "BUZ", "Text": "TEXT", "Comset": "COMSET", "Maker": "MFG",
     "Ack": "ACK", "Nak": "NAK", "PdId": "PDID", "PdCap": "PDCAP", "LocalState": "LSTATR", "Inputs": "ISTATR", "Outputs": "OSTATR",
     "Readers": "RSTATR", "Raw": "RAW", "Formatted": "FMT", "Keypad": "KEYPAD", "Com": "COM", "MakerReply": "MFGREP",
-    "most_data": "MOST_DATA", "largest": "MOST_PACKET", "most_devices": "MOST_DEVICES", "MAX_TEXT": "MOST_TEXT", "pends": "PENDING",
+    "most_data": "MOST_DATA", "largest": "MOST_PACKET", "most_devices": "MOST_DEVICES", "MAX_TEXT": "MOST_TEXT", "pends": "PENDING", "maybe_again": "MAYBE_AGAIN",
 }
 # What a constant calls otherwise than its definition does
 OTHERWISE = {

@@ -42,7 +42,8 @@ static void take_reports(uint64_t now)
     while (osdp_panel_next_report(&panel, &report) == OSDP_OK && report.kind != OSDP_REPORT_NONE) {
         tell_report(&report);
         heed_door(&door, &report, now);
-        if (report.kind == OSDP_REPORT_EVENT && door.may_order && osdp_raw_of(&report.reply, &card) == OSDP_OK && may_enter(&card)) {
+        /* a card that may have been told before makes no second order */
+        if (report.kind == OSDP_REPORT_EVENT && report.detail != OSDP_EVENT_MAYBE_AGAIN && door.may_order && osdp_raw_of(&report.reply, &card) == OSDP_OK && may_enter(&card)) {
             open_door();
         }
     }

@@ -31,7 +31,8 @@ fn take_reports(panel: &mut Panel, door: &mut Door, now: Moment) -> Done {
     while let Some((_, report)) = panel.next_report() {
         println!("{report:?}");
         door.heed(&report, now)?;
-        if let Report::Event(Reply::Raw(card)) = report
+        // a card that may have been told before makes no second order
+        if let Report::Event { event: Reply::Raw(card), maybe_again: false } = report
             && door.may_order
             && may_enter(&card)
         {

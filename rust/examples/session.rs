@@ -83,7 +83,10 @@ fn main() -> Result<(), Error> {
         while let Some((entry, report)) = panel.next_report() {
             match report {
                 Report::Opened(id) => println!("opened by {id:?}"),
-                Report::Event(Reply::Raw(card)) => {
+                Report::Event {
+                    event: Reply::Raw(card),
+                    maybe_again: false,
+                } => {
                     assert_eq!(Some(card), Card::new(0, 0, 26, &[0x12, 0x34, 0x56, 0x40]));
                     cards += 1;
                     panel.submit(entry, &Command::out(&[STRIKE])?)?;

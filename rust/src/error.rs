@@ -27,6 +27,8 @@ pub enum Error {
     NoEntry,
     /// An address is above 126, or a setting is out of its range.
     OutOfRange,
+    /// A COMSET goes to an address that no device has: 127 and above.
+    AddressOutOfRange,
     /// As many commands or events wait as there is room for.
     Full,
     /// A POLL, which the panel sends by itself.
@@ -54,6 +56,7 @@ impl fmt::Display for Error {
             Error::AddressTaken => "the address is taken",
             Error::NoEntry => "there is no such device",
             Error::OutOfRange => "an address or a setting is out of its range",
+            Error::AddressOutOfRange => "no device has an address above 126",
             Error::Full => "there is no room for one more",
             Error::PollSubmitted => "a POLL can't be submitted",
             Error::NotClosed => "the session isn't closed",
@@ -80,6 +83,7 @@ pub(crate) fn check(status: sys::osdp_status) -> Result<(), Error> {
         sys::OSDP_ADDRESS_TAKEN => Error::AddressTaken,
         sys::OSDP_NO_ENTRY => Error::NoEntry,
         sys::OSDP_PANEL_OUT_OF_RANGE | sys::OSDP_DEVICE_OUT_OF_RANGE => Error::OutOfRange,
+        sys::OSDP_ADDRESS_OUT_OF_RANGE => Error::AddressOutOfRange,
         sys::OSDP_COMMANDS_FULL | sys::OSDP_EVENTS_FULL => Error::Full,
         sys::OSDP_POLL_SUBMITTED => Error::PollSubmitted,
         sys::OSDP_NOT_CLOSED => Error::NotClosed,

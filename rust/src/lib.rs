@@ -35,7 +35,7 @@
 //!     let mut begins = None;
 //!     while let Some((door, report)) = panel.next_report() {
 //!         match report {
-//!             Report::Event(Reply::Raw(card)) if may_enter(&card) => open(panel, door)?,
+//!             Report::Event { event: Reply::Raw(card), maybe_again: false } if may_enter(&card) => open(panel, door)?,
 //!             Report::Moved(..) => begin_again(panel, door, now)?,
 //!             Report::Lost(..) => begins = Some(now + PAUSE),
 //!             _ => {}

@@ -199,11 +199,15 @@ impl Command {
     }
 
     /// The address, and the rate in baud, that a device is to have.
-    pub fn comset(address: u8, baud_rate: u32) -> Command {
+    ///
+    /// # Errors
+    ///
+    /// `AddressOutOfRange`: the address is above 126.
+    pub fn comset(address: u8, baud_rate: u32) -> Result<Command, Error> {
         let mut message = no_message();
         // SAFETY: the message is good.
-        unsafe { sys::osdp_comset(address, baud_rate, &mut message) };
-        Command(message)
+        check(unsafe { sys::osdp_comset(u32::from(address), baud_rate, &mut message) })?;
+        Ok(Command(message))
     }
 
     /// The records of an OUT, in their order; none of another command.

@@ -132,8 +132,15 @@ pub enum Report {
     Settled(Command, Reply),
     /// A COMSET was confirmed: the device is at its new address, and the session has ended.
     Moved(Command, Reply),
-    /// The device told an event, once.
-    Event(Reply),
+    /// The device told an event.
+    Event {
+        /// The reply that tells it.
+        event: Reply,
+        /// Whether it may have been reported before: it is the first of its session, and equal in all its bytes to the event of that device that was
+        /// reported last. A lost session may lose the answer to an event, and the device tells it again then. Make no second order of it within a time
+        /// that you set. A panel that is made anew has forgotten, and tells the first event of each device as new.
+        maybe_again: bool,
+    },
     /// A POLL was answered by something that is neither an ACK nor an event.
     Answered(Reply),
     /// The answer to a command, or to a POLL where there is none, can't be read.
@@ -157,7 +164,10 @@ fn report_of(panel: u32, raw: &sys::osdp_report) -> Option<(Entry, Report)> {
         },
         sys::OSDP_REPORT_SETTLED => Report::Settled(command?, reply?),
         sys::OSDP_REPORT_MOVED => Report::Moved(command?, reply?),
-        sys::OSDP_REPORT_EVENT => Report::Event(reply?),
+        sys::OSDP_REPORT_EVENT => Report::Event {
+            event: reply?,
+            maybe_again: raw.detail == sys::OSDP_EVENT_MAYBE_AGAIN,
+        },
         sys::OSDP_REPORT_ANSWERED => Report::Answered(reply?),
         sys::OSDP_REPORT_UNREAD => Report::Unread {
             command,
@@ -246,7 +256,8 @@ impl Panel {
     ///
     /// # Errors
     ///
-    /// `NoEntry`, `AddressTaken`, `PollSubmitted`, `Full`.
+    /// `NoEntry`; `PollSubmitted`; `AddressOutOfRange` for a COMSET to an address above 126, where the device would be out of reach; `AddressTaken`;
+    /// `Full`.
     pub fn submit(&mut self, entry: Entry, command: &Command) -> Result<(), Error> {
         let index = self.index(entry)?;
         let (code, data) = (command.code(), command.data());

@@ -22,6 +22,7 @@ pub const OSDP_TOO_MANY: u32 = 22;
 pub const OSDP_ADDRESS_TAKEN: u32 = 23;
 pub const OSDP_NO_ENTRY: u32 = 24;
 pub const OSDP_PANEL_OUT_OF_RANGE: u32 = 25;
+pub const OSDP_ADDRESS_OUT_OF_RANGE: u32 = 26;
 pub const OSDP_COMMANDS_FULL: u32 = 33;
 pub const OSDP_POLL_SUBMITTED: u32 = 34;
 pub const OSDP_NOT_CLOSED: u32 = 35;
@@ -138,6 +139,7 @@ pub const OSDP_REPORT_LOST: u32 = 7;
 
 pub const OSDP_LOST_NO_REPLY: u32 = 1;
 pub const OSDP_LOST_TOO_BUSY: u32 = 2;
+pub const OSDP_EVENT_MAYBE_AGAIN: u32 = 1;
 pub const OSDP_LOST_NUMBER_REFUSED: u32 = 3;
 
 pub const OSDP_EXPIRED_NONE: u32 = 0;
@@ -398,6 +400,7 @@ calls! {
     osdp_output_of(command: *const osdp_message, at: usize, output: *mut osdp_output);
     osdp_out_nonnull(outputs: *const osdp_output, count: usize, command: *mut osdp_message);
     osdp_led_nonnull(leds: *const osdp_led, count: usize, command: *mut osdp_message);
+    osdp_comset(address: u32, baud_rate: u32, command: *mut osdp_message);
     osdp_panel_entries(panel: *mut osdp_panel, count: *mut usize);
     osdp_panel_address(panel: *mut osdp_panel, entry: usize, address: *mut u32);
     osdp_panel_waiting(panel: *mut osdp_panel, entry: usize, count: *mut usize);
@@ -421,5 +424,4 @@ unsafe extern "C" {
     pub fn osdp_panel_defaults(config: *mut osdp_panel_config);
     pub fn osdp_buzzer(buzzer: *const osdp_buzzer, command: *mut osdp_message);
     pub fn osdp_text(text: *const osdp_text, command: *mut osdp_message);
-    pub fn osdp_comset(address: u8, baud_rate: u32, command: *mut osdp_message);
 }

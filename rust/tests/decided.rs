@@ -41,7 +41,9 @@ fn commands_are_made() {
     assert_eq!(out.to_string(), "OUT 0:5:30 1:2:0");
     assert!(out.outputs().eq(records));
     assert_eq!(Command::out(&[]), Err(Error::BadLength));
-    assert_eq!(Command::comset(9, 19200).to_string(), "COMSET 9 19200");
+    let comset = Command::comset(9, 19200).map(|comset| comset.to_string());
+    assert_eq!(comset.as_deref(), Ok("COMSET 9 19200"));
+    assert_eq!(Command::comset(127, 19200), Err(Error::AddressOutOfRange));
     assert_eq!(Command::raw(0x68, &[0, 5, 30, 0, 1, 2, 0, 0]), Ok(out));
     assert_eq!(Command::raw(0x01, &[]), Err(Error::UnknownCode));
 }

@@ -314,6 +314,28 @@ static void long_session(void)
     polled(nak, OSDP_REPORT_LOST, OSDP_LOST_NUMBER_REFUSED, none);
 }
 
+/* The first event of a session that is equal to the last one told before it may be that one; the second is new, and so is another one. */
+static void events_again(void)
+{
+    const uint8_t wrong[] = { 4 }, keys[] = { 0, 1, '7' }, others[] = { 0, 2, '7', '7' };
+    const struct wanted nak = { 0x41, wrong, 1 }, keypad = { 0x53, keys, 3 }, another = { 0x53, others, 4 };
+    opens();
+    polled(keypad, OSDP_REPORT_EVENT, OSDP_EVENT_MAYBE_AGAIN, keypad);
+    polled(keypad, OSDP_REPORT_EVENT, 0, keypad);
+    polled(nak, OSDP_REPORT_LOST, OSDP_LOST_NUMBER_REFUSED, none);
+    opens();
+    polled(another, OSDP_REPORT_EVENT, 0, another);
+    polled(nak, OSDP_REPORT_LOST, OSDP_LOST_NUMBER_REFUSED, none);
+    opens();
+    polled(keypad, OSDP_REPORT_EVENT, 0, keypad);
+    polled(nak, OSDP_REPORT_LOST, OSDP_LOST_NUMBER_REFUSED, none);
+    opens();
+    polled(nak, OSDP_REPORT_LOST, OSDP_LOST_NUMBER_REFUSED, none);
+    opens();
+    polled(keypad, OSDP_REPORT_EVENT, OSDP_EVENT_MAYBE_AGAIN, keypad);
+    polled(nak, OSDP_REPORT_LOST, OSDP_LOST_NUMBER_REFUSED, none);
+}
+
 static void reports(void)
 {
     const uint8_t set[] = { 9, 0x00, 0x4B, 0, 0 };
@@ -326,6 +348,7 @@ static void reports(void)
     demand(osdp_panel_new(&panel, &config) == OSDP_OK);
     demand(osdp_panel_add(&panel, 5, &entry) == OSDP_OK && osdp_panel_add(&panel, 6, &entry) == OSDP_OK && entry == 1);
     long_session();
+    events_again();
     opens();
     ordered(0, busy_reply, OSDP_REPORT_LOST, OSDP_LOST_TOO_BUSY, none);
     opens();

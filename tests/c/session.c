@@ -51,7 +51,7 @@ static void new_panel(void)
         before = bytes_given;
         status = osdp_panel_new(&panel, &config);
     }
-    demand(status == OSDP_OK && bytes_given - before == counted(6912));
+    demand(status == OSDP_OK && bytes_given - before == counted(7064));
     demand(osdp_panel_new(&panel, &config) == OSDP_IN_USE);
     demand(osdp_panel_add(&panel, 127, &entry) == OSDP_PANEL_OUT_OF_RANGE);
 }
@@ -66,7 +66,7 @@ static void add_device(size_t i)
         before = bytes_given;
         status = osdp_panel_add(&panel, address, &entry);
     }
-    demand(status == OSDP_OK && entry == i && bytes_given - before == counted(1768 + 4 * 1648));
+    demand(status == OSDP_OK && entry == i && bytes_given - before == counted(1768 + 1456 + 4 * 1648));
     demand(osdp_panel_add(&panel, address, &entry) == OSDP_ADDRESS_TAKEN && entry == i);
 }
 
@@ -118,6 +118,8 @@ static void refusals(void)
     demand(osdp_panel_submit(&panel, 0, 0x60, out, 0) == OSDP_POLL_SUBMITTED);
     demand(osdp_panel_submit_text(&panel, 0, "OUT 0:2", 7) == OSDP_BAD_TEXT);
     demand(osdp_panel_submit_text(&panel, 0, "COMSET 6 9600", 13) == OSDP_ADDRESS_TAKEN);
+    demand(osdp_panel_submit_text(&panel, 0, "COMSET 127 9600", 15) == OSDP_ADDRESS_OUT_OF_RANGE);
+    demand(osdp_panel_submit_text(&panel, 7, "COMSET 127 9600", 15) == OSDP_NO_ENTRY);
     demand(osdp_panel_begin(&panel, 7, now) == OSDP_NO_ENTRY);
     demand(osdp_panel_retarget(&panel, 0, 6) == OSDP_ADDRESS_TAKEN);
     demand(osdp_panel_retarget(&panel, 0, 127) == OSDP_PANEL_OUT_OF_RANGE);

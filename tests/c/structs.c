@@ -280,9 +280,14 @@ static void commands(void)
     osdp_text(&text, command);
     demand(is_message(command, OSDP_TEXT, text_data, 8));
     command = filled(&first_place, sizeof *command);
-    osdp_comset(9, 19200, command);
-    demand(is_message(command, OSDP_COMSET, set_data, 5));
+    demand(osdp_comset(9, 19200, command) == OSDP_OK && is_message(command, OSDP_COMSET, set_data, 5));
     demand_around(&first_place);
+    /* what a byte would cut to 126 and to 5 */
+    command = filled(&first_place, sizeof *command);
+    demand(osdp_comset(127, 19200, command) == OSDP_ADDRESS_OUT_OF_RANGE && osdp_comset(382, 19200, command) == OSDP_ADDRESS_OUT_OF_RANGE);
+    demand(osdp_comset(261, 19200, command) == OSDP_ADDRESS_OUT_OF_RANGE);
+    demand_untouched(&first_place);
+    demand(osdp_comset(126, 19200, command) == OSDP_OK && command->data[0] == 126);
 }
 
 static struct osdp_moment *deadline(struct osdp_panel *panel)

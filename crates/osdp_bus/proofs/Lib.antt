@@ -3,3 +3,4 @@ pub mod Sent
 pub mod Waiting
 pub mod Defaults
 pub mod Telling
+pub mod Remembering

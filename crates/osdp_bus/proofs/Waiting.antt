@@ -14,6 +14,7 @@ use Rattle.osdp_bus.specs.declared.config.BusConfig.{BusConfig}
 use Rattle.osdp_bus.specs.declared.device.Device.{Device}
 use Rattle.osdp_bus.specs.Buses.{BusState, device_of, has_report, holder, is_silent, waiting_after}
 use Rattle.osdp_bus.specs.Deadlines.{IsDeadline, acts, has_acted, is_run_ended}
+use Rattle.osdp_bus.specs.Remembering.{Remembered}
 use Rattle.osdp_bus.specs.Devices.{first_around, first_from, holds, is_device_due, step_of}
 use Rattle.osdp_bus.specs.Hearing.{ends_run, ends_silent, hears_items}
 use Rattle.osdp_bus.specs.Ticking.{BusTicked, is_due_at, is_held_and_due, next_due, stays, ticks_at, ticks_by, ticks_free, ticks_held, ticks_on, ticks_with}
@@ -152,14 +153,15 @@ any_at test (x ∷ ds) (suc n) d is passes = by_test (test x) (any_at test ds n 
 
 -- ---- what a bus without a report does at a moment
 
-abbrev bus : BusConfig → List Device → ℕ → ℕ → List ℕ → ℕ → BusState
-bus c ds first last held greatest = record {
+abbrev bus : BusConfig → List Remembered → List Device → ℕ → ℕ → List ℕ → ℕ → BusState
+bus c m ds first last held greatest = record {
   config = c;
   devices = record { entries = ds; report = None };
   held = held;
   last = last;
   greatest = greatest;
   first = first;
+  remembered = m;
 }
 
 or_true : (a : Bool) → (a || true) ≡ true
@@ -171,11 +173,11 @@ told_some : (n : ℕ) (report : Option Report) → is_some (waiting_after n repo
 told_some n None = refl
 told_some n (Some report) = refl
 
-ticked_acts : (c : BusConfig) (ds : List Device) (first last greatest n : ℕ) (old : BusState) (d : Device) → slice_get ds n ≡ Some d
-    → is_device_due greatest d ≡ true → has_acted old (ticks_at (Some n) (bus c ds first last [] greatest)) ≡ true
-ticked_acts c ds first last greatest n old d there due =
-    ap (λ o. has_acted old (ticks_with n o (bus c ds first last [] greatest))) there
-    ∙ ap (λ t. t || is_run_ended old (ticks_with n (Some d) (bus c ds first last [] greatest)).bus)
+ticked_acts : (c : BusConfig) (m : List Remembered) (ds : List Device) (first last greatest n : ℕ) (old : BusState) (d : Device) → slice_get ds n ≡ Some d
+    → is_device_due greatest d ≡ true → has_acted old (ticks_at (Some n) (bus c m ds first last [] greatest)) ≡ true
+ticked_acts c m ds first last greatest n old d there due =
+    ap (λ o. has_acted old (ticks_with n o (bus c m ds first last [] greatest))) there
+    ∙ ap (λ t. t || is_run_ended old (ticks_with n (Some d) (bus c m ds first last [] greatest)).bus)
     (ap (λ t. is_some (step_of greatest d).frame || t) (told_some n (step_of greatest d).report) ∙ due)
 
 -- where nothing is held, the end of a run changes nothing
@@ -193,48 +195,48 @@ nothing_silent b held = by_test (is_silent b)
     by_test false = refl
 
 -- nobody holds the line and nothing is held: it does something where a device is due
-pub free_acts : (c : BusConfig) (ds : List Device) (first last greatest now : ℕ) → first_from 0 holds ds ≡ None
-    → acts now (bus c ds first last [] greatest) ≡ any_due ds (max greatest now)
-free_acts c ds first last greatest now nobody =
+pub free_acts : (c : BusConfig) (m : List Remembered) (ds : List Device) (first last greatest now : ℕ) → first_from 0 holds ds ≡ None
+    → acts now (bus c m ds first last [] greatest) ≡ any_due ds (max greatest now)
+free_acts c m ds first last greatest now nobody =
     let g = max greatest now in
-    let b = bus c ds first last [] g in
-    let old = bus c ds first last [] greatest in
-    ap (λ s. has_acted old (ticks_on s)) (nothing_silent (bus c ds first last [] g) refl)
+    let b = bus c m ds first last [] g in
+    let old = bus c m ds first last [] greatest in
+    ap (λ s. has_acted old (ticks_on s)) (nothing_silent (bus c m ds first last [] g) refl)
     ∙ ap (λ o. has_acted old (ticks_by o b)) nobody
-    ∙ ap (λ s. has_acted old (ticks_free s)) (nothing_ends (bus c ds first last [] g) refl)
+    ∙ ap (λ s. has_acted old (ticks_free s)) (nothing_ends (bus c m ds first last [] g) refl)
     ∙ by_next (next_due b) (around (is_device_due g) first ds)
   where
     by_next : (o : Option ℕ) → IsAround (is_device_due (max greatest now)) ds o
-        → has_acted (bus c ds first last [] greatest) (ticks_at o (bus c ds first last [] (max greatest now))) ≡ any_due ds (max greatest now)
+        → has_acted (bus c m ds first last [] greatest) (ticks_at o (bus c m ds first last [] (max greatest now))) ≡ any_due ds (max greatest now)
     by_next None none = sym none
     by_next (Some n) here =
-        ticked_acts c ds first last (max greatest now) n (bus c ds first last [] greatest) here.0 here.1.0 here.1.1
+        ticked_acts c m ds first last (max greatest now) n (bus c m ds first last [] greatest) here.0 here.1.0 here.1.1
         ∙ sym (any_at (is_device_due (max greatest now)) ds n here.0 here.1.0 here.1.1)
 
 -- a device holds the line and nothing is held: it does something where this device is due
-pub held_acts : (c : BusConfig) (ds : List Device) (first last greatest now n : ℕ) (d : Device) → first_from 0 holds ds ≡ Some n
-    → slice_get ds n ≡ Some d → holds d ≡ true → acts now (bus c ds first last [] greatest) ≡ is_device_due (max greatest now) d
-held_acts c ds first last greatest now n d holder_is there stands =
+pub held_acts : (c : BusConfig) (m : List Remembered) (ds : List Device) (first last greatest now n : ℕ) (d : Device) → first_from 0 holds ds ≡ Some n
+    → slice_get ds n ≡ Some d → holds d ≡ true → acts now (bus c m ds first last [] greatest) ≡ is_device_due (max greatest now) d
+held_acts c m ds first last greatest now n d holder_is there stands =
     let g = max greatest now in
-    let b = bus c ds first last [] g in
-    let old = bus c ds first last [] greatest in
-    ap (λ s. has_acted old (ticks_on s)) (nothing_silent (bus c ds first last [] g) refl)
+    let b = bus c m ds first last [] g in
+    let old = bus c m ds first last [] greatest in
+    ap (λ s. has_acted old (ticks_on s)) (nothing_silent (bus c m ds first last [] g) refl)
     ∙ ap (λ o. has_acted old (ticks_by o b)) holder_is
     ∙ ap (λ o. has_acted old (cond (option_map_or (is_device_due g) o false) (ticks_held n (ends_run b)) (stays b))) there
     ∙ by_due (is_device_due g d) refl
   where
     by_due : (due : Bool) → is_device_due (max greatest now) d ≡ due
-        → has_acted (bus c ds first last [] greatest) (cond due (ticks_held n (ends_run (bus c ds first last [] (max greatest now)))) (stays (bus c ds first last [] (max greatest now)))) ≡ due
+        → has_acted (bus c m ds first last [] greatest) (cond due (ticks_held n (ends_run (bus c m ds first last [] (max greatest now)))) (stays (bus c m ds first last [] (max greatest now)))) ≡ due
     by_due false is = refl
     by_due true is =
         let g = max greatest now in
-        let b = bus c ds first last [] g in
-        let old = bus c ds first last [] greatest in
-        ap (λ s. has_acted old (ticks_held n s)) (nothing_ends (bus c ds first last [] g) refl)
+        let b = bus c m ds first last [] g in
+        let old = bus c m ds first last [] greatest in
+        ap (λ s. has_acted old (ticks_held n s)) (nothing_ends (bus c m ds first last [] g) refl)
         ∙ ap (λ o. has_acted old (cond (not (option_map_or holds o false && option_map_or (is_device_due g) o false)) (stays b) (ticks_at (Some n) b))) there
         ∙ ap (λ t. has_acted old (cond (not (t && is_device_due g d)) (stays b) (ticks_at (Some n) b))) stands
         ∙ ap (λ t. has_acted old (cond (not t) (stays b) (ticks_at (Some n) b))) is
-        ∙ ticked_acts c ds first last g n old d there is
+        ∙ ticked_acts c m ds first last g n old d there is
 
 -- a run in which bytes were held is over then
 ended_acts : (old : BusState) (byte : ℕ) (bytes : List ℕ) (t : BusTicked) → old.held ≡ byte ∷ bytes → t.bus.held ≡ [] → has_acted old t ≡ true
@@ -270,46 +272,46 @@ by_empty None s none = free_empty (ends_run s) refl
 by_empty (Some n) s none = choice_empty (is_due_at n s) (ticks_held n (ends_run s)) (stays s) (held_empty n (ends_run s) refl) none
 
 -- nobody holds the line and bytes are held: a tick ends their run at once
-pub free_ends : (c : BusConfig) (ds : List Device) (first last greatest now byte : ℕ) (bytes : List ℕ) → first_from 0 holds ds ≡ None
-    → acts now (bus c ds first last (byte ∷ bytes) greatest) ≡ true
-free_ends c ds first last greatest now byte bytes nobody = by_silent (is_silent (bus c ds first last (byte ∷ bytes) (max greatest now)))
+pub free_ends : (c : BusConfig) (m : List Remembered) (ds : List Device) (first last greatest now byte : ℕ) (bytes : List ℕ) → first_from 0 holds ds ≡ None
+    → acts now (bus c m ds first last (byte ∷ bytes) greatest) ≡ true
+free_ends c m ds first last greatest now byte bytes nobody = by_silent (is_silent (bus c m ds first last (byte ∷ bytes) (max greatest now)))
   where
-    by_silent : (b : Bool) → has_acted (bus c ds first last (byte ∷ bytes) greatest)
-        (ticks_on (cond b (ends_run (bus c ds first last (byte ∷ bytes) (max greatest now))) (bus c ds first last (byte ∷ bytes) (max greatest now)))) ≡ true
+    by_silent : (b : Bool) → has_acted (bus c m ds first last (byte ∷ bytes) greatest)
+        (ticks_on (cond b (ends_run (bus c m ds first last (byte ∷ bytes) (max greatest now))) (bus c m ds first last (byte ∷ bytes) (max greatest now)))) ≡ true
     by_silent true =
-        let s = ends_run (bus c ds first last (byte ∷ bytes) (max greatest now)) in
-        ended_acts (bus c ds first last (byte ∷ bytes) greatest) byte bytes (ticks_on s) refl (by_empty (holder s) s refl)
+        let s = ends_run (bus c m ds first last (byte ∷ bytes) (max greatest now)) in
+        ended_acts (bus c m ds first last (byte ∷ bytes) greatest) byte bytes (ticks_on s) refl (by_empty (holder s) s refl)
     by_silent false =
-        let s = bus c ds first last (byte ∷ bytes) (max greatest now) in
-        ended_acts (bus c ds first last (byte ∷ bytes) greatest) byte bytes (ticks_on s) refl
+        let s = bus c m ds first last (byte ∷ bytes) (max greatest now) in
+        ended_acts (bus c m ds first last (byte ∷ bytes) greatest) byte bytes (ticks_on s) refl
         (ap (λ o. (ticks_by o s).bus.held) nobody ∙ free_empty (ends_run s) refl)
 
 -- a device holds the line and bytes are held: their run ends where the line was silent long enough, or where this device is due
-pub held_ends : (c : BusConfig) (ds : List Device) (first last greatest now byte n : ℕ) (bytes : List ℕ) (d : Device) → first_from 0 holds ds ≡ Some n
+pub held_ends : (c : BusConfig) (m : List Remembered) (ds : List Device) (first last greatest now byte n : ℕ) (bytes : List ℕ) (d : Device) → first_from 0 holds ds ≡ Some n
     → slice_get ds n ≡ Some d
-    → acts now (bus c ds first last (byte ∷ bytes) greatest) ≡ (is_device_due (max greatest now) d || is_silent_for c.gap last (max greatest now))
-held_ends c ds first last greatest now byte n bytes d holder_is there =
+    → acts now (bus c m ds first last (byte ∷ bytes) greatest) ≡ (is_device_due (max greatest now) d || is_silent_for c.gap last (max greatest now))
+held_ends c m ds first last greatest now byte n bytes d holder_is there =
     by_silent (is_silent_for c.gap last (max greatest now))
   where
-    by_due : (due : Bool) → has_acted (bus c ds first last (byte ∷ bytes) greatest)
-        (cond due (ticks_held n (ends_run (bus c ds first last (byte ∷ bytes) (max greatest now)))) (stays (bus c ds first last (byte ∷ bytes) (max greatest now))))
+    by_due : (due : Bool) → has_acted (bus c m ds first last (byte ∷ bytes) greatest)
+        (cond due (ticks_held n (ends_run (bus c m ds first last (byte ∷ bytes) (max greatest now)))) (stays (bus c m ds first last (byte ∷ bytes) (max greatest now))))
         ≡ due
     by_due true =
-        let s = ends_run (bus c ds first last (byte ∷ bytes) (max greatest now)) in
-        ended_acts (bus c ds first last (byte ∷ bytes) greatest) byte bytes (ticks_held n s) refl (held_empty n s refl)
+        let s = ends_run (bus c m ds first last (byte ∷ bytes) (max greatest now)) in
+        ended_acts (bus c m ds first last (byte ∷ bytes) greatest) byte bytes (ticks_held n s) refl (held_empty n s refl)
     by_due false = ap (λ e. not e && e) (ne_eqb (length (byte ∷ bytes)) 0 (λ h. omega arith))
 
-    by_silent : (b : Bool) → has_acted (bus c ds first last (byte ∷ bytes) greatest)
-        (ticks_on (cond b (ends_run (bus c ds first last (byte ∷ bytes) (max greatest now))) (bus c ds first last (byte ∷ bytes) (max greatest now))))
+    by_silent : (b : Bool) → has_acted (bus c m ds first last (byte ∷ bytes) greatest)
+        (ticks_on (cond b (ends_run (bus c m ds first last (byte ∷ bytes) (max greatest now))) (bus c m ds first last (byte ∷ bytes) (max greatest now))))
         ≡ (is_device_due (max greatest now) d || b)
     by_silent true =
-        let s = ends_run (bus c ds first last (byte ∷ bytes) (max greatest now)) in
-        ended_acts (bus c ds first last (byte ∷ bytes) greatest) byte bytes (ticks_on s) refl (by_empty (holder s) s refl)
+        let s = ends_run (bus c m ds first last (byte ∷ bytes) (max greatest now)) in
+        ended_acts (bus c m ds first last (byte ∷ bytes) greatest) byte bytes (ticks_on s) refl (by_empty (holder s) s refl)
         ∙ sym (or_true (is_device_due (max greatest now) d))
     by_silent false =
         let g = max greatest now in
-        let s = bus c ds first last (byte ∷ bytes) g in
-        let old = bus c ds first last (byte ∷ bytes) greatest in
+        let s = bus c m ds first last (byte ∷ bytes) g in
+        let old = bus c m ds first last (byte ∷ bytes) greatest in
         ap (λ o. has_acted old (ticks_by o s)) holder_is
         ∙ ap (λ o. has_acted old (cond (option_map_or (is_device_due g) o false) (ticks_held n (ends_run s)) (stays s))) there
         ∙ by_due (is_device_due g d) ∙ sym (or_false (is_device_due g d))
@@ -320,7 +322,7 @@ none_of : {X : Type 0} (o : Option X) → is_some o ≡ false → o ≡ None
 none_of None h = refl
 none_of (Some x) h = absurd cc
 
-plain : (b : BusState) (held : List ℕ) → b.devices.report ≡ None → b.held ≡ held → b ≡ bus b.config b.devices.entries b.first b.last held b.greatest
+plain : (b : BusState) (held : List ℕ) → b.devices.report ≡ None → b.held ≡ held → b ≡ bus b.config b.remembered b.devices.entries b.first b.last held b.greatest
 plain b held none is = (λ i. record b { devices = record b.devices { report = none i }; held = is i })
 
 as_deadline : (b : BusState) (f : ℕ → Bool) (moment : Option ℕ) → has_report b ≡ false → b.greatest < 2 ^ 64
@@ -334,7 +336,7 @@ pub deadline_free : (b : BusState) (moment : Option ℕ) → has_report b ≡ fa
 deadline_free b moment none nobody empty fits due =
     let is = plain b [] (none_of b.devices.report none) (nil_from_length b.held empty) in
     as_deadline b (any_due b.devices.entries) moment none fits
-    (λ now. ap (acts now) is ∙ free_acts b.config b.devices.entries b.first b.last b.greatest now nobody) due
+    (λ now. ap (acts now) is ∙ free_acts b.config b.remembered b.devices.entries b.first b.last b.greatest now nobody) due
 
 -- nobody holds the line, and bytes are held
 pub deadline_now : (b : BusState) → has_report b ≡ false → holder b ≡ None → length b.held ≢ 0 → IsDeadline b (Some b.greatest)
@@ -346,7 +348,7 @@ deadline_now b none nobody some = by_held b.held refl
       none,
       omega arith,
       λ now lt. ap (acts now) (plain b (byte ∷ bytes) (none_of b.devices.report none) is)
-          ∙ free_ends b.config b.devices.entries b.first b.last b.greatest now byte bytes nobody ∙ sym (le-leb b.greatest (max b.greatest now) (omega arith)),
+          ∙ free_ends b.config b.remembered b.devices.entries b.first b.last b.greatest now byte bytes nobody ∙ sym (le-leb b.greatest (max b.greatest now) (omega arith)),
     )
 
 -- a device holds the line
@@ -364,12 +366,12 @@ deadline_held b n moment none holder_is fits due =
     by_held d there stands [] is from =
         as_deadline b (λ at. is_device_due at d) moment none fits
         (λ now. ap (acts now) (plain b [] (none_of b.devices.report none) is)
-        ∙ held_acts b.config b.devices.entries b.first b.last b.greatest now n d holder_is there stands)
+        ∙ held_acts b.config b.remembered b.devices.entries b.first b.last b.greatest now n d holder_is there stands)
         (subst (λ (l : List ℕ). IsHolderDeadline (length l == 0) b d moment) is from)
     by_held d there stands (byte ∷ bytes) is from =
         as_deadline b (λ at. is_device_due at d || is_silent_for b.config.gap b.last at) moment none fits
         (λ now. ap (acts now) (plain b (byte ∷ bytes) (none_of b.devices.report none) is)
-        ∙ held_ends b.config b.devices.entries b.first b.last b.greatest now byte n bytes d holder_is there)
+        ∙ held_ends b.config b.remembered b.devices.entries b.first b.last b.greatest now byte n bytes d holder_is there)
         (subst (λ t. IsHolderDeadline t b d moment) (ap (λ l. length l == 0) is ∙ ne_eqb (length (byte ∷ bytes)) 0 (λ h. omega arith)) from)
 
 -- the line's own silence

@@ -1,5 +1,6 @@
 pub mod Settings
 pub mod Devices
+pub mod Remembering
 pub mod Buses
 pub mod Hearing
 pub mod Ticking

@@ -1,10 +1,11 @@
 -- The calls of a bus's user: when each is refused, and what it changes.
-use Rattle.std.specs.Prelude.{◌≡◌, ℕ, Bool, false, ◌||◌, nat_le, nat_lt, if◌then◌else◌, max, [], ◌∷◌, ◌++◌, length, Option, Some, None, is_some, option_map, slice_set, Result, Ok, Err}
+use Rattle.std.specs.Prelude.{◌≡◌, ℕ, Bool, false, ◌||◌, nat_le, nat_lt, if◌then◌else◌, max, List, [], ◌∷◌, ◌++◌, length, Option, Some, None, is_some, option_map, slice_set, Result, Ok, Err}
 use Rattle.std.specs.Option.{option_map_or}
 use Rattle.osdp_msg.specs.declared.command.Command.{Command}
 use Rattle.osdp_msg.specs.declared.command_fields.Communication.{Communication}
 use Rattle.osdp_controller.specs.declared.fault.ControllerFault.{ControllerFault}
 use Rattle.osdp_controller.specs.declared.fault.ControllerFault.TheVariants as controllers
+use Rattle.osdp_controller.specs.declared.report.Report.{Report}
 use Rattle.osdp_controller.specs.Comsets.{has_comset}
 use Rattle.osdp_controller.specs.Hearing.{comset_of}
 use Rattle.osdp_controller.specs.Machine.{after_begin, after_retarget, after_submit, after_withdraw, begin_refusal, new_machine, retarget_refusal, submit_refusal, withdrawn_in}
@@ -13,9 +14,10 @@ pub use Rattle.osdp_controller.specs.Machine.{changed_unless, unless_refused}
 use Rattle.osdp_bus.specs.declared.config.BusConfig.{BusConfig}
 use Rattle.osdp_bus.specs.declared.device.Device.{Device}
 use Rattle.osdp_bus.specs.declared.fault.BusFault.{BusFault}
-use Rattle.osdp_bus.specs.declared.fault.BusFault.TheVariants.{NoMemory, TooMany, AddressTaken, NoEntry, OutOfRange, Full, PollSubmitted, NotClosed}
+use Rattle.osdp_bus.specs.declared.fault.BusFault.TheVariants.{NoMemory, TooMany, AddressTaken, NoEntry, OutOfRange, AddressOutOfRange, Full, PollSubmitted, NotClosed}
 use Rattle.osdp_bus.specs.Buses.{BusState, device_of, new_bus, seen}
 use Rattle.osdp_bus.specs.Devices.{freed_with, is_taken, is_taken_beside, reserved_for}
+use Rattle.osdp_bus.specs.Remembering.{Remembered, remembers_at}
 use Rattle.osdp_bus.specs.Settings.{IsBusConfig, controller_config}
 
 -- how many devices there may be
@@ -100,6 +102,20 @@ submit_refusal_of entry command (Some d) b =
 abbrev pub submit_refusal_at : ℕ → Command → BusState → Option BusFault
 submit_refusal_at entry command b = submit_refusal_of entry command (device_of entry b) b
 
+-- a COMSET to an address that no device has: the configuration address, which is 127, and those above
+abbrev pub leads_nowhere : Option Communication → Bool
+leads_nowhere None = false
+leads_nowhere (Some asked) = nat_le 127 asked.address
+
+-- a panel's order: such a COMSET is refused, since a device that follows it is out of reach; else as submitting is
+abbrev pub order_refusal_of : ℕ → Command → Option Device → BusState → Option BusFault
+order_refusal_of entry command None b = Some NoEntry
+order_refusal_of entry command (Some d) b =
+    if leads_nowhere (comset_of command) then Some AddressOutOfRange else submit_refusal_of entry command (Some d) b
+
+abbrev pub order_refusal_at : ℕ → Command → BusState → Option BusFault
+order_refusal_at entry command b = order_refusal_of entry command (device_of entry b) b
+
 -- the command waits, and a COMSET reserves its address
 abbrev pub device_submits : Command → Device → Device
 device_submits command d = record {
@@ -155,6 +171,14 @@ withdrawal_at entry b = withdrawal_of (device_of entry b)
 abbrev pub after_withdraw_at : ℕ → BusState → BusState
 after_withdraw_at entry b = changes_device entry device_withdraws b
 
--- the report that waits is taken
+-- the report that waits is taken, and remembered of its entry
+abbrev pub remembered_after : Option (ℕ × Report) → BusState → List Remembered
+remembered_after None b = b.remembered
+remembered_after (Some (entry, report)) b =
+    option_map_or (λ d. remembers_at entry report b.remembered) (device_of entry b) b.remembered
+
 abbrev pub after_next_report : BusState → BusState
-after_next_report b = record b { devices = record b.devices { report = None } }
+after_next_report b = record b {
+  devices = record b.devices { report = None };
+  remembered = remembered_after b.devices.report b;
+}

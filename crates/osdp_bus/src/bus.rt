@@ -10,6 +10,7 @@ use crate::config::BusConfig;
 use crate::device_list::{DeviceList, is_taken};
 use crate::fault::BusFault;
 use crate::line::Line;
+use crate::memory::BoxedMemory;
 use crate::told::Told;
 use osdp_controller::Report;
 use osdp_frame::{Address, Burst, Receiver};
@@ -43,15 +44,15 @@ impl Model for Bus {
 }
 
 impl Bus {
-    ghost use Rattle.osdp_bus.specs.Buses.{device_of};
+    ghost use Rattle.osdp_bus.specs.Buses.{device_of, is_maybe_again};
     ghost use Rattle.osdp_bus.specs.Deadlines.{IsDeadline};
     ghost use Rattle.osdp_bus.specs.Hearing.{after_bytes, after_silence};
-    ghost use Rattle.osdp_bus.specs.Machine.{AddEnds, NewEnds, after_begin_at, after_next_report, after_retarget_at, after_submit_at, after_withdraw_at, begin_refusal_at, changed_unless, retarget_refusal_at, submit_refusal_at, unless_refused, withdrawal_at};
+    ghost use Rattle.osdp_bus.specs.Machine.{AddEnds, NewEnds, after_begin_at, after_next_report, after_retarget_at, after_submit_at, after_withdraw_at, begin_refusal_at, changed_unless, order_refusal_at, retarget_refusal_at, submit_refusal_at, unless_refused, withdrawal_at};
     ghost use Rattle.osdp_bus.specs.Sending.{IsSentAs};
     ghost use Rattle.osdp_controller.specs.Lent.{IsWritten};
     ghost use Rattle.osdp_bus.specs.Ticking.{bus_ticks};
 
-    /// A bus without devices. It takes the memory for a list of sixteen, and none for these themselves.
+    /// A bus without devices. It takes the memory for two lists of sixteen, and none for these themselves.
     ///
     /// OutOfRange (B5) where a setting is out of its range; else NoMemory (B1) where there is none.
     pub fn new(alloc: Global, config: BusConfig) -> Result<Bus, BusFault>
@@ -63,23 +64,29 @@ impl Bus {
         let Ok(entries) = Vec::with_capacity(alloc, MOST_DEVICES) else {
             return Err(BusFault::NoMemory);
         };
+        let Ok(memories) = Vec::with_capacity(alloc, MOST_DEVICES) else {
+            return Err(BusFault::NoMemory);
+        };
         let line = Line {
             config,
             devices: DeviceList {
                 entries,
                 report: Told::new(),
             },
+            memories,
             receiver: Receiver::new(config.gap),
             first: 0,
         };
         Ok(Bus { alloc, line })
     }
 
-    /// Adds a device at this address, whose session is closed. It takes the memory for the device and for its waiting commands.
+    /// Adds a device at this address, whose session is closed. It takes the memory for the device, for its
+    /// waiting commands and for the last event that it tells.
     ///
     /// TooMany (B2) where sixteen are there; else OutOfRange (B5) for the configuration address; else AddressTaken (B3)
     /// where the address is that of a device or reserved for one; else NoMemory (B1) where there is none. Nothing has
     /// changed then.
+    #[tactic(auto, using(crate::proofs::Remembering::remembering))]
     pub fn add(&mut self, address: Address) -> Result<Entry, BusFault>
         ensures { AddEnds address self.old self.new result }
     {
@@ -94,7 +101,9 @@ impl Bus {
             return Err(BusFault::AddressTaken);
         }
         let device = BoxedDevice::new(self.alloc, address, &self.line.config)?;
+        let memory = BoxedMemory::new(self.alloc)?;
         self.line.devices.entries.push_reserved(device);
+        self.line.memories.push_reserved(memory);
         Ok(entry)
     }
 
@@ -113,10 +122,28 @@ impl Bus {
     /// reserves its address for the device until it is told settled or moved, or is withdrawn; told unsettled or unread,
     /// it reserves it until `retarget`.
     ///
-    /// NoEntry (B4); else PollSubmitted (C4) for a POLL; else AddressTaken (B3) for a COMSET to an address of another
-    /// device or reserved for one, or where an address is reserved for this device already; else Full (C3) where as many
-    /// commands wait as there is room for. The command comes back, and nothing has changed.
+    /// NoEntry (B4); else PollSubmitted (C4) for a POLL; else AddressOutOfRange (B6) for a COMSET to an address that no
+    /// device has, 127 and above, where the device would be out of reach; else AddressTaken (B3) for a COMSET to an address
+    /// of another device or reserved for one, or where an address is reserved for this device already; else Full (C3) where
+    /// as many commands wait as there is room for. The command comes back, and nothing has changed.
     pub fn submit(&mut self, entry: Entry, command: Command) -> Result<(), (BusFault, Command)>
+        ensures ok { OnOk result (order_refusal_at entry command self.old ≡ None) }
+        ensures accepted { OnOk result (self.new ≡ after_submit_at entry command self.old) }
+        ensures err { IfErr result (λ e. order_refusal_at entry command self.old ≡ Some e.0) }
+        ensures back { IfErr result (λ e. (e.1 ≡ command) × (self.new ≡ self.old)) }
+    {
+        self.line.order(entry, command)
+    }
+
+    /// As `submit`, but a COMSET to whatever address is accepted as any other: for a simulation, which shows what a reader
+    /// answers to one. A device that confirms one to 127 or above is out of reach.
+    ///
+    /// The refusals of `submit` but for AddressOutOfRange (B6).
+    pub fn submit_anywhere(
+        &mut self,
+        entry: Entry,
+        command: Command,
+    ) -> Result<(), (BusFault, Command)>
         ensures ok { OnOk result (submit_refusal_at entry command self.old ≡ None) }
         ensures accepted { OnOk result (self.new ≡ after_submit_at entry command self.old) }
         ensures err { IfErr result (λ e. submit_refusal_at entry command self.old ≡ Some e.0) }
@@ -201,7 +228,7 @@ impl Bus {
         ensures report { result ≡ self.old.devices.report }
         ensures bus { self.new ≡ after_next_report self.old }
     {
-        self.line.devices.report.take()
+        self.line.next_report()
     }
 
     /// The report that waits, where it lies, with the entry of the device whose controller told it. It waits until `drop_report` or `next_report`.
@@ -211,11 +238,21 @@ impl Bus {
         self.line.devices.report.as_ref()
     }
 
+    /// Whether the report that waits is an event that may have been reported before: the first of its session, and equal in all its bytes to the one
+    /// that was reported last for its entry. All others are new. A new bus has reported none. False where no report waits.
+    ///
+    /// A device whose session was lost tells the event again whose answer may have been lost. So the card or key that it tells may be the one before.
+    pub fn is_maybe_again(&self) -> bool
+        ensures { result ≡ is_maybe_again self.now }
+    {
+        self.line.is_maybe_again()
+    }
+
     /// Lets the report that waits go, once it was read where it lies. Where none waits nothing changes.
     pub fn drop_report(&mut self)
         ensures { self.new ≡ after_next_report self.old }
     {
-        self.line.devices.report.clear();
+        self.line.drop_report();
     }
 
     /// How many devices there are.

@@ -3,7 +3,7 @@
 ghost use Rattle.std.specs.Prelude.{◌≡◌, ◌<◌, None, Some, IfErr, OnOk, length, slice_get};
 ghost use Rattle.osdp_controller.specs.Hearing.{comset_of};
 ghost use Rattle.osdp_bus.specs.declared.device.Device.{Device};
-ghost use Rattle.osdp_bus.specs.Machine.{after_begin_at, after_retarget_at, after_submit_at, after_withdraw_at, begin_refusal_at, changed_unless, is_comset_refused, retarget_refusal_at, submit_refusal_at, unless_refused, withdrawal_at};
+ghost use Rattle.osdp_bus.specs.Machine.{after_begin_at, after_retarget_at, after_submit_at, after_withdraw_at, begin_refusal_at, changed_unless, is_comset_refused, leads_nowhere, order_refusal_at, retarget_refusal_at, submit_refusal_at, unless_refused, withdrawal_at};
 ghost use Rattle.osdp_bus.specs.Private.{IsLine, state_of};
 
 use crate::Entry;
@@ -12,7 +12,17 @@ use crate::device_list::is_taken_beside;
 use crate::fault::BusFault;
 use crate::line::Line;
 use osdp_frame::Address;
-use osdp_msg::Command;
+use osdp_msg::{Command, Communication};
+
+/// Whether a COMSET goes to an address that no device has.
+fn leads_nowhere(asked: Option<Communication>) -> bool
+    ensures { result ≡ leads_nowhere asked }
+{
+    match asked {
+        None => false,
+        Some(asked) => asked.address >= Address::CONFIGURATION,
+    }
+}
 
 impl Line {
     /// Why a session of the device of an entry may not begin.
@@ -77,6 +87,28 @@ impl Line {
             return Err((BusFault::AddressTaken, command));
         }
         self.devices.entries[entry].submit(command)
+    }
+
+    /// The same for a panel's order, which is no COMSET to an address that no device has.
+    pub(crate) fn order(
+        &mut self,
+        entry: Entry,
+        command: Command,
+    ) -> Result<(), (BusFault, Command)>
+        requires { IsLine self.old }
+        ensures ok { OnOk result (order_refusal_at entry command (state_of self.old) ≡ None) }
+        ensures accepted { OnOk result (state_of self.new ≡ after_submit_at entry command (state_of self.old)) }
+        ensures err { IfErr result (λ e. order_refusal_at entry command (state_of self.old) ≡ Some e.0) }
+        ensures back { IfErr result (λ e. (e.1 ≡ command) × (state_of self.new ≡ state_of self.old)) }
+        ensures kept { IsLine self.new }
+    {
+        if entry >= self.devices.entries.len() {
+            return Err((BusFault::NoEntry, command));
+        }
+        if leads_nowhere(comset_of(&command)) {
+            return Err((BusFault::AddressOutOfRange, command));
+        }
+        self.submit(entry, command)
     }
 
     /// Takes back the command that has waited longest for the device of an entry.

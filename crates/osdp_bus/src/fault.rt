@@ -20,6 +20,9 @@ pub enum BusFault {
     /// B5: the address is above 126, or a parameter is out of its range.
     #[error("B5: out of range")]
     OutOfRange,
+    /// B6: a COMSET goes to an address that no device has: 127 and above.
+    #[error("B6: no device's address")]
+    AddressOutOfRange,
     /// C3: as many commands wait as there is room for.
     #[error("C3: no room for another command")]
     Full,

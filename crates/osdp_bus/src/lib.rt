@@ -28,6 +28,7 @@ mod device;
 mod device_list;
 mod fault;
 mod line;
+mod memory;
 mod told;
 
 pub use bus::Bus;

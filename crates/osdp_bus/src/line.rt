@@ -4,14 +4,17 @@ ghost use Rattle.std.specs.Prelude.{◌≡◌, ◌<◌, ◌++◌, None, Some, fa
 ghost use Rattle.osdp_controller.specs.Lent.{IsWritten};
 ghost use Rattle.osdp_frame.specs.Items.{items, left_over, rest_of};
 ghost use Rattle.osdp_frame.specs.Receiving.{IsAllRead};
-ghost use Rattle.osdp_bus.specs.Buses.{seen};
+ghost use Rattle.osdp_bus.specs.Buses.{is_maybe_again, seen};
 ghost use Rattle.osdp_bus.specs.Hearing.{after_bytes, after_silence, ends_run, ends_silent, hears_bytes, hears_items};
+ghost use Rattle.osdp_bus.specs.Machine.{after_next_report, remembered_after};
 ghost use Rattle.osdp_bus.specs.Private.{IsLine, ReadsHead, devices_of, state_of};
 ghost use Rattle.osdp_bus.specs.Ticking.{bus_ticks, is_due_at, is_held_and_due, ticks_at, ticks_by};
 
 use crate::Entry;
 use crate::config::BusConfig;
 use crate::device_list::{DeviceList, first_holding, next_due};
+use crate::memory::BoxedMemory;
+use osdp_controller::Report;
 use osdp_frame::{Burst, Receiver, whole_item};
 
 /// The parts of a bus. Moments are in milliseconds.
@@ -19,6 +22,8 @@ use osdp_frame::{Burst, Receiver, whole_item};
 pub struct Line {
     pub config: BusConfig,
     pub devices: DeviceList,
+    /// What is remembered of the events of each entry.
+    pub memories: Vec<BoxedMemory>,
     /// What has come of the run that goes on, and when.
     pub receiver: Receiver,
     /// The entry that is asked first once nobody holds the line.
@@ -256,5 +261,54 @@ impl Line {
             None => self.tick_free(out),
             Some(entry) => self.tick_held(entry, out),
         }
+    }
+
+    /// Whether the report that waits is an event that may have been reported before.
+    #[tactic(auto, using(crate::proofs::Remembering::remembering))]
+    pub(crate) fn is_maybe_again(&self) -> bool
+        ensures { result ≡ is_maybe_again (state_of self.now) }
+    {
+        match self.devices.report.as_ref() {
+            None => false,
+            Some((entry, report)) => {
+                entry < self.memories.len() && self.memories[entry].may_be_again(report)
+            }
+        }
+    }
+
+    /// Remembers the report that waits.
+    #[tactic(auto, using(crate::proofs::Remembering::remembering))]
+    fn remember(&mut self)
+        requires { IsLine self.old }
+        ensures line { state_of self.new ≡ record (state_of self.old) { remembered = remembered_after self.old.devices.report (state_of self.old) } }
+        ensures kept { IsLine self.new }
+    {
+        let Some((entry, report)) = self.devices.report.as_ref() else {
+            return
+        };
+        if entry < self.memories.len() {
+            self.memories[entry].remember(report);
+        }
+    }
+
+    /// Takes the report that waits.
+    pub(crate) fn next_report(&mut self) -> Option<(Entry, Report)>
+        requires { IsLine self.old }
+        ensures report { result ≡ self.old.devices.report }
+        ensures line { state_of self.new ≡ after_next_report (state_of self.old) }
+        ensures kept { IsLine self.new }
+    {
+        self.remember();
+        self.devices.report.take()
+    }
+
+    /// Lets the report that waits go.
+    pub(crate) fn drop_report(&mut self)
+        requires { IsLine self.old }
+        ensures line { state_of self.new ≡ after_next_report (state_of self.old) }
+        ensures kept { IsLine self.new }
+    {
+        self.remember();
+        self.devices.report.clear();
     }
 }

@@ -16,7 +16,9 @@ pub mod Holding
 pub mod Staying
 pub mod Silences
 pub mod Reports
+pub mod Repeating
 pub mod Rooms
+pub mod Ordering
 pub mod Refusing
 pub mod Moments
 pub mod Retargeting

@@ -18,14 +18,15 @@ use Rattle.osdp_controller.specs.States.{is_closed}
 use Rattle.osdp_controller_laws.proofs.Closed.{may_begin}
 use Rattle.osdp_bus.specs.declared.device.Device.{Device}
 use Rattle.osdp_bus.specs.declared.fault.BusFault.{BusFault}
-use Rattle.osdp_bus.specs.declared.fault.BusFault.TheVariants.{TooMany, AddressTaken, OutOfRange, Full, PollSubmitted, NotClosed}
+use Rattle.osdp_bus.specs.declared.fault.BusFault.TheVariants.{TooMany, AddressTaken, OutOfRange, AddressOutOfRange, Full, PollSubmitted, NotClosed}
 use Rattle.osdp_bus.specs.Buses.{BusState, device_of}
 use Rattle.osdp_bus.specs.Devices.{address_of, is_at, is_reserved, is_taken, is_taken_beside, takes_up}
-use Rattle.osdp_bus.specs.Machine.{add_refusal, after_add, after_begin_at, after_retarget_at, after_submit_at, begin_refusal_at, begin_refusal_of, bus_fault, changed_unless, device_withdraws, is_comset_refused, most_devices, or_taken, retarget_refusal_at, retarget_refusal_of, submit_refusal_at, submit_refusal_of, withdrawal_of}
+use Rattle.osdp_bus.specs.Machine.{add_refusal, after_add, after_begin_at, after_retarget_at, after_submit_at, begin_refusal_at, begin_refusal_of, bus_fault, changed_unless, device_withdraws, is_comset_refused, leads_nowhere, most_devices, or_taken, order_refusal_at, order_refusal_of, retarget_refusal_at, retarget_refusal_of, submit_refusal_at, submit_refusal_of, withdrawal_of}
 use Rattle.osdp_bus_laws.specs.Addresses.{Names, comsets_in}
 use Rattle.osdp_bus_laws.specs.Calls.{Call, Add, Begin, Submit, Withdraw, Retarget, OnBytes, OnSilence, Tick, NextReport, after_call}
-use Rattle.osdp_bus_laws.specs.Refusals.{Accepts, AwaitsMove, HasNoRoom, IsBarredComset, IsNoEntry, IsOpen, IsTakenByAnother, IsTakenUp, Judges, JudgesInOrder, OfEntry, RefusesInOrder, refusal_of, refused_with}
+use Rattle.osdp_bus_laws.specs.Refusals.{Accepts, AwaitsMove, HasNoRoom, IsBarredComset, IsNoEntry, IsNowhere, IsOpen, IsTakenByAnother, IsTakenUp, Judges, JudgesInOrder, JudgesOrder, OfEntry, RefusesInOrder, refusal_of, refused_with}
 use Rattle.osdp_bus_laws.proofs.Calling.{names_take, no_comsets}
+use Rattle.osdp_bus_laws.proofs.Ordering.{order_made}
 use Rattle.osdp_bus_laws.proofs.Places.{both_false, free_beside, none_at}
 use Rattle.osdp_bus_laws.proofs.Rooms.{HasRooms}
 
@@ -241,6 +242,14 @@ judges_room entry d b rooms at = by_test (nat_lt (length d.controller.waiting) d
             omega arith
     by_test false h = inl ((d, at, subst (λ n. n ≤ length d.controller.waiting) (rooms entry d at) (ltb-false (length d.controller.waiting) d.controller.capacity h)), refl)
 
+judges_comset : (entry : ℕ) (command : Command) (d : Device) (b : BusState) → HasRooms b → device_of entry b ≡ Some d
+    → ((m : Machine) → submit_refusal command m ≡ (if nat_lt (length m.waiting) m.capacity then None else Some FullOf))
+    → Judges AddressTaken (IsBarredComset entry command b) (Judges Full (HasNoRoom entry b) Accepts) (submit_refusal_of entry command (Some d) b)
+judges_comset entry command d b rooms at rule =
+    judged AddressTaken (IsBarredComset entry command b) (Judges Full (HasNoRoom entry b) Accepts) (is_comset_refused (comset_of command) entry d b)
+    (option_map bus_fault (submit_refusal command d.controller)) (barred entry command d b at (comset_of command) refl) (not_barred entry command d b at)
+    (subst (λ r. Judges Full (HasNoRoom entry b) Accepts (option_map bus_fault r)) (sym (rule d.controller)) (judges_room entry d b rooms at))
+
 judges_submit : (entry : ℕ) (command : Command) (b : BusState) → HasRooms b → JudgesInOrder (Submit entry command) b (submit_refusal_at entry command b)
 judges_submit entry command b rooms = by_device (device_of entry b) refl
   where
@@ -249,14 +258,40 @@ judges_submit entry command b rooms = by_device (device_of entry b) refl
         → Judges PollSubmitted (command ≡ Poll) (Judges AddressTaken (IsBarredComset entry command b) (Judges Full (HasNoRoom entry b) Accepts))
         (submit_refusal_of entry command (Some d) b)
     by_poll d at (inl is) = inl (is, ap (λ c. submit_refusal_of entry c (Some d) b) is)
-    by_poll d at (inr (other, rule)) = inr (
-      other,
-      judged AddressTaken (IsBarredComset entry command b) (Judges Full (HasNoRoom entry b) Accepts) (is_comset_refused (comset_of command) entry d b)
-          (option_map bus_fault (submit_refusal command d.controller)) (barred entry command d b at (comset_of command) refl) (not_barred entry command d b at)
-          (subst (λ r. Judges Full (HasNoRoom entry b) Accepts (option_map bus_fault r)) (sym (rule d.controller)) (judges_room entry d b rooms at)),
-    )
+    by_poll d at (inr (other, rule)) = inr (other, judges_comset entry command d b rooms at rule)
 
     by_device : (o : Option Device) → device_of entry b ≡ o → JudgesInOrder (Submit entry command) b (submit_refusal_of entry command o b)
+    by_device None at = inl (no_entry b.devices.entries entry at, refl)
+    by_device (Some d) at = inr (is_entry entry d b at, by_poll d at (poll_or command))
+
+-- an order
+
+nowhere : (command : Command) (o : Option Communication) → comset_of command ≡ o → leads_nowhere o ≡ true → IsNowhere command
+nowhere command None none h = absurd cc
+nowhere command (Some asked) some h = (asked, comset_is command asked some, leb-true 127 asked.address h)
+
+not_nowhere : (command : Command) → leads_nowhere (comset_of command) ≡ false → IsNowhere command → ⊥
+not_nowhere command h (asked, is, above) =
+    let below = leb-false 127 asked.address (sym (ap (λ c. leads_nowhere (comset_of c)) is) ∙ h) in
+    omega (arith, below, above)
+
+judges_order : (entry : ℕ) (command : Command) (b : BusState) → HasRooms b → JudgesOrder entry command b (order_refusal_at entry command b)
+judges_order entry command b rooms = by_device (device_of entry b) refl
+  where
+    by_poll : (d : Device) → device_of entry b ≡ Some d → (command ≡ Poll) ⊎ ((command ≢ Poll)
+        × ((m : Machine) → submit_refusal command m ≡ (if nat_lt (length m.waiting) m.capacity then None else Some FullOf)))
+        → Judges PollSubmitted (command ≡ Poll) (Judges AddressOutOfRange (IsNowhere command)
+        (Judges AddressTaken (IsBarredComset entry command b) (Judges Full (HasNoRoom entry b) Accepts)))
+        (order_refusal_of entry command (Some d) b)
+    by_poll d at (inl is) = inl (is, ap (λ c. order_refusal_of entry c (Some d) b) is)
+    by_poll d at (inr (other, rule)) = inr (
+      other,
+      judged AddressOutOfRange (IsNowhere command) (Judges AddressTaken (IsBarredComset entry command b) (Judges Full (HasNoRoom entry b) Accepts))
+          (leads_nowhere (comset_of command)) (submit_refusal_of entry command (Some d) b) (nowhere command (comset_of command) refl) (not_nowhere command)
+          (judges_comset entry command d b rooms at rule),
+    )
+
+    by_device : (o : Option Device) → device_of entry b ≡ o → JudgesOrder entry command b (order_refusal_of entry command o b)
     by_device None at = inl (no_entry b.devices.entries entry at, refl)
     by_device (Some d) at = inr (is_entry entry d b at, by_poll d at (poll_or command))
 
@@ -353,4 +388,9 @@ unchanged (Tick now) fault b h = absurd cc
 unchanged NextReport fault b h = absurd cc
 
 pub refuses_in_order : (b : BusState) → HasRooms b → RefusesInOrder b
-refuses_in_order b rooms = record { judged = λ call. judges call b rooms; unchanged = λ call fault h. unchanged call fault b h }
+refuses_in_order b rooms = record {
+  judged = λ call. judges call b rooms;
+  unchanged = λ call fault h. unchanged call fault b h;
+  ordered = λ entry command. judges_order entry command b rooms;
+  made = λ entry command. order_made entry command b;
+}

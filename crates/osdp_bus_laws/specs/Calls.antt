@@ -1,15 +1,17 @@
 -- One call of a bus after the other.
-use Rattle.std.specs.Prelude.{ℕ, List, [], ◌∷◌, Option, Some, None}
+use Rattle.std.specs.Prelude.{ℕ, if◌then◌else◌, List, [], ◌∷◌, Option, Some, None}
 use Rattle.osdp_controller.specs.declared.report.Report.{Report}
+use Rattle.osdp_controller.specs.Hearing.{comset_of}
 use Rattle.osdp_msg.specs.declared.command.Command.{Command}
 use Rattle.osdp_bus.specs.declared.config.BusConfig.{BusConfig}
 use Rattle.osdp_bus.specs.Buses.{BusState, new_bus}
 use Rattle.osdp_bus.specs.Hearing.{after_bytes, after_silence}
-use Rattle.osdp_bus.specs.Machine.{add_refusal, after_add, after_begin_at, after_next_report, after_retarget_at, after_submit_at, after_withdraw_at, begin_refusal_at, changed_unless, retarget_refusal_at, submit_refusal_at}
+use Rattle.osdp_bus.specs.Machine.{add_refusal, after_add, after_begin_at, after_next_report, after_retarget_at, after_submit_at, after_withdraw_at, begin_refusal_at, changed_unless, leads_nowhere, retarget_refusal_at, submit_refusal_at}
 use Rattle.osdp_bus.specs.Settings.{IsBusConfig}
 use Rattle.osdp_bus.specs.Ticking.{bus_ticks}
 
--- a call that may change a bus. An `add` for which there is no memory changes nothing, so it is left out
+-- a call that may change a bus. An `add` for which there is no memory changes nothing, so it is left out. `Submit` takes a COMSET to whatever
+-- address, as `submit_anywhere` does
 pub data Call : Type 0 where
   Add : ℕ → Call
   Begin : ℕ → ℕ → Call
@@ -51,3 +53,7 @@ arisen (Some waiting) after = None
 
 abbrev pub arises : Call → BusState → Option (ℕ × Report)
 arises call b = arisen b.devices.report (after_call call b).devices.report
+
+-- what `submit` is: that call, but none for a COMSET to an address that no device has, which it refuses by itself
+abbrev pub orders : ℕ → Command → List Call
+orders entry command = if leads_nowhere (comset_of command) then [] else Submit entry command ∷ []

@@ -11,6 +11,7 @@ pub use Rattle.osdp_bus_laws.specs.Resending.{HoldersSendTheSame}
 pub use Rattle.osdp_bus_laws.specs.Holding.{HoldersTick}
 pub use Rattle.osdp_bus_laws.specs.Refusals.{RefusesInOrder}
 pub use Rattle.osdp_bus_laws.specs.Reports.{TellsEachOnce}
+pub use Rattle.osdp_bus_laws.specs.Repeating.{MarksWhatMayComeAgain}
 pub use Rattle.osdp_bus_laws.specs.Moments.{MomentsAreSeen, RunsAreHeardAtTheirEnd}
 pub use Rattle.osdp_bus_laws.specs.Retargeting.{RetargetsSetTheAddress}
 pub use Rattle.osdp_bus_laws.specs.Settings.{DefaultsAreThese, DevicesAreSetAsTheBus}

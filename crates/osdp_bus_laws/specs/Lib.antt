@@ -10,6 +10,7 @@ pub mod Resending
 pub mod Holding
 pub mod Refusals
 pub mod Reports
+pub mod Repeating
 pub mod Moments
 pub mod Retargeting
 pub mod Settings

@@ -6,11 +6,11 @@ use Rattle.osdp_msg.specs.declared.command.Command.TheVariants.{Poll, Comset}
 use Rattle.osdp_msg.specs.declared.command_fields.Communication.{Communication}
 use Rattle.osdp_bus.specs.declared.device.Device.{Device}
 use Rattle.osdp_bus.specs.declared.fault.BusFault.{BusFault}
-use Rattle.osdp_bus.specs.declared.fault.BusFault.TheVariants.{TooMany, AddressTaken, NoEntry, OutOfRange, Full, PollSubmitted, NotClosed}
+use Rattle.osdp_bus.specs.declared.fault.BusFault.TheVariants.{TooMany, AddressTaken, NoEntry, OutOfRange, AddressOutOfRange, Full, PollSubmitted, NotClosed}
 use Rattle.osdp_bus.specs.Buses.{BusState, device_of}
-use Rattle.osdp_bus.specs.Machine.{add_refusal, begin_refusal_at, retarget_refusal_at, submit_refusal_at, withdrawal_at}
+use Rattle.osdp_bus.specs.Machine.{add_refusal, after_submit_at, begin_refusal_at, changed_unless, order_refusal_at, retarget_refusal_at, submit_refusal_at, withdrawal_at}
 use Rattle.osdp_bus_laws.specs.Addresses.{Names, comsets_in}
-use Rattle.osdp_bus_laws.specs.Calls.{Call, Add, Begin, Submit, Withdraw, Retarget, after_call}
+use Rattle.osdp_bus_laws.specs.Calls.{Call, Add, Begin, Submit, Withdraw, Retarget, after_call, after_calls, orders}
 
 -- one cause is judged: where it holds the call is refused for it, and else by what is judged next
 abbrev pub Judges : BusFault → Type 0 → (Option BusFault → Type 0) → Option BusFault → Type 0
@@ -44,6 +44,10 @@ IsBarredComset entry command b =
     (asked : Communication) × (command ≡ Comset asked)
     × (IsTakenByAnother entry asked.address b ⊎ OfEntry entry (λ d. (address : ℕ) × (d.reserved ≡ Some address)) b)
 
+-- a COMSET to an address that no device has
+abbrev pub IsNowhere : Command → Type 0
+IsNowhere command = (asked : Communication) × (command ≡ Comset asked) × (127 ≤ asked.address)
+
 -- as many commands wait for it as the bus's settings leave room for
 abbrev pub HasNoRoom : ℕ → BusState → Type 0
 HasNoRoom entry b = OfEntry entry (λ d. b.config.capacity ≤ length d.controller.waiting) b
@@ -66,6 +70,12 @@ JudgesInOrder (Retarget entry address) b =
     (Judges OutOfRange (127 ≤ address) (Judges AddressTaken (IsTakenByAnother entry address b ⊎ AwaitsMove entry b) Accepts)))
 JudgesInOrder _ b = Accepts
 
+-- what `submit` judges, in this order
+abbrev pub JudgesOrder : ℕ → Command → BusState → Option BusFault → Type 0
+JudgesOrder entry command b =
+    Judges NoEntry (IsNoEntry entry b) (Judges PollSubmitted (command ≡ Poll) (Judges AddressOutOfRange (IsNowhere command)
+    (Judges AddressTaken (IsBarredComset entry command b) (Judges Full (HasNoRoom entry b) Accepts))))
+
 -- why a call is refused, as its contract has it
 abbrev pub refused_with : Result (Option Command) BusFault → Option BusFault
 refused_with (Ok command) = None
@@ -83,3 +93,7 @@ refusal_of _ b = None
 pub record RefusesInOrder (b : BusState) : Type 0 where
   pub judged : (call : Call) → JudgesInOrder call b (refusal_of call b)
   pub unchanged : (call : Call) (fault : BusFault) → refusal_of call b ≡ Some fault → after_call call b ≡ b
+  -- so it is with `submit`, which leaves the bus as the calls leave it that it is
+  pub ordered : (entry : ℕ) (command : Command) → JudgesOrder entry command b (order_refusal_at entry command b)
+  pub made : (entry : ℕ) (command : Command)
+      → changed_unless (order_refusal_at entry command b) b (after_submit_at entry command b) ≡ after_calls (orders entry command) b

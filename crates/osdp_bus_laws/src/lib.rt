@@ -2,7 +2,7 @@
 #![tactic(auto)]
 
 ghost use Rattle.osdp_bus.specs.Buses.{BusState};
-ghost use Rattle.osdp_bus_laws.specs.Laws.{Always, BusEndsItsRuns, CutsChangeNothing, DefaultsAreThese, DevicesAreSetAsTheBus, HasOneExchange, HoldersSendTheSame, HoldersSendTheirFrame, HoldersTick, KeepsReports, MomentsAreSeen, NoAddressOfTwo, PacketsGoToTheirAddress, RefusesInOrder, ReservationsLast, ReserveTheirComsets, RetargetsSetTheAddress, RunsAreHeardAtTheirEnd, SessionsBeginAlone, TakesTurns, TellsEachOnce, TurnsAreFair};
+ghost use Rattle.osdp_bus_laws.specs.Laws.{Always, BusEndsItsRuns, CutsChangeNothing, DefaultsAreThese, DevicesAreSetAsTheBus, HasOneExchange, HoldersSendTheSame, HoldersSendTheirFrame, HoldersTick, KeepsReports, MarksWhatMayComeAgain, MomentsAreSeen, NoAddressOfTwo, PacketsGoToTheirAddress, RefusesInOrder, ReservationsLast, ReserveTheirComsets, RetargetsSetTheAddress, RunsAreHeardAtTheirEnd, SessionsBeginAlone, TakesTurns, TellsEachOnce, TurnsAreFair};
 
 /// No address is that of, or reserved for, two entries. A COMSET that waits or is outstanding is the only one of its entry, and its address is
 /// reserved for it.
@@ -30,6 +30,12 @@ pub fn reports_wait()
 /// and none is lost.
 pub fn reports_are_told_once()
     ensures { TellsEachOnce }
+{}
+
+/// The report that waits is told as one that may have come before exactly where it is an event, the last event that was taken of its entry has the same
+/// bytes, and a session of that entry has opened since. So an event that a device tells again, as the first of its next session, is always told so.
+pub fn repeats_are_marked()
+    ensures { MarksWhatMayComeAgain }
 {}
 
 /// A packet goes to the controller of its address, also where one before it in its run has moved a device, and changes no other device.
@@ -91,7 +97,8 @@ pub fn sessions_begin_alone()
     ensures { (b : BusState) → SessionsBeginAlone b }
 {}
 
-/// Each refusal comes exactly where its cause holds and no cause that is judged before it does, and nothing has changed then.
+/// Each refusal comes exactly where its cause holds and no cause that is judged before it does, and nothing has changed then. What `submit` accepts
+/// is what `submit_anywhere` would; a COMSET to an address that no device has it refuses before.
 pub fn refusals_come_in_order()
     ensures { Always RefusesInOrder }
 {}

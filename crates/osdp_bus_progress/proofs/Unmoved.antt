@@ -6,6 +6,7 @@ use Rattle.osdp_controller.specs.declared.report.Report.{Report}
 use Rattle.osdp_reader.specs.declared.handler.Answer.{Answer}
 use Rattle.osdp_bus.specs.Buses.{BusState, is_silent, seen}
 use Rattle.osdp_bus.specs.Hearing.{ends_run}
+use Rattle.osdp_bus.specs.Machine.{after_next_report}
 use Rattle.osdp_sim.specs.Line.{handed, left}
 use Rattle.osdp_sim.specs.declared.step.Move.TheVariants.{Deliver}
 use Rattle.osdp_sim.specs.declared.step.SimStep.TheVariants as step
@@ -42,5 +43,5 @@ module _ {H : Type 0} (answer_of : H → Command → Answer) (after : H → Comm
   pub first_from_bus : (s : LineState H) → (after_step answer_of after (step.ToController Deliver) s).bus.first ≡ s.bus.first
   first_from_bus s =
       let b = hears_run (handed Deliver s.to_bus) s.clock s.bus in
-      ap (λ (c : BusState). c.first) (told_bus b.devices.report (record s { bus = record b { devices = record b.devices { report = None } }; to_bus = left Deliver s.to_bus }))
+      ap (λ (c : BusState). c.first) (told_bus b.devices.report (record s { bus = after_next_report b; to_bus = left Deliver s.to_bus }))
       ∙ first_hears (handed Deliver s.to_bus) s.clock s.bus

@@ -3,7 +3,7 @@
 ghost use Rattle.std.specs.Prelude.{◌≡◌, Some};
 ghost use Rattle.osdp_msg.specs.declared.command.Command.TheVariants as command;
 ghost use Rattle.osdp_c_values.specs.Fields.{command_in, inputs_of, keypad_of, nak_of, output_of, outputs_of, pd_id_of, raw_of, reply_in};
-ghost use Rattle.osdp_c_values.specs.Making.{buzzer_in, made_led, made_out, text_in};
+ghost use Rattle.osdp_c_values.specs.Making.{buzzer_in, made_comset, made_led, made_out, text_in};
 ghost use Rattle.osdp_c_values.specs.Structs.{command_struct};
 ghost use Rattle.osdp_c.specs.Reads.{IsRead};
 ghost use Rattle.osdp_c.specs.Texts.{CommandTextAnswered, ReplyTextAnswered};
@@ -121,12 +121,12 @@ pub extern "C" fn osdp_text(text: &TextStruct, message: &mut MessageStruct)
     message.make_text(text);
 }
 
-/// Writes a COMSET.
+/// Writes a COMSET to an address of 0 to 126.
 #[unsafe(no_mangle)]
-pub extern "C" fn osdp_comset(address: u8, baud_rate: u32, message: &mut MessageStruct)
-    ensures { message.new ≡ command_struct (Some (command.Comset (record { address = address; baud_rate = baud_rate }))) message.old }
+pub extern "C" fn osdp_comset(address: u32, baud_rate: u32, message: &mut MessageStruct) -> u32
+    ensures { IsRead (made_comset address baud_rate message.old) result message.new }
 {
-    message.make_comset(address, baud_rate);
+    message.make_comset(address, baud_rate).number()
 }
 
 /// Writes the text of the command that a code and data stand for, and its length.

@@ -262,7 +262,8 @@ pub extern "C" fn osdp_panel_next_report(
     ensures written { report.new ≡ writes (of_bus writes_report) panel.old.slot.machine report.old }
 {
     on_held!(panel, alloc, |machine| {
-        report.set(machine.bus.report());
+        let maybe_again = machine.bus.is_maybe_again();
+        report.set(machine.bus.report(), maybe_again);
         machine.bus.drop_report();
         Status::Done
     })

@@ -1,5 +1,6 @@
 -- Commands made of structs of plain fields.
-use Rattle.std.specs.Prelude.{List, take, map, option_map, Option, None, Some}
+use Rattle.std.specs.Prelude.{ℕ, List, nat_lt, if◌then◌else◌, take, map, option_map, Option, None, Some}
+use Rattle.osdp_bus.specs.declared.fault.BusFault.TheVariants.{AddressOutOfRange}
 use Rattle.osdp_msg.specs.CommandFields.{records_within}
 use Rattle.osdp_msg.specs.declared.command.Command.{Command}
 use Rattle.osdp_msg.specs.declared.command.Command.TheVariants as command
@@ -13,6 +14,7 @@ use Rattle.osdp_c_values.specs.declared.making.BuzzerStruct.{BuzzerStruct}
 use Rattle.osdp_c_values.specs.declared.making.LedStruct.{LedStruct}
 use Rattle.osdp_c_values.specs.declared.making.TextStruct.{TextStruct}
 use Rattle.osdp_c_values.specs.declared.message.MessageStruct.{MessageStruct}
+use Rattle.osdp_c_values.specs.declared.status.Status.TheVariants as status
 use Rattle.osdp_c_values.specs.Fields.{Read, reads, unread}
 use Rattle.osdp_c_values.specs.Structs.{command_struct}
 
@@ -53,3 +55,9 @@ made_out records out = made (option_map command.Output (records_within 358 (map 
 
 abbrev pub made_led : List LedStruct → MessageStruct → Read MessageStruct
 made_led records out = made (option_map command.Led (records_within 102 (map led_record records))) out
+
+-- a COMSET to one of the addresses 0 to 126, which are those of devices; to any other none is written
+abbrev pub made_comset : ℕ → ℕ → MessageStruct → Read MessageStruct
+made_comset address baud_rate out =
+    if nat_lt address 127 then made (Some (command.Comset (record { address = address; baud_rate = baud_rate }))) out
+    else record { status = status.Panel AddressOutOfRange; out = out }

@@ -9,11 +9,11 @@ use Rattle.osdp_bus.specs.declared.config.BusConfig.{BusConfig}
 use Rattle.osdp_bus.specs.declared.fault.BusFault.{BusFault}
 use Rattle.osdp_bus.specs.declared.fault.BusFault.TheVariants.{NoEntry, OutOfRange}
 use Rattle.osdp_bus.specs.declared.device.Device.{Device}
-use Rattle.osdp_bus.specs.Buses.{BusState, device_of, seen}
+use Rattle.osdp_bus.specs.Buses.{BusState, device_of, is_maybe_again, seen}
 use Rattle.osdp_bus.specs.Deadlines.{IsDeadline}
 use Rattle.osdp_bus.specs.Devices.{address_of}
 use Rattle.osdp_bus.specs.Hearing.{after_bytes, after_silence}
-use Rattle.osdp_bus.specs.Machine.{AddEnds, NewEnds, after_begin_at, after_next_report, after_retarget_at, after_submit_at, after_withdraw_at, begin_refusal_at, changed_unless, retarget_refusal_at, submit_refusal_at, withdrawal_at}
+use Rattle.osdp_bus.specs.Machine.{AddEnds, NewEnds, after_begin_at, after_next_report, after_retarget_at, after_submit_at, after_withdraw_at, begin_refusal_at, changed_unless, order_refusal_at, retarget_refusal_at, withdrawal_at}
 use Rattle.osdp_bus.specs.Ticking.{bus_ticks}
 use Rattle.osdp_controller.specs.States.{is_closed}
 use Rattle.osdp_c_values.specs.Clocks.{ClockState, accepts, new_clock, sees}
@@ -117,7 +117,7 @@ abbrev pub begins : ℕ → ℕ → BusState → Done BusState
 begins entry now b = unless_refused (begin_refusal_at entry b) b (after_begin_at entry now b)
 
 abbrev pub submits : ℕ → Command → BusState → Done BusState
-submits entry command b = unless_refused (submit_refusal_at entry command b) b (after_submit_at entry command b)
+submits entry command b = unless_refused (order_refusal_at entry command b) b (after_submit_at entry command b)
 
 -- a command by its code and data, which may be none
 abbrev pub submits_read : ℕ → Result Command MsgFault → BusState → Done BusState
@@ -173,7 +173,7 @@ IsDueIn (Some m) out out' = (due : Option ℕ) × IsDeadline m.bus due × (out' 
 
 -- the report that waits is written
 abbrev pub writes_report : BusState → ReportStruct → ReportStruct
-writes_report b out = report_struct b.devices.report out
+writes_report b out = report_struct b.devices.report (is_maybe_again b) out
 
 -- the burst that goes out is written
 abbrev pub IsSentIn : Option Packet → BurstStruct → BurstStruct → Type 0

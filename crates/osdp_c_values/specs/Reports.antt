@@ -1,5 +1,5 @@
 -- A report as a struct of plain fields.
-use Rattle.std.specs.Prelude.{ℕ, Option, None, Some}
+use Rattle.std.specs.Prelude.{ℕ, Bool, if◌then◌else◌, Option, None, Some}
 use Rattle.osdp_controller.specs.declared.report.LostCause.{LostCause}
 use Rattle.osdp_controller.specs.declared.report.LostCause.TheVariants.{NoReply, TooBusy, NumberRefused}
 use Rattle.osdp_controller.specs.declared.report.Report.{Report}
@@ -35,6 +35,14 @@ report_of (PollAnswered reply) r = tells 5 0 None (Some reply) r
 report_of (Unread command code) r = tells 6 code command None r
 report_of (Lost cause command) r = tells 7 (cause_number cause) command None r
 
-abbrev pub report_struct : Option (ℕ × Report) → ReportStruct → ReportStruct
-report_struct None r = tells 0 0 None None (record r { entry = 0 })
-report_struct (Some (entry, report)) r = report_of report (record r { entry = entry })
+-- the detail of an event that may have been reported before; of one that is new it is 0
+abbrev pub maybe_again : ℕ
+maybe_again = 1
+
+abbrev pub marked : Bool → ReportStruct → ReportStruct
+marked is_again r = if is_again then record r { detail = maybe_again } else r
+
+-- the report that waits, and whether it is an event that may have been reported before
+abbrev pub report_struct : Option (ℕ × Report) → Bool → ReportStruct → ReportStruct
+report_struct None is_again r = tells 0 0 None None (record r { entry = 0 })
+report_struct (Some (entry, report)) is_again r = marked is_again (report_of report (record r { entry = entry }))

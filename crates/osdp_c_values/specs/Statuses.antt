@@ -15,13 +15,14 @@ message_status message.UnknownCode = 11
 message_status message.Length = 12
 message_status message.Count = 13
 
--- B1 to B5, C3 to C5
+-- B1 to B6, C3 to C5
 abbrev pub bus_status : BusFault → ℕ
 bus_status bus.NoMemory = 21
 bus_status bus.TooMany = 22
 bus_status bus.AddressTaken = 23
 bus_status bus.NoEntry = 24
 bus_status bus.OutOfRange = 25
+bus_status bus.AddressOutOfRange = 26
 bus_status bus.Full = 33
 bus_status bus.PollSubmitted = 34
 bus_status bus.NotClosed = 35

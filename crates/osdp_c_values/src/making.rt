@@ -3,13 +3,15 @@
 ghost use Rattle.std.specs.Prelude.{◌≡◌, ◌≤◌, length, map, option_map, Some};
 ghost use Rattle.osdp_msg.specs.CommandFields.{records_within};
 ghost use Rattle.osdp_msg.specs.declared.command.Command.TheVariants as command;
-ghost use Rattle.osdp_c_values.specs.Making.{buzzer_in, led_record, made, made_led, made_out, output_record, text_in};
+ghost use Rattle.osdp_c_values.specs.Making.{buzzer_in, led_record, made, made_comset, made_led, made_out, output_record, text_in};
 ghost use Rattle.osdp_c_values.specs.Structs.{command_struct};
 
 use crate::fields::OutputStruct;
 use crate::message::MessageStruct;
 use crate::status::Status;
 use arrayvec::ArrayVec;
+use osdp_bus::BusFault;
+use osdp_frame::Address;
 use osdp_msg::{
     Buzzer, Command, Communication, LedRecord, Leds, MsgFault, OutputRecord, Outputs, Text,
 };
@@ -221,10 +223,17 @@ impl MessageStruct {
         })));
     }
 
-    /// Writes a COMSET.
-    pub fn make_comset(&mut self, address: u8, baud_rate: u32)
-        ensures { self.new ≡ command_struct (Some (command.Comset (record { address = address; baud_rate = baud_rate }))) self.old }
+    /// Writes a COMSET to an address of 0 to 126. AddressOutOfRange (B6) for any other; nothing is written then.
+    pub fn make_comset(&mut self, address: u32, baud_rate: u32) -> Status
+        ensures status { result ≡ (made_comset address baud_rate self.old).status }
+        ensures written { self.new ≡ (made_comset address baud_rate self.old).out }
     {
-        self.set_command(Some(&Command::Comset(Communication { address, baud_rate })));
+        if address >= u32::from(Address::CONFIGURATION) {
+            return Status::Panel(BusFault::AddressOutOfRange);
+        }
+        self.make(Some(Command::Comset(Communication {
+            address: address as u8,
+            baud_rate,
+        })))
     }
 }

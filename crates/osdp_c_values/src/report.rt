@@ -19,7 +19,8 @@ pub struct ReportStruct {
     pub entry: usize,
     /// What it tells: 0 nothing, 1 opened, 2 settled, 3 moved, 4 an event, 5 a POLL answered otherwise, 6 unread, 7 lost.
     pub kind: u32,
-    /// Of an answer that can't be read its code; of a lost session why: 1 no reply, 2 too busy, 3 the number was refused.
+    /// Of an event 1 where it may have been reported before; of an answer that can't be read its code; of a lost session why: 1 no reply, 2 too busy, 3 the
+    /// number was refused.
     pub detail: u32,
     /// The command.
     pub command: MessageStruct,
@@ -92,14 +93,17 @@ impl ReportStruct {
         }
     }
 
-    /// Writes a report where it lies, with the device of which it tells, or that there is none.
-    pub fn set(&mut self, report: Option<(Entry, &Report)>)
-        ensures { self.new ≡ report_struct (option_map (λ told. (told.0, told.1.now)) report.entry) self.old }
+    /// Writes a report where it lies, with the device of which it tells and whether it is an event that may have been reported before, or that there is none.
+    pub fn set(&mut self, report: Option<(Entry, &Report)>, maybe_again: bool)
+        ensures { self.new ≡ report_struct (option_map (λ told. (told.0, told.1.now)) report.entry) maybe_again self.old }
     {
         match report {
             Some((entry, report)) => {
                 self.entry = entry;
                 self.tell_report(report);
+                if maybe_again {
+                    self.detail = 1;
+                }
             }
             None => {
                 self.entry = 0;

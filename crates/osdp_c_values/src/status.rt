@@ -59,6 +59,7 @@ fn bus_number(fault: BusFault) -> u32
         BusFault::AddressTaken => 23,
         BusFault::NoEntry => 24,
         BusFault::OutOfRange => 25,
+        BusFault::AddressOutOfRange => 26,
         BusFault::Full => 33,
         BusFault::PollSubmitted => 34,
         BusFault::NotClosed => 35,

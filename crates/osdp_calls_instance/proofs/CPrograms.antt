@@ -11,6 +11,7 @@ use Rattle.osdp_bus.specs.Machine.{AddEnds, add_refusal, after_add, changed_unle
 use Rattle.osdp_bus.specs.declared.config.BusConfig.{BusConfig}
 use Rattle.osdp_bus.specs.declared.fault.BusFault.{BusFault}
 use Rattle.osdp_bus.specs.declared.fault.BusFault.TheVariants as fault
+use Rattle.osdp_bus_laws.proofs.Ordering.{order_made}
 use Rattle.osdp_bus_laws.specs.Calls as bus
 use Rattle.osdp_device.specs.Deciding.{is_asked, pending_of, turned_by, with_question}
 use Rattle.osdp_device.specs.Program.{new_program, program_after, program_answer}
@@ -41,7 +42,7 @@ use Rattle.arrayvec.specs.ArrayVec.{ArrayVec}
 use Rattle.osdp_calls.specs.Calls.{Call, OfPanel, SetHandler, Take, TickDevice, Silence}
 use Rattle.osdp_calls.specs.Ends.{Held, takes_event}
 use Rattle.osdp_calls.specs.Sayings.{AddsMakeTheBus, NoneRefused}
-use Rattle.osdp_calls_instance.proofs.LinePrograms.{own_device}
+use Rattle.osdp_calls_instance.proofs.LinePrograms.{bus_same, own_device, panels_own}
 use Rattle.osdp_calls_instance.specs.CPrograms as c
 use Rattle.osdp_calls_instance.specs.CPrograms.{AddsEach, DeviceCall, DeviceCallFits, MakesAnew, PanelCall, answer_calls, c_device, c_panel, device_call, device_calls, event_calls, event_read, if_read, panel_call, panel_calls, settle_calls, settles_by, submitted, told_states}
 use Rattle.osdp_calls_instance.specs.OwnCalls.{AreDeviceCalls, ArePanelCalls, IsOfDevice, IsOfPanel, bus_after_each, device_after_each}
@@ -54,7 +55,7 @@ one_accepted H false call = tt
 
 one_submitted : (H : Type 0) (entry : ℕ) (o : Option Command) → Each (IsOfPanel {H = H}) (submitted entry o)
 one_submitted H entry None = tt
-one_submitted H entry (Some command) = (tt, tt)
+one_submitted H entry (Some command) = panels_own H (bus.orders entry command)
 
 panel_end : (H : Type 0) (call : PanelCall) (m : PanelMachine) → Each (IsOfPanel {H = H}) (panel_calls call m)
 panel_end H (c.Begin entry now) m = one_accepted H (accepts now m.clock) (bus.Begin entry now)
@@ -92,11 +93,11 @@ moment_bus false now call m = refl
 submits_so : (H : Type 0) (entry : ℕ) (o : Option Command) (m : PanelMachine)
     → (panel.submits_text entry o m.bus).machine ≡ bus_after_each {H = H} (submitted entry o) m.bus
 submits_so H entry None m = refl
-submits_so H entry (Some command) m = refl
+submits_so H entry (Some command) m = order_made entry command m.bus ∙ bus_same H (bus.orders entry command) m.bus
 
 reads_so : (H : Type 0) (entry : ℕ) (r : Result Command MsgFault) (m : PanelMachine)
     → (panel.submits_read entry r m.bus).machine ≡ bus_after_each {H = H} (submitted entry (if_read r)) m.bus
-reads_so H entry (Ok command) m = refl
+reads_so H entry (Ok command) m = submits_so H entry (Some command) m
 reads_so H entry (Err fault) m = refl
 
 panel_is : (H : Type 0) (call : PanelCall) (m : PanelMachine) → (panel_call call m).machine.bus ≡ bus_after_each {H = H} (panel_calls call m) m.bus
@@ -144,6 +145,7 @@ added address m next out out' (Err fault.TooMany) b' ends done is = absurd (let 
 added address m next out out' (Err fault.AddressTaken) b' ends done is = absurd (let e : 0 ≡ 23 = done in omega (arith, e))
 added address m next out out' (Err fault.NoEntry) b' ends done is = absurd (let e : 0 ≡ 24 = done in omega (arith, e))
 added address m next out out' (Err fault.OutOfRange) b' ends done is = absurd (let e : 0 ≡ 25 = done in omega (arith, e))
+added address m next out out' (Err fault.AddressOutOfRange) b' ends done is = absurd (let e : 0 ≡ 26 = done in omega (arith, e))
 added address m next out out' (Err fault.Full) b' ends done is = absurd (let e : 0 ≡ 33 = done in omega (arith, e))
 added address m next out out' (Err fault.PollSubmitted) b' ends done is = absurd (let e : 0 ≡ 34 = done in omega (arith, e))
 added address m next out out' (Err fault.NotClosed) b' ends done is = absurd (let e : 0 ≡ 35 = done in omega (arith, e))
@@ -187,6 +189,7 @@ new_made settings made (Some config) (Err fault.TooMany) are makes done is = abs
 new_made settings made (Some config) (Err fault.AddressTaken) are makes done is = absurd (let e : 0 ≡ 23 = done in omega (arith, e))
 new_made settings made (Some config) (Err fault.NoEntry) are makes done is = absurd (let e : 0 ≡ 24 = done in omega (arith, e))
 new_made settings made (Some config) (Err fault.OutOfRange) are makes done is = absurd (let e : 0 ≡ 25 = done in omega (arith, e))
+new_made settings made (Some config) (Err fault.AddressOutOfRange) are makes done is = absurd (let e : 0 ≡ 26 = done in omega (arith, e))
 new_made settings made (Some config) (Err fault.Full) are makes done is = absurd (let e : 0 ≡ 33 = done in omega (arith, e))
 new_made settings made (Some config) (Err fault.PollSubmitted) are makes done is = absurd (let e : 0 ≡ 34 = done in omega (arith, e))
 new_made settings made (Some config) (Err fault.NotClosed) are makes done is = absurd (let e : 0 ≡ 35 = done in omega (arith, e))

@@ -10,7 +10,7 @@ use Rattle.osdp_frame.specs.Held as frame
 use Rattle.osdp_frame_laws.proofs.Readings.{decided_nothing}
 use Rattle.osdp_frame.specs.Reading.{RunItem, item_size}
 use Rattle.osdp_bus.specs.Buses.{BusState}
-use Rattle.osdp_bus.specs.Machine.{add_refusal, after_add, changed_unless}
+use Rattle.osdp_bus.specs.Machine.{add_refusal, after_add, after_next_report, changed_unless, remembered_after}
 use Rattle.osdp_bus.specs.declared.fault.BusFault.{BusFault}
 use Rattle.osdp_bus_laws.specs.Calls as bus
 use Rattle.osdp_device.proofs.Pieces.{all_read, all_read_after, fewer_turns, last_turn, seen_in_turn, takes_in_turn}
@@ -292,8 +292,10 @@ line_end H (SaysToPanel (Some call)) s = panels_own H (panel_runs.calls_of call 
 line_end H (PanelAnew config addresses) s = (tt, tt)
 
 -- a bus on which no report waits stays so while devices are added
-no_report : (b : BusState) → b.devices.report ≡ None → (record b { devices = record b.devices { report = None } }) ≡ b
-no_report b none = (λ i. record b { devices = record b.devices { report = sym none i } })
+no_report : (b : BusState) → b.devices.report ≡ None → after_next_report b ≡ b
+no_report b none =
+    let same : remembered_after b.devices.report b ≡ b.remembered = ap (λ o. remembered_after o b) none in
+    (λ i. record b { devices = record b.devices { report = sym none i }; remembered = same i })
 
 adds_nothing : (o : Option BusFault) (address : ℕ) (b : BusState) → b.devices.report ≡ None
     → (changed_unless o b (after_add address b)).devices.report ≡ None

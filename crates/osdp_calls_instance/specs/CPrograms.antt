@@ -82,7 +82,7 @@ if_accepted now m call = if accepts now m.clock then OfPanel call ∷ [] else []
 
 abbrev pub submitted : {H : Type 0} → ℕ → Option Command → List (Call H)
 submitted entry None = []
-submitted entry (Some command) = OfPanel (bus.Submit entry command) ∷ []
+submitted entry (Some command) = map OfPanel (bus.orders entry command)
 
 abbrev pub if_read : Result Command MsgFault → Option Command
 if_read (Ok command) = Some command

@@ -58,7 +58,9 @@ fn turn(
     for (_, report) in [&turn.heard, &turn.ticked].into_iter().flatten() {
         println!(rt; "report {report:?}")?;
         door.heed(rt, report, now)?;
+        // a card that may have been told before makes no second order
         if let Report::Event(Event::Raw(card)) = report
+            && !turn.maybe_again
             && door.may_order()
             && may_enter(card)
         {

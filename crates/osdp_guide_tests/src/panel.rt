@@ -42,10 +42,10 @@ fn begin_again(panel: &mut Panel, door: Entry, now: u64) {
     let _ = panel.begin(door, now);
 }
 
-/// What the panel does with a report.
-pub fn decide(panel: &mut Panel, door: Entry, report: &Report, now: u64) {
+/// What the panel does with a report. A card that may have been told before makes no second order.
+pub fn decide(panel: &mut Panel, door: Entry, report: &Report, maybe_again: bool, now: u64) {
     match report {
-        Report::Event(Event::Raw(card)) if may_enter(card) => open(panel, door),
+        Report::Event(Event::Raw(card)) if may_enter(card) && !maybe_again => open(panel, door),
         Report::Lost(..) | Report::Moved(..) => begin_again(panel, door, now),
         Report::Opened(_)
         | Report::Settled(..)
@@ -65,7 +65,7 @@ pub fn panel_turn(
 ) -> Option<Unsent> {
     let unsent = panel.turn(bytes, now, turn);
     for (_, report) in [&turn.heard, &turn.ticked].into_iter().flatten() {
-        decide(panel, door, report, now);
+        decide(panel, door, report, turn.maybe_again, now);
     }
     unsent
 }

@@ -5,13 +5,13 @@ use Rattle.osdp_bus.specs.declared.fault.BusFault.{BusFault}
 use Rattle.osdp_bus.specs.Buses.{BusState, new_bus}
 use Rattle.osdp_bus.specs.Deadlines.{IsDeadline}
 use Rattle.osdp_bus.specs.Hearing.{after_bytes, after_silence}
-use Rattle.osdp_bus.specs.Machine.{add_refusal, after_add, after_begin_at, after_next_report, after_retarget_at, after_submit_at, after_withdraw_at, begin_refusal_at, changed_unless, retarget_refusal_at, submit_refusal_at, withdrawal_at}
+use Rattle.osdp_bus.specs.Machine.{add_refusal, after_add, after_begin_at, after_next_report, after_retarget_at, after_submit_at, after_withdraw_at, begin_refusal_at, changed_unless, order_refusal_at, retarget_refusal_at, withdrawal_at}
 use Rattle.osdp_bus.specs.Ticking.{BusTicked, bus_ticks}
 use Rattle.osdp_line_calls.specs.LineAnswers.{CalledIn}
 use Rattle.osdp_line_calls.specs.declared.panel_call.PanelCall.{PanelCall}
 use Rattle.osdp_line_calls.specs.declared.panel_call.PanelCall.TheVariants as call
 use Rattle.osdp_line_calls.specs.Passing.{Listening, Overheard, hears_begin, hears_bytes, hears_end, hears_nothing, hears_silence, new_listening, opened_by, sees}
-use Rattle.osdp_line_calls.specs.PanelTexts.{due_line, refusal_line, report_line, send_line, withdrawal_line}
+use Rattle.osdp_line_calls.specs.PanelTexts.{due_line, refusal_line, send_line, next_report_line, withdrawal_line}
 
 -- a bus, the moment of the calls to come, and what is heard beside the bus
 pub record Session : Type 0 where
@@ -42,7 +42,7 @@ does (call.At now) s = record { text = []; session = record s { now = now } }
 does (call.Add address) s = unless_refused (add_refusal address s.bus) (after_add address s.bus) s
 does (call.Begin entry) s = unless_refused (begin_refusal_at entry s.bus) (after_begin_at entry s.now s.bus) s
 does (call.Submit entry command) s =
-    unless_refused (submit_refusal_at entry command s.bus) (after_submit_at entry command s.bus) s
+    unless_refused (order_refusal_at entry command s.bus) (after_submit_at entry command s.bus) s
 does (call.Withdraw entry) s = writes (withdrawal_line entry (withdrawal_at entry s.bus)) (after_withdraw_at entry s.bus) s
 does (call.Retarget entry address) s =
     unless_refused (retarget_refusal_at entry address s.bus) (after_retarget_at entry address s.bus) s
@@ -53,7 +53,7 @@ does call.Tick s = sends (bus_ticks s.now s.bus) s
 -- the report that waits then is taken and told; it may say that a session is open, or isn't any more
 abbrev pub then_reports : Called → Called
 then_reports c = record {
-  text = c.text ++ report_line c.session.bus.devices.report;
+  text = c.text ++ next_report_line c.session.bus;
   session = record c.session {
     bus = after_next_report c.session.bus;
     listening = record c.session.listening { opened = opened_by c.session.bus.devices.report c.session.listening.opened };

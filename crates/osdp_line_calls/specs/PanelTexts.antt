@@ -1,8 +1,9 @@
 -- The lines that answer a call.
-use Rattle.std.specs.Prelude.{ℕ, ◌+◌, List, [], ◌∷◌, ◌++◌, codes, Option, Some, None, Result, Ok, Err}
+use Rattle.std.specs.Prelude.{ℕ, ◌+◌, Bool, if◌then◌else◌, List, [], ◌∷◌, ◌++◌, codes, Option, Some, None, Result, Ok, Err}
 use Rattle.std.specs.Fmt.{decimal}
+use Rattle.osdp_bus.specs.Buses.{BusState, is_maybe_again}
 use Rattle.osdp_bus.specs.declared.fault.BusFault.{BusFault}
-use Rattle.osdp_bus.specs.declared.fault.BusFault.TheVariants.{NoMemory, TooMany, AddressTaken, NoEntry, OutOfRange, Full, PollSubmitted, NotClosed}
+use Rattle.osdp_bus.specs.declared.fault.BusFault.TheVariants.{NoMemory, TooMany, AddressTaken, NoEntry, OutOfRange, AddressOutOfRange, Full, PollSubmitted, NotClosed}
 use Rattle.osdp_controller.specs.Causes.{cause_name}
 use Rattle.osdp_controller.specs.declared.report.Report.{Report}
 use Rattle.osdp_controller.specs.declared.report.Report.TheVariants.{Opened, Settled, Moved, Event, PollAnswered, Unread, Lost}
@@ -37,19 +38,27 @@ with_command text (Some command) = text ++ (codes " " ++ command_text command)
 abbrev pub code_text : ℕ → List ℕ
 code_text code = codes "code " ++ printed (bytes (code ∷ []))
 
--- what an entry's controller tells
-abbrev pub told_line : ℕ → Report → List ℕ
-told_line entry (Opened id) = entry_line (codes "opened") entry (reply_text (PdId id))
-told_line entry (Settled command reply) = entry_line (codes "settled") entry (answered_text command reply)
-told_line entry (Moved command answered) = entry_line (codes "moved") entry (answered_text command (Com answered))
-told_line entry (Event event) = entry_line (codes "event") entry (event_text event)
-told_line entry (PollAnswered reply) = entry_line (codes "answered") entry (reply_text reply)
-told_line entry (Unread command code) = entry_line (codes "unread") entry (with_command (code_text code) command)
-told_line entry (Lost cause command) = entry_line (codes "lost") entry (with_command (cause_name cause) command)
+-- an event that may have been reported before has a name of its own, so that a program that knows `event` alone makes no second order of it
+abbrev pub event_name : Bool → List ℕ
+event_name maybe_again = if maybe_again then codes "maybe-again" else codes "event"
 
-abbrev pub report_line : Option (ℕ × Report) → List ℕ
-report_line None = []
-report_line (Some (entry, report)) = told_line entry report
+-- what an entry's controller tells
+abbrev pub told_line : ℕ → Bool → Report → List ℕ
+told_line entry maybe_again (Opened id) = entry_line (codes "opened") entry (reply_text (PdId id))
+told_line entry maybe_again (Settled command reply) = entry_line (codes "settled") entry (answered_text command reply)
+told_line entry maybe_again (Moved command answered) = entry_line (codes "moved") entry (answered_text command (Com answered))
+told_line entry maybe_again (Event event) = entry_line (event_name maybe_again) entry (event_text event)
+told_line entry maybe_again (PollAnswered reply) = entry_line (codes "answered") entry (reply_text reply)
+told_line entry maybe_again (Unread command code) = entry_line (codes "unread") entry (with_command (code_text code) command)
+told_line entry maybe_again (Lost cause command) = entry_line (codes "lost") entry (with_command (cause_name cause) command)
+
+abbrev pub report_line : Option (ℕ × Report) → Bool → List ℕ
+report_line None maybe_again = []
+report_line (Some (entry, report)) maybe_again = told_line entry maybe_again report
+
+-- the report that waits at a bus
+abbrev pub next_report_line : BusState → List ℕ
+next_report_line b = report_line b.devices.report (is_maybe_again b)
 
 abbrev pub fault_name : BusFault → List ℕ
 -- of the bus
@@ -58,6 +67,7 @@ fault_name TooMany = codes "B2"
 fault_name AddressTaken = codes "B3"
 fault_name NoEntry = codes "B4"
 fault_name OutOfRange = codes "B5"
+fault_name AddressOutOfRange = codes "B6"
 -- of the controller of an entry
 fault_name Full = codes "C3"
 fault_name PollSubmitted = codes "C4"

@@ -3,7 +3,7 @@
 ghost use Rattle.std.specs.Prelude.{◌≡◌, ◌<◌, ◌^◌, ◌++◌, [], IfSome, OnOk, Option, Some, codes, string_bytes};
 ghost use Rattle.osdp_bus.specs.Sending.{IsSentAs};
 ghost use Rattle.osdp_frame.specs.Packet.{Packet};
-ghost use Rattle.osdp_line_calls.specs.PanelTexts.{due_line, fault_name, refusal_line, report_line, send_line, told_line, with_command, withdrawal_line};
+ghost use Rattle.osdp_line_calls.specs.PanelTexts.{due_line, event_name, fault_name, refusal_line, report_line, send_line, told_line, with_command, withdrawal_line};
 
 use osdp_bus::{BusFault, Entry};
 use osdp_controller::Report;
@@ -32,9 +32,21 @@ fn push_command(text: &mut String, command: Option<Command>) -> Result<(), Alloc
     }
 }
 
+/// How the line of an event begins.
+fn event_name(maybe_again: bool) -> &'static str
+    ensures { result.now ≡ event_name maybe_again }
+{
+    if maybe_again { "maybe-again" } else { "event" }
+}
+
 /// Writes what an entry's controller tells.
-fn push_told(text: &mut String, entry: Entry, report: Report) -> Result<(), AllocError>
-    ensures { OnOk result (string_bytes text.new ≡ string_bytes text.old ++ told_line entry report) }
+fn push_told(
+    text: &mut String,
+    entry: Entry,
+    maybe_again: bool,
+    report: Report,
+) -> Result<(), AllocError>
+    ensures { OnOk result (string_bytes text.new ≡ string_bytes text.old ++ told_line entry maybe_again report) }
 {
     let number = entry as u128 + 1;
     match report {
@@ -47,7 +59,10 @@ fn push_told(text: &mut String, entry: Entry, report: Report) -> Result<(), Allo
             let reply = Reply::Com(answered);
             writeln!(text, "moved {number} {command} = {reply}")
         }
-        Report::Event(event) => writeln!(text, "event {number} {event}"),
+        Report::Event(event) => {
+            let name = event_name(maybe_again);
+            writeln!(text, "{name} {number} {event}")
+        }
         Report::PollAnswered(reply) => writeln!(text, "answered {number} {reply}"),
         Report::Unread(command, code) => {
             let bytes = [code];
@@ -62,16 +77,17 @@ fn push_told(text: &mut String, entry: Entry, report: Report) -> Result<(), Allo
     }
 }
 
-/// Writes the report that was taken, where there is one.
+/// Writes the report that was taken, where there is one, and whether it is an event that may have been reported before.
 pub(crate) fn push_report(
     text: &mut String,
     report: Option<(Entry, Report)>,
+    maybe_again: bool,
 ) -> Result<(), AllocError>
-    ensures { OnOk result (string_bytes text.new ≡ string_bytes text.old ++ report_line report) }
+    ensures { OnOk result (string_bytes text.new ≡ string_bytes text.old ++ report_line report maybe_again) }
 {
     match report {
         None => Ok(()),
-        Some((entry, report)) => push_told(text, entry, report),
+        Some((entry, report)) => push_told(text, entry, maybe_again, report),
     }
 }
 
@@ -85,6 +101,7 @@ fn fault_name(fault: BusFault) -> &'static str
         BusFault::AddressTaken => "B3",
         BusFault::NoEntry => "B4",
         BusFault::OutOfRange => "B5",
+        BusFault::AddressOutOfRange => "B6",
         // Of the controller of an entry.
         BusFault::Full => "C3",
         BusFault::PollSubmitted => "C4",

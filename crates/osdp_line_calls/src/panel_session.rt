@@ -144,9 +144,10 @@ impl LinePanel {
     fn tell(&mut self, text: &mut String) -> Result<(), AllocError>
         ensures { (before : List ℕ) (c : Called) → OnOk result (Comes before (string_bytes text.old) self.old c → Comes before (string_bytes text.new) self.new (then_reports c)) }
     {
+        let maybe_again = self.bus.is_maybe_again();
         let report = self.bus.next_report();
         self.listener.hear_report(&report);
-        push_report(text, report)
+        push_report(text, report, maybe_again)
     }
 
     /// Writes the moment of the next tick, which ends an answer.

@@ -1,13 +1,14 @@
 -- What is heard beside a bus agrees with the bus, line by line.
-use Rattle.std.proofs.Common.{◌≡◌, ◌∙◌, ap, sym, subst, refl, ℕ, zero, suc, Bool, false, max, List, [], ◌∷◌, ◌++◌, length, replicate, Option, Some, None, arith}
-use Rattle.std.specs.Prelude.{◌↔◌}
+use Rattle.std.proofs.Common.{◌≡◌, ◌∙◌, ap, sym, subst, refl, ℕ, zero, suc, Bool, true, false, max, List, [], ◌∷◌, ◌++◌, length, replicate, Option, Some, None, arith}
+use Rattle.std.specs.Prelude.{◌↔◌, if◌then◌else◌}
+use Rattle.osdp_controller.specs.Hearing.{comset_of}
 use Rattle.osdp_controller.proofs.Choices.{either_way}
 use Rattle.osdp_bus.specs.declared.config.BusConfig.{BusConfig}
 use Rattle.osdp_bus.specs.declared.device.Device.{Device}
 use Rattle.osdp_bus.specs.declared.fault.BusFault.{BusFault}
 use Rattle.osdp_bus.specs.Buses.{BusState, device_of, seen}
 use Rattle.osdp_bus.specs.Hearing.{after_bytes, ends_run}
-use Rattle.osdp_bus.specs.Machine.{add_refusal, after_begin_at, after_next_report, begin_refusal_at, changed_unless, device_retargets, device_submits, retarget_refusal_at, submit_refusal_at}
+use Rattle.osdp_bus.specs.Machine.{add_refusal, after_begin_at, after_next_report, begin_refusal_at, changed_unless, device_retargets, device_submits, leads_nowhere, retarget_refusal_at, submit_refusal_at}
 use Rattle.osdp_bus.specs.Settings.{IsBusConfig}
 use Rattle.osdp_bus.specs.Ticking.{bus_ticks}
 use Rattle.osdp_bus_laws.specs.Calls.{Call, Add as AddCall, Begin as BeginCall, Submit as SubmitCall, Withdraw as WithdrawCall, Retarget as RetargetCall, OnBytes, Tick as TickCall, NextReport, after_call, after_calls}
@@ -116,7 +117,11 @@ heard_as : (call : PanelCall) (s : Session) → SoundBus s.bus → HearsAs s.lis
 heard_as (At later) s sound is = is
 heard_as (Add address) s sound is = hears_on (AddCall address) s.bus s.listening tt is
 heard_as (Begin entry) s sound is = by_begin entry s (begin_refusal_at entry s.bus) refl sound is
-heard_as (Submit entry command) s sound is = hears_on (SubmitCall entry command) s.bus s.listening tt is
+heard_as (Submit entry command) s sound is = by_test (leads_nowhere (comset_of command))
+  where
+    by_test : (t : Bool) → HearsAs s.listening (after_calls (if t then [] else SubmitCall entry command ∷ []) s.bus)
+    by_test true = is
+    by_test false = hears_on (SubmitCall entry command) s.bus s.listening tt is
 heard_as (Withdraw entry) s sound is = hears_on (WithdrawCall entry) s.bus s.listening tt is
 heard_as (Retarget entry address) s sound is = hears_on (RetargetCall entry address) s.bus s.listening tt is
 heard_as (Bytes list) s sound is = by_bytes list.items s sound is
@@ -150,8 +155,11 @@ agrees : (call : PanelCall) (s : Session) (opened : List Bool) → SoundBus s.bu
 agrees (At later) s opened sound agree = agree
 agrees (Add address) s opened sound agree = agree_add opened address (add_refusal address s.bus) s.bus refl agree
 agrees (Begin entry) s opened sound agree = agree_begin opened entry s.now (begin_refusal_at entry s.bus) s.bus refl agree
-agrees (Submit entry command) s opened sound agree =
-    agree_submit opened entry s.bus (submit_refusal_at entry command s.bus) (device_submits command) (λ d. refl) agree
+agrees (Submit entry command) s opened sound agree = by_test (leads_nowhere (comset_of command))
+  where
+    by_test : (t : Bool) → Agree opened (after_calls (if t then [] else SubmitCall entry command ∷ []) s.bus).devices
+    by_test true = agree
+    by_test false = agree_submit opened entry s.bus (submit_refusal_at entry command s.bus) (device_submits command) (λ d. refl) agree
 agrees (Withdraw entry) s opened sound agree = agree_withdraw opened entry s.bus agree
 agrees (Retarget entry address) s opened sound agree =
     agree_submit opened entry s.bus (retarget_refusal_at entry address s.bus) (device_retargets address) (λ d. refl) agree

@@ -1,19 +1,33 @@
 -- A run of lines to a panel, line by line.
-use Rattle.std.proofs.Common.{◌≡◌, ◌∙◌, ap, subst, refl, ℕ, List, [], ◌∷◌, ◌++◌, Option, Some, None, inl, inr}
+use Rattle.std.proofs.Common.{◌≡◌, ◌∙◌, ap, subst, refl, ℕ, List, [], ◌∷◌, ◌++◌, Option, Some, None, inl, inr, sym, append_assoc}
+use Rattle.osdp_bus.specs.Buses.{BusState}
+use Rattle.osdp_bus.specs.Machine.{after_next_report}
+use Rattle.osdp_bus_laws.proofs.Ordering.{order_made}
+use Rattle.osdp_bus_laws.specs.Calls.{after_calls, orders}
 use Rattle.osdp_line_calls.specs.Answers.{heard}
 use Rattle.osdp_line_calls.specs.Calls.{IsSaid}
 use Rattle.osdp_line_calls.specs.declared.panel_call.PanelCall.{PanelCall}
-use Rattle.osdp_line_calls.specs.declared.panel_call.PanelCall.TheVariants.{At}
+use Rattle.osdp_line_calls.specs.declared.panel_call.PanelCall.TheVariants.{At, Submit}
 use Rattle.osdp_line_calls.specs.PanelCalls.{CallFits, call_words}
 use Rattle.osdp_line_calls.specs.PanelLines.{IsAnswered, refuses}
+use Rattle.osdp_line_calls.specs.Passing.{opened_by}
 use Rattle.osdp_line_calls.specs.PanelSessions.{Called, IsDue, Session, answered, ended, overhears}
 use Rattle.osdp_line_calls.specs.PanelTexts.{due_line}
-use Rattle.osdp_line_laws.proofs.OfPanels.{made}
-use Rattle.osdp_line_laws.specs.PanelRuns.{RunsAreCalls, Tells, after_said, said_text}
+use Rattle.osdp_line_laws.proofs.OfPanels.{made, order_taken}
+use Rattle.osdp_line_laws.specs.PanelLines.{calls_text, kept_back}
+use Rattle.osdp_line_laws.specs.PanelRuns.{RunsAreCalls, Tells, after_said, calls_of, said_text}
 
 -- the whole panel after a call
 whole : (call : PanelCall) (s : Session) → (answered call s).session ≡ after_said (Some call) s
 whole (At later) s = refl
+whole (Submit entry command) s =
+    let from : BusState → BusState → Session = λ b c. record {
+      bus = c;
+      now = s.now;
+      listening = record s.listening { opened = opened_by b.devices.report s.listening.opened };
+    } in
+    let done = order_made entry command s.bus in
+    ap (λ b. from b (after_next_report b)) done ∙ ap (from (after_calls (orders entry command) s.bus)) (sym (order_taken entry command s.bus))
 whole call s = refl
 
 -- one line: what it says, the panel after it, and what is told
@@ -36,7 +50,8 @@ one line s text next c (inl (call, says, ends)) text_is next_is =
       after = next_is ∙ ap (λ (x : Called). x.session) is ∙ whole call s;
       due = due;
       is_due = subst (λ (x : Session). IsDue x due) (whole call s) ends.1;
-      told = text_is ∙ ap (λ (x : Called). x.text) is ∙ ap (λ l. ((overhears call s).text ++ l) ++ due_line due) (made call s).text;
+      told = text_is ∙ ap (λ (x : Called). x.text) is ∙ ap (λ l. ((overhears call s).text ++ l) ++ due_line due) (made call s).text
+          ∙ ap (λ l. l ++ due_line due) (sym (append_assoc (overhears call s).text (kept_back call s.bus) (calls_text (calls_of call s.now) s.bus)));
     }
 one line s text next c (inr (nothing, ends)) text_is next_is =
     let due = ends.0 in

@@ -10,7 +10,7 @@ use Rattle.osdp_line_calls.specs.PanelLines.{Answers}
 use Rattle.osdp_line_calls.specs.Passing.{Listening, opened_by}
 use Rattle.osdp_line_calls.specs.PanelSessions.{IsDue, Session, overhears}
 use Rattle.osdp_line_calls.specs.PanelTexts.{due_line, no_line}
-use Rattle.osdp_line_laws.specs.PanelLines.{calls_text, ordered}
+use Rattle.osdp_line_laws.specs.PanelLines.{calls_text, kept_back, ordered}
 
 -- the moment of the calls to come is that of the last line of a moment
 abbrev pub moment_after : PanelCall → ℕ → ℕ
@@ -37,7 +37,7 @@ after_said (Some call) s = record {
 after_said None s = s
 
 abbrev pub said_text : Option PanelCall → Session → List ℕ
-said_text (Some call) s = (overhears call s).text ++ calls_text (calls_of call s.now) s.bus
+said_text (Some call) s = ((overhears call s).text ++ kept_back call s.bus) ++ calls_text (calls_of call s.now) s.bus
 said_text None s = no_line
 
 -- one line after the other, each as those before it have left the panel; each answer ends with the moment of the next tick then

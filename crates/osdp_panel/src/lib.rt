@@ -29,7 +29,8 @@ pub mod laws;
 mod panel;
 mod unsent;
 
-ghost use Rattle.std.specs.Prelude.{◌≡◌, None};
+ghost use Rattle.std.specs.Prelude.{◌≡◌, None, false};
+ghost use Rattle.osdp_bus.specs.Buses.{is_maybe_again};
 ghost use Rattle.osdp_bus.specs.Deadlines.{IsDeadline};
 ghost use Rattle.osdp_bus.specs.Sending.{IsSentAs};
 ghost use Rattle.osdp_panel.specs.Turns.{after_turn, heard_in, ticked_in};
@@ -50,6 +51,9 @@ pub use unsent::Unsent;
 pub struct Turn {
     /// What the bytes brought, with the entry of the device that it is about.
     pub heard: Option<(Entry, Report)>,
+    /// Whether that is an event which may have been reported before, as the last one of its entry before the session under way. The card or key that it tells may be
+    /// one that an order was given for already.
+    pub maybe_again: bool,
     /// What is to be written to the port.
     pub burst: Option<Burst>,
     /// What the moment brought: where it is a report, nothing is to be written.
@@ -62,10 +66,11 @@ pub struct Turn {
 impl Turn {
     /// Nothing came of it, and nothing is to be done.
     pub fn new() -> Turn
-        ensures { result ≡ record { heard = None; burst = None; ticked = None; sleep_until = None } }
+        ensures { result ≡ record { heard = None; maybe_again = false; burst = None; ticked = None; sleep_until = None } }
     {
         Turn {
             heard: None,
+            maybe_again: false,
             burst: None,
             ticked: None,
             sleep_until: None,
@@ -77,16 +82,19 @@ impl Turn {
 pub fn take_turn(bus: &mut Bus, bytes: &[u8], now: u64) -> Turn
     ensures bus { bus.new ≡ after_turn bytes.now now bus.old }
     ensures heard { result.heard ≡ (heard_in bytes.now now bus.old).devices.report }
+    ensures maybe_again { result.maybe_again ≡ is_maybe_again (heard_in bytes.now now bus.old) }
     ensures sent { IsSentAs (ticked_in bytes.now now bus.old).sent result.burst }
     ensures ticked { result.ticked ≡ (ticked_in bytes.now now bus.old).bus.devices.report }
     ensures sleep_until { IsDeadline bus.new result.sleep_until }
 {
     bus.on_bytes(bytes, now);
+    let maybe_again = bus.is_maybe_again();
     let heard = bus.next_report();
     let burst = bus.tick(now);
     let ticked = bus.next_report();
     Turn {
         heard,
+        maybe_again,
         burst,
         ticked,
         sleep_until: bus.next_deadline(),

@@ -1,10 +1,10 @@
 //! A panel, whose turns write into what its program has.
 
 ghost use Rattle.std.specs.Prelude.{◌≡◌, ◌↔◌, IfErr, IsSome, None, OnOk, Some, length, option_map};
-ghost use Rattle.osdp_bus.specs.Buses.{device_of};
+ghost use Rattle.osdp_bus.specs.Buses.{device_of, is_maybe_again};
 ghost use Rattle.osdp_bus.specs.Deadlines.{IsDeadline};
 ghost use Rattle.osdp_bus.specs.Devices.{address_of};
-ghost use Rattle.osdp_bus.specs.Machine.{AddEnds, NewEnds, after_begin_at, after_retarget_at, after_submit_at, after_withdraw_at, begin_refusal_at, changed_unless, retarget_refusal_at, submit_refusal_at, unless_refused, withdrawal_at};
+ghost use Rattle.osdp_bus.specs.Machine.{AddEnds, NewEnds, after_begin_at, after_retarget_at, after_submit_at, after_withdraw_at, begin_refusal_at, changed_unless, order_refusal_at, retarget_refusal_at, unless_refused, withdrawal_at};
 ghost use Rattle.osdp_bus.specs.Sending.{IsSentAs};
 ghost use Rattle.osdp_controller.specs.States.{is_closed};
 ghost use Rattle.osdp_panel.specs.Turns.{after_turn, heard_in, ticked_in};
@@ -74,8 +74,8 @@ impl Panel {
 
     /// Puts a command after those that wait for a device; a refused one comes back. The faults are those of `Bus::submit`.
     pub fn submit(&mut self, entry: Entry, command: Command) -> Result<(), (BusFault, Command)>
-        ensures accepted { OnOk result ((submit_refusal_at entry command self.old ≡ None) × (self.new ≡ after_submit_at entry command self.old)) }
-        ensures refused { IfErr result (λ e. (submit_refusal_at entry command self.old ≡ Some e.0) × (e.1 ≡ command) × (self.new ≡ self.old)) }
+        ensures accepted { OnOk result ((order_refusal_at entry command self.old ≡ None) × (self.new ≡ after_submit_at entry command self.old)) }
+        ensures refused { IfErr result (λ e. (order_refusal_at entry command self.old ≡ Some e.0) × (e.1 ≡ command) × (self.new ≡ self.old)) }
     {
         self.bus.submit(entry, command)
     }
@@ -94,11 +94,13 @@ impl Panel {
         ensures unsent { IsSome result ↔ IsSome turn.new.burst }
         ensures panel { self.new ≡ after_turn bytes.now now self.old }
         ensures heard { turn.new.heard ≡ (heard_in bytes.now now self.old).devices.report }
+        ensures maybe_again { turn.new.maybe_again ≡ is_maybe_again (heard_in bytes.now now self.old) }
         ensures sent { IsSentAs (ticked_in bytes.now now self.old).sent turn.new.burst }
         ensures ticked { turn.new.ticked ≡ (ticked_in bytes.now now self.old).bus.devices.report }
         ensures sleep_until { IsDeadline self.new turn.new.sleep_until }
     {
         self.bus.on_bytes(bytes, now);
+        turn.maybe_again = self.bus.is_maybe_again();
         turn.heard = self.bus.next_report();
         turn.burst = self.bus.tick(now);
         turn.ticked = self.bus.next_report();

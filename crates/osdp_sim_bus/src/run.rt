@@ -170,6 +170,7 @@ fn new_bus(alloc: Global, config: &BusConfig) -> Result<Bus, Cause>
             | BusFault::TooMany
             | BusFault::AddressTaken
             | BusFault::NoEntry
+            | BusFault::AddressOutOfRange
             | BusFault::Full
             | BusFault::PollSubmitted
             | BusFault::NotClosed,

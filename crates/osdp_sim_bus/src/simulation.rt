@@ -101,7 +101,8 @@ impl<H: Handler> StepTaker for Simulation<H> {
         if !self.is_there(number) {
             return;
         }
-        if self.bus.submit(number - 1, command.copy()).is_ok() {
+        // A COMSET to whatever address is put on the line: the account tells what the reader answers.
+        if self.bus.submit_anywhere(number - 1, command.copy()).is_ok() {
             self.sites[number - 1].account.issue(command);
         }
     }

@@ -9,7 +9,7 @@ use Rattle.osdp_msg.specs.declared.command.Command.{Command}
 use Rattle.osdp_msg.specs.declared.event.Event.{Event}
 use Rattle.osdp_controller.specs.declared.report.Report.{Report}
 use Rattle.osdp_reader.specs.declared.handler.Answer.{Answer}
-use Rattle.osdp_bus.specs.Machine.{submit_refusal_at}
+use Rattle.osdp_bus.specs.Machine.{after_next_report, submit_refusal_at}
 use Rattle.osdp_bus.specs.declared.config.BusConfig.{BusConfig}
 use Rattle.osdp_bus.specs.declared.fault.BusFault.{BusFault}
 use Rattle.osdp_sim.specs.Account.{Account, lengths_of}
@@ -118,12 +118,12 @@ module _ {H : Type 0} (answer_of : H → Command → Answer) (after : H → Comm
       (λ v. stays v.account (site_is_busy busy v).account refl refl refl)) u at
   step_grows (Wait wait) s u at =
       let t = waited (moment_after wait s.clock) s in
-      told_stays t.bus.devices.report (record t { bus = record t.bus { devices = record t.bus.devices { report = None } } }) u at
+      told_stays t.bus.devices.report (record t { bus = after_next_report t.bus }) u at
   step_grows (ToReader move) s u at =
       heard_stays (packets_in (handed move s.to_readers)) (record s { to_readers = left move s.to_readers }) u at
   step_grows (ToController move) s u at =
       let t = record s { bus = hears_run (handed move s.to_bus) s.clock s.bus; to_bus = left move s.to_bus } in
-      told_stays t.bus.devices.report (record t { bus = record t.bus { devices = record t.bus.devices { report = None } } }) u at
+      told_stays t.bus.devices.report (record t { bus = after_next_report t.bus }) u at
   step_grows (Reopen number) s u at = reopen_grows number s u at
 
   -- the account of the reader at the place

@@ -9,7 +9,7 @@ use Rattle.osdp_msg.specs.declared.event.Event.{Event}
 use Rattle.osdp_controller.specs.declared.report.Report.{Report}
 use Rattle.osdp_reader.specs.Table as reader
 use Rattle.osdp_reader.specs.declared.handler.Answer.{Answer}
-use Rattle.osdp_bus.specs.Machine.{submit_refusal_at}
+use Rattle.osdp_bus.specs.Machine.{after_next_report, submit_refusal_at}
 use Rattle.osdp_bus.specs.declared.device.Device.{Device}
 use Rattle.osdp_bus.specs.declared.fault.BusFault.{BusFault}
 use Rattle.osdp_sim.specs.Line.{handed, left}
@@ -91,12 +91,12 @@ module _ {H : Type 0} (answer_of : H → Command → Answer) (after : H → Comm
         (stays_changed R idle.same k (number - 1) (site_is_busy busy) s.sites (idle.busy busy))
     idle_sites (Wait wait) s idles =
         let t = waited (moment_after wait s.clock) s in
-        told_sites t.bus.devices.report (record t { bus = record t.bus { devices = record t.bus.devices { report = None } } })
+        told_sites t.bus.devices.report (record t { bus = after_next_report t.bus })
     idle_sites (ToReader move) s idles =
         heard_sites (packets_in (handed move s.to_readers)) (record s { to_readers = left move s.to_readers })
     idle_sites (ToController move) s idles =
         let t = record s { bus = hears_run (handed move s.to_bus) s.clock s.bus; to_bus = left move s.to_bus } in
-        told_sites t.bus.devices.report (record t { bus = record t.bus { devices = record t.bus.devices { report = None } } })
+        told_sites t.bus.devices.report (record t { bus = after_next_report t.bus })
     idle_sites (Reopen number) s idles =
         where_sites (is_there number s) s (reopened (number - 1) s)
         (stays_changed R idle.same k (number - 1) site_begins s.sites idle.begins)
@@ -125,13 +125,13 @@ module _ {H : Type 0} (answer_of : H → Command → Answer) (after : H → Comm
       where_device k (is_there number s) s (record s { sites = changed_site (number - 1) (site_is_busy busy) s.sites }) (keeps_all k s.bus.devices.entries)
   idle_device k (Wait wait) s idles =
       let t = waited (moment_after wait s.clock) s in
-      told_device k t.bus.devices.report (record t { bus = record t.bus { devices = record t.bus.devices { report = None } } }) s.bus.devices.entries
+      told_device k t.bus.devices.report (record t { bus = after_next_report t.bus }) s.bus.devices.entries
       (keeps_tick k (moment_after wait s.clock) s.bus)
   idle_device k (ToReader move) s idles =
       heard_device k (packets_in (handed move s.to_readers)) (record s { to_readers = left move s.to_readers })
   idle_device k (ToController move) s idles =
       let t = record s { bus = hears_run (handed move s.to_bus) s.clock s.bus; to_bus = left move s.to_bus } in
-      told_device k t.bus.devices.report (record t { bus = record t.bus { devices = record t.bus.devices { report = None } } }) s.bus.devices.entries
+      told_device k t.bus.devices.report (record t { bus = after_next_report t.bus }) s.bus.devices.entries
       (keeps_hears k (handed move s.to_bus) s.clock s.bus)
   idle_device k (Reopen number) s idles =
       where_device k (is_there number s) s (reopened (number - 1) s) (keeps_begin k (number - 1) s.clock s.bus)

@@ -215,7 +215,8 @@ Answers: before the last line of an answer stand lines like these.
   opened I PDID..       the session is open
   settled I X = Y       command X was answered Y; a NAK says that it wasn't done
   moved I X = Y         COMSET X is done, and the session closed: once all have moved set the port, and begin
-  event I X             the device tells X, once
+  event I X             the device tells X
+  maybe-again I X       the same of an event that may have been told before: make no second order of it
   answered I X          a POLL was answered X, which is no event
   unread I code XX..    the answer can't be read; the command that may follow may have been done or not
   lost I CAUSE..        the session is closed: no-reply, too-busy or number-refused; a command as with unread
@@ -224,6 +225,7 @@ Answers: before the last line of an answer stand lines like these.
   refused line          no call: its name, how many words it has, or one that is no value or out of its range
   refused B2, B3        sixteen devices are there; the address is another device's, or reserved for one
   refused B4, B5        there is no device I; the address is above 126
+  refused B6            a COMSET goes to an address above 126
   refused C3, C4        no room for another command; a POLL is not submitted
   refused C5            the session is not closed
   due MOMENT, due none  the last line: the moment of the next tick

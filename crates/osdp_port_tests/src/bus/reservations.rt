@@ -1,6 +1,6 @@
 //! Addresses of devices, and those that are reserved for them.
 
-use crate::bus::rows::{Row, WHOLE, add, is_told, new_bus, run, submit};
+use crate::bus::rows::{Row, WHOLE, add, command, is_told, new_bus, run, submit};
 use osdp_bus::{Bus, BusConfig, BusFault};
 use osdp_check::{Sum8, check_of};
 use osdp_frame::{Address, CheckKind};
@@ -13,8 +13,8 @@ const PDID_5: &str = "53851300004553494D010101000000010000E3";
 /// COMSET to 7 at 9600 baud, with number 1.
 const COMSET_7: &str = "53050C00016E078025000081";
 
-/// COMSET to 127.
-const COMSET_127: &str = "53050C00016E7F8025000009";
+/// COMSET to 8.
+const COMSET_8: &str = "53050C00016E088025000080";
 
 /// NAK 9 with number 1.
 const NAK_9: &str = "53850800014109D5";
@@ -38,8 +38,17 @@ fn addresses_have_one_device(rt: HostRuntime) {
         submit(&rt, &mut bus, 0, &["COMSET", "6", "9600"]),
         Some(BusFault::AddressTaken)
     );
+    assert_eq!(rt;
+        submit(&rt, &mut bus, 0, &["COMSET", "127", "9600"]),
+        Some(BusFault::AddressOutOfRange)
+    );
     assert_eq!(rt; submit(&rt, &mut bus, 0, &["COMSET", "7", "9600"]), None);
     assert_eq!(rt; bus.waiting(0), Some(1));
+    assert!(rt;
+        bus.submit_anywhere(1, command(&rt, &["COMSET", "127", "9600"]))
+            .is_ok()
+    );
+    assert_eq!(rt; (bus.waiting(1), bus.is_maybe_again()), (Some(1), false));
     assert_eq!(rt; add(&rt, &mut bus, 7), Err(BusFault::AddressTaken));
     assert_eq!(rt;
         submit(&rt, &mut bus, 0, &["COMSET", "8", "9600"]),
@@ -111,9 +120,9 @@ fn an_unsettled_comset_stays_reserved(rt: HostRuntime) {
 #[test]
 fn a_refused_comset_frees_its_address(rt: HostRuntime) {
     let mut bus = new_bus(&rt, rt.alloc(), &[5, 6]);
-    assert_eq!(rt; submit(&rt, &mut bus, 0, &["COMSET", "127", "9600"]), None);
+    assert_eq!(rt; submit(&rt, &mut bus, 0, &["COMSET", "8", "9600"]), None);
     assert_eq!(rt;
-        submit(&rt, &mut bus, 1, &["COMSET", "127", "9600"]),
+        submit(&rt, &mut bus, 1, &["COMSET", "8", "9600"]),
         Some(BusFault::AddressTaken)
     );
     let rows = [
@@ -121,11 +130,11 @@ fn a_refused_comset_frees_its_address(rt: HostRuntime) {
         Row::Sends(400, ID_5),
         Row::Hears(400, PDID_5),
         Row::Told(0, "opened"),
-        Row::Sends(400, COMSET_127),
+        Row::Sends(400, COMSET_8),
         Row::Hears(410, NAK_9),
     ];
     run(&rt, &mut bus, &rows, WHOLE);
-    assert_eq!(rt; submit(&rt, &mut bus, 1, &["COMSET", "127", "9600"]), None);
+    assert_eq!(rt; submit(&rt, &mut bus, 1, &["COMSET", "8", "9600"]), None);
     is_told(&rt, &mut bus, 0, "settled");
 }
 

@@ -60,6 +60,6 @@ fn of_controllers(rt: HostRuntime) {
 fn of_buses(rt: HostRuntime) {
     told!(rt, BusFault:
         NoMemory = "B1: no memory", TooMany = "B2: sixteen devices are there", AddressTaken = "B3: the address is taken",
-        NoEntry = "B4: no such entry", OutOfRange = "B5: out of range", Full = "C3: no room for another command",
-        PollSubmitted = "C4: a POLL is not submitted", NotClosed = "C5: the session is not closed");
+        NoEntry = "B4: no such entry", OutOfRange = "B5: out of range", AddressOutOfRange = "B6: no device's address",
+        Full = "C3: no room for another command", PollSubmitted = "C4: a POLL is not submitted", NotClosed = "C5: the session is not closed");
 }
