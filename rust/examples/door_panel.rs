@@ -32,7 +32,10 @@ fn take_reports(panel: &mut Panel, door: &mut Door, now: Moment) -> Done {
         println!("{report:?}");
         door.heed(&report, now)?;
         // a card that may have been told before makes no second order
-        if let Report::Event { event: Reply::Raw(card), maybe_again: false } = report
+        if let Report::Event {
+            event: Reply::Raw(card),
+            maybe_again: false,
+        } = report
             && door.may_order
             && may_enter(&card)
         {
