@@ -121,7 +121,13 @@ fn a_panel_that_is_there_gets_every_card(rt: HostRuntime) {
     hears(&rt, &mut device, POLL_TO_OTHER, 60_000);
     is_quiet(&rt, &mut device);
     assert!(rt; device.expire_event(60_000, 0).is_none());
-    answers(&rt, &mut device, "5305070001643C", 60_000, "5385090001480001D5");
+    answers(
+        &rt,
+        &mut device,
+        "5305070001643C",
+        60_000,
+        "5385090001480001D5",
+    );
     keeps(&rt, &mut device, 67_999);
     withdraws(&rt, &mut device, 0x12, 68_000);
 }

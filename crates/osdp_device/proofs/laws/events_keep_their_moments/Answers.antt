@@ -14,7 +14,7 @@ returns-clause-stays g c came r a p w =
     let next = (hears g.H.Handler.answer_of g.H.Handler.after r p).reader in
     let room = (c.changes_by_acting.ensures.settings r p).1 in
     elim (c.loses_no_event.ensures.stays r p) [
-      inl gone ↦ inl (released came r next a w gone.2 room)
+      | inl gone ↦ inl (released came r next a w gone.2 room)
       | inr same ↦ inr (stayed came r next a w same room)
     ]
 
