@@ -21,7 +21,7 @@ static const char usage[] =
     "open the port goes through the rates at which readers may be, told `rate`, and tries each reader there once. Readers\n"
     "whose sessions are open keep the port at their rate. One that may be at another rate is looked for there, told\n"
     "`looks for`, and gets a COMSET that brings it to the others. While none is found, it is told `out of reach`, and the\n"
-    "next search comes after 1 s, 2 s and so on up to 64 s.\n"
+    "next search comes after 2 s, 4 s and so on up to 64 s.\n"
     "The file of `--keep` keeps where each reader is, before a COMSET goes out and after its end, and what it is. A panel\n"
     "that starts again with the same words takes each reader there. A device that isn't the one which stood there is told\n"
     "`another device`, and gets no order until a line such as `1 accept` allows it.\n"

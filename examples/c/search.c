@@ -52,6 +52,10 @@ uint64_t next_search(uint32_t rate)
         return NEVER;
     }
     const struct known *reader = next_sought(rate, &entry);
+    if (reader == NULL) {
+        due = 0; /* the next one that is missing is looked for at once */
+        pause = PAUSE;
+    }
     return reader != NULL && reader->state == CLOSED ? due : NEVER; /* a session that has begun ends, and is told then */
 }
 
