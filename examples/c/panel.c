@@ -21,7 +21,7 @@ static const char usage[] =
     "open the port goes through the rates at which readers may be, told `rate`, and tries each reader there once. Readers\n"
     "whose sessions are open keep the port at their rate. One that may be at another rate is looked for there, told\n"
     "`looks for`, and gets a COMSET that brings it to the others. While none is found, it is told `out of reach`, and the\n"
-    "next search comes after 1 s, 2 s and so on up to 64 s.\n"
+    "next search comes after 2 s, 4 s and so on up to 64 s.\n"
     "The file of `--keep` keeps where each reader is, before a COMSET goes out and after its end, and what it is. A panel\n"
     "that starts again with the same words takes each reader there. A device that isn't the one which stood there is told\n"
     "`another device`, and gets no order until a line such as `1 accept` allows it.\n"
@@ -34,7 +34,9 @@ static const char usage[] =
 
 static struct osdp_panel panel;
 static int port;
-static uint32_t rate; /* of the port, while no reader is looked for at another one */
+static uint32_t rate;       /* of the port, while no reader is looked for at another one */
+static uint32_t gap;        /* the panel's setting */
+static uint64_t answer_due; /* up to when the last burst's answer is waited for */
 
 /* A session has ended: the orders that wait are stale, and are taken back. */
 static void close_reader(size_t entry, struct known *reader, uint64_t pause)
@@ -95,18 +97,29 @@ static uint64_t earlier(uint64_t one, uint64_t other)
     return one < other ? one : other;
 }
 
+/* The moment at which the panel that speaks is due; NEVER where there is none. */
+static uint64_t next_due(osdp_panel *speaks)
+{
+    struct osdp_moment due;
+    return osdp_panel_next_deadline(speaks, &due) == OSDP_OK && due.present ? due.moment : NEVER;
+}
+
 /* How many milliseconds nothing is to be done, if nothing comes. */
 static uint64_t until_due(osdp_panel *speaks)
 {
-    struct osdp_moment due;
-    uint64_t now = moment(), first = NEVER;
+    uint64_t now = moment(), first = next_due(speaks), search = next_search(rate);
     if (speaks == &panel) {
-        first = next_rate(rate) != rate ? now : earlier(next_begin(rate), next_search(rate));
-    }
-    if (osdp_panel_next_deadline(speaks, &due) == OSDP_OK && due.present) {
-        first = earlier(first, due.moment);
+        first = earlier(first, next_rate(rate) != rate ? now : next_begin(rate));
+        first = earlier(first, search > now || search == NEVER ? search : search + PATIENCE);
     }
     return first > now ? first - now : 0;
+}
+
+/* Whether the last burst was answered by the bytes that have just come: neither its answer nor the rest of it is waited for. */
+static bool is_idle(size_t count, uint64_t now)
+{
+    uint64_t due = next_due(&panel);
+    return count > 0 && due != answer_due && due != now + gap;
 }
 
 /* Sets the port to the rate that it is to have, and begins the sessions whose moment has come. */
@@ -145,7 +158,7 @@ static void turn(struct lines *lines)
     take_reports();
     take_orders(lines);
     if (searching() == NULL) {
-        begin_search(rate, now);
+        begin_search(rate, now, is_idle(count, now));
     }
     speaks = searching();
     if (speaks == NULL) {
@@ -154,6 +167,7 @@ static void turn(struct lines *lines)
     }
     (void)osdp_panel_tick(speaks, now, &burst);
     write_all(port, &burst);
+    answer_due = burst.length > 0 ? next_due(speaks) : answer_due;
     take_found(now);
     take_reports();
 }
@@ -211,6 +225,7 @@ int main(int count, char **words)
     read_places(kept);
     add_readers(words[2]);
     port = open_port(words[0], rate);
+    gap = config.gap;
     prepare_search(&config, port);
     before_end(tell_last_ends);
     for (;;) {

@@ -52,6 +52,10 @@ uint64_t next_search(uint32_t rate)
         return NEVER;
     }
     const struct known *reader = next_sought(rate, &entry);
+    if (reader == NULL) {
+        due = moment(); /* the next one that is missing is looked for at once */
+        pause = PAUSE;
+    }
     return reader != NULL && reader->state == CLOSED ? due : NEVER; /* a session that has begun ends, and is told then */
 }
 
@@ -71,10 +75,11 @@ static void end_search(struct known *reader, bool is_found, uint64_t now)
     }
 }
 
-void begin_search(uint32_t rate, uint64_t now)
+void begin_search(uint32_t rate, uint64_t now, bool is_idle)
 {
     size_t entry, next;
-    if (next_search(rate) > now) {
+    uint64_t begins = next_search(rate);
+    if (begins > now || (!is_idle && now - begins < PATIENCE)) {
         return;
     }
     struct known *reader = next_sought(rate, &next);

@@ -8,8 +8,11 @@
 /* The settings of the panel that looks for readers, and the port. */
 void prepare_search(const struct osdp_panel_config *settings, int port);
 
-/* Looks for the next reader in turn, where one is missing and it is time. The others are at this rate. */
-void begin_search(uint32_t rate, uint64_t now);
+#define PATIENCE 1000 /* for how many milliseconds a search waits until the line is idle */
+
+/* Looks for the next reader in turn, where one is missing and it is time: as soon as no answer of the others is waited for, as far as that comes. The others are
+ * at this rate. */
+void begin_search(uint32_t rate, uint64_t now, bool is_idle);
 
 /* The panel that looks for a reader; NULL where none is looked for. */
 osdp_panel *searching(void);
