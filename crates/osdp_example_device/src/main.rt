@@ -8,6 +8,7 @@ use osdp_device::{
     ProgramAnswers, Raw, Reader, ReaderConfig, Response, Turn, order_of, ordered,
 };
 use osdp_example_lines::{Line, read_line, send};
+use std::alloc::Global;
 use std::io;
 
 /// A device whose program decides what is said to an OUT.
@@ -19,7 +20,8 @@ fn may_be_done(output: u8, control: u8) -> bool {
 }
 
 /// A device to which nothing has come. None where there is no memory.
-fn new_device(alloc: std::alloc::Global) -> Option<Doors> {
+fn new_device(alloc: Global) -> Option<Doors> {
+    let (address, capabilities) = (Address::new(5)?, ArrayVec::new());
     let id = PdId {
         vendor: [0x53, 0x49, 0x4D],
         model: 0,
@@ -29,10 +31,10 @@ fn new_device(alloc: std::alloc::Global) -> Option<Doors> {
         firmware_minor: 0,
         firmware_build: 0,
     };
-    let (capabilities, mut program) = (ArrayVec::new(), ProgramAnswers::new());
-    let _ = program.status.outputs.try_extend_from_slice(&[0, 0]);
-    let (address, caps) = (Address::new(5)?, PdCap { capabilities });
+    let caps = PdCap { capabilities };
     let config = ReaderConfig { address, id, caps };
+    let mut program = ProgramAnswers::new();
+    let _ = program.status.outputs.try_extend_from_slice(&[0, 0]);
     Device::new(alloc, Reader::new(alloc, config, program, 64).ok()?, 20).ok()
 }
 
@@ -57,7 +59,7 @@ fn act(rt: &HostRuntime, response: &Response) -> io::Result<()> {
     Ok(())
 }
 
-/// Bytes have come up to a moment. A turn says one thing; a line has 4,096 bytes at most, so that there are fewer than 10,000.
+/// Bytes have come up to a moment, or none. A turn says one thing; a line has 4,096 bytes at most, so that there are fewer than 10,000.
 fn hear(rt: &HostRuntime, device: &mut Doors, mut bytes: &[u8], now: u64) -> io::Result<()> {
     let mut turn = Turn::new();
     device.tick(now);
