@@ -1,6 +1,5 @@
 #!/usr/bin/env python3
 """A small panel on a serial port, to copy. `osdp-port` has more: COMSET, places that are kept, ports that come back, traces.
-
     panel.py PORT RATE ADDRESS,ADDRESS.. [PROGRAM] [SETTING VALUE]..
 
 PROGRAM is the path of osdp, with a `/` in it, where it isn't found by its name. Its settings are in its manual. Each line of standard input is an order:

@@ -1,6 +1,5 @@
 #!/usr/bin/env python3
 """A small reader on a serial port, to copy. `osdp-port` has more: a place that is kept, ports that come back, traces.
-
     reader.py PORT RATE [PROGRAM] [SETTING VALUE]..
 
 It carries the port's bytes to `osdp reader`, with the moments at which they come, and what that sends to the port. PROGRAM is the path of osdp, with

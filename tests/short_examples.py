@@ -137,7 +137,7 @@ def main(osdp):
         asks(shown.returncode == 0 and "Status: 2 bad words" in shown.stdout and not shown.stderr, f"{name}: --help is another text")
     for name in ("panel", "reader", "port", "lines"):
         length = len((TOP / f"examples/{name}.py").read_text().splitlines())
-        asks(length <= 100, f"examples/{name}.py has {length} lines: it is to stay a short one")
+        asks(length < 100, f"examples/{name}.py has {length} lines: it is to stay a short one")
     print(f"short examples: {len(faults)} faults in {time.monotonic() - begun:.1f} s", *faults, sep="\n")
     return 1 if faults else 0
 
