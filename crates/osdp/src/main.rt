@@ -10,7 +10,6 @@ use osdp_tool_monitor::{Moments, monitor, monitor_mode};
 use osdp_tool_show::{Detail, show};
 use osdp_tool_sim::sim;
 use osdp_tool_streams::{ToolFault, Watched, flush_out, write_out};
-use std::fs::metadata;
 use std::process::ExitCode;
 use std::time::Instant;
 
@@ -60,20 +59,11 @@ impl Moments for Clock<'_> {
     }
 }
 
-/// Whether standard input is a file: its bytes were recorded before, and wait. Where that can't be told it is none.
-fn is_file(rt: &HostRuntime) -> bool {
-    match metadata(rt, "/dev/stdin") {
-        Ok(input) => input.is_file(),
-        Err(_) => false,
-    }
-}
-
 /// Listens to standard input, as the words after the command's name ask. True where somebody was accused, or something refused.
 fn run_monitor(rt: &HostRuntime, words: &[&str]) -> Result<bool, ToolFault> {
-    let Some(mut mode) = monitor_mode(words.get(1..).unwrap_or(&[])) else {
+    let Some(mode) = monitor_mode(words.get(1..).unwrap_or(&[])) else {
         return Err(ToolFault::BadWords);
     };
-    mode.recorded = mode.recorded || is_file(rt);
     let mut clock = Clock {
         rt,
         start: None,
