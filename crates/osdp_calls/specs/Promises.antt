@@ -38,11 +38,12 @@ module _ {H : Type 0} where
   -- its device had at set-up.
   --
   -- Within each of its sessions commands are taken once and in order, settled with the answers that the device gave, and events are reported
-  -- once and in order. What a session leaves the next one begins with. Each of the commands has one place: with a session in which it has ended, or
-  -- after all of these among the commands of the last one; and each event: it was withdrawn, or it is with a session in which it has left the queue,
-  -- or among the events of the last one. No session offers an event that is withdrawn, in it or in another one. Over all sessions no command is taken twice: those taken are a beginning of all of these, with some left out that ended without
-  -- being settled. While the last session lasts it has told no command unsettled, and none is forgotten or removed; where it has ended it leaves
-  -- what the next one begins with.
+  -- once and in order. What a session leaves the next one begins with. Each of the commands has one place: with a session in which it has
+  -- ended, or after all of these among the commands of the last one; and each event: it was withdrawn, or it is with a session in which it
+  -- has left the queue, or among the events of the last one. No session offers an event that is withdrawn, in it or in another one. Over all
+  -- sessions no command is taken twice: those taken are a beginning of all of these, with some left out that ended without being settled.
+  -- While the last session lasts it has told no command unsettled, and none is forgotten or removed; where it has ended it leaves what the
+  -- next one begins with.
   pub record HoldsPromises (accepted : List Command) (queued : List Event) (entry : Option Device) (t : Station H) : Type 0 where
     pub once : EachIsOnce (t.account ∷ t.earlier)
     pub row : AreInARow t.account t.earlier

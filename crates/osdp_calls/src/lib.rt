@@ -88,7 +88,7 @@ pub fn hands_over_what_is_read()
 {}
 
 /// What restarts cost an entry. Of its device: the events in its queue, but the one in front where it has offered that in this session, and at most
-/// its session; and nothing else is reported in that session but what was offered before and what is queued since. Of the panel: the
+/// its session; and nothing else is reported in that session but what was offered before, and what is queued since and not withdrawn. Of the panel: the
 /// command that was outstanding, and those that waited.
 pub fn restarts_cost<H: Handler>()
     ensures device { NewDeviceCosts H.answer_of H.after }
@@ -133,15 +133,15 @@ pub fn refuses_no_number<H: Handler>()
 }
 
 /// Of an entry whose device is never made anew, and whose program sets no handler, whatever the others do: its commands are settled with the
-/// answers of its settings and its one handler, in order, and its events are a beginning of all that were queued.
+/// answers of its settings and its one handler, in order, and its events are a beginning of all that were queued and not withdrawn.
 pub fn one_device_holds_once<H: Handler>()
     ensures { OneDeviceHoldsOnce H.answer_of H.after }
 {
     osdp_shared_line::restarts::each_of_one_handler_holds_once::<H>();
 }
 
-/// Of an entry neither of whose ends is made anew, and of which no command is taken back, whatever the others do: no command is forgotten or
-/// removed, and no event is thrown away. This asks nothing of what the ends read.
+/// Of an entry neither of whose ends is made anew, and of which nothing is taken back, whatever the others do: no command is forgotten or
+/// removed, and every event is kept. This asks nothing of what the ends read.
 pub fn ordinary_is_undisturbed<H: Handler>()
     ensures { OrdinaryCallsDisturbNone H.answer_of H.after }
 {}

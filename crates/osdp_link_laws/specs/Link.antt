@@ -93,9 +93,10 @@ pub data Delivery : Type 0 where
 
 -- what may happen to a link, at any moment. `Reopen`: a session begins again. `SetHandler`: the device has another handler from now on.
 -- `Withdraw`: where the controller is closed, the command that has waited longest is taken back. `Retarget`: where it is closed, its
--- address is set. `WithdrawEvent`: the device takes the oldest event back that it has never offered, if there is one. `RestartReader`: the reader is new, at this address, with this handler and room for events. `RestartController`: the
--- controller is new, with these settings and room for commands. What is on the line stays on it. `LoseToReader`, `LoseToController`: what stands at this place of
--- the line, the front at 0, is lost, beside what others say on it.
+-- address is set. `WithdrawEvent`: the device takes the oldest event back that it has never offered, if there is one. `RestartReader`: the reader
+-- is new, at this address, with this handler and room for events. `RestartController`: the controller is new, with these settings and room for
+-- commands. What is on the line stays on it. `LoseToReader`, `LoseToController`: what stands at this place of the line, the front at 0, is lost,
+-- beside what others say on it.
 pub data Move (H : Type 0) : Type 0 where
   Submit : Command → Move H
   Queue : Event → Move H

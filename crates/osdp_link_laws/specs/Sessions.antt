@@ -30,9 +30,9 @@ pub record LeavesCommands (t : Account) (waiting : List Command) : Type 0 where
   pub one : length (t.unsettled ++ t.forgotten) ≤ 1
   pub taken : (t.taken ≡ settled_commands t) ⊎ (t.taken ≡ settled_commands t ++ (t.unsettled ++ t.forgotten))
 
--- .. and of its events, but those withdrawn: some have left the queue, and the others wait. Those that a restart threw away have left, and so have those that
--- were reported: all of them, or all but the last, which waits in front. Where the reader has restarted, one more may have left that was
--- offered and never reported.
+-- .. and of its events, but those withdrawn: some have left the queue, and the others wait. Those that a restart threw away have left, and
+-- so have those that were reported: all of them, or all but the last, which waits in front. Where the reader has restarted, one more may
+-- have left that was offered and never reported.
 pub record LeavesEvents (t : Account) (left events : List Event) : Type 0 where
   pub stayed : t.stayed ≡ left ++ events
   pub heard : List Event

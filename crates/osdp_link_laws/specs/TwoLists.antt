@@ -103,8 +103,8 @@ abbrev pub IsOneOrNone : {H : Type 0} → Move H → Link H → TwoLists → Two
 IsOneOrNone (link.Reopen now) l m n = (n ≡ m) ⊎ (n ≡ beginning l.controller.waiting l.reader.queue.events)
 IsOneOrNone move l m n = (n ≡ m) ⊎ ((step : Step) × IsStepOf move step × May step m × (n ≡ after_step step m))
 
--- the events that the reader has offered are a beginning of those that were not withdrawn and that no restart threw away, and hold those reported. Of the last command
--- taken and the last event offered at most one isn't told yet.
+-- the events that the reader has offered are a beginning of those that were not withdrawn and that no restart threw away, and hold those
+-- reported. Of the last command taken and the last event offered at most one isn't told yet.
 pub record Offers (t : Account) : Type 0 where
   pub offered : IsBeginning t.offered t.kept
   pub untold : (answers : List (Command × Reply)) × (events : List Event)

@@ -55,7 +55,8 @@ pub fn read_each_other<H: Handler>()
 
 /// Within each session, opened by ID on a quiet line, over every list of losses, repeats and detected damage, whatever the device tells, and
 /// whoever restarts: commands are taken once and in order, settled with the answers that the reader gave to them then, and events are
-/// reported once and in order, but those that a restart of the reader threw away before they were offered.
+/// reported once and in order, but those that the device has withdrawn, and those that a restart of the reader threw away before they were
+/// offered.
 pub fn holds_once<H: Handler>()
     ensures { HoldsOnce H.answer_of H.after }
 {
@@ -63,7 +64,7 @@ pub fn holds_once<H: Handler>()
 }
 
 /// Where the device never changes, the answers given are its settings' to ID, CAP and COMSET, and its handler's to all others, in order. Where
-/// the reader doesn't restart either, the events reported are a beginning of all that were queued.
+/// the reader doesn't restart either, the events reported are a beginning of all that were queued and not withdrawn.
 pub fn answers_of_one_handler<H: Handler>()
     ensures answers { GivesItsAnswers H.answer_of H.after }
     ensures once { OneHandlerHoldsOnce H.answer_of H.after }
@@ -71,7 +72,7 @@ pub fn answers_of_one_handler<H: Handler>()
     read_each_other::<H>();
 }
 
-/// Where neither end restarts and no command is withdrawn, no command is forgotten or removed and no event is thrown away. So each session
+/// Where neither end restarts and nothing is withdrawn, no command is forgotten or removed and every event is kept. So each session
 /// leaves its commands but those settled and the one told unsettled, and its events but those reported, or all but the last of these.
 pub fn ordinary_runs_are_undisturbed<H: Handler>()
     ensures accounts { OrdinaryIsUndisturbed H.answer_of H.after }
@@ -79,8 +80,8 @@ pub fn ordinary_runs_are_undisturbed<H: Handler>()
 {}
 
 /// Over sessions in a row, each begun again on a quiet line: no command that was settled, told unsettled, forgotten, withdrawn or thrown away
-/// in one is one of a later session, so none is taken twice. No event is skipped but those that a restart of the reader threw away, and each
-/// beginning tells again one at most, never one that was thrown away before it.
+/// in one is one of a later session, so none is taken twice. No event is skipped but those withdrawn and those that a restart of the
+/// reader threw away, and each beginning tells again one at most, never one that was thrown away before it.
 pub fn sessions_in_a_row<H: Handler>()
     ensures { SessionsInARow H.answer_of H.after }
 {
@@ -89,7 +90,7 @@ pub fn sessions_in_a_row<H: Handler>()
 
 /// What a restart costs, exactly. Of the reader: the events in its queue, but the one in front where it has offered that in this session, which
 /// is reported already or may be heard later; and at most the session. No command is lost. Nothing else is reported in that session but what
-/// was offered before and what is queued since.
+/// was offered before, and what is queued since and not withdrawn.
 ///
 /// Of the controller: the outstanding command, of which it isn't known whether the reader has taken it, and those that waited. All others had
 /// ended before, and no event is lost.

@@ -18,7 +18,7 @@ pub fn each_restart_costs<H: Handler>()
 }
 
 /// A site whose device never changes, whatever the others do: its commands are settled with the answers of its settings and its one handler,
-/// in order, and its events are a beginning of all that were queued.
+/// in order, and its events are a beginning of all that were queued and not withdrawn.
 pub fn each_of_one_handler_holds_once<H: Handler>()
     ensures { EachOfOneHandlerHoldsOnce H.answer_of H.after }
 {
@@ -27,7 +27,7 @@ pub fn each_of_one_handler_holds_once<H: Handler>()
     crate::each_is_a_link::<H>();
 }
 
-/// A site neither of whose ends restarts, and of which no command is withdrawn, forgets no command and throws no event away. Where its reader
+/// A site neither of whose ends restarts, and of which nothing is withdrawn, forgets no command and throws no event away. Where its reader
 /// doesn't restart, none of its sessions ends because the reader refused a number.
 pub fn each_ordinary_is_undisturbed<H: Handler>()
     ensures accounts { EachOrdinaryIsUndisturbed H.answer_of H.after }
