@@ -27,7 +27,7 @@ NUMBERED = (
     ("Settings", r"^check_of number = if number == (?P<number>\d+) then (?P<name>Sum) else Crc$", "OSDP_CHECK_"),
     ("Settings", r"nat_le s\.(?P<name>check) (?P<number>\d+)", "OSDP_CHECK_"),
     ("Reports", r"^report_of \((?P<name>\w+) .*\) r = tells (?P<number>\d+) ", "OSDP_REPORT_"),
-    ("Reports", r"^report_struct (?P<name>None) r = tells (?P<number>\d+) ", "OSDP_REPORT_"),
+    ("Reports", r"^report_struct (?P<name>None) is_again r = tells (?P<number>\d+) ", "OSDP_REPORT_"),
     ("Reports", r"^(?P<name>maybe_again) = (?P<number>\d+)$", "OSDP_EVENT_"),
     ("Reports", r"^cause_number (?P<name>\w+) = (?P<number>\d+)$", "OSDP_LOST_"),
     ("Answers", r"^kind_number (?P<name>\w+) = (?P<number>\d+)$", "OSDP_SAID_"),
