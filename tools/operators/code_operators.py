@@ -1,0 +1,449 @@
+"""The operators over code: each makes of one place of a body another text, which means something else."""
+import re
+
+from .code import Node
+from .code_values import ARITHMETIC, COMPARISONS, Values
+from .facts import INTEGERS, plain
+from .tokens import tokens
+
+OTHER_SIGNS = {
+    "<": ("<=", ">=", ">"), "<=": ("<", ">", ">="), ">": (">=", "<=", "<"), ">=": (">", "<", "<="), "==": ("!=", "<=", ">="), "!=": ("==",),
+    "+": ("-",), "-": ("+",), "*": ("/", "+"), "/": ("*", "%"), "%": ("/",), "&": ("|", "^"), "|": ("&", "^", "+"), "^": ("|", "&"), "<<": (">>",), ">>": ("<<",),
+    "&&": ("||",), "||": ("&&",), "+=": ("-=", "="), "-=": ("+=", "="), "*=": ("=",), "|=": ("&=", "="), "&=": ("|=", "="), "^=": ("|=",), "..": ("..=",), "..=": ("..",),
+}
+OTHER_METHODS = [
+    ("saturating_add", "wrapping_add", "saturating_sub"), ("saturating_sub", "wrapping_sub", "saturating_add"), ("wrapping_add", "wrapping_sub"), ("wrapping_add", "saturating_add"), ("min", "max"), ("first", "last"),
+    ("is_some", "is_none"), ("is_ok", "is_err"), ("any", "all"), ("to_le_bytes", "to_be_bytes"), ("from_le_bytes", "from_be_bytes"),
+    ("split_first", "split_last"), ("starts_with", "ends_with"), ("checked_add", "checked_sub"), ("take", "skip"), ("iter", "iter_rev"),
+    ("to_ascii_uppercase", "to_ascii_lowercase"), ("wrapping_neg", "reverse_bits"), ("strip_prefix", "strip_suffix"),
+]
+
+
+class Maker(Values):
+    """Makes the edits of one unit: for each its operator, the places that it replaces, and the text there."""
+
+    # ---- each kind of place
+
+    def make(self):
+        tree, unit = self.unit.tree, self.unit
+        self.more = self.more_statements()
+        self.visit(tree, plain(unit.returns), None)
+        if tree.kind == "block":
+            self.bodies(tree)
+        return self.found
+
+    def bodies(self, tree):
+        kind = plain(self.unit.returns)
+        if not kind and tree.parts:
+            self.replace("a body left out", tree, "{}")
+            self.put("an early return", tree.start, tree.start + 1, "{ return;")
+        for name, given in self.unit.params.items():
+            if given.startswith("& mut") or re.match(r"& '\w+ mut", given):
+                lost = f"*{name} = None;" if plain(given).startswith("Option") else f"{name}.clear();" if plain(given).partition("<")[0] in ("ArrayVec", "Burst", "String", "Vec") else ""
+                at = tree.tail.start if tree.tail is not None and kind else tree.end - 1
+                sign = "; " if tree.tail is not None and not kind else ""
+                if lost:
+                    self.put("what is written is lost", tree.tail.end if sign else at, tree.tail.end if sign else at, f"{sign}{lost} ")
+        if tree.tail is None or len(tree.parts) < 2:
+            return
+        for value in [it for _, it in self.values(tree.tail, kind) if it in ("true", "false", "0", "None", "Ok(())", "&[]") or it.startswith("Err(")]:
+            self.put("an early return", tree.start, tree.start + 1, f"{{ return {value};")
+
+    def visit(self, node, kind, above):
+        """Makes the edits at a node, of which a type is wanted, and of its parts."""
+        own = self.type_of(node)
+        kind = own if own not in ("", "int") and node.kind in ("path", "field") else kind or own
+        if above is not None and above.kind == "array" and len(above.parts) > 16 and node not in (above.parts[0], above.parts[1], above.parts[-1]):
+            return
+        how = getattr(self, "at_" + node.kind.replace("-", "_"), None)
+        if node.kind not in ("block", "if", "match", "statement", "let", "ghost", "arm", "named", "rest", "pattern", "if-let", "assign", "leave", "range", "closure", "for", "while", "loop"):
+            for operator, new in self.values(node, kind):
+                if not (node.kind == "binary" and node.sign.text in ARITHMETIC and new in ("0", "1")):
+                    self.replace(operator, node, new)
+        if how:
+            how(node, kind)
+        wanted = getattr(self, "wanted_" + node.kind.replace("-", "_"), None)
+        for it in node.parts:
+            if isinstance(it, tuple):
+                continue
+            self.visit(it, wanted(node, it, kind) if wanted else "", node)
+
+    def wanted_block(self, node, part, kind):
+        return kind if part is node.tail else ""
+
+    def wanted_if(self, node, part, kind):
+        return "bool" if part is node.condition else kind
+
+    def wanted_while(self, node, part, kind):
+        return "bool" if part is node.condition else ""
+
+    def wanted_match(self, node, part, kind):
+        return kind
+
+    def wanted_arm(self, node, part, kind):
+        return "bool" if part is node.guard else kind
+
+    def wanted_binary(self, node, part, kind):
+        if node.sign.text in ("&&", "||"):
+            return "bool"
+        return self.type_of(node.left) or self.type_of(node.right) or kind if node.sign.text in ARITHMETIC + COMPARISONS else ""
+
+    def wanted_group(self, node, part, kind):
+        return kind
+
+    def wanted_unary(self, node, part, kind):
+        return "bool" if node.sign.text == "!" and kind == "bool" else kind
+
+    def wanted_let(self, node, part, kind):
+        return plain(node.type) if part is node.value else ""
+
+    def wanted_leave(self, node, part, kind):
+        return plain(self.unit.returns) if node.word == "return" else ""
+
+    def wanted_assign(self, node, part, kind):
+        return self.type_of(node.left) if part is node.right else ""
+
+    def wanted_named(self, node, part, kind):
+        return kind
+
+    def wanted_struct(self, node, part, kind):
+        return self.facts.field_type(self.type_of_struct(node), part.name)
+
+    def wanted_call(self, node, part, kind):
+        one = self.facts.call(node.callee.text, self.file) if node.callee.kind == "path" else None
+        if one and part in node.arguments:
+            kinds = list(one.params.values())
+            place = node.arguments.index(part) - (len(node.arguments) - len(kinds))
+            return plain(kinds[place]) if 0 <= place < len(kinds) else ""
+        if node.callee.kind != "path" or part not in node.arguments:
+            return ""
+        if node.callee.text == "Some" and kind.startswith("Option<"):
+            return kind[len("Option<"):-1]
+        if node.callee.text in ("Ok", "Err") and kind.startswith("Result<"):
+            taken, _, fault = kind[len("Result<"):-1].rpartition(",")
+            return taken if node.callee.text == "Ok" else fault
+        enum, _, case = node.callee.text.rpartition("::")
+        held = self.facts.payload(enum.split("::")[-1] if enum != "Self" else self.unit.owner, case)
+        place = node.arguments.index(part)
+        return held[place] if place < len(held) else ""
+
+    def wanted_method(self, node, part, kind):
+        one = self.facts.method(node.name.text, self.type_of(node.receiver))
+        if node.name.text == "unwrap_or" and part in node.arguments:
+            return kind or self.type_of(node.receiver).removeprefix("Option<").removesuffix(">")
+        if one and part in node.arguments:
+            kinds = list(one.params.values())
+            place = node.arguments.index(part)
+            return plain(kinds[place]) if place < len(kinds) else ""
+        return ""
+
+    # ---- edits by the kind of node
+
+    def at_binary(self, node, kind):
+        sign = node.sign
+        for other in OTHER_SIGNS.get(sign.text, ()):
+            self.put("a comparison" if sign.text in COMPARISONS else "a sign", sign.start, sign.end, other)
+        if sign.text in COMPARISONS:
+            return
+        self.replace("an operand left out", node, self.said(node.left))
+        self.replace("an operand left out", node, self.said(node.right))
+        if sign.text in ("-", "/", "%", "<<", ">>", "*", "+"):
+            self.exchange("two operands turned", node.left, node.right)
+
+    def at_assign(self, node, kind):
+        for other in OTHER_SIGNS.get(node.sign.text, ()):
+            self.put("a sign", node.sign.start, node.sign.end, other)
+        if node.sign.text != "=":
+            return
+        kind = self.type_of(node.left)
+        for operator, new in self.values(node.right, kind):
+            self.replace(operator, node.right, new)
+        for other, sign in (("bool", "|="), ("bool", "&="), ("u8", "|="), ("u16", "+="), ("u32", "+="), ("u64", "+="), ("usize", "+=")):
+            if kind == other:
+                self.put("a sign", node.sign.start, node.sign.end, sign)
+        for other, sign in (("bool", "||"), ("bool", "&&")):
+            if kind == other:
+                self.replace("a sign", node.right, f"{self.operand(node.right)} {sign} {self.said(node.left)}")
+
+    def at_unary(self, node, kind):
+        if node.sign.text in ("!", "-"):
+            self.replace("a sign", node, self.said(node.inner))
+        if node.sign.text == "&":
+            self.slices(node)
+
+    def slices(self, node):
+        inner = node.inner
+        if inner.kind == "index" and inner.index.kind == "range":
+            self.replace("a bound", node, f"&{self.said(inner.receiver)}")
+            self.replace("a constant", node, "&[]")
+
+    def at_range(self, node, kind):
+        low, high = node.low, node.high
+        for other in OTHER_SIGNS[node.sign.text]:
+            self.put("a bound", node.sign.start, node.sign.end, other)
+        if low:
+            self.replace("a bound", low, f"{self.operand(low)} + 1" if low.kind == "literal" else f"{self.operand(low)}.saturating_add(1)")
+            self.put("a bound", low.start, low.end, "0" if high else "0")
+            if not high:
+                self.replace("a bound", node, f"..{self.said(low)}")
+        if high:
+            self.replace("a bound", high, f"{self.operand(high)} - 1" if high.kind == "literal" else f"{self.operand(high)}.saturating_sub(1)")
+            self.replace("a constant", high, "0")
+            self.replace("a constant", high, f"{self.operand(high)} / 2")
+            if not low:
+                self.replace("a bound", node, f"{self.said(high)}..")
+                self.replace("a bound", high, f"{self.operand(high)} + 1" if high.kind == "literal" else f"{self.operand(high)}.saturating_add(1)")
+
+    def at_index(self, node, kind):
+        if node.index.kind != "range":
+            ends = [f"{self.said(node.receiver)}.len() - 1"]
+            for new in [f"{self.operand(node.index)}.saturating_add(1)", f"{self.operand(node.index)}.saturating_sub(1)", "0", f"{self.operand(node.index)} ^ 1", *ends] if node.index.kind != "literal" else ends:
+                self.replace("a bound", node.index, new)
+
+    def at_literal(self, node, kind):
+        if node.is_number and kind not in INTEGERS and kind != "int":
+            for operator, new in self.numbers(node, node.text):
+                self.replace(operator, node, new)
+        if node.is_number:
+            for it in self.beside(node):
+                self.replace("a constant", node, it)
+        if node.text.startswith(('"', 'b"')):
+            self.replace("a constant", node, '""' if node.text[0] == '"' else 'b""')
+
+    def beside(self, node):
+        """The other numbers of the body, and those that the file's other bodies set or answer."""
+        own = [it.text for it in self.unit.tree.walk() if it.kind == "literal" and it.is_number]
+        others = [it.right.text for unit in self.file.units if unit.tree is not None for it in unit.tree.walk() if it.kind == "assign" and it.right.kind == "literal" and it.right.is_number]
+        return [it for it in dict.fromkeys([*own[:12], *others[:12]]) if it != node.text]
+
+    def at_path(self, node, kind):
+        parts = node.text.split("::")
+        if len(parts) > 1 and parts[-1][:1].isupper():
+            for it in self.facts.other_variants(parts[-2] if parts[-2] != "Self" else self.unit.owner, parts[-1]):
+                self.replace("a case", node, "::".join([*parts[:-1], it]))
+
+    def at_field(self, node, kind):
+        for it in self.facts.sisters(self.type_of(node.receiver), node.name.text):
+            self.put("a name", node.name.start, node.name.end, it)
+
+    def at_method(self, node, kind):
+        name = node.name
+        for family in OTHER_METHODS:
+            if name.text in family:
+                for it in family:
+                    self.put("a name", name.start, name.end, it)
+        self.replace("a call left out", node, self.said(node.receiver))
+        if name.text == "is_empty":
+            self.replace("a bound", node, f"{self.said(node.receiver)}.len() <= 1")
+        found = self.facts.methods.get(name.text, [])
+        for it in dict.fromkeys(other for one in found for other in self.facts.like(one)):
+            self.put("a name", name.start, name.end, it)
+        self.turned(node.arguments)
+
+    def at_call(self, node, kind):
+        text = node.callee.text if node.callee.kind == "path" else ""
+        if text:
+            last = text.rpartition("::")[2]
+            for it in dict.fromkeys(name for one in self.facts.calls(text) for name in self.facts.like(one)):
+                self.put("a name", node.callee.end - len(last), node.callee.end, it)
+        for it in node.arguments:
+            if len(node.arguments) == 1 or self.type_of(it) == (kind or self.type_of(node)) != "":
+                self.replace("a call left out", node, self.said(it))
+        if text == "Some":
+            self.replace("a case's value", node, "None")
+        self.turned(node.arguments)
+
+    def at_macro(self, node, kind):
+        self.turned(node.arguments)
+        words = [it for it in tokens(self.text, at=node.start, end=node.end) if it.kind == "name"][1:]
+        for one, other in zip(words, words[1:]):
+            if self.text[one.end:other.start].strip() in ("", ","):
+                self.put("two arguments turned", one.start, other.end, other.text + self.text[one.end:other.start] + one.text)
+        for one in words:
+            for it in dict.fromkeys(name for found in self.facts.calls(one.text) for name in self.facts.like(found)):
+                self.put("a name", one.start, one.end, it)
+            for it in self.facts.sisters("", one.text) if not node.arguments else ():
+                self.put("a name", one.start, one.end, it)
+
+    def at_tuple(self, node, kind):
+        self.turned(node.parts)
+
+    def at_array(self, node, kind):
+        if not node.repeats:
+            self.turned(node.parts[:6])
+        said = self.said(node)
+        if said.startswith("[") and len(node.parts) < 9 and all(it.kind in ("path", "field", "literal", "index") for it in node.parts):
+            for i, it in enumerate(node.parts):
+                for other in node.parts:
+                    if other is not it and self.said(it) != self.said(other):
+                        self.replace("a constant", it, self.said(other))
+
+    def turned(self, arguments):
+        """Each two arguments turned."""
+        for i, one in enumerate(arguments[:8]):
+            for other in arguments[i + 1:8]:
+                self.exchange("two arguments turned", one, other)
+
+    def exchange(self, operator, one, other):
+        between = self.text[one.end:other.start]
+        self.put(operator, one.start, other.end, self.said(other) + between + self.said(one))
+
+    def at_struct(self, node, kind):
+        for it in node.fields:
+            wanted = self.facts.field_type(self.type_of_struct(node), it.name)
+            if it.value is None and it.kind == "named":
+                whole = Node("path", it.start, it.end, text=it.name)
+                for operator, new in self.values(whole, wanted):
+                    self.put(operator, it.start, it.end, f"{it.name}: {new}")
+            others = [one for one in node.fields if one is not it and self.facts.field_type(self.type_of_struct(node), one.name) == wanted != ""]
+            for one in others:
+                if it.value is not None:
+                    self.replace("a constant", it.value, self.said(one.value) if one.value is not None else one.name)
+                elif it.kind == "named":
+                    self.put("a constant", it.start, it.end, f"{it.name}: {self.said(one.value) if one.value is not None else one.name}")
+
+    def more_statements(self):
+        """What may be done too much: the methods that change `self` or a field of it, and a field set to nothing."""
+        if "mut" not in getattr(self.unit, "takes_self", ""):
+            return []
+        struct = self.unit.owner.partition("<")[0]
+        found = [f"self.{it}();" for it in self.facts.changes(struct) if it != self.unit.name]
+        for name, kind in self.facts.fields.get(struct, {}).items():
+            kind = plain(kind)
+            found += [f"self.{name}.{it}();" for it in self.facts.changes(kind)]
+            found += [f"self.{name}.clear();"] if kind.partition("<")[0] in ("ArrayVec", "Burst", "String", "Vec", "CircularBuffer") else []
+            nothing = ["None"] if kind.startswith("Option") else ["true", "false"] if kind == "bool" else ["0", "1"] if kind in INTEGERS else []
+            found += [f"self.{name} = {it};" for it in nothing]
+        return found
+
+    def too_much(self, node):
+        places = [node.start + 1, *(it.end for it in node.parts if it.kind in ("statement", "let"))]
+        for it in self.more:
+            for place in dict.fromkeys(places):
+                self.put("a statement more", place, place, f" {it}")
+
+    def at_block(self, node, kind):
+        self.too_much(node)
+        steps = [it for it in node.parts if it.kind == "statement"]
+        for one, other in zip(steps, steps[1:]):
+            if not self.text[one.end:other.start].strip():
+                self.exchange("two statements turned", one, other)
+        for it in node.parts:
+            if it.kind == "statement":
+                inner = it.inner
+                if inner.kind != "leave":
+                    self.replace("a statement left out", it, "")
+                if inner.kind in ("method", "call", "assign", "try", "macro"):
+                    self.replace("a statement twice", it, f"{self.said(it)} {self.said(it)}" if self.said(it).endswith(";") else self.said(it))
+                if inner.kind == "leave" and inner.word != "return":
+                    self.replace("a statement left out", it, "")
+            elif it is node.tail and it.kind in ("method", "call", "assign", "if", "match", "for", "while") and not kind:
+                self.replace("a statement left out", it, "")
+
+    def at_if(self, node, kind):
+        if node.other is not None and node.other.kind == "block":
+            self.exchange("two cases turned", node.then, node.other)
+        if node.condition.kind == "if-let":
+            return
+        said = self.said(node.condition)
+        self.replace("a sign", node.condition, f"!({said})")
+
+    def at_if_let(self, node, kind):
+        self.patterns(node.pattern, [])
+
+    def at_matches(self, node, kind):
+        self.patterns(node.pattern, [])
+
+    def at_match(self, node, kind):
+        for i, arm in enumerate(node.arms):
+            others = [it for it in node.arms if it is not arm]
+            for it in others:
+                if self.said(it.value) != self.said(arm.value):
+                    self.replace("a case's value", arm.value, self.said(it.value))
+            if not kind and self.said(arm.value) != "{}":
+                self.replace("a statement left out", arm.value, "{}")
+            self.patterns(arm.pattern, [it.pattern for it in node.arms[i + 1:]])
+            if arm.guard is not None:
+                self.put("a condition", arm.pattern.end, arm.guard.end, "")
+            for it in node.arms:
+                if it is not arm:
+                    self.moved(arm, it)
+            if len(arm.pattern.alternatives) == 1:
+                self.replace("a case left out", arm, "")
+            else:
+                self.apart(arm, list(dict.fromkeys([*(self.said(one.value) for one in others), *(new for _, new in self.values(arm.value, kind)), *([] if kind else ["{}"])])))
+            if "(" in self.said(arm.pattern) and len(arm.pattern.alternatives) == 1 and kind:
+                for new in self.simple(kind) or (["0"] if kind in INTEGERS else []):
+                    self.put("a case's value", arm.start, arm.end, re.sub(r"\b[a-z]\w*\b(?!\s*[:(])", "_", self.said(arm.pattern)) + f" => {new}" + ("," if self.said(arm).endswith(",") else ""))
+    def apart(self, arm, values):
+        """One of several cases, with another value."""
+        for i, (start, end) in enumerate(arm.pattern.alternatives):
+            rest = [self.text[one:to] for j, (one, to) in enumerate(arm.pattern.alternatives) if j != i]
+            for new in values:
+                self.put("a case's value", arm.start, arm.end, f"{self.text[start:end]} => {new}, {' | '.join(rest)}{self.text[arm.pattern.end:arm.end]}")
+
+    def moved(self, arm, other):
+        """A case that is handled as another is."""
+        first, last = (arm, other) if arm.start < other.start else (other, arm)
+        for i, (start, end) in enumerate(arm.pattern.alternatives):
+            if self.text[start:end] == "_":
+                continue
+            rest = [self.text[one:to] for j, (one, to) in enumerate(arm.pattern.alternatives) if j != i]
+            left = " | ".join(rest) + self.text[arm.pattern.end:arm.end] if rest else ""
+            more = self.said(other.pattern) + (" | " + self.text[start:end]) + self.text[other.pattern.end:other.end]
+            texts = (left, more) if arm is first else (more, left)
+            self.put("a case moved", first.start, last.end, texts[0] + self.text[first.end:last.start] + texts[1])
+
+    def patterns(self, pattern, others):
+        """Alternatives left out, and those of later cases taken along."""
+        found = pattern.alternatives
+        texts = [self.text[one:end] for one, end in found]
+        if len(texts) > 1:
+            for i in range(len(texts)):
+                self.replace("a case left out", pattern, " | ".join(texts[:i] + texts[i + 1:]))
+        for it in others:
+            for one, end in it.alternatives:
+                if self.text[one:end] != "_":
+                    self.replace("a case more", pattern, " | ".join([*texts, self.text[one:end]]))
+        self.cases(pattern, texts)
+
+    def cases(self, pattern, texts):
+        """Another case of the enum in a pattern, and one more."""
+        for (start, end), text in zip(pattern.alternatives, texts):
+            enum, _, case = text.partition("(")[0].partition("{")[0].strip().rpartition("::")
+            enum = enum.split("::")[-1] if enum != "Self" else self.unit.owner
+            for it in self.facts.other_variants(enum, case):
+                other = text.replace(f"::{case}", f"::{it}", 1)
+                self.put("a case", start, end, other)
+                if "(" not in text and "{" not in text:
+                    self.replace("a case more", pattern, " | ".join([*texts, other]))
+            if text.isdigit() or text.startswith("0x") and text[2:].isalnum():
+                value = int(text, 0)
+                for it in (value + 1, value - 1):
+                    if it >= 0:
+                        one = f"0x{it:02x}" if "x" in text else str(it)
+                        self.put("a constant", start, end, one)
+                        if one not in texts:
+                            self.replace("a case more", pattern, " | ".join([*texts, one]))
+
+    def at_let(self, node, kind):
+        names = [it for it in tokens(self.text, at=node.start, end=node.parts[0].end) if it.kind == "name" and it.text not in ("let", "mut")]
+        if node.names[:1] == ["("] and len(names) == 2:
+            one, other = names
+            self.put("two names turned", one.start, other.end, other.text + self.text[one.end:other.start] + one.text)
+
+    def at_while(self, node, kind):
+        self.put("a loop left", node.body.end - 1, node.body.end - 1, "break; ")
+
+    def at_for(self, node, kind):
+        self.put("a loop left", node.body.end - 1, node.body.end - 1, "break; ")
+        if node.over.kind in ("path", "field"):
+            self.replace("a bound", node.over, f"&{self.said(node.over)}[1..]")
+            self.replace("a bound", node.over, f"&{self.said(node.over)}[..1]")
+
+    def at_leave(self, node, kind):
+        if node.word == "return" and node.inner is not None and self.unit.tree.kind == "block" and self.unit.tree.tail is not None:
+            self.replace("a case's value", node.inner, self.said(self.unit.tree.tail))
+        if node.word == "return" and node.inner is not None:
+            for operator, new in self.values(node.inner, plain(self.unit.returns)):
+                self.replace(operator, node.inner, new)
