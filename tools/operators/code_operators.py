@@ -7,7 +7,7 @@ from .facts import INTEGERS, plain
 from .tokens import tokens
 
 OTHER_SIGNS = {
-    "<": ("<=", ">=", ">"), "<=": ("<", ">", ">="), ">": (">=", "<=", "<"), ">=": (">", "<", "<="), "==": ("!=", "<=", ">="), "!=": ("==",),
+    "<": ("<=", ">=", ">"), "<=": ("<", ">", ">="), ">": (">=", "<=", "<"), ">=": (">", "<", "<="), "==": ("!=", "<=", ">=", "<", ">"), "!=": ("==", "<", ">"),
     "+": ("-",), "-": ("+",), "*": ("/", "+"), "/": ("*", "%"), "%": ("/",), "&": ("|", "^"), "|": ("&", "^", "+"), "^": ("|", "&"), "<<": (">>",), ">>": ("<<",),
     "&&": ("||",), "||": ("&&",), "+=": ("-=", "="), "-=": ("+=", "="), "*=": ("=",), "|=": ("&=", "="), "&=": ("|=", "="), "^=": ("|=",), "..": ("..=",), "..=": ("..",),
 }
@@ -15,8 +15,13 @@ OTHER_METHODS = [
     ("saturating_add", "wrapping_add", "saturating_sub"), ("saturating_sub", "wrapping_sub", "saturating_add"), ("wrapping_add", "wrapping_sub"), ("wrapping_add", "saturating_add"), ("min", "max"), ("first", "last"),
     ("is_some", "is_none"), ("is_ok", "is_err"), ("any", "all"), ("to_le_bytes", "to_be_bytes"), ("from_le_bytes", "from_be_bytes"),
     ("split_first", "split_last"), ("starts_with", "ends_with"), ("checked_add", "checked_sub"), ("take", "skip"), ("iter", "iter_rev"),
-    ("to_ascii_uppercase", "to_ascii_lowercase"), ("wrapping_neg", "reverse_bits"), ("strip_prefix", "strip_suffix"),
+    ("pop_front", "pop_back"), ("push_front", "push_back"), ("to_ascii_uppercase", "to_ascii_lowercase"), ("wrapping_neg", "reverse_bits"), ("strip_prefix", "strip_suffix"),
 ]
+
+# characters that part others
+SEPARATORS = ("' '", r"'\t'", "':'", "';'", r"'\n'", r"'\r'")
+# what has no other value, but its parts may have
+WITHOUT_VALUES = ("block", "if", "match", "statement", "let", "ghost", "arm", "named", "rest", "pattern", "if-let", "assign", "leave", "range", "closure", "for", "while", "loop")
 
 
 class Maker(Values):
@@ -44,6 +49,9 @@ class Maker(Values):
                 sign = "; " if tree.tail is not None and not kind else ""
                 if lost:
                     self.put("what is written is lost", tree.tail.end if sign else at, tree.tail.end if sign else at, f"{sign}{lost} ")
+        if tree.tail is not None and kind and tree.tail.kind in ("method", "call"):
+            for value in self.simple(kind, 1):
+                self.replace("a result passed over", tree.tail, f"let _ = {self.said(tree.tail)}; {value}")
         if tree.tail is None or len(tree.parts) < 2:
             return
         for value in [it for _, it in self.values(tree.tail, kind) if it in ("true", "false", "0", "None", "Ok(())", "&[]") or it.startswith("Err(")]:
@@ -56,7 +64,9 @@ class Maker(Values):
         if above is not None and above.kind == "array" and len(above.parts) > 16 and node not in (above.parts[0], above.parts[1], above.parts[-1]):
             return
         how = getattr(self, "at_" + node.kind.replace("-", "_"), None)
-        if node.kind not in ("block", "if", "match", "statement", "let", "ghost", "arm", "named", "rest", "pattern", "if-let", "assign", "leave", "range", "closure", "for", "while", "loop"):
+        is_lent = above is not None and above.kind == "unary" and above.sign.text in ("*", "&", "&mut")
+        is_set = above is not None and above.kind == "assign" and node is above.left
+        if node.kind not in WITHOUT_VALUES and not is_lent and not is_set:
             for operator, new in self.values(node, kind):
                 if not (node.kind == "binary" and node.sign.text in ARITHMETIC and new in ("0", "1")):
                     self.replace(operator, node, new)
@@ -143,6 +153,8 @@ class Maker(Values):
         sign = node.sign
         for other in OTHER_SIGNS.get(sign.text, ()):
             self.put("a comparison" if sign.text in COMPARISONS else "a sign", sign.start, sign.end, other)
+        if sign.text == "==" and node.right.kind == "literal" and node.right.text == "0":
+            self.replace("a bound", node, f"{self.said(node.left)} < 2")
         if sign.text in COMPARISONS:
             return
         self.replace("an operand left out", node, self.said(node.left))
@@ -161,6 +173,9 @@ class Maker(Values):
         for other, sign in (("bool", "|="), ("bool", "&="), ("u8", "|="), ("u16", "+="), ("u32", "+="), ("u64", "+="), ("usize", "+=")):
             if kind == other:
                 self.put("a sign", node.sign.start, node.sign.end, sign)
+        if kind in INTEGERS:
+            self.replace("a bound", node.right, f"{self.operand(node.left)}.max({self.said(node.right)})")
+            self.replace("a bound", node.right, f"{self.operand(node.left)}.min({self.said(node.right)})")
         for other, sign in (("bool", "||"), ("bool", "&&")):
             if kind == other:
                 self.replace("a sign", node.right, f"{self.operand(node.right)} {sign} {self.said(node.left)}")
@@ -204,11 +219,18 @@ class Maker(Values):
         if node.is_number and kind not in INTEGERS and kind != "int":
             for operator, new in self.numbers(node, node.text):
                 self.replace(operator, node, new)
+        if node.text.lstrip("b") in SEPARATORS:
+            for it in SEPARATORS:
+                self.replace("a constant", node, "b" * node.text.startswith("b") + it)
         if node.is_number:
             for it in self.beside(node):
                 self.replace("a constant", node, it)
         if node.text.startswith(('"', 'b"')):
             self.replace("a constant", node, '""' if node.text[0] == '"' else 'b""')
+            mark, text = node.text.partition('"')[0], node.text.partition('"')[2][:-1]
+            for other in (text.lower(), text.upper(), text.rstrip(" "), text.removesuffix("\\n"), text + "\\n", text.lstrip(" ")):
+                if "{" not in text or other.strip() == text.strip():
+                    self.replace("a constant", node, f'{mark}"{other}"')
 
     def beside(self, node):
         """The other numbers of the body, and those that the file's other bodies set or answer."""
@@ -234,7 +256,7 @@ class Maker(Values):
                     self.put("a name", name.start, name.end, it)
         self.replace("a call left out", node, self.said(node.receiver))
         if name.text == "is_empty":
-            self.replace("a bound", node, f"{self.said(node.receiver)}.len() <= 1")
+            self.replace("a bound", node, f"{self.said(node.receiver)}.len() < 2")
         found = self.facts.methods.get(name.text, [])
         for it in dict.fromkeys(other for one in found for other in self.facts.like(one)):
             self.put("a name", name.start, name.end, it)
@@ -251,6 +273,8 @@ class Maker(Values):
                 self.replace("a call left out", node, self.said(it))
         if text == "Some":
             self.replace("a case's value", node, "None")
+        if text.endswith(("::read_u16", "::read_u32")):
+            self.replace("a sign", node, f"{self.said(node)}.swap_bytes()")
         self.turned(node.arguments)
 
     def at_macro(self, node, kind):
@@ -274,12 +298,17 @@ class Maker(Values):
         said = self.said(node)
         if said.startswith("[") and len(node.parts) < 9 and all(it.kind in ("path", "field", "literal", "index") for it in node.parts):
             for i, it in enumerate(node.parts):
+                self.replace("a constant", it, "0")
                 for other in node.parts:
                     if other is not it and self.said(it) != self.said(other):
                         self.replace("a constant", it, self.said(other))
 
     def turned(self, arguments):
-        """Each two arguments turned."""
+        """Each two arguments turned, and one in place of another."""
+        for one in arguments[:6]:
+            for other in arguments[:6]:
+                if one is not other and one.kind == other.kind == "path":
+                    self.replace("a constant", one, self.said(other))
         for i, one in enumerate(arguments[:8]):
             for other in arguments[i + 1:8]:
                 self.exchange("two arguments turned", one, other)
@@ -304,10 +333,14 @@ class Maker(Values):
 
     def more_statements(self):
         """What may be done too much: the methods that change `self` or a field of it, and a field set to nothing."""
+        found = []
+        for name, kind in self.unit.params.items():
+            if "mut" in kind.split(" ")[:3]:
+                found += [f"*{name} = None;"] if plain(kind).startswith("Option") else [f"{name}.clear();"] if plain(kind).partition("<")[0] in ("ArrayVec", "Burst", "String", "Vec", "Text") else []
         if "mut" not in getattr(self.unit, "takes_self", ""):
-            return []
+            return found
         struct = self.unit.owner.partition("<")[0]
-        found = [f"self.{it}();" for it in self.facts.changes(struct) if it != self.unit.name]
+        found += [f"self.{it}();" for it in self.facts.changes(struct) if it != self.unit.name]
         for name, kind in self.facts.fields.get(struct, {}).items():
             kind = plain(kind)
             found += [f"self.{name}.{it}();" for it in self.facts.changes(kind)]
@@ -315,6 +348,17 @@ class Maker(Values):
             nothing = ["None"] if kind.startswith("Option") else ["true", "false"] if kind == "bool" else ["0", "1"] if kind in INTEGERS else []
             found += [f"self.{name} = {it};" for it in nothing]
         return found
+
+    def lost(self, node):
+        """What sets to nothing a place that a call writes."""
+        found = []
+        for it in node.walk():
+            if it.kind == "unary" and it.sign.text == "&mut" and it.inner.kind in ("path", "field"):
+                found += [f"{self.said(it.inner)} = None;", f"{self.said(it.inner)}.clear();"]
+            if it.kind == "path" and "mut" in self.unit.params.get(it.text, ""):
+                found += [f"*{it.text} = None;", f"{it.text}.clear();"]
+                found += [f"{it.text}.{name}.clear();" for name, kind in self.facts.fields.get(self.locals[it.text], {}).items() if plain(kind).partition("<")[0] in ("ArrayVec", "Burst")]
+        return list(dict.fromkeys(found))
 
     def too_much(self, node):
         places = [node.start + 1, *(it.end for it in node.parts if it.kind in ("statement", "let"))]
@@ -333,6 +377,10 @@ class Maker(Values):
                 inner = it.inner
                 if inner.kind != "leave":
                     self.replace("a statement left out", it, "")
+                if inner.kind in ("method", "call", "try", "macro"):
+                    for lost in self.lost(inner):
+                        self.put("what is written is lost", it.end, it.end, f" {lost}")
+                        self.replace("what is written is lost", it, lost)
                 if inner.kind in ("method", "call", "assign", "try", "macro"):
                     self.replace("a statement twice", it, f"{self.said(it)} {self.said(it)}" if self.said(it).endswith(";") else self.said(it))
                 if inner.kind == "leave" and inner.word != "return":
@@ -360,6 +408,8 @@ class Maker(Values):
             for it in others:
                 if self.said(it.value) != self.said(arm.value):
                     self.replace("a case's value", arm.value, self.said(it.value))
+            for lost in self.lost(arm.value) if not kind else ():
+                self.replace("what is written is lost", arm.value, lost.rstrip(";"))
             if not kind and self.said(arm.value) != "{}":
                 self.replace("a statement left out", arm.value, "{}")
             self.patterns(arm.pattern, [it.pattern for it in node.arms[i + 1:]])
@@ -406,6 +456,9 @@ class Maker(Values):
                 if self.text[one:end] != "_":
                     self.replace("a case more", pattern, " | ".join([*texts, self.text[one:end]]))
         self.cases(pattern, texts)
+        for (start, end), text in zip(found, texts):
+            if text.startswith("[") and text.endswith("]") and ".." not in text and len(text) > 2:
+                self.put("a case more", start, end, text[:-1] + ", ..]")
 
     def cases(self, pattern, texts):
         """Another case of the enum in a pattern, and one more."""
@@ -427,9 +480,11 @@ class Maker(Values):
                             self.replace("a case more", pattern, " | ".join([*texts, one]))
 
     def at_let(self, node, kind):
+        if node.value is not None and node.value.kind in ("method", "call") and len([it for it in node.names if it.isidentifier()]) == 1:
+            for value in self.simple(self.type_of(node.value), 1):
+                self.put("a result passed over", node.start, node.end, f"let _ = {self.said(node.value)}; {self.text[node.start:node.value.start]}{value}{self.text[node.value.end:node.end]}")
         names = [it for it in tokens(self.text, at=node.start, end=node.parts[0].end) if it.kind == "name" and it.text not in ("let", "mut")]
-        if node.names[:1] == ["("] and len(names) == 2:
-            one, other = names
+        for one, other in zip(names, names[1:]) if node.names[:1] in (["("], ["["]) else ():
             self.put("two names turned", one.start, other.end, other.text + self.text[one.end:other.start] + one.text)
 
     def at_while(self, node, kind):

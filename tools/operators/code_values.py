@@ -105,12 +105,14 @@ class Values:
         elif kind in INTEGERS or kind == "int":
             yield from self.numbers(node, said)
         elif kind.startswith("["):
-            yield from (("a constant", "&[]"), ("a bound", f"&{said}[1..]"), ("a constant", f"&{said}[..1]"), ("a constant", f"&{said}[..{said}.len() / 2]"), ("a bound", f"&{said}[..{said}.len().saturating_sub(1)]"))
+            yield from (("a constant", "&[]"), ("a bound", f"&{said}[1..]"), ("a constant", f"&{said}[..1]"), ("a constant", f"&{said}[{said}.len() / 2..]"), ("a constant", f"&{said}[..{said}.len() / 2]"), ("a bound", f"&{said}[..{said}.len().saturating_sub(1)]"))
         elif kind == "str":
             yield from (("a constant", '""'), ("a constant", f"&{said}[..0]"))
         yield from (("a case's value", it) for it in self.simple(kind))
         if node.kind == "path" and node.text in self.unit.params and self.unit.params[node.text].startswith("&"):
             yield from (("a case's value", f"&{it}") for it in self.simple(kind))
+            if kind.startswith("[") and "mut" in self.unit.params[node.text]:
+                yield "a constant", "&mut []"
         yield from (("a constant", it) for it in self.in_scope(node, kind))
 
     def simple(self, kind, depth=0):
@@ -141,7 +143,10 @@ class Values:
             wanted = (value + 1, value - 1, 0, 1, value * 2, value // 2)
             yield from (("a bound" if abs(it - value) == 1 else "a constant", f"0x{it:02x}" if "x" in node.text else str(it)) for it in dict.fromkeys(wanted) if 0 <= it != value)
             return
-        yield from (("a bound", f"{said}.saturating_add(1)"), ("a bound", f"{said}.saturating_sub(1)"), ("a constant", "0"), ("a constant", "1"), ("a constant", f"{said} / 2"), ("a constant", f"{said}.min(1)"))
+        yield from (("a bound", f"{said}.saturating_add(1)"), ("a bound", f"{said}.saturating_sub(1)"), ("a constant", "0"), ("a constant", "1"), ("a constant", f"{said} / 2"), ("a constant", f"{said}.min(1)"), ("a constant", f"{said} * 2"), ("a sign", f"{said} ^ 1"))
+        if self.said(node) == "code":
+            # those of POLL and ACK
+            yield from (("a constant", "0x60"), ("a constant", "0x40"))
 
     def in_scope(self, node, kind):
         """Names of other values of this type: parameters, locals, fields of `self`, constants."""

@@ -1,4 +1,6 @@
 """The operators over definitions: each makes of one place of a clause or of a field another text, which means something else."""
+from collections import Counter
+
 OTHER_SIGNS = {
     "≡": ("≤", "≢"), "≢": ("≡",), "≤": ("<", "≡"), "<": ("≤", "≡"), "×": ("⊎",), "⊎": ("×",), "&&": ("||",), "||": ("&&",),
     "+": ("-",), "-": ("+",), "*": ("+", "/"), "/": ("*", "%"), "%": ("/",), "==": ("<",), "^": ("*",), "↔": ("→",),
@@ -254,8 +256,9 @@ class Maker:
         return library[place] if place < len(library) else ""
 
     def field_type(self, name):
-        kinds = {found[name] for found in self.facts.fields.values() if name in found}
-        return kinds.pop() if len(kinds) == 1 else ""
+        """The type of a field: where several records have such a field, the one that most have."""
+        kinds = Counter(found[name] for found in self.facts.fields.values() if name in found)
+        return kinds.most_common(1)[0][0] if kinds else ""
 
     def type_of(self, node):
         if node.kind == "name":
@@ -331,15 +334,20 @@ class Maker:
             for name, held in self.kinds.items():
                 if it.kind == "name" and self.kinds.get(it.text) == held and name != it.text:
                     self.replace("a name", it, name)
-        if self.is_statement() and node.head.kind == "name" and node.head.text.rpartition(".")[2][:1].isupper():
+        last = node.head.text.rpartition(".")[2] if node.head.kind == "name" else ""
+        if last.startswith(("Is", "Are", "Has")) or self.is_statement() and last[:1].isupper():
             self.replace("a conclusion dropped", node, NOTHING)
             self.replace("a false statement", node, "⊥")
             if len(explicit) >= 2:
-                self.replace("a comparison", node, f"{self.operand(explicit[-2])} ≡ {self.operand(explicit[-1])}")
+                self.replace("a comparison", node, f"({self.operand(explicit[-2])} ≡ {self.operand(explicit[-1])})")
+                if self.type_of(explicit[-2]).startswith("List"):
+                    self.replace("a comparison", node, f"({self.operand(explicit[-2])} ≡ [])")
         if node.head.kind == "name" and node.head.text == "codes" and explicit[0].kind == "name":
             for it in dict.fromkeys(one.text for one in self.unit.tree.walk() if one.kind == "name" and one.text.startswith('"')):
                 self.replace("a constant", explicit[0], it)
-            self.replace("a constant", explicit[0], '""')
+            text = explicit[0].text[1:-1]
+            for it in ("", text + "\\n", text.rstrip(" "), text.removesuffix("\\n"), text.replace("\\n", "\\r"), " " if text in (":", ";") else text):
+                self.replace("a constant", explicit[0], f'"{it}"')
 
     def at_name(self, node, kind):
         prefix, point, last = node.text.rpartition(".")

@@ -1,6 +1,8 @@
 """What the types and signatures of a crate, and of those below it, say: which values of a type there are to put in place of another."""
 import re
 
+# other names of types, as they are declared
+ALIASES = {}
 INTEGERS = {"u8", "u16", "u32", "u64", "usize", "i32", "i64"}
 
 
@@ -9,13 +11,16 @@ def plain(kind):
     kind = re.sub(r"'\w+ ?", "", kind or "")
     kind = re.sub(r"\bcrate :: |\bsuper :: |\b[a-z_]\w* :: ", "", kind)
     kind = re.sub(r"^(& )?(mut )?", "", kind.strip())
-    return kind.replace(" ", "").removesuffix(",")
+    kind = kind.replace(" ", "").removesuffix(",")
+    return ALIASES.get(kind, kind)
 
 
 class Facts:
     def __init__(self, own, others):
         """Of the files of the crate itself, and of those below."""
         files = [*own, *others]
+        for it in files:
+            ALIASES.update({name: kind.replace(" ", "") for name, kind in it.aliases.items() if name not in ALIASES})
         self.fields, self.variants, self.constants = {}, {}, {}
         self.own_constants = {name: plain(kind) for it in own for name, kind in it.constants.items()}
         self.own_files = {id(it) for it in own}

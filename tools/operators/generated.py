@@ -13,7 +13,7 @@ TOP = os.path.dirname(os.path.dirname(os.path.dirname(os.path.realpath(__file__)
 # what an edit of definitions may bring in that the file didn't use: words of the library's Prelude
 BROUGHT = {"≤": "◌≤◌", "<": "◌<◌", "≢": "◌≢◌", "⊎": "◌⊎◌", "+": "◌+◌", "-": "◌-◌", "*": "◌*◌", "/": "◌/◌", "%": "◌%◌", "||": "◌||◌", "≡": "◌≡◌", "&&": "◌&&◌"}
 # operators that make very many edits: names of the same type, fields that stay, other numbers
-WIDE = ("a name", "a field left as it was", "a constant", "a call left out", "a case more", "a case moved", "two statements turned", "what is written is lost", "a statement more")
+WIDE = ("a name", "a field left as it was", "a constant", "a call left out", "a case more", "a case moved", "two statements turned", "what is written is lost", "a statement more", "a result passed over")
 WORDS = ("suc", "true", "false", "[]", "None", "take", "drop", "not", "max", "min")
 
 

@@ -25,7 +25,7 @@ class File:
 
     def __init__(self, text):
         self.text, self.units, self.unread = text, [], []
-        self.fields, self.variants, self.signatures, self.constants = {}, {}, [], {}
+        self.fields, self.variants, self.signatures, self.constants, self.aliases = {}, {}, [], {}, {}
         self.all = tokens(text)
         self.at, self.owner = 0, ""
         self.items("")
@@ -93,7 +93,13 @@ class File:
             self.declaration(word)
         elif word == "macro_rules":
             self.rules()
-        elif word == "ghost" or word in ("use", "type"):
+        elif word == "type":
+            at = self.at
+            self.leave()
+            words = self.said(at).split(" ")
+            if words[2:3] == ["="]:
+                self.aliases[words[1]] = " ".join(words[3:-1])
+        elif word in ("ghost", "use"):
             self.leave()
         elif word in OPENING:
             self.skip_group()
@@ -112,13 +118,7 @@ class File:
     def implementation(self):
         at = self.at
         self.skip_to("{", ";")
-        head = self.said(at)
-        owner = head.split(" for ")[-1].split(" where ")[0].split()
-        kept = self.owner
-        names = [it for it in owner if it[:1].isalpha() and it not in ("impl", "trait")]
-        self.owner = names[0] if names else ""
-        if "<" in head.split(" for ")[-1] and " for " not in head and head.startswith("impl <"):
-            self.owner = next((it for it in names if len(it) > 1 and it[0].isupper()), self.owner)
+        kept, self.owner = self.owner, owner_of(self.said(at).split())
         self.at += 1
         self.items("}")
         self.at += 1
@@ -229,8 +229,8 @@ class File:
                     continue
                 depth += {"<": 1, ">": -1, ">>": -2}.get(self.peek(), 0)
                 self.at += 1
-            words = [it.text for it in self.all[first:self.at] if it.text != "mut" or self.all[first].text == "&"]
-            if "self" in words[:3]:
+            words = [it.text for it in self.all[first:self.at]]
+            if "self" in words[:4] and (":" not in words or words.index("self") < words.index(":")):
                 takes_self = " ".join(words)
             elif ":" in words:
                 place = words.index(":")
@@ -273,3 +273,17 @@ class File:
             self.unread.append((name, str(why)))
             tree = None
         self.units.append(Unit(name, kind, tree, start=start, end=end, owner=self.owner, **more))
+
+
+def owner_of(words):
+    """Returns the type of an `impl`, or the name of a trait, from the words of its head."""
+    depth, rest = 0, []
+    for i, word in enumerate(words[1:]):
+        depth += {"<": 1, "<<": 2, ">": -1, ">>": -2}.get(word, 0)
+        if depth == 0 and word not in (">", ">>"):
+            rest.append(word)
+        if word == "where" or word == ":" and depth == 0:
+            break
+    rest = rest[rest.index("for") + 1:] if "for" in rest else rest
+    names = [it for it in rest if it[:1].isupper()]
+    return names[0] if names else ""

@@ -8,6 +8,8 @@ from .tokens import CODE, DEFINITION, tokens
 UNIT = "{}"
 TURNED = {">": "<", ">=": "<="}
 CONTRARY = {"==": "!=", "!=": "==", "<": ">=", ">=": "<", ">": "<=", "<=": ">"}
+# methods that only read
+READS = ("len", "is_empty", "records", "entries", "as_slice", "bytes", "get", "failed", "is_silent", "is_closed", "iter")
 WIDTH = re.compile(r"(?<=[0-9a-fA-F])(?:[ui](?:8|16|32|64)|[ui]size)$")
 NAME = re.compile(r"[\w.*&()\[\] ]+")
 
@@ -83,10 +85,11 @@ class CodeForm(Form):
         return [one] if one and one != UNIT else []
 
     def is_pure(self, node):
-        return node is not None and all(it.kind in ("path", "field", "unary", "tuple", "group", "literal", "index", "range") for it in node.walk())
+        return node is not None and all(it.kind == "method" and not it.arguments and it.name.text in READS + ("unwrap",) or it.kind == "call" and self.text[it.callee.start:it.callee.end].endswith("::new") or it.kind in ("path", "field", "unary", "tuple", "group", "literal", "index", "range") for it in node.walk())
 
     def of_let(self, node):
-        return self.plain(node).removesuffix(" ;")
+        said = self.plain(node).removesuffix(" ;")
+        return re.sub(r"^(let (?:mut )?\w+) : [^=]*= ", r"\1 = ", said)
 
     def of_assign(self, node):
         left, right = self.of(node.left), self.of(node.right)
@@ -125,6 +128,8 @@ class CodeForm(Form):
                 return all_of
             if none in (left, right):
                 return right if left == none else left
+        if sign in ("<", "<=") and left == right:
+            return "true" if sign == "<=" else "false"
         if sign in ("-", "^") and left == right:
             return "0"
         if sign in ("+", "-", "*") and left.isdigit() and right.isdigit() and (sign != "-" or int(left) >= int(right)):
@@ -207,8 +212,11 @@ class CodeForm(Form):
         if node.name.text == "is_empty":
             return f"{one} . len ( ) == 0"
         if node.name.text in ("saturating_sub", "saturating_add") and len(node.arguments) == 1 and self.of(node.arguments[0]) == "1":
-            return f"{one} {'-' if node.name.text == 'saturating_sub' else '+'} 1"
+            step = -1 if node.name.text == "saturating_sub" else 1
+            return str(max(0, int(one) + step)) if one.isdigit() else f"{one} {'-' if step < 0 else '+'} 1"
         said = " , ".join(self.open(it) for it in node.arguments)
+        if node.name.text in ("min", "max") and len(node.arguments) == 1 and said < one:
+            one, said = said, one
         return f"{one} . {node.name.text} ( {said} )".replace("(  )", "( )")
 
     def of_call(self, node):
@@ -243,7 +251,18 @@ class CodeForm(Form):
     def of_each_case(self, node):
         """A case of several alternatives as so many cases."""
         guard = f" if {self.open(node.guard)}" if node.guard is not None and self.open(node.guard) != "true" else ""
-        return [f"{it}{guard} => {self.arm_value(node.value)} ," for it in self.of_pattern(node.pattern).split(" | ")]
+        value = self.arm_value(node.value)
+        used = set((guard + " " + value).split(" "))
+        return [f"{self.without_unused(it, used)}{guard} => {value} ," for it in self.of_pattern(node.pattern).split(" | ")]
+
+    def without_unused(self, pattern, used):
+        """A pattern in which names that the case doesn't use don't tell."""
+        words = pattern.split(" ")
+        for i, it in enumerate(words):
+            after = words[i + 1] if i + 1 < len(words) else ""
+            if re.fullmatch(r"[a-z]\w*", it) and it not in used and len(words) > 1 and after not in ("(", "::", ":", "{") and it not in ("true", "false", "mut", "ref"):
+                words[i] = "_"
+        return " ".join(words)
 
     def arm_value(self, node):
         return self.open(node) or UNIT

@@ -48,21 +48,22 @@ def ran(words, folder, budget):
 
 
 def known_equal(crate):
-    """Returns the edits of crates/NAME/planted/EQUAL, each by its file, its unit and its lines, with its reason; or None where there is no file."""
+    """Returns the edits of crates/NAME/planted/EQUAL, each by its place and its lines, with its reason; and whether all edits were tried once."""
     path = f"{generated.TOP}/crates/{crate}/planted/EQUAL"
-    if not os.path.isfile(path):
-        return None
-    found, place, lines = {}, None, {}
-    with open(path, encoding="utf-8") as rows:
-        for row in rows:
-            key, _, rest = row.rstrip("\n").partition(": ")
-            if key == "in":
-                place, lines = rest, {}
-            elif key in ("old", "new") or key.startswith("new"):
-                lines[key.rstrip(":")] = rest
-            elif key == "equal" and place:
-                found[place, lines.get("old", ""), lines.get("new", "")] = rest
-    return found
+    found, place, lines, is_whole = {}, "", {}, False
+    for row in open(path, encoding="utf-8").read().split("\n") if os.path.isfile(path) else ():
+        key, _, rest = row.partition(": ")
+        if key == "in":
+            place, lines = rest, {}
+        elif key in ("old", "new"):
+            lines[key] = rest
+        elif key == "new:":
+            lines["new"] = ""
+        elif key == "equal":
+            found[place, lines.get("old", ""), lines.get("new", "")] = rest
+        elif key == "tried":
+            is_whole = rest == "all"
+    return found, is_whole
 
 
 def key_of(edit):
@@ -257,7 +258,7 @@ class Trial:
 def chosen(crate, tools, most, seed, is_wide=True):
     """Returns edits of a crate: all, or so many, each kind of operator alike; and those among them that are known to be equal."""
     edits = generated.of_crate(crate, tuple(tools.below(crate)), is_wide)
-    equal = known_equal(crate) or {}
+    equal, _ = known_equal(crate)
     if most is not None:
         order = random.Random(f"{seed} {crate}")
         kinds = {}
@@ -309,7 +310,7 @@ def changed_crates(since):
 
 
 def sample(tools, words):
-    """Tries a few edits of each crate that changed. A survivor fails where all edits of its crate were tried once: where it has a list of equal ones."""
+    """Tries a few edits of each crate that changed. A survivor fails in a crate whose edits were all tried once."""
     minutes = 10
     if "--minutes" in words:
         place = words.index("--minutes")
@@ -325,8 +326,7 @@ def sample(tools, words):
             break
         one = Budget(max(share, min(120, budget.left())))
         counts = try_crate(tools, crate, 40, seed, one)
-        if known_equal(crate) is not None:
-            failed += counts.get(SURVIVED, 0)
+        failed += counts.get(SURVIVED, 0) if known_equal(crate)[1] else 0
     print(f"{len(crates)} crates changed; {failed} edits survived in those whose edits were all tried")
     return 1 if failed else 0
 
