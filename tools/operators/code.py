@@ -407,6 +407,13 @@ class Reader:
         self.take("{")
         arms = []
         while self.peek() != "}":
+            if self.peek() == "$":
+                # what a macro repeats
+                self.take()
+                self.skip_group()
+                while self.peek() in (",", "*", "?", "+"):
+                    self.take()
+                continue
             at = self.start()
             pattern = self.pattern(("=>", "if"))
             guard = None

@@ -2,7 +2,8 @@
 import re
 
 from .code import Node
-from .code_values import ARITHMETIC, COMPARISONS, Values
+from .code_statements import Statements
+from .code_values import ARITHMETIC, COMPARISONS
 from .facts import INTEGERS, plain
 from .tokens import tokens
 
@@ -24,7 +25,7 @@ SEPARATORS = ("' '", r"'\t'", "':'", "';'", r"'\n'", r"'\r'")
 WITHOUT_VALUES = ("block", "if", "match", "statement", "let", "ghost", "arm", "named", "rest", "pattern", "if-let", "assign", "leave", "range", "closure", "for", "while", "loop")
 
 
-class Maker(Values):
+class Maker(Statements):
     """Makes the edits of one unit: for each its operator, the places that it replaces, and the text there."""
 
     # ---- each kind of place
@@ -36,26 +37,6 @@ class Maker(Values):
         if tree.kind == "block":
             self.bodies(tree)
         return self.found
-
-    def bodies(self, tree):
-        kind = plain(self.unit.returns)
-        if not kind and tree.parts:
-            self.replace("a body left out", tree, "{}")
-            self.put("an early return", tree.start, tree.start + 1, "{ return;")
-        for name, given in self.unit.params.items():
-            if given.startswith("& mut") or re.match(r"& '\w+ mut", given):
-                lost = f"*{name} = None;" if plain(given).startswith("Option") else f"{name}.clear();" if plain(given).partition("<")[0] in ("ArrayVec", "Burst", "String", "Vec") else ""
-                at = tree.tail.start if tree.tail is not None and kind else tree.end - 1
-                sign = "; " if tree.tail is not None and not kind else ""
-                if lost:
-                    self.put("what is written is lost", tree.tail.end if sign else at, tree.tail.end if sign else at, f"{sign}{lost} ")
-        if tree.tail is not None and kind and tree.tail.kind in ("method", "call"):
-            for value in self.simple(kind, 1):
-                self.replace("a result passed over", tree.tail, f"let _ = {self.said(tree.tail)}; {value}")
-        if tree.tail is None or len(tree.parts) < 2:
-            return
-        for value in [it for _, it in self.values(tree.tail, kind) if it in ("true", "false", "0", "None", "Ok(())", "&[]") or it.startswith("Err(")]:
-            self.put("an early return", tree.start, tree.start + 1, f"{{ return {value};")
 
     def visit(self, node, kind, above):
         """Makes the edits at a node, of which a type is wanted, and of its parts."""
@@ -227,6 +208,10 @@ class Maker(Values):
                 self.replace("a constant", node, it)
         if node.text.startswith(('"', 'b"')):
             self.replace("a constant", node, '""' if node.text[0] == '"' else 'b""')
+            names = list(re.finditer(r"\{[^{}]*\}", node.text))
+            for one, other in zip(names, names[1:]):
+                turned = node.text[:one.start()] + other[0] + node.text[one.end():other.start()] + one[0] + node.text[other.end():]
+                self.replace("two arguments turned", node, turned)
             mark, text = node.text.partition('"')[0], node.text.partition('"')[2][:-1]
             for other in (text.lower(), text.upper(), text.rstrip(" "), text.removesuffix("\\n"), text + "\\n", text.lstrip(" ")):
                 if "{" not in text or other.strip() == text.strip():
@@ -255,6 +240,7 @@ class Maker(Values):
                 for it in family:
                     self.put("a name", name.start, name.end, it)
         self.replace("a call left out", node, self.said(node.receiver))
+        self.mapped(node, kind)
         if name.text == "is_empty":
             self.replace("a bound", node, f"{self.said(node.receiver)}.len() < 2")
         found = self.facts.methods.get(name.text, [])
@@ -271,11 +257,24 @@ class Maker(Values):
         for it in node.arguments:
             if len(node.arguments) == 1 or self.type_of(it) == (kind or self.type_of(node)) != "":
                 self.replace("a call left out", node, self.said(it))
+        self.mapped(node, kind)
         if text == "Some":
             self.replace("a case's value", node, "None")
         if text.endswith(("::read_u16", "::read_u32")):
             self.replace("a sign", node, f"{self.said(node)}.swap_bytes()")
         self.turned(node.arguments)
+
+    def mapped(self, node, kind):
+        """Another value within an answer, or another fault."""
+        kind = self.type_of(node) or kind
+        if kind.startswith("Option<"):
+            for value in self.simple(kind[len("Option<"):-1], 1):
+                self.replace("a case's value", node, f"{self.said(node)}.map(|_| {value})")
+            self.replace("a case's value", node, f"{self.said(node)}.filter(|_| false)")
+        if kind.startswith("Result<"):
+            fault = kind[:-1].rpartition(",")[2]
+            for value in self.facts.unit_variants(fault):
+                self.replace("a case's value", node, f"{self.said(node)}.map_err(|_| {fault}::{value})")
 
     def at_macro(self, node, kind):
         self.turned(node.arguments)
@@ -318,6 +317,9 @@ class Maker(Values):
         self.put(operator, one.start, other.end, self.said(other) + between + self.said(one))
 
     def at_struct(self, node, kind):
+        short = [it for it in node.fields if it.value is None and it.kind == "named"]
+        for one, other in zip(short, short[1:]):
+            self.put("two arguments turned", one.start, other.end, f"{one.name}: {other.name}{self.text[one.end:other.start]}{other.name}: {one.name}")
         for it in node.fields:
             wanted = self.facts.field_type(self.type_of_struct(node), it.name)
             if it.value is None and it.kind == "named":
@@ -330,41 +332,6 @@ class Maker(Values):
                     self.replace("a constant", it.value, self.said(one.value) if one.value is not None else one.name)
                 elif it.kind == "named":
                     self.put("a constant", it.start, it.end, f"{it.name}: {self.said(one.value) if one.value is not None else one.name}")
-
-    def more_statements(self):
-        """What may be done too much: the methods that change `self` or a field of it, and a field set to nothing."""
-        found = []
-        for name, kind in self.unit.params.items():
-            if "mut" in kind.split(" ")[:3]:
-                found += [f"*{name} = None;"] if plain(kind).startswith("Option") else [f"{name}.clear();"] if plain(kind).partition("<")[0] in ("ArrayVec", "Burst", "String", "Vec", "Text") else []
-        if "mut" not in getattr(self.unit, "takes_self", ""):
-            return found
-        struct = self.unit.owner.partition("<")[0]
-        found += [f"self.{it}();" for it in self.facts.changes(struct) if it != self.unit.name]
-        for name, kind in self.facts.fields.get(struct, {}).items():
-            kind = plain(kind)
-            found += [f"self.{name}.{it}();" for it in self.facts.changes(kind)]
-            found += [f"self.{name}.clear();"] if kind.partition("<")[0] in ("ArrayVec", "Burst", "String", "Vec", "CircularBuffer") else []
-            nothing = ["None"] if kind.startswith("Option") else ["true", "false"] if kind == "bool" else ["0", "1"] if kind in INTEGERS else []
-            found += [f"self.{name} = {it};" for it in nothing]
-        return found
-
-    def lost(self, node):
-        """What sets to nothing a place that a call writes."""
-        found = []
-        for it in node.walk():
-            if it.kind == "unary" and it.sign.text == "&mut" and it.inner.kind in ("path", "field"):
-                found += [f"{self.said(it.inner)} = None;", f"{self.said(it.inner)}.clear();"]
-            if it.kind == "path" and "mut" in self.unit.params.get(it.text, ""):
-                found += [f"*{it.text} = None;", f"{it.text}.clear();"]
-                found += [f"{it.text}.{name}.clear();" for name, kind in self.facts.fields.get(self.locals[it.text], {}).items() if plain(kind).partition("<")[0] in ("ArrayVec", "Burst")]
-        return list(dict.fromkeys(found))
-
-    def too_much(self, node):
-        places = [node.start + 1, *(it.end for it in node.parts if it.kind in ("statement", "let"))]
-        for it in self.more:
-            for place in dict.fromkeys(places):
-                self.put("a statement more", place, place, f" {it}")
 
     def at_block(self, node, kind):
         self.too_much(node)
@@ -381,6 +348,9 @@ class Maker(Values):
                     for lost in self.lost(inner):
                         self.put("what is written is lost", it.end, it.end, f" {lost}")
                         self.replace("what is written is lost", it, lost)
+            if it.kind == "let" and it.names == ["_"]:
+                self.replace("a statement twice", it, f"{self.said(it)} {self.said(it)}")
+            if it.kind == "statement":
                 if inner.kind in ("method", "call", "assign", "try", "macro"):
                     self.replace("a statement twice", it, f"{self.said(it)} {self.said(it)}" if self.said(it).endswith(";") else self.said(it))
                 if inner.kind == "leave" and inner.word != "return":

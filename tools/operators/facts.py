@@ -49,6 +49,8 @@ class Facts:
         return list(dict.fromkeys(other for it in owners for other, kind in it.items() if other != name and plain(kind) == plain(it[name])))
 
     def other_variants(self, enum, name):
+        if enum.startswith("$"):
+            return list(dict.fromkeys(it for one, found in self.variants.items() if name in found for it in self.other_variants(one, name)))
         found = self.variants.get(enum, {})
         return [it for it, held in found.items() if it != name and held == found.get(name)]
 
