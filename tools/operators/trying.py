@@ -162,6 +162,8 @@ class Trial:
             goals = self.tools.own_goals(said, (it.path, first, last, it.unit.name))
             if goals:
                 self.say(it, REFUSED, ", ".join(goals[:3]))
+            elif gone := self.gone(it, said):
+                self.say(it, NOT_TRIED, f"refused only because a proof names what the edit took away: {gone}")
             elif self.is_proved(it, said):
                 self.say(it, SURVIVED)
             else:
@@ -184,6 +186,12 @@ class Trial:
             if edit.path.endswith("/" + path) and place[0] <= int(line) <= place[1] and not re.match(r"`[^`]*`: ", why):
                 return why[:160]
         return ""
+
+    def gone(self, edit, said):
+        """Returns what the proof of the edit's function says that names something which is gone."""
+        module = os.path.basename(edit.path).removesuffix(".rt")
+        place = re.compile(rf"(\./)?proofs/(\S*/)?{module}/(\S*/)?{edit.unit.name}/|(\./)?proofs/{edit.unit.name}/")
+        return next((it[:160] for it in said.split("\n") if place.match(it) and self.tools.GONE.match(it)), "")
 
     def is_proved(self, edit, said):
         module = os.path.basename(edit.path).removesuffix(".rt")
