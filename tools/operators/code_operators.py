@@ -406,7 +406,7 @@ class Maker(Statements):
         """A case that is handled as another is."""
         first, last = (arm, other) if arm.start < other.start else (other, arm)
         for i, (start, end) in enumerate(arm.pattern.alternatives):
-            if self.text[start:end] == "_":
+            if self.text[start:end] == "_" or binds(self.text[start:end]) or binds(self.said(other.pattern)):
                 continue
             rest = [self.text[one:to] for j, (one, to) in enumerate(arm.pattern.alternatives) if j != i]
             left = " | ".join(rest) + self.text[arm.pattern.end:arm.end] if rest else ""
@@ -423,7 +423,7 @@ class Maker(Statements):
                 self.replace("a case left out", pattern, " | ".join(texts[:i] + texts[i + 1:]))
         for it in others:
             for one, end in it.alternatives:
-                if self.text[one:end] != "_":
+                if self.text[one:end] != "_" and not binds(self.text[one:end]) and not binds(self.said(pattern)):
                     self.replace("a case more", pattern, " | ".join([*texts, self.text[one:end]]))
         self.cases(pattern, texts)
         for (start, end), text in zip(found, texts):
@@ -472,3 +472,8 @@ class Maker(Statements):
         if node.word == "return" and node.inner is not None:
             for operator, new in self.values(node.inner, plain(self.unit.returns)):
                 self.replace(operator, node.inner, new)
+
+
+def binds(pattern):
+    """Whether a pattern binds names: then it has no alternatives that don't."""
+    return any(it not in ("ref", "mut", "true", "false", "crate", "super", "_") for it in re.findall(r"(?<![:\w$])[a-z]\w*\b(?!\s*(?:::|\(|:))", re.sub(r"b?['\"][^'\"]*['\"]|0x\w+", "", pattern)))

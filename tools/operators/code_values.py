@@ -104,7 +104,7 @@ class Values:
             yield from (("a condition", "true"), ("a condition", "false"), ("a sign", f"!{said}"))
         elif kind in INTEGERS or kind == "int":
             yield from self.numbers(node, said)
-        elif kind.startswith("["):
+        elif kind.startswith("[") and ";" not in kind:
             yield from (("a constant", "&[]"), ("a bound", f"&{said}[1..]"), ("a constant", f"&{said}[..1]"), ("a constant", f"&{said}[{said}.len() / 2..]"), ("a constant", f"&{said}[..{said}.len() / 2]"), ("a bound", f"&{said}[..{said}.len().saturating_sub(1)]"))
         elif kind == "str":
             yield from (("a constant", '""'), ("a constant", f"&{said}[..0]"))

@@ -162,20 +162,27 @@ def of_unit(path, unit, below):
     return sorted(edits.values(), key=lambda it: (it.start, it.end, it.new))
 
 
-def of_crate(crate, below, is_wide=True):
-    """Returns the edits of a crate, each meaning once: all, or those of the narrow operators."""
-    found = []
-    for path in [*paths_of(crate, "src"), *paths_of(crate, "specs")]:
-        for unit in parsed(path).units:
-            forms = {None}
-            for edit in of_unit(path, unit, below):
-                if edit.operator in WIDE and not is_wide:
-                    continue
-                form = edit.form()
-                if form not in forms and form != form_of(path, unit):
-                    forms.add(form)
-                    found.append(edit)
-    return found
+def all_of(crate, below, is_wide=True):
+    """Returns the edits of a crate: all, or those of the narrow operators."""
+    units = [(path, unit) for path in [*paths_of(crate, "src"), *paths_of(crate, "specs")] for unit in parsed(path).units]
+    return [it for path, unit in units for it in of_unit(path, unit, below) if is_wide or it.operator not in WIDE]
+
+
+class Meanings:
+    """Tells those edits that mean what none before them does, and not the same as the text that they change."""
+
+    def __init__(self):
+        self.seen = {}
+
+    def is_new(self, edit):
+        place = (edit.path, edit.unit.start)
+        if place not in self.seen:
+            self.seen[place] = {None, form_of(edit.path, edit.unit)}
+        form = edit.form()
+        if form in self.seen[place]:
+            return False
+        self.seen[place].add(form)
+        return True
 
 
 def form_of(path, unit):

@@ -42,9 +42,11 @@ def ran(words, folder, budget):
     try:
         return done.communicate(timeout=None if budget.seconds is None else 2 * left + 20)[0]
     except subprocess.TimeoutExpired:
-        os.killpg(done.pid, signal.SIGKILL)
-        done.communicate()
         return None
+    finally:
+        if done.poll() is None:
+            os.killpg(done.pid, signal.SIGKILL)
+            done.communicate()
 
 
 def known_equal(crate):
@@ -265,21 +267,23 @@ class Trial:
 
 def chosen(crate, tools, most, seed, is_wide=True):
     """Returns edits of a crate: all, or so many, each kind of operator alike; and those among them that are known to be equal."""
-    edits = generated.of_crate(crate, tuple(tools.below(crate)), is_wide)
+    edits = generated.all_of(crate, tuple(tools.below(crate)), is_wide)
+    meanings = generated.Meanings()
     equal, _ = known_equal(crate)
-    if most is not None:
+    if most is None:
+        edits = [it for it in edits if meanings.is_new(it)]
+    else:
         order = random.Random(f"{seed} {crate}")
         kinds = {}
         for it in edits:
             kinds.setdefault((it.is_definition(), it.operator), []).append(it)
         for it in kinds.values():
             order.shuffle(it)
-        picked = []
-        while len(picked) < most and any(kinds.values()):
+        edits = []
+        while len(edits) < most and any(kinds.values()):
             for it in list(kinds.values()):
-                if it and len(picked) < most:
-                    picked.append(it.pop())
-        edits = picked
+                if it and len(edits) < most and meanings.is_new(one := it.pop()):
+                    edits.append(one)
     same = [it for it in edits if key_of(it) in equal]
     return [it for it in edits if it not in same], same
 
@@ -291,9 +295,14 @@ def try_crate(tools, crate, most, seed, budget, is_wide=True):
     try:
         said = ran(["rt", "check", "--jobs", "1"], copy.folder(crate), budget)
         if said is None:
+            print(f"{crate}: nothing tried: the time is over before the crate is proved", flush=True)
             return {}
         if "logic=proved" not in said:
-            tools.stop(f"{crate}: not proved without any edit, so no edit shows anything:\n{said[-2000:]}")
+            why = f"{crate}: not proved without any edit, so no edit shows anything:\n{said[-2000:]}"
+            if budget.seconds is None:
+                tools.stop(why)
+            print(why, flush=True)
+            return {}
         trial = Trial(tools, copy, crate, budget)
         trial.try_all(edits)
     finally:
@@ -340,6 +349,8 @@ def sample(tools, words):
 
 
 def main(tools, words):
+    # so that a run that is ended ends what it began, and leaves no copy
+    signal.signal(signal.SIGTERM, lambda *_: sys.exit(1))
     kind, words = words[0], words[1:]
     if kind == "--sample":
         return sample(tools, words)
