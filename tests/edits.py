@@ -1,0 +1,85 @@
+"""What operators make of a small function and of a small definition, and what they leave alone."""
+import os
+import sys
+
+TOP = os.path.dirname(os.path.dirname(os.path.realpath(__file__)))
+sys.dont_write_bytecode = True
+sys.path.insert(0, f"{TOP}/tools")
+from operators import code_operators, definition_operators, definitions, items, spelling  # noqa: E402
+from operators.facts import Facts  # noqa: E402
+
+CODE = """/// Whether a < b.
+pub fn picks(a: u8, b: u8) -> bool
+    requires { a < 7 }
+    ensures { result ≡ true }
+{
+    // here a < 9
+    if a < 3 {
+        return false;
+    }
+    b == 4 && a != 2
+}
+
+#[test]
+fn it_picks() {
+    prove!(picks(1, 4));
+}
+"""
+MADE_OF_CODE = {
+    ("a comparison", "if a <= 3 {"), ("a comparison", "if a >= 3 {"), ("a bound", "if a < 4 {"), ("a bound", "if a < 2 {"), ("a condition", "if true {"),
+    ("a condition", "return true;"), ("a sign", "b == 4 || a != 2"), ("an operand left out", "b == 4"), ("an operand left out", "a != 2"), ("a comparison", "b == 4 && a == 2"),
+    ("a constant", "if b < 3 {"), ("a constant", "b == 0 && a != 2"), ("an early return", "{ return true;"),
+}
+DEFINITION = """use Rattle.std.specs.Prelude.{◌≡◌, ◌≤◌, ℕ}
+
+-- here x < y
+abbrev pub Fits : ℕ → ℕ → Type 0
+Fits a b = a ≤ b → (c : ℕ) × (c ≡ a)
+"""
+MADE_OF_DEFINITION = {
+    ("a false premise", "Fits a b = ⊥ → a ≤ b → (c : ℕ) × (c ≡ a)"), ("a false premise", "Fits a b = a ≤ b → ⊥ → (c : ℕ) × (c ≡ a)"), ("a false premise", "Fits a b = ⊥ → (c : ℕ) × (c ≡ a)"),
+    ("a premise left out", "Fits a b = Unit {0} → (c : ℕ) × (c ≡ a)"), ("a conclusion dropped", "Fits a b = a ≤ b → Unit {0}"), ("an exists freed", "Fits a b = a ≤ b → (c : ℕ) → (c ≡ a)"),
+    ("an exists freed", "Fits a b = a ≤ b → (c : ℕ) × Unit {0}"), ("a comparison", "Fits a b = a < b → (c : ℕ) × (c ≡ a)"), ("a comparison", "Fits a b = a ≤ b → (c : ℕ) × (c ≤ a)"),
+    ("a bound", "Fits a b = suc a ≤ b → (c : ℕ) × (c ≡ a)"), ("two operands turned", "Fits a b = b ≤ a → (c : ℕ) × (c ≡ a)"),
+}
+
+
+def lines_of(text, found):
+    """Returns each edit's operator and the line that it makes, and fails where one changes what is no code."""
+    made = set()
+    for operator, start, end, new in found:
+        other = text[:start] + new + text[end:]
+        begins = text.rfind("\n", 0, start) + 1
+        ends = other.find("\n", start + len(new))
+        made.add((operator, other[begins:ends].strip()))
+    return made
+
+
+def same(*texts):
+    forms = {spelling.code_form("{ " + it + " }", items.File(CODE).units[0]) for it in texts}
+    return len(forms) == 1
+
+
+def main():
+    file = items.File(CODE)
+    assert [it.name for it in file.units] == ["picks"], "a test has no edits"
+    found = code_operators.Maker(file, file.units[0], Facts([file], [])).make()
+    body = CODE.index("{\n    // here")
+    assert all(start >= body and "//" not in CODE[start:end] or CODE[start] == "{" for _, start, end, _ in found), "an edit changes what is no code"
+    made = lines_of(CODE, found)
+    assert MADE_OF_CODE <= made, f"not made: {MADE_OF_CODE - made}"
+    again = code_operators.Maker(file, file.units[0], Facts([file], [])).make()
+    assert found == again, "another run makes other edits"
+
+    file = definitions.File(DEFINITION)
+    found = definition_operators.Maker(DEFINITION, file.units[0], file, definition_operators.Facts([file]), file.types).make()
+    made = lines_of(DEFINITION, found)
+    assert MADE_OF_DEFINITION <= made, f"not made: {MADE_OF_DEFINITION - made}"
+
+    assert same("a < 1", "a == 0", "(a) <= 0") and same("let _ = a; f(b)", "f((b))") and same("!(a == b)", "b != a"), "one meaning has two forms"
+    assert not same("a < 1", "a < 2") and not same("f(a, b)", "f(b, a)") and not same("if a { f(); }", "f();"), "two meanings have one form"
+    return 0
+
+
+if __name__ == "__main__":
+    sys.exit(main())
