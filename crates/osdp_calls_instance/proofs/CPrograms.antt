@@ -21,7 +21,7 @@ use Rattle.osdp_device.specs.declared.program.Question.{Question}
 use Rattle.osdp_device.specs.declared.program.Question.TheVariants.{Answered, Asked, NotAsked}
 use Rattle.osdp_link_laws.proofs.Lines.{each_all}
 use Rattle.osdp_link_laws.proofs.Stages.{Each}
-use Rattle.osdp_reader.specs.State.{ReaderState, after_submit, new_reader}
+use Rattle.osdp_reader.specs.State.{ReaderState, new_reader}
 use Rattle.osdp_reader.specs.declared.handler.Answer.{Answer}
 use Rattle.osdp_reader.specs.declared.handler.Answer.TheVariants as answer
 use Rattle.osdp_c_values.specs.Addresses.{device_address}
@@ -229,7 +229,7 @@ too_far m = record { status = status.MomentTooFar; machine = m }
 
 event_so : (full : Bool) (k : ℕ) (event : Event) (m : ReaderMachine)
     → held_in (cond full (full_answer m)
-    (reader.does (reader.sets (after_submit event m.device.reader) m))).machine ≡ takes_event full event (held_in m)
+    (reader.does (reader.arrived event m))).machine ≡ takes_event full event (held_in m)
 event_so true k event m = refl
 event_so false k event m = refl
 

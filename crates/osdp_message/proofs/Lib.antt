@@ -1,0 +1,15 @@
+pub mod Bytes
+pub mod RecordLists
+pub mod Table
+pub mod CommandRows
+pub mod Commands
+pub mod ReplyRows
+pub mod Replies
+pub mod Texts
+pub mod TakenParts
+pub mod ParsedRows
+pub mod RecordTexts
+pub mod RecordWordRows
+pub mod RowTexts
+pub mod CommandTextRows
+pub mod ReplyTextRows

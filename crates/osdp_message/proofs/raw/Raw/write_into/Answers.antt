@@ -1,0 +1,14 @@
+use Rattle.std.proofs.Common.{subst}
+use Rattle.osdp_message.specs.ReplyFields.{RawFits}
+use Rattle.osdp_message.proofs.raw.Raw.write_into.Goals as goal
+
+pub returns-clause-fits : goal.returns-clause-fits
+returns-clause-fits c =
+    subst RawFits c.self.view_is record {
+      reader = c.put_bytes.ensures.fits 0;
+      format = c.put_bytes.ensures.fits 1;
+      bits = c.append_u16.ensures.fits;
+      needed = c.self.invariant.0;
+      room = c.self.invariant.1;
+      bytes = c.append.ensures.fits;
+    }

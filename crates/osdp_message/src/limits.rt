@@ -1,0 +1,30 @@
+//! How much a message holds at most, and how many may wait.
+
+ghost use Rattle.std.specs.Prelude.{◌↔◌, IsTrue};
+ghost use Rattle.osdp_message.specs.Limits.{IsRoom};
+
+/// How many bytes of data stand after a code byte at most. With its code such a message fits into a packet of 1440 bytes
+/// with either check.
+pub const MAX_DATA: usize = 1432;
+
+/// How many bytes a message has at most: its code and its data.
+pub const MAX_MESSAGE: usize = 1 + MAX_DATA;
+
+/// How many bytes the detail of a NAK has at most, after its reason.
+pub const MAX_DETAIL: usize = MAX_DATA - 1;
+
+/// How many bytes a maker's message has at most, after the maker's own three.
+pub const MAX_MAKER_BYTES: usize = MAX_DATA - 3;
+
+/// How many bytes a card has at most, after its reader, format and count of bits.
+pub const MAX_CARD_BYTES: usize = MAX_DATA - 4;
+
+/// How many messages may wait at most: commands for a reader, or events in it.
+pub const MAX_WAITING: usize = 1024;
+
+/// Whether there may be room for so many messages that wait: 1 to 1024.
+pub fn is_room(count: usize) -> bool
+    ensures { IsTrue result ↔ IsRoom count }
+{
+    1 <= count && count <= MAX_WAITING
+}
