@@ -85,8 +85,8 @@ def entries(name, heading):
 
 
 def rows(text):
-    """The rows of a help's part: a name with its values, two blanks or more, and what it is."""
-    return re.findall(r"^  (\S+(?: \S+)*?)(?: {2,}(.*))$", text, re.M)
+    """The rows of a help's part: a name with its values, two blanks or more, and what it is. After a long option one blank is enough."""
+    return re.findall(r"^  (--\w{8,}(?= [a-z])|\S+(?: \S+)*?)(?: {2,}| (?<=\w{8} ))(.*)$", text, re.M)
 
 
 def part_of(help_text, begins):

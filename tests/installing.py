@@ -237,7 +237,7 @@ ROWS = {
     "`lost I too-busy`": (lambda seen: seen.tells("lost 1 too-busy"), [("busy", lambda: Capture(busy))]),
     "`lost I number-refused` at each opening": (lambda seen: seen.tells("lost 1 number-refused"), [("another session", lambda: Capture(number_refused))]),
     "a `reply` with another address than its `cmd`": (lambda seen: seen.has_another_address(), [("answers with another address", lambda: Capture(another_address))]),
-    "`reply .. PDID`, and each `cmd` comes again": (lambda seen: any(" PDID " in line for _, line in seen.lines) and seen.repeats() and not seen.tells("passed over"),
+    "`reply .. PDID`, and each `cmd` comes again; `a late answer` of `osdp monitor`": (lambda seen: any(" PDID " in line for _, line in seen.lines) and seen.repeats() and not seen.tells("passed over"),
                                                    [("late answers", lambda: Capture(late))]),
     "`passed over I seq N`": (lambda seen: seen.tells("passed over 1 seq"), [("another number", lambda: Capture(another_number))]),
     "`passed over I` and another reply": (lambda seen: seen.tells("passed over 1"), [("another reply", lambda: Capture(another_reply))]),

@@ -16,7 +16,7 @@ from pathlib import Path
 PROGRAM = str(Path(sys.argv[1]).resolve())
 ACK, NAK, PDID, COM, RAW, BUSY = 0x40, 0x41, 0x45, 0x54, 0x50, 0x79
 POLL, ID, OUT, COMSET, LED = 0x60, 0x61, 0x68, 0x6E, 0x69
-OWN = bytes.fromhex("4553494D010105000000010000")
+OWN = bytes.fromhex("53494D010105000000010000")
 ACCUSED = re.compile(r"^\d+:\d+ (panel to|reader) (\d+): (.*) \((?:standard|profile)\)$", re.M)
 NOTICED = re.compile(r"^\d+:\d+ device (\d+): (.*)$", re.M)
 ALL = "537F07000060C7"
