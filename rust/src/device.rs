@@ -343,7 +343,7 @@ impl Device {
     pub fn is_offline(&mut self, now: Moment) -> Result<bool, Error> {
         let mut offline = 0;
         // SAFETY: the handle is ours alone, and the number is one.
-        check(unsafe { sys::osdp_device_is_offline(&mut self.0, now.as_millis(), &mut offline) })?;
+        check(unsafe { sys::osdp_device_is_offline(self.0.get(), now.as_millis(), &mut offline) })?;
         Ok(offline != 0)
     }
 
@@ -359,7 +359,7 @@ impl Device {
         // SAFETY: the handle is ours alone, and the number and the event are one each.
         check(unsafe {
             sys::osdp_device_expire_event(
-                &mut self.0,
+                self.0.get(),
                 now.as_millis(),
                 limit,
                 &mut expired,
@@ -379,7 +379,7 @@ impl Device {
     pub fn withdraw_event(&mut self) -> Option<Reply> {
         let mut event = no_message();
         // SAFETY: the handle is ours alone, and the event is one. It holds a machine, so the call isn't refused.
-        let _ = unsafe { sys::osdp_device_withdraw_event(&mut self.0, &mut event) };
+        let _ = unsafe { sys::osdp_device_withdraw_event(self.0.get(), &mut event) };
         Reply::from_sys(&event)
     }
 
@@ -388,7 +388,7 @@ impl Device {
     pub fn lapse_event(&mut self) -> Option<Reply> {
         let mut event = no_message();
         // SAFETY: the handle is ours alone, and the event is one. It holds a machine, so the call isn't refused.
-        let _ = unsafe { sys::osdp_device_lapse_event(&mut self.0, &mut event) };
+        let _ = unsafe { sys::osdp_device_lapse_event(self.0.get(), &mut event) };
         Reply::from_sys(&event)
     }
 
