@@ -52,14 +52,14 @@ done
 for test in a_session numbers_take_turns another_address; do
   refuse_each $machines tests::controller::out_of_memory_is_told 1 "tests::controller::$test" 1
 done
-# A bus asks as it is made, and twice for each device: for its commands, and for the device itself.
-refuse_each osdp_port_tests bus::reservations::out_of_memory_is_told 5 bus::turns::runs_end '[1-3]'
+# A bus asks twice as it is made, and three times for each device: for its commands, for the device itself, and for the event that it told last.
+refuse_each osdp_port_tests bus::reservations::out_of_memory_is_told 8 bus::turns::runs_end '[1-5]'
 for test in two_devices_take_turns a_pause_holds_the_line; do
-  refuse_each osdp_port_tests bus::reservations::out_of_memory_is_told 5 bus::turns::$test '[1-5]'
+  refuse_each osdp_port_tests bus::reservations::out_of_memory_is_told 8 bus::turns::$test '[1-8]'
 done
 # Eighteen requests to set up: two for each list of messages, and settled commands are two such lists. Six by the steps.
 refuse_each osdp_sim_tests tests::refusals::out_of_memory_is_told 24 tests::refusals::memory_is_needed '.*'
 refuse_each osdp_sim_tests tests::scripts::out_of_memory_is_told 26 tests::scripts::memory_is_needed '.*'
 # The first request is the test's own, for the list of readers.
-refuse_each osdp_sim_tests tests::buses::refusals::out_of_memory_is_told 53 tests::buses::refusals::memory_is_needed '.*'
+refuse_each osdp_sim_tests tests::buses::refusals::out_of_memory_is_told 56 tests::buses::refusals::memory_is_needed '.*'
 exit "$failed"
