@@ -1,3 +1,5 @@
+pub mod Waiting
+pub mod Acted
 pub mod Orders
 pub mod Events
 pub mod Untold
