@@ -28,11 +28,11 @@ use Rattle.osdp_bus_laws.proofs.Sound.{either_held}
 
 -- ---- what is remembered of one entry, by its reports
 
-abbrev recalls : Remembered → List Report → Remembered
+abbrev pub recalls : Remembered → List Report → Remembered
 recalls m [] = m
 recalls m (r ∷ rs) = recalls (remembers r m) rs
 
-recalls_more : (m : Remembered) (xs ys : List Report) → recalls m (xs ++ ys) ≡ recalls (recalls m xs) ys
+pub recalls_more : (m : Remembered) (xs ys : List Report) → recalls m (xs ++ ys) ≡ recalls (recalls m xs) ys
 recalls_more m [] ys = refl
 recalls_more m (x ∷ xs) ys = recalls_more (remembers x m) xs ys
 
@@ -185,7 +185,7 @@ came e rs marked = by_told (all_told [] rs nothing_yet (inl refl))
 
 -- ---- the report that waits is that of an entry that is there
 
-abbrev Within : Devices → Type 0
+abbrev pub Within : Devices → Type 0
 Within ds = (k : ℕ) (r : Report) → ds.report ≡ Some (k, r) → k < length ds.entries
 
 set_length : (ds : List Device) (i : ℕ) (e : Device) → length (slice_set ds i e) ≡ length ds
@@ -291,9 +291,9 @@ longer ds d within = λ k r is. let at = within k r is in omega (arith, at, one_
 
 -- ---- what is remembered along calls
 
-record IsRemembered (b : BusState) (taken : List (ℕ × Report)) : Type 0 where
-  all : (k : ℕ) → memory_at k b.remembered ≡ recalls nothing_yet (of_entry k taken)
-  within : Within b.devices
+pub record IsRemembered (b : BusState) (taken : List (ℕ × Report)) : Type 0 where
+  pub all : (k : ℕ) → memory_at k b.remembered ≡ recalls nothing_yet (of_entry k taken)
+  pub within : Within b.devices
 
 entry_more : (k entry : ℕ) (r : Report) (taken : List (ℕ × Report))
     → of_entry k (taken ++ (entry, r) ∷ []) ≡ of_entry k taken ++ (if k == entry then r ∷ [] else [])
@@ -376,7 +376,7 @@ one_call (OnSilence now) b taken is = kept b (after_call (OnSilence now) b) take
 one_call (Tick now) b taken is = kept b (after_call (Tick now) b) taken (keeps_tick now b) is
 one_call NextReport b taken is = taken_next b taken is
 
-along : (calls : List Call) (b : BusState) (taken : List (ℕ × Report)) → IsRemembered b taken
+pub along : (calls : List Call) (b : BusState) (taken : List (ℕ × Report)) → IsRemembered b taken
     → IsRemembered (after_calls calls b) (taken ++ taken_along calls b)
 along [] b taken is = subst (IsRemembered b) (sym (append-nil taken)) is
 along (call ∷ calls) b taken is =
@@ -409,7 +409,7 @@ marks_exactly b taken is = record {
     by_report None none h = absurd cc
     by_report (Some (entry, r)) some h = by_kind entry r some h
 
-none_at : (n k : ℕ) → memory_at k (replicate n nothing_yet) ≡ nothing_yet
+pub none_at : (n k : ℕ) → memory_at k (replicate n nothing_yet) ≡ nothing_yet
 none_at zero zero = refl
 none_at zero (suc k) = refl
 none_at (suc n) zero = refl

@@ -71,7 +71,7 @@ module _ {H : Type 0} where
   says_bus (Some entry) None l = refl
   says_bus (Some entry) (Some p) l = begins_bus entry p (begun_of (site_at entry l.stations)) l
 
-  said_bus : (call : bus.Call) (b : BusState) (l : InUse H) → (said_at call b l).bus ≡ l.bus
+  pub said_bus : (call : bus.Call) (b : BusState) (l : InUse H) → (said_at call b l).bus ≡ l.bus
   said_bus (bus.Tick now) b l = says_bus (asked_at now b) (bus_ticks now b).sent l
   said_bus _ b l = refl
 
@@ -120,7 +120,7 @@ module _ {H : Type 0} where
     next_bus i places None l = refl
     next_bus i places (Some t) l = refl
 
-    one_bus : (call : Call H) (places : List ℕ) (l : InUse H) → KeepsPanel call
+    pub one_bus : (call : Call H) (places : List ℕ) (l : InUse H) → KeepsPanel call
         → (after_call answer_of after call places l).bus ≡ bus.after_calls (one_panel_call call) l.bus
     one_bus (OfPanel call) places l keeps = said_bus call l.bus (record l {
       bus = bus.after_call call l.bus;

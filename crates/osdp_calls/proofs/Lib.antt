@@ -35,3 +35,7 @@ mod Accepting
 mod Heeding
 mod Heeded
 mod Ruling
+mod Marking
+mod Marked
+mod MarkedDevices
+mod Takings

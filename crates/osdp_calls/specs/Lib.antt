@@ -12,3 +12,4 @@ pub mod Refusals
 pub mod OneDevice
 pub mod Undisturbed
 pub mod Programs
+pub mod Marks

@@ -6,6 +6,7 @@ ghost use Rattle.osdp_bus.specs.Buses.{BusState};
 ghost use Rattle.osdp_calls.specs.Ends.{BusIsReached, GoByTheirOwn, OneExchange};
 ghost use Rattle.osdp_calls.specs.Handing.{HandsOver};
 ghost use Rattle.osdp_calls.specs.Lines.{InUse};
+ghost use Rattle.osdp_calls.specs.Marks.{CallsMarkRepeats};
 ghost use Rattle.osdp_calls.specs.OneDevice.{OneDeviceHoldsOnce};
 ghost use Rattle.osdp_calls.specs.Programs.{CallsRuleSuffices, RuledCallsHoldOnce};
 ghost use Rattle.osdp_calls.specs.Promises.{CallsHoldOnce, CallsKeepApart};
@@ -145,3 +146,15 @@ pub fn one_device_holds_once<H: Handler>()
 pub fn ordinary_is_undisturbed<H: Handler>()
     ensures { OrdinaryCallsDisturbNone H.answer_of H.after }
 {}
+
+/// An event that is told again from one session of an entry to the next is marked (`Bus::is_maybe_again`), and nothing else is marked but an event
+/// equal in bytes to the last one that was reported before, as the first of its session. It holds in one life of the panel, from where it is made, at
+/// set-up or anew, until it is made anew, whatever is called meanwhile: devices may be made anew, sessions begin again and events be withdrawn.
+///
+/// What the panel's program takes of an entry's events, and then the one that waits, are the events that the sessions of this life have reported,
+/// in their order, each with its mark. Nothing is asked of what the ends read.
+pub fn repeats_are_marked<H: Handler>()
+    ensures { CallsMarkRepeats H.answer_of H.after }
+{
+    osdp_bus_laws::reports_are_told_once();
+}
