@@ -1,10 +1,13 @@
 """Parts of the walk of `port_walk.py` that are about words, ports and who may open them."""
+import contextlib
 import fcntl
 import os
+import random
 import re
 import shutil
 import socket
 import subprocess
+import sys
 import tempfile
 import termios
 import threading
@@ -123,6 +126,56 @@ def bad_words():
     terminal.close()
 
 
+POOL = ("/nowhere/port", "/dev/null", "/", "", " ", "\n", "rfc2217://", "rfc2217://a:b:c", "socket://", "nonsense://x", "9600", "0", "-1", "127", "12345", "1e3", "0x10",
+        "9" * 5000, "\u0663", "\udcff", "\0x"[1:], "%s", "5", "5,6", "5-", ",", "0-16", "check", "sum", "gap", "reply-wait", "vendor", "show", "monitor", "panel", "reader",
+        "find", "trace", "--all", "--plain", "--osdpcap", "--address", "--every", "--keep", "--trace", "--size", "--set-address", "--set-rate", "--osdp", "--", "-", "-x", "--nonsense")
+ORDERS = ("open", "on", "off", "led", "green", "blink", "beep", "text", "move", "rate", "id", "accept", "output", "card", "keys", "event", "3s", "9" * 400 + "s", "9" * 5000,
+          "1.5s", "0", "-1", "256", "127", "OUT", "0:5:30", "COMSET", "LED", "%s", "0x10")  # a line has printable ASCII alone
+
+
+def ends_well(main, words):
+    """Calls the program's words in a process of its own. Its status, and what it has said."""
+    said, saying = os.pipe()
+    if not (child := os.fork()):
+        status = 99
+        with contextlib.suppress(BaseException):
+            os.dup2(saying, 1)
+            os.dup2(saying, 2)
+            sys.stdin = open(os.devnull)
+            os.dup2(sys.stdin.fileno(), 0)
+            status = main(words)
+        os._exit(status)
+    os.close(saying)
+    with open(said, "rb") as file:
+        text = file.read().decode()
+    return os.waitstatus_to_exitcode(os.waitpid(child, 0)[1]), text
+
+
+def any_words():
+    """Any words, on any port that isn't there, end with a status of the manual and a sentence, and any order or line is taken or refused with a sentence."""
+    sys.path.insert(0, str(PORT.parent))
+    from osdp_port import doors, reader
+    from osdp_port.faults import Refused
+    from osdp_port.main import main
+    from osdp_port.rounds import Place
+    chance = random.Random(1)
+    for _ in range(1500):
+        words = [chance.choice(POOL) for _ in range(chance.randrange(1, 9))]
+        if chance.random() < 0.7:
+            words[:0] = [chance.choice(POOL[:10]), chance.choice(POOL[10:15]), chance.choice(("show", "monitor", "panel", "reader", "find", "trace"))]
+        status, said = ends_well(main, ["--osdp", port_line.osdp, *words])
+        asks(status in (2, 3, 127) and said.startswith(("osdp-port: ", "osdp: ")), f"any words: {[word[:20] for word in words]}: status {status}: {said[:200]}")
+    for _ in range(3000):
+        words = [chance.choice(ORDERS) for _ in range(chance.randrange(0, 6))]
+        for takes in (lambda: doors.command(words, Place(5, 9600)), lambda: reader.call_of(" ".join(words))):
+            try:
+                takes()
+            except Refused:
+                pass
+            except Exception as error:  # any other one would end the program
+                asks(False, f"any words: {[word[:20] for word in words]}: {error!r}")
+
+
 def no_permission():
     """A user who may not open the port is told what to do; one who may, and comes second, is refused by the system."""
     if os.getuid() != 0:
@@ -168,4 +221,4 @@ def bad_lines():
         asks(line.run(lambda: tells(panel, "facility 17 number 4386")() and tells(panel, "keys 12#")()), f"lines: the card is told as {panel.lines[-2:]}")
 
 
-PARTS = (over_the_network, bad_words, no_permission, bad_lines)
+PARTS = (over_the_network, bad_words, any_words, no_permission, bad_lines)

@@ -57,7 +57,7 @@ class Console:
     @staticmethod
     def raw(line):
         try:
-            write_all(1, f"{line}\n".encode())
+            write_all(1, f"{line}\n".encode(errors="backslashreplace"))
         except BrokenPipeError:
             raise Stop("", FAILED) from None
         except OSError:
@@ -66,7 +66,7 @@ class Console:
     def note(self, line):
         """Prints a line that isn't of what was asked, on standard error."""
         try:
-            write_all(2, f"osdp-port: {line}\n".encode())
+            write_all(2, f"osdp-port: {line}\n".encode(errors="backslashreplace"))
         except OSError:
             pass  # nobody reads it
 

@@ -1,7 +1,7 @@
 """Orders in words of a door: `5 open 3s`, `5 led green`, `5 beep`. Each is one command, by its text as `osdp` reads it."""
 import re
 
-from .faults import Refused
+from .faults import Refused, is_number
 
 COLOURS = {"off": 0, "black": 0, "red": 1, "green": 2, "amber": 3, "blue": 4, "magenta": 5, "cyan": 6, "white": 7}
 COMMANDS = ("ID", "CAP", "LSTAT", "ISTAT", "OSTAT", "RSTAT", "OUT", "LED", "BUZ", "TEXT", "COMSET", "MFG")
@@ -23,14 +23,14 @@ def wrong(at, word, could):
 
 def whole(words, at, what, least=0, most=255):
     word = words[at] if at < len(words) else ""
-    if not (word.isdecimal() and word.isascii() and least <= int(word) <= most):
+    if not is_number(word, least, most):
         wrong(at + 2, word, f"{what}, a number from {least} to {most}")
     return int(word)
 
 
 def tenths(word, at):
     """The units of 100 ms of a time such as 3s, 500ms or 2m."""
-    found = re.fullmatch(r"(\d+(?:\.\d)?)(ms|s|m)", word)
+    found = re.fullmatch(r"([0-9]{1,9}(?:\.[0-9])?)(ms|s|m)", word)
     time = round(float(found[1]) * {"ms": 0.01, "s": 10, "m": 600}[found[2]]) if found else 0
     if not 1 <= time <= 65535:
         wrong(at + 2, word, "a time from 100ms to 109m, as 3s")

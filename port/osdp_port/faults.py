@@ -15,9 +15,13 @@ class Refused(Exception):
     """A line that can't be done, and the sentence that says why."""
 
 
-def number(word, what, least=0, most=None):
-    """The number that a word is, from `least` on."""
-    if not (word.isascii() and word.isdecimal() and int(word) >= least and (most is None or int(word) <= most)):
-        span = f"from {least} to {most}" if most is not None else f"from {least} on"
-        raise Stop(f"{what}: {word or 'nothing'} is no number {span}", BAD_WORDS)
+def is_number(word, least, most):
+    """Whether a word is a number of this span. (Python refuses to read one of thousands of digits.)"""
+    return word.isascii() and word.isdecimal() and len(word) <= 10 and least <= int(word) <= most
+
+
+def number(word, what, least, most):
+    """The number of this span that a word is."""
+    if not is_number(word, least, most):
+        raise Stop(f"{what}: {word or 'nothing'} is no number from {least} to {most}", BAD_WORDS)
     return int(word)

@@ -1,7 +1,7 @@
 """The files that keep, while there is no power, where devices stand: one of a panel, and one of a reader."""
 import os
 
-from .faults import FAILED, Stop
+from .faults import FAILED, Stop, is_number
 from .rounds import Place
 
 HEAD = "# where the devices of this line stand: written by osdp-port panel"
@@ -45,7 +45,7 @@ class ReaderPlace:
         words = lines[0].split() if len(lines) == 1 else []
         if not words and not os.path.exists(self.path):
             return None
-        if len(words) != 2 or not all(word.isdecimal() for word in words):
+        if len(words) != 2 or not (is_number(words[0], 0, 126) and is_number(words[1], 1, 4000000)):
             raise Stop(f"the kept place can't be read: {self.path}")
         return Place(*map(int, words))
 

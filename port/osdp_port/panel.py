@@ -1,6 +1,6 @@
 """A panel of the devices on one line: orders, what is reported, and a COMSET, which may leave a device at one of two places."""
 from . import cards, doors
-from .faults import Refused, Stop, BAD_WORDS
+from .faults import BAD_WORDS, Refused, Stop, is_number
 from .rounds import PAUSE, Entry, Place, Rounds
 from .serial_port import has_rate
 
@@ -272,7 +272,7 @@ class Panel:
             self.may_move(words[1:])
 
     def may_move(self, words):
-        if len(words) != 2 or not all(word.isdecimal() and word.isascii() for word in words):
+        if len(words) != 2 or not all(is_number(word, 0, 9999999999) for word in words):
             raise Refused("a COMSET has an address and a rate, as COMSET 7 9600")
         if int(words[0]) > 126:
             raise Refused(f"address {words[0]}: an address is 0 to 126")

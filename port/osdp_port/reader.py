@@ -1,6 +1,6 @@
 """A reader: what it is asked it does, and then it answers."""
 from .cards import raw_of
-from .faults import Refused
+from .faults import Refused, is_number
 from .outputs import Outputs
 from .rounds import Place
 from .serial_port import has_rate
@@ -18,7 +18,7 @@ def call_of(line):
     """The call that a line of standard input is."""
     words = line.split()
     if words[:1] == ["card"]:
-        if len(words) != 3 or not all(word.isdecimal() and word.isascii() for word in words[1:]) or int(words[1]) > 255 or int(words[2]) > 65535:
+        if len(words) != 3 or not is_number(words[1], 0, 255) or not is_number(words[2], 0, 65535):
             raise Refused("a card is its facility, 0 to 255, and its number, 0 to 65535: card 17 4386")
         return f"event {raw_of(*map(int, words[1:]))}"
     if words[:1] == ["keys"]:

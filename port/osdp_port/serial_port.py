@@ -1,6 +1,7 @@
 """A serial port, by pyserial: opened for this program alone, set raw, and opened again where its adapter was pulled."""
 import fcntl
 import os
+import re
 import termios
 import time
 
@@ -16,6 +17,7 @@ RATES = (9600, 19200, 38400, 57600, 115200, 230400)  # those of the standard
 PIECE = 2048  # how many bytes a read takes at most: a line to `osdp` has 8,192 characters at most, and a byte two of them
 AGAIN = 500  # after how many milliseconds a port that isn't there is tried again
 FAULTS = (OSError, ValueError, NotImplementedError)  # what pyserial raises
+SERVER = re.compile(r"(?:rfc2217|socket)://(?:\[[^]]+\]|[^:/\s]+):[0-9]{1,5}(?:[/?].*)?")  # a port that a server has
 STOLEN_AGAIN = 10.0  # after how many seconds it is told again that bytes were taken
 
 
@@ -32,6 +34,8 @@ def has_rate(rate):
 def refusal(path, error):
     """What a port that can't be opened asks for."""
     cause = getattr(error, "errno", None)
+    if path.startswith(("rfc2217://", "socket://")) and not SERVER.fullmatch(path):
+        return f"{path} names no port of a server: rfc2217://HOST:PORT or socket://HOST:PORT"
     if "exclusively lock" in str(error) or cause in (16, 11):
         owners = holders(path)
         return f"{path} is in use by {' and '.join(owners) if owners else 'another program, which this user may not see'}: end it first"

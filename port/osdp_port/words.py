@@ -1,5 +1,5 @@
 """The words that the program is called by."""
-from .faults import BAD_WORDS, Stop, number
+from .faults import BAD_WORDS, Stop, is_number, number
 
 HELP = """osdp-port: one command at the port of an OSDP line
 
@@ -35,11 +35,12 @@ Status: 0 well, 1 something was met (an accusation, a refusal, a lost session,
 no device), 2 bad words, 3 the port fails, 4 no memory, 127 a program is missing.
 man osdp-port has more.
 """
+MOST_RATE = 4000000
 COMMANDS = ("monitor", "show", "panel", "reader", "find", "trace")
 FLAGS = ("--all", "--osdpcap", "--plain")
 VALUES = {"--address": "an address", "--every": "seconds", "--keep": "a file", "--trace": "a file", "--size": "megabytes", "--set-address": "an address",
           "--set-rate": "a rate", "--osdp": "a path"}
-NUMBERS = {"--address": (0, 126), "--every": (1, 3600000), "--size": (1, 100000), "--set-address": (0, 126), "--set-rate": (1, 4000000)}
+NUMBERS = {"--address": (0, 126), "--every": (1, 3600000), "--size": (1, 100000), "--set-address": (0, 126), "--set-rate": (1, MOST_RATE)}
 FITS = {"--all": ("monitor", "show", "panel", "reader"), "--address": ("monitor", "show"), "--every": ("monitor",), "--keep": ("panel", "reader"),
         "--trace": ("panel", "reader"), "--size": ("panel", "reader", "trace"), "--osdpcap": ("panel", "reader", "trace"), "--set-address": ("find",), "--set-rate": ("find",)}
 
@@ -81,7 +82,7 @@ class Words:
             if len(rest) <= at:
                 bad(f"word {at + 1} is missing: {what}")
         self.port, rate, self.command, self.rest = rest[0], rest[1], rest[2], rest[3:]
-        if not (rate.isascii() and rate.isdecimal() and int(rate) > 0):
+        if not is_number(rate, 1, MOST_RATE):
             bad(f"word 2, {rate}: RATE, a number as 9600")
         self.rate = int(rate)
         if self.command not in COMMANDS:
@@ -106,7 +107,7 @@ def addresses(word):
     for part in word.split(","):
         first, dash, last = part.partition("-")
         ends = [first, last] if dash else [first, first]
-        if not all(end.isascii() and end.isdecimal() and int(end) <= 126 for end in ends) or int(ends[0]) > int(ends[1]):
+        if not all(is_number(end, 0, 126) for end in ends) or int(ends[0]) > int(ends[1]):
             bad(f"word 4, {part or 'nothing'}: addresses are numbers from 0 to 126, as 5,6 or 0-5")
         found += range(int(ends[0]), int(ends[1]) + 1)
     return found
