@@ -1,0 +1,5 @@
+pub mod Wanting
+pub mod Submitting
+pub mod States
+pub mod Online
+pub mod Begins

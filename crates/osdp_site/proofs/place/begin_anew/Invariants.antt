@@ -1,0 +1,7 @@
+use Rattle.std.proofs.Common.{◌≡◌}
+use Rattle.osdp_site.specs.Acting.{withdraws}
+use Rattle.osdp_site.proofs.place.begin_anew.Given as goal
+
+-- so many were taken back
+abbrev pub invariant-loop : goal.invariant-loop
+invariant-loop l = l.panel ≡ withdraws l.entry l.counter l.initial.panel

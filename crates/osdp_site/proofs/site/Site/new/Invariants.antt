@@ -1,0 +1,10 @@
+use Rattle.std.proofs.Common.{◌≡◌, ◌≤◌, replicate, vec_capacity}
+use Rattle.osdp_site.specs.Places.{new_place}
+use Rattle.osdp_site.proofs.site.Site.new.Given as goal
+
+-- so many entries are made, and there is room for the others
+abbrev pub invariant-loop : goal.invariant-loop
+invariant-loop l = record {
+  made : l.places.items ≡ replicate l.counter (new_place l.config.room l.now);
+  room : l.entries ≤ vec_capacity l.places;
+}

@@ -1,0 +1,5 @@
+pub mod States
+pub mod Places
+pub mod Acting
+pub mod Sites
+pub mod Laws

@@ -1,0 +1,45 @@
+//! What the calls of a site come to. The functions do nothing: their contracts are laws.
+
+ghost use Rattle.std.specs.Prelude.{ℕ, List};
+ghost use Rattle.std.specs.List.{All};
+ghost use Rattle.osdp_bus.specs.Buses.{BusState};
+ghost use Rattle.osdp_controller.specs.declared.report.Report.{Report};
+ghost use Rattle.osdp_site.specs.Laws.{IsFirstBegin, IsState, IsTaken, Move, NoneIsDue, OnlineBetween, SubmittedOnce, WaitsForThePause, after_moves};
+ghost use Rattle.osdp_site.specs.Places.{PlaceState, new_place};
+ghost use Rattle.osdp_site.specs.Sites.{Both, SiteState};
+
+/// After each opening all that is wanted is submitted once, in the order in which it was wanted, however often the panel refuses some of it; before that
+/// the site doesn't say that it is done.
+pub fn states_are_submitted_once()
+    ensures { (entry now : ℕ) (bs : List BusState) (p : PlaceState) → SubmittedOnce entry now bs p }
+{}
+
+/// Nothing else is submitted, and nothing to a device that is offline. The panel takes what is; it is stopped by a refusal alone.
+pub fn panels_take_what_is_wanted()
+    ensures { (entry : ℕ) (b : BusState) (p : PlaceState) → IsTaken entry b p }
+{}
+
+/// Whatever is called, all that is wanted are states: an order for a time is never given again.
+pub fn orders_are_not_repeated()
+    ensures { (entry pause room now : ℕ) (ms : List Move) → All IsState (after_moves entry pause ms (new_place room now)).wanted }
+{}
+
+/// A device is online exactly between an opening and the end of its session, since the moment of the report.
+pub fn devices_are_online_between()
+    ensures { (pause : ℕ) (before after : List (Report × ℕ)) (r : Report) (now : ℕ) (p : PlaceState) → OnlineBetween pause before after r now p }
+{}
+
+/// After the end of a session the next is never due before its pause, and always due after it.
+pub fn sessions_wait_for_the_pause()
+    ensures { (pause ended : ℕ) (r : Report) (after : List (Report × ℕ)) (p : PlaceState) → WaitsForThePause pause r ended after p }
+{}
+
+/// No entry waits for another: when all have acted, each session that was due has begun.
+pub fn no_session_stays_due()
+    ensures { (now : ℕ) (x : Both) → NoneIsDue now x }
+{}
+
+/// The deadline is the earliest moment at which some session is due.
+pub fn deadlines_are_the_first_begin()
+    ensures { (now : ℕ) (s : SiteState) → IsFirstBegin now s }
+{}
