@@ -51,3 +51,4 @@ pub mod Addresses
 pub mod Doing
 pub mod Counting
 pub mod Costing
+mod Lapsing

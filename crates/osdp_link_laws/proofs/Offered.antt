@@ -1,5 +1,5 @@
 -- The events of a session that were offered stand before those in the queue that never were.
-use Rattle.std.proofs.Common.{◌≡◌, ◌++◌, List, [], ◌∷◌, take, Option, Some, None, refl, sym, subst, ap, ◌∙◌, append_assoc}
+use Rattle.std.proofs.Common.{◌≡◌, ◌++◌, List, [], take, Option, Some, None, refl, sym, subst, ap, ◌∙◌, append_assoc}
 use Rattle.std.proofs.lemmas.List.{append-nil, append_cancel_right}
 use Rattle.std.specs.Prelude.{ℕ, if◌then◌else◌, option_to_list}
 use Rattle.osdp_msg.specs.Events.{event_in}

@@ -14,3 +14,4 @@ pub mod Clean
 pub mod Effects
 pub mod Costs
 pub mod Withdrawn
+pub mod Lapses

@@ -16,6 +16,7 @@ ghost use Rattle.osdp_link_laws.specs.TwoLists.{IsTwoLists, KeepsInStep};
 
 pub mod effects;
 pub mod ends;
+pub mod lapses;
 pub mod names;
 pub mod withdrawn;
 

@@ -1,0 +1,233 @@
+-- A link whose device lets an event lapse, beside the same link without the lapse.
+use Rattle.std.proofs.Common.{◌≡◌, ◌≢◌, ◌<◌, ℕ, suc, Bool, true, false, List, [], ◌∷◌, ◌++◌, length, Option, Some, None, Ok, Err, refl, sym, subst, ap, inl, inr, arith}
+use Rattle.std.specs.Prelude.{◌==◌}
+use Rattle.osdp_frame.specs.Packet.{Packet}
+use Rattle.osdp_msg.specs.declared.command.Command.{Command}
+use Rattle.osdp_msg.specs.declared.event.Event.{Event}
+use Rattle.osdp_controller.specs.Machine as controllers
+use Rattle.osdp_controller.specs.declared.fault.ControllerFault.{ControllerFault}
+use Rattle.osdp_reader.specs.Queue.{Queue}
+use Rattle.osdp_reader.specs.Table.{kind_of, outcome}
+use Rattle.osdp_reader.specs.declared.handler.Answer.{Answer}
+use Rattle.osdp_reader.specs.declared.kind.Kind.{Kind}
+use Rattle.osdp_reader.specs.declared.kind.Kind.TheVariants.{Silent, Secured, Zero, Repeat, Taken, Busy, Wrong}
+use Rattle.std.specs.Prelude.{option_to_list}
+use Rattle.osdp_link_laws.specs.Lapses.{DifferByLapse, IsNotZeroIf, LapsesAreUnheard, NextBeginsWithout, Offers, StayInSession, StaysInSession, lapses}
+use Rattle.osdp_link_laws.specs.Link as link
+use Rattle.osdp_link_laws.specs.Link.{Delivered, Delivery, Link, LoseToController, LoseToReader, Lost, Move, Queue as QueueEvent, Reopen, Repeated, RestartController, RestartReader, Retarget, SetBusy, SetHandler, Submit, Tick, ToController, ToReader, Withdraw, WithdrawEvent, after_move, run}
+use Rattle.osdp_link_laws.specs.Headline.{Begins, MaySubmit}
+use Rattle.osdp_link_laws.specs.Peers.{ReadEachOther}
+use Rattle.osdp_link_laws.proofs.InARow.{stands}
+use Rattle.osdp_link_laws.proofs.Lines.{each_all, each_rest}
+use Rattle.osdp_link_laws.proofs.Numbers.{is_false}
+use Rattle.osdp_link_laws.proofs.Removed.{gone}
+use Rattle.osdp_link_laws.proofs.Stages.{Each}
+
+-- a queue whose front is offered
+abbrev offered_queue : Event → List Event → ℕ → Queue
+offered_queue event rest room = record { events = event ∷ rest; capacity = room; offered = true; ever_offered = true }
+
+-- where there is room beside it, there is room without it
+has_room : (event : Event) (rest : List Event) (room : ℕ) → length (event ∷ rest) < room → ((length (event ∷ rest) == room) ≡ false) × ((length rest == room) ≡ false)
+has_room event rest room less = (
+  is_false (length (event ∷ rest)) room (λ same. absurd (omega (arith, less, same))),
+  is_false (length rest) room (λ same. absurd (let longer : length (event ∷ rest) ≡ suc (length rest) = refl in omega (arith, less, same, longer))),
+)
+
+module _ {H : Type 0} where
+  -- a link with this in its queue
+  abbrev off : Event → List Event → ℕ → Link H → Link H
+  off event rest room l = record l { reader = record l.reader { queue = offered_queue event rest room } }
+
+  offers_it : (event : Event) (rest : List Event) (room : ℕ) (l : Link H) → Offers event rest (off event rest room l)
+  offers_it event rest room l = record { events = refl; offered = refl; ever_offered = refl }
+
+  -- it is such a link already
+  is_off : (event : Event) (rest : List Event) (l : Link H) → Offers event rest l → off event rest l.reader.queue.capacity l ≡ l
+  is_off event rest l is = λ i. record l {
+    reader = record l.reader {
+      queue = record {
+        events = sym is.events i;
+        capacity = l.reader.queue.capacity;
+        offered = sym is.offered i;
+        ever_offered = sym is.ever_offered i;
+      };
+    };
+  }
+
+  module _ (event : Event) where
+    -- what is without the lapse offers the event yet
+    yet : (rest : List Event) (room : ℕ) (l : Link H) → DifferByLapse (lapses (off event rest room l)) (off event rest room l)
+    yet rest room l = inr (event, rest, offers_it event rest room l, refl)
+
+    module _ (answer_of : H → Command → Answer) (after : H → Command → H) where
+      abbrev With : Move H → Link H → Type 0
+      With move l = DifferByLapse (after_move answer_of after move (lapses l)) (after_move answer_of after move l)
+
+      submits_so : (refusal : Option ControllerFault) (c : Command) (rest : List Event) (room : ℕ) (l : Link H)
+          → DifferByLapse (link.submits refusal c (lapses (off event rest room l))) (link.submits refusal c (off event rest room l))
+      submits_so (Some fault) c rest room l = yet rest room l
+      submits_so None c rest room l = yet rest room (link.submits None c l)
+
+      retargets_so : (refusal : Option ControllerFault) (address : ℕ) (rest : List Event) (room : ℕ) (l : Link H)
+          → DifferByLapse (link.retargets refusal address (lapses (off event rest room l))) (link.retargets refusal address (off event rest room l))
+      retargets_so (Some fault) address rest room l = yet rest room l
+      retargets_so None address rest room l = yet rest room (link.retargets None address l)
+
+      queues_so : (one two : Bool) (e : Event) (rest : List Event) (room : ℕ) (l : Link H) → one ≡ false → two ≡ false
+          → DifferByLapse (link.queues two e (lapses (off event rest room l))) (link.queues one e (off event rest room l))
+      queues_so false false e rest room l a b = yet (rest ++ e ∷ []) room (record l {
+        account = record l.account {
+          queued = l.account.queued ++ e ∷ [];
+          stayed = l.account.stayed ++ e ∷ [];
+          kept = l.account.kept ++ e ∷ [];
+        };
+      })
+      queues_so true two e rest room l a b = absurd cc
+      queues_so false true e rest room l a b = absurd cc
+
+      -- by the line of the reader's table
+      abbrev gets_by : Kind → Packet → Link H → Link H
+      gets_by kind p l =
+          let o = outcome answer_of after kind l.reader p in
+          record l {
+            reader = o.reader;
+            to_controller = l.to_controller ++ option_to_list o.reply;
+            account = link.taken kind o.command o.said (link.front_of l.reader) l.account;
+          }
+
+      taken_so : (p : Packet) (rest : List Event) (room : ℕ) (l : Link H)
+          → gets_by Taken p (lapses (off event rest room l)) ≡ gets_by Taken p (off event rest room l)
+      taken_so p rest room l = by_command (Rattle.osdp_reader.specs.Table.command_in p)
+        where
+          by_command : (c : _) → record l {
+            reader = (Rattle.osdp_reader.specs.Table.taken answer_of after c (lapses (off event rest room l)).reader p).reader;
+            to_controller = l.to_controller ++ option_to_list (Rattle.osdp_reader.specs.Table.taken answer_of after c (lapses (off event rest room l)).reader p).reply;
+            account = link.taken Taken (Rattle.osdp_reader.specs.Table.taken answer_of after c (lapses (off event rest room l)).reader p).command
+                (Rattle.osdp_reader.specs.Table.taken answer_of after c (lapses (off event rest room l)).reader p).said
+                (link.front_of (lapses (off event rest room l)).reader) l.account;
+          } ≡ record l {
+            reader = (Rattle.osdp_reader.specs.Table.taken answer_of after c (off event rest room l).reader p).reader;
+            to_controller = l.to_controller ++ option_to_list (Rattle.osdp_reader.specs.Table.taken answer_of after c (off event rest room l).reader p).reply;
+            account = link.taken Taken (Rattle.osdp_reader.specs.Table.taken answer_of after c (off event rest room l).reader p).command
+                (Rattle.osdp_reader.specs.Table.taken answer_of after c (off event rest room l).reader p).said
+                (link.front_of (off event rest room l).reader) l.account;
+          }
+          by_command (Ok c) = refl
+          by_command (Err fault) = refl
+
+      gets_so : (kind : Kind) (p : Packet) (rest : List Event) (room : ℕ) (l : Link H) → kind ≢ Zero
+          → DifferByLapse (gets_by kind p (lapses (off event rest room l))) (gets_by kind p (off event rest room l))
+      gets_so Silent p rest room l differs = yet rest room (gets_by Silent p l)
+      gets_so Secured p rest room l differs = yet rest room (gets_by Secured p l)
+      gets_so Zero p rest room l differs = absurd (differs refl)
+      gets_so Repeat p rest room l differs = yet rest room (gets_by Repeat p l)
+      gets_so Taken p rest room l differs = inl (taken_so p rest room l)
+      gets_so Busy p rest room l differs = yet rest room (gets_by Busy p l)
+      gets_so Wrong p rest room l differs = yet rest room (gets_by Wrong p l)
+
+      to_reader_so : (how : Delivery) (ps : List Packet) (rest : List Event) (room : ℕ) (l : Link H)
+          → IsNotZeroIf how ps (off event rest room l).reader
+          → DifferByLapse (link.to_reader answer_of after ps how (lapses (off event rest room l))) (link.to_reader answer_of after ps how (off event rest room l))
+      to_reader_so how [] rest room l differs = yet rest room l
+      to_reader_so Delivered (p ∷ ps) rest room l differs = gets_so (kind_of l.reader p) p rest room (record l { to_reader = ps }) differs
+      to_reader_so Lost (p ∷ ps) rest room l differs = yet rest room (record l { to_reader = ps })
+      to_reader_so Repeated (p ∷ ps) rest room l differs = gets_so (kind_of l.reader p) p rest room l differs
+
+      to_controller_so : (how : Delivery) (now : ℕ) (ps : List Packet) (rest : List Event) (room : ℕ) (l : Link H)
+          → DifferByLapse (link.to_controller ps how now (lapses (off event rest room l))) (link.to_controller ps how now (off event rest room l))
+      to_controller_so how now [] rest room l = yet rest room l
+      to_controller_so Delivered now (p ∷ ps) rest room l = yet rest room (link.controller_gets p now (record l { to_controller = ps }))
+      to_controller_so Lost now (p ∷ ps) rest room l = yet rest room (record l { to_controller = ps })
+      to_controller_so Repeated now (p ∷ ps) rest room l = yet rest room (link.controller_gets p now l)
+
+      moves_so : (move : Move H) (rest : List Event) (room : ℕ) (l : Link H) → StaysInSession move (off event rest room l) → With move (off event rest room l)
+      moves_so (Submit c) rest room l stays = submits_so (controllers.submit_refusal c l.controller) c rest room l
+      moves_so (QueueEvent e) rest room l stays =
+          let room_for = has_room event rest room stays in
+          queues_so (length (event ∷ rest) == room) (length rest == room) e rest room l room_for.0 room_for.1
+      moves_so (SetBusy busy) rest room l stays = yet rest room (after_move answer_of after (SetBusy busy) l)
+      moves_so (Tick now) rest room l stays = yet rest room (after_move answer_of after (Tick now) l)
+      moves_so (ToReader how) rest room l stays = to_reader_so how l.to_reader rest room l stays
+      moves_so (ToController how now) rest room l stays = to_controller_so how now l.to_controller rest room l
+      moves_so (Reopen now) rest room l stays = absurd stays
+      moves_so (SetHandler handler) rest room l stays = yet rest room (after_move answer_of after (SetHandler handler) l)
+      moves_so Withdraw rest room l stays = yet rest room (link.withdraws l)
+      moves_so (Retarget address) rest room l stays = retargets_so (controllers.retarget_refusal address l.controller) address rest room l
+      moves_so WithdrawEvent rest room l stays =
+          yet (Rattle.std.specs.Prelude.drop 1 rest) room (record l { account = link.event_withdrawn (offered_queue event rest room) l.account })
+      moves_so (RestartReader address handler room_for) rest room l stays = inl refl
+      moves_so (RestartController config room_for) rest room l stays = yet rest room (link.restarts_controller config room_for l)
+      moves_so (LoseToReader place) rest room l stays = yet rest room (after_move answer_of after (LoseToReader place) l)
+      moves_so (LoseToController place) rest room l stays = yet rest room (after_move answer_of after (LoseToController place) l)
+
+  module _ (answer_of : H → Command → Answer) (after : H → Command → H) where
+    move_so : (move : Move H) (l : Link H) (event : Event) (rest : List Event) → Offers event rest l → StaysInSession move l
+        → DifferByLapse (after_move answer_of after move (lapses l)) (after_move answer_of after move l)
+    move_so move l event rest is stays =
+        let same = is_off event rest l is in
+        subst (λ (m : Link H). DifferByLapse (after_move answer_of after move (lapses m)) (after_move answer_of after move m)) same
+        (moves_so event answer_of after move rest l.reader.queue.capacity l (subst (StaysInSession move) (sym same) stays))
+
+    all_so : (moves : List (Move H)) (l : Link H) (event : Event) (rest : List Event) → Offers event rest l → StayInSession answer_of after moves l
+        → DifferByLapse (run answer_of after moves (lapses l)) (run answer_of after moves l)
+    all_so [] l event rest is stay = inr (event, rest, is, refl)
+    all_so (move ∷ moves) l event rest is stay =
+        by_step (move_so move l event rest is stay.0) (λ e more offers. all_so moves (after_move answer_of after move l) e more offers stay.1)
+      where
+        next : Link H
+        next = after_move answer_of after move l
+
+        by_step : DifferByLapse (after_move answer_of after move (lapses l)) next
+            → ((e : Event) (more : List Event) → Offers e more next → DifferByLapse (run answer_of after moves (lapses next)) (run answer_of after moves next))
+            → DifferByLapse (run answer_of after moves (after_move answer_of after move (lapses l))) (run answer_of after moves next)
+        by_step (inl same) later = inl (ap (run answer_of after moves) same)
+        by_step (inr (e, more, offers, lapsed)) later =
+            subst (λ (m : Link H). DifferByLapse (run answer_of after moves m) (run answer_of after moves next)) (sym lapsed)
+            (later e more offers)
+
+    pub lapses_are_unheard : LapsesAreUnheard answer_of after
+    lapses_are_unheard = record {
+      leaves = λ l event rest is. subst (λ (m : Link H). (lapses m).reader.queue
+          ≡ record { events = rest; capacity = m.reader.queue.capacity; offered = false; ever_offered = false }) (is_off event rest l is) refl;
+      session = λ l event rest moves is stay. all_so moves l event rest is stay;
+      taken = λ l event rest p is kind.
+          let room = l.reader.queue.capacity in
+          subst (λ (m : Link H). link.reader_gets answer_of after p (lapses m) ≡ link.reader_gets answer_of after p m) (is_off event rest l is)
+          (subst (λ k. gets_by event answer_of after k p (lapses (off event rest room l)) ≡ gets_by event answer_of after k p (off event rest room l))
+          (sym kind) (taken_so event answer_of after p rest room l));
+    }
+
+    -- ---- where the session ends
+
+    next_with : (refusal : Option ControllerFault) (ps qs : List Packet) (now : ℕ) (event : Event) (rest : List Event) (room : ℕ) (l : Link H)
+        → l.controller.session.config.address < 127 → Each MaySubmit l.controller.waiting
+        → refusal ≡ None → ps ≡ [] → qs ≡ [] → l.to_reader ≡ [] → l.to_controller ≡ []
+        → let next = link.reopens refusal ps qs now (lapses (off event rest room l)) in
+        Begins (record next { earlier = [] }) × (next.account.queued ≡ rest) × (next.earlier ≡ l.account ∷ l.earlier)
+    next_with None [] [] now event rest room l device waiting may to_none from_none there here = (
+      record {
+        quiet = (_, refl);
+        address = device;
+        waiting = each_all MaySubmit l.controller.waiting waiting;
+        to_reader = there;
+        to_controller = here;
+        account = refl;
+        earlier = refl;
+      },
+      refl,
+      refl,
+    )
+    next_with (Some fault) ps qs now event rest room l device waiting may to_none from_none there here = absurd (let e = may in cc)
+    next_with None (p ∷ ps) qs now event rest room l device waiting may to_none from_none there here = absurd (let e = to_none in cc)
+    next_with None [] (q ∷ qs) now event rest room l device waiting may to_none from_none there here = absurd (let e = from_none in cc)
+
+    pub next_begins_without : ReadEachOther answer_of after → NextBeginsWithout answer_of after
+    next_begins_without peers first moves event rest now begin fits is may there here =
+        let l = run answer_of after moves first in
+        let room = l.reader.queue.capacity in
+        let s = stands answer_of after peers first moves begin fits in
+        subst (λ (m : Link H). let next = after_move answer_of after (Reopen now) (lapses m) in
+        Begins (record next { earlier = [] }) × (next.account.queued ≡ rest) × (next.earlier ≡ l.account ∷ l.earlier)) (is_off event rest l is)
+        (next_with (controllers.begin_refusal l.controller) l.to_reader l.to_controller now event rest room l s.current
+        (each_rest MaySubmit (gone l.account) l.controller.waiting s.goes.holds.2.waiting) may there here there here)
