@@ -341,8 +341,8 @@ def anew(makes, **panel):
 ROWS = {
     "nothing, not even `cmd`": (lambda seen: not seen.lines, [("no panel", of(silent, speaks=False))]),
     "`skip` alone, or `skip` and `refused`, and no `cmd`": (lambda seen: set(seen.kinds()) <= {"skip", "refused"}, [("another rate", of(healthy, heard_wrong=True))]),
-    "a `cmd` that came `in`": (lambda seen: any(way == "in" and line.startswith("cmd") for way, line in seen.lines), [("another panel", of(another_panel))]),
-    "`cmd` alone; `unanswered` of `osdp monitor`": (lambda seen: set(seen.kinds()) == {"cmd"}, [("no answer", of(silent)), ("an echo and no answer", of(lambda burst, _: [(1, burst)]))]),
+    "a `cmd` that came `in`, in the trace of your own panel": (lambda seen: any(way == "in" and line.startswith("cmd") for way, line in seen.lines), [("another panel", of(another_panel))]),
+    "`cmd` alone": (lambda seen: set(seen.kinds()) == {"cmd"}, [("no answer", of(silent)), ("an echo and no answer", of(lambda burst, _: [(1, burst)]))]),
     "two `reply` after one `cmd`; or `refused` first after each `cmd`, and no `reply`": (
         lambda seen: seen.begins_each("refused") or sum(part.count("reply") > 1 for part in seen.after_each_cmd()) > 2 and not seen.repeats(),
         [("two devices at one address, at once", of(two_at_once)), ("two devices at one address, in turn", of(two_in_turn))]),
@@ -351,10 +351,10 @@ ROWS = {
     "`reply .. NAK 6`, or `passed over I block`": (lambda seen: seen.has_reply("NAK 6") or seen.tells("passed over 1 block"), [("Secure Channel", of(secure))]),
     "`lost I too-busy`": (lambda seen: seen.tells("lost 1 too-busy"), [("busy", of(busy))]),
     "`lost I number-refused`, and no `opened`": (lambda seen: seen.tells("lost 1 number-refused") and not seen.tells("opened"), [("another session", of(number_refused))]),
-    "`lost I number-refused` and `opened` in turn; `restarted` of `osdp monitor`": (lambda seen: seen.tells("lost 1 number-refused"), [("restarts", anew(lambda: Reader(restarts=70)))]),
+    "`lost I number-refused` and `opened` in turn": (lambda seen: seen.tells("lost 1 number-refused"), [("restarts", anew(lambda: Reader(restarts=70)))]),
     "a `reply` with another address than its `cmd`": (lambda seen: seen.has_another_address(), [("answers with another address", of(another_address))]),
     "`passed over I seq N`, and no `opened`": (lambda seen: seen.tells("passed over 1 seq") and not seen.tells("opened"), [("another number", of(another_number))]),
-    "each `cmd` comes again, and is answered; `a late answer` of `osdp monitor`": (
+    "each `cmd` comes again, and is answered": (
         lambda seen: "reply" in seen.kinds() and seen.repeats() and not seen.tells("passed over 1 NAK"), [(f"late by {wait} ms", of(late(wait))) for wait in (205, 250, 390, 590)]),
     "`passed over I` and another reply": (lambda seen: seen.tells("passed over 1 ") and not seen.tells("opened"), [("another reply", of(another_reply))]),
     "`refused F3` or `skip` now and then": (lambda seen: "reply" in seen.kinds() and any(line.startswith(("refused", "skip")) for _, line in seen.lines), [("noise", of(noisy))]),
@@ -386,11 +386,12 @@ LOSES = {"`lost I no-reply` every few seconds"}
 
 
 def rows_of_page(heading):
-    """The first cells of the first table under a heading of the page."""
+    """The first cells of the first table under a heading of the page, each with what the second one says that the monitor tells."""
     text = (TOP / "docs/INSTALLING.md").read_text()
     body = re.split(rf"^## {heading}$", text, flags=re.M)[1].split("\n## ")[0]
-    table = body[body.index("| What is seen | What it means |"):].split("\n\n")[0]
-    return [line.split(" | ")[0].removeprefix("| ") for line in table.splitlines()[2:]]
+    table = body[body.index("| What is seen | `osdp monitor` tells |"):].split("\n\n")[0]
+    cells = [[cell.strip() for cell in line.strip("|").split(" |")] for line in table.splitlines()[2:]]
+    return {first: re.findall(r"`([^`]*)`", second) for first, second, *_ in cells}
 
 
 def row_for(seen, rows, complaint=""):
@@ -398,8 +399,8 @@ def row_for(seen, rows, complaint=""):
     return next((row for row, (fits, _) in rows.items() if row.startswith(complaint) and fits(seen)), None)
 
 
-def judge(rows, line, faults, found):
-    """Goes down a table with the captures of each of its rows, on such a line."""
+def judge(rows, names, line, faults, found):
+    """Goes down a table with the captures of each of its rows, on such a line. The monitor tells what the page says of the row."""
     for row, (_, captures) in rows.items():
         complaint = row.split(": ")[0] if rows is DOOR else ""
         for name, makes in captures:
@@ -408,7 +409,7 @@ def judge(rows, line, faults, found):
             found[led == row] += 1
             if led != row and not (line["loss"] and name == "an echo" and led in LOSES):
                 faults.append(f"{name}, {line}: the table leads to {led!r}, and not to {row!r}")
-            for named in re.findall(r"`([^`]*)` of `osdp monitor`", row):
+            for named in names.get(row, ()):
                 if named not in (heard := seen.capture.heard()):
                     faults.append(f"{name}, {line}: osdp monitor doesn't tell {named!r}: {heard}")
 
@@ -416,13 +417,16 @@ def judge(rows, line, faults, found):
 def main(path):
     global osdp
     osdp, begun, faults, found = path, time.monotonic(), [], Counter()
+    names = {}
     for heading, rows in (("A device that doesn't answer", ROWS), ("A door that stays shut, or digits that come twice", DOOR)):
-        if rows_of_page(heading) != list(rows):
-            faults.append(f"docs/INSTALLING.md has other rows: {[*set(rows_of_page(heading)) ^ set(rows)]}")
+        page = rows_of_page(heading)
+        names |= page
+        if list(page) != list(rows):
+            faults.append(f"docs/INSTALLING.md has other rows: {[*set(page) ^ set(rows)]}")
     for loss, seed in LOSSES:
         line = {"loss": loss, "seed": seed}
         for rows in (ROWS, DOOR):
-            judge(rows, line, faults, found)
+            judge(rows, names, line, faults, found)
         led = row_for(Seen(Capture(healthy, **line)), ROWS)
         if led is not None and not (loss and led in LOSES):
             faults.append(f"a line without a fault, {line}: the table leads to {led!r}")

@@ -1,5 +1,5 @@
 /* A device with two outputs: `door_device PORT RATE`, at address 5. A line `card 12345640` says that a card was read. Each output that is switched on is
- * printed. */
+ * printed, and so is a card that was too old: `withdrawn`, or `in doubt` where the panel may have it. */
 #include <string.h>
 
 #include "port.h"
@@ -18,6 +18,8 @@ int main(void)
     return may_be_done(&opens) && may_be_done(&closes) && !may_be_done(&for_good) && !may_be_done(&third) ? 0 : 1;
 }
 #else
+#define TOO_OLD 30000 /* how long a card may wait while no panel is there, in milliseconds */
+
 static osdp_device device;
 static int port;
 
@@ -55,6 +57,16 @@ static void hear(const uint8_t *bytes, size_t length, uint64_t now)
     }
 }
 
+/* A card that has waited for too long, while no panel was there, is told to nobody any more: it would open the door when the panel comes back. */
+static void let_go(uint64_t now)
+{
+    static struct osdp_message event;
+    uint32_t expired;
+    while (osdp_device_expire_event(&device, now, TOO_OLD, &expired, &event) == OSDP_OK && expired != OSDP_EXPIRED_NONE) {
+        tell("%s %s\n", expired == OSDP_EXPIRED_WITHDRAWN ? "withdrawn" : "in doubt", reply_text(&event));
+    }
+}
+
 /* A card of 26 bits was read, where a line says so: it is told to the next POLL. */
 static void take_line(const char *line)
 {
@@ -80,6 +92,7 @@ int main(int count, char **words)
     for (;;) {
         size_t length = read_port(port, &lines, 10, bytes, sizeof bytes);
         uint64_t now = moment(); /* after the read: not before it */
+        let_go(now);
         hear(bytes, length, now);
         for (const char *line = next_line(&lines); line != NULL; line = next_line(&lines)) {
             take_line(line);

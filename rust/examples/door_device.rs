@@ -1,4 +1,5 @@
-//! A device with two outputs: `door_device PORT RATE`, at address 5. A line `card 12345640` is a card. Each output that is switched on is printed.
+//! A device with two outputs: `door_device PORT RATE`, at address 5. A line `card 12345640` is a card. Each output that is switched on is printed, and so is a
+//! card that was too old.
 mod port;
 
 use osdp::{
@@ -12,6 +13,8 @@ use std::time::Duration;
 
 /// How long it waits at most.
 const TURN: Duration = Duration::from_millis(10);
+/// How long a card may wait while no panel is there.
+const TOO_OLD: Duration = Duration::from_secs(30);
 
 /// Whether an output may be switched so: for a time, or off. A door may not stand open for good.
 fn may_be_done(record: &Output) -> bool {
@@ -60,12 +63,21 @@ fn hear(device: &mut Device, port: &mut Port, mut bytes: &[u8], now: Moment) -> 
     }
 }
 
+/// A card that has waited for too long, while no panel was there, is told to nobody any more: it would open the door when the panel comes back.
+fn let_go(device: &mut Device, now: Moment) -> Done {
+    while let Some(expired) = device.expire_event(now, TOO_OLD)? {
+        println!("{expired:?}"); // withdrawn, or in doubt: then the panel may have it
+    }
+    Ok(())
+}
+
 fn run(mut port: Port) -> Done {
     let mut device = Device::new(&DeviceConfig::new(5))?;
     device.set_outputs(&[0, 0])?;
     loop {
         let came = port.wait(port.now() + TURN)?;
         let now = port.now(); // after the read: not before it
+        let_go(&mut device, now)?;
         match &came {
             Came::Bytes(bytes) => hear(&mut device, &mut port, bytes, now)?,
             Came::Line(line) => {

@@ -1,0 +1,33 @@
+#!/usr/bin/env bash
+# A maker's panel over a line that loses, damages and repeats 5% of all bursts makes no second order for a card, and no card is missing: the small panel in C,
+# with the sanitizers, on a port in simulated time (`tests/c/repeated.c`), and that in Rattle (`repeated.py`). The panel in C without its test for cards that
+# may have been told before makes second orders there, so the run can fail. The small device in C lets a card go that nobody has asked for in time. Takes the path of the program, beside which the crates stand. The archive is that which `c.sh` has built.
+set -u
+crates=$(cd "$(dirname "$1")/../.." && pwd) || exit 1
+cd "$(dirname "$0")/.." || exit 1
+. tests/passes.bash
+
+# $1: the name of what is built; the rest: what it is made of
+build() {
+  "$CC" -std=c11 -Wall -Wextra -Werror -pedantic -O2 -g -Iinclude -Iexamples/c -o "$work/$1" "${@:2}" examples/c/{settings,words}.c \
+    c/heap_malloc.c c/osdp_texts.c crates/osdp_c/out/libosdp_c.a -fsanitize=address,undefined -fno-sanitize-recover=all >"$work/said" 2>&1 || { cat "$work/said"; fail "$1 was not built"; return 1; }
+}
+
+panel=(examples/c/{door,kept}.c tests/c/repeated.c -Wl,--wrap=tell_report)
+build panel examples/c/door_panel.c "${panel[@]}" && passes "$work/panel" 20000 9600 && cat "$work/said"
+
+sed 's/ && report.detail != OSDP_EVENT_MAYBE_AGAIN//' examples/c/door_panel.c >"$work/without.c"
+cmp -s examples/c/door_panel.c "$work/without.c" && fail 'door_panel.c has no test for cards that may have been told before'
+if build without "$work/without.c" "${panel[@]}"; then
+  "$work/without" 20000 9600 >"$work/said" 2>&1 && fail 'a panel without the test makes no second order, so nothing was tried'
+  grep -q '^repeated: 20000 cards told of 20000, .* [1-9][0-9]* second orders' "$work/said" || { cat "$work/said"; fail 'a panel without the test fails otherwise'; }
+  sed 's/^repeated:/without the test:/' "$work/said"
+fi
+
+# the card that no panel asks for leaves in time, and isn't told later; the one that was told leaves as in doubt
+wanted='29950 withdrawn RAW 0 0 26 12345640 30050 sent 45 sent 40 sent 50 61150 in doubt RAW 0 0 26 65432180 61250 sent 45 sent 40'
+build device examples/c/door_device.c tests/c/stale.c && passes "$work/device" PORT 9600 &&
+  { [ "$(tr '\n' ' ' <"$work/said")" = "$wanted " ] || { cat "$work/said"; fail 'the device lets cards go otherwise'; }; }
+
+timeout 100 python3 -B tests/repeated.py "$crates"/osdp_example_panel/out/osdp_example_panel "$crates"/osdp_example_device/out/osdp_example_device 400 1 || failed=1
+exit "$failed"
