@@ -43,7 +43,7 @@ for heap in malloc pool; do
 done
 # what stands beside the archive compiles without a word as C99, C11 and C++
 for language in "-std=c99 -xc" "-std=c11 -xc" "-std=c++17 -xc++"; do
-  for file in heap_malloc heap_pool osdp_texts; do
+  for file in heap_malloc heap_pool osdp_site osdp_texts; do
     "$CC" $language -Wall -Wextra -Wpedantic -Werror -Iinclude -c -o "$work/beside.o" "c/$file.c" 2>"$work/said" ||
       { cat "$work/said"; fail "$file.c as $language says something"; }
   done
@@ -68,6 +68,8 @@ build structs_checked tests/c/structs.c c/heap_malloc.c "$archive" "${checked[@]
 for name in ages limits moments nulls; do
   build "$name" "tests/c/$name.c" c/heap_malloc.c "$archive" "${checked[@]}" && passes "$work/$name"
 done
+
+build site tests/c/site.c c/heap_malloc.c c/osdp_site.c "$archive" "${checked[@]}" && passes "$work/site"
 
 for heap in malloc pool; do
   build "session_$heap" "${session[@]}" "c/heap_$heap.c" "${counted[@]}" "$archive" && passes "$work/session_$heap"

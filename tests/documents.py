@@ -324,7 +324,7 @@ def judge_profile():
 def judge_page(page, all_crates):
     """Any page: the crates, exports, scripts and folders that it names are there, and its rows are short."""
     text = (TOP / page).read_text()
-    exports = re.findall(r"\b(osdp_[a-z_]+)\(", (TOP / "include/osdp.h").read_text())
+    exports = re.findall(r"\b(osdp_[a-z_]+)\(", "".join((TOP / f"include/{name}.h").read_text() for name in ("osdp", "osdp_site")))
     for name in sorted(set(re.findall(r"`(osdp_[a-z_]+)`", text))):
         if name not in all_crates and name not in exports:
             faults.append(f"{page}: there is no crate {name}")

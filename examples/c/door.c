@@ -7,8 +7,7 @@
 #include "port.h"
 #include "words.h"
 
-#define PAUSE 1000 /* from a lost session to the next one, in milliseconds */
-#define KEPT 64    /* how many stands a file keeps at most */
+#define KEPT 64 /* how many stands a file keeps at most */
 
 static const char *path;
 static struct stand stands[KEPT];
@@ -29,6 +28,7 @@ osdp_status add_door(osdp_panel *panel, struct door *door, const char *kept, uin
     path = kept;
     count = read_stands(path, stands, KEPT);
     *door = (struct door){ .stand = stand_of(stands, &count, KEPT, name, rate) };
+    osdp_site_new(&door->site, &door->place, 1, 0);
     return osdp_panel_add(panel, place_of(door->stand).address, &door->entry);
 }
 
@@ -46,6 +46,7 @@ static void note_door(struct door *door)
 void heed_door(struct door *door, const struct osdp_report *report, uint64_t now)
 {
     const uint8_t *com = report->reply.data; /* of a COM: the address, and the rate with its lowest byte first */
+    (void)osdp_site_heed(&door->site, report, now);
     if (report->kind == OSDP_REPORT_OPENED && osdp_pd_id_of(&report->reply, &door->seen) == OSDP_OK) {
         door->is_other = !is_same(door->stand, &door->seen);
         if (door->is_other) {
@@ -61,14 +62,13 @@ void heed_door(struct door *door, const struct osdp_report *report, uint64_t now
     }
     if (report->kind == OSDP_REPORT_LOST || report->kind == OSDP_REPORT_MOVED) {
         door->may_order = door->is_other = false;
-        door->begins = now + (report->kind == OSDP_REPORT_LOST ? PAUSE : 0);
     }
 }
 
 void begin_door(osdp_panel *panel, struct door *door, int port, uint64_t now)
 {
     static struct osdp_message command;
-    if (door->begins > now) {
+    if (!osdp_site_is_due(&door->site, door->entry, now)) {
         return;
     }
     while (osdp_panel_withdraw(panel, door->entry, &command) == OSDP_OK && command.present) {
@@ -81,9 +81,8 @@ void begin_door(osdp_panel *panel, struct door *door, int port, uint64_t now)
     if (!set_rate(port, place.rate)) {
         tell("no rate %u\n", (unsigned)place.rate);
     }
-    door->begins = UINT64_MAX;
     (void)osdp_panel_retarget(panel, door->entry, place.address);
-    (void)osdp_panel_begin(panel, door->entry, now);
+    osdp_site_act(&door->site, panel, now);
 }
 
 void take_line(osdp_panel *panel, struct door *door, const char *line)

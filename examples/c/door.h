@@ -3,14 +3,15 @@
 #define DOOR_H
 
 #include "kept.h"
-#include "osdp.h"
+#include "osdp_site.h"
 
 struct door {
     size_t entry;
     struct stand *stand;
     bool may_order;         /* whether its session is open, and it is the device that stood there before */
     bool is_other;          /* whether another device than that one answers there */
-    uint64_t begins;        /* when its next session begins; UINT64_MAX while one goes on */
+    osdp_site site;         /* which says when its next session begins */
+    struct osdp_site_entry place;
     struct osdp_pd_id seen; /* what the device is that has answered the last opening */
 };
 

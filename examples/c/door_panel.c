@@ -49,14 +49,6 @@ static void take_reports(uint64_t now)
     }
 }
 
-/* The moment up to which there is nothing to do. */
-static uint64_t next_moment(void)
-{
-    struct osdp_moment due = { 0, 0 };
-    bool is_due = osdp_panel_next_deadline(&panel, &due) == OSDP_OK && due.present;
-    return is_due && due.moment < door.begins ? due.moment : door.begins;
-}
-
 int main(int count, char **words)
 {
     static struct lines lines;
@@ -74,9 +66,9 @@ int main(int count, char **words)
     }
     int port = open_port(words[0], rate);
     for (;;) {
-        uint64_t now = moment(), next = next_moment();
-        size_t length = read_port(port, &lines, next > now ? next - now : 0, bytes, sizeof bytes);
-        now = moment(); /* after the read: not before it */
+        uint64_t wait = osdp_site_wait(&door.site, &panel, moment(), UINT64_MAX);
+        size_t length = read_port(port, &lines, wait, bytes, sizeof bytes);
+        uint64_t now = moment(); /* after the read: not before it */
         if (osdp_panel_bytes(&panel, bytes, length, now) == OSDP_MOMENT_TOO_FAR) {
             (void)osdp_panel_set_moment(&panel, now); /* the program was stopped for more than a day */
         }

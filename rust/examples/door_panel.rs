@@ -52,9 +52,7 @@ fn run(mut port: Port) -> Done {
     let mut panel = Panel::new(&PanelConfig::default())?;
     let mut door = Door::add(&mut panel, &port, 5)?;
     loop {
-        let moments = [panel.next_deadline(), door.begins];
-        let latest = port.now() + TURN;
-        let until = moments.into_iter().flatten().fold(latest, Moment::min);
+        let until = door.site.wait_until(&panel, port.now() + TURN);
         let came = port.wait(until)?;
         let now = port.now(); // after the read: not before it
         match &came {

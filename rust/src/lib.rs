@@ -78,6 +78,7 @@ mod message;
 mod named;
 mod numbered;
 mod panel;
+mod site;
 pub mod sys;
 mod time;
 
@@ -90,4 +91,5 @@ pub use fields::{
 pub use message::{Command, RawReply, Unsent};
 pub use named::{card, color, function, led, output, reader, state, text, tone};
 pub use panel::{Check, Entry, LostCause, Panel, PanelConfig, Report};
+pub use site::{Presence, Site, SiteError};
 pub use time::Moment;

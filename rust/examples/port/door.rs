@@ -2,15 +2,11 @@
 //! `5 at 7 9600 or 5 9600 is 53494D 1 12345`, by the address at which the device was first. The panel in C keeps the same lines.
 #![allow(dead_code)] // a device's program has no use for it
 use super::{Port, RATES};
-use osdp::{Entry, Moment, Panel, PdId, Reply, Report};
+use osdp::{Entry, Moment, Panel, PdId, Reply, Report, Site};
 use std::error::Error;
 use std::fs::{self, File};
 use std::io::{self, Write};
 use std::path::Path;
-use std::time::Duration;
-
-/// From a lost session to the next one.
-const PAUSE: Duration = Duration::from_secs(1);
 
 /// An address and a rate.
 type Place = (u8, u32);
@@ -74,8 +70,8 @@ pub struct Door {
     pub entry: Entry,
     /// Whether its session is open, and it is the device that stood there before.
     pub may_order: bool,
-    /// When its next session begins; none while one goes on.
-    pub begins: Option<Moment>,
+    /// It says when the next session begins.
+    pub site: Site<1>,
     other: Option<String>,
     stands: Vec<Stand>,
     at: usize,
@@ -119,7 +115,7 @@ impl Door {
         Ok(Door {
             entry: panel.add(mine.place().0)?,
             may_order: false,
-            begins: Some(port.now()),
+            site: Site::new(port.now()),
             other: None,
             stands,
             at,
@@ -149,7 +145,7 @@ impl Door {
 
     /// Does what a report asks for about its place and its session.
     pub fn heed(&mut self, report: &Report, now: Moment) -> io::Result<()> {
-        let ends = |pause| Some(now + pause);
+        self.site.heed(self.entry, report, now);
         match report {
             Report::Opened(id) => {
                 let (id, known) = (text_of(id), &self.stands[self.at].id);
@@ -163,14 +159,12 @@ impl Door {
                 self.stands_at(self.stands[self.at].place())?; // it was refused
             }
             Report::Moved(_, reply) => {
-                (self.may_order, self.other, self.begins) = (false, None, ends(Duration::ZERO));
+                (self.may_order, self.other) = (false, None);
                 if let Reply::Com(address, rate) = reply {
                     self.stands_at((*address, *rate))?;
                 }
             }
-            Report::Lost(..) => {
-                (self.may_order, self.other, self.begins) = (false, None, ends(PAUSE))
-            }
+            Report::Lost(..) => (self.may_order, self.other) = (false, None),
             _ => {}
         }
         Ok(())
@@ -183,10 +177,9 @@ impl Door {
         port: &mut Port,
         now: Moment,
     ) -> Result<(), Box<dyn Error>> {
-        if self.begins.is_none_or(|begins| begins > now) {
+        if !self.site.is_due(self.entry, now) {
             return Ok(());
         }
-        self.begins = None;
         while let Some(command) = panel.withdraw(self.entry)? {
             if command.code() == 0x6E {
                 self.stands_at(self.stands[self.at].place())?;
@@ -199,7 +192,7 @@ impl Door {
             println!("no rate {rate}");
         }
         panel.retarget(self.entry, address)?;
-        panel.begin(self.entry, now)?;
+        self.site.act(panel, now)?;
         Ok(())
     }
 

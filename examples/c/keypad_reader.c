@@ -1,0 +1,84 @@
+/* A device with a card reader, a keypad and a relay: `keypad_reader PORT RATE ADDRESS`. A line `RAW 0 0 26 12345640` is a card, `KEYPAD 0 31323334` are keys, and
+ * `ISTATR 01` the door's contact. The relay, output 0, is on for the time that is ordered. LED and buzzer are told as they are ordered. */
+#include <string.h>
+
+#include "osdp_site.h"
+#include "port.h"
+#include "words.h"
+
+static osdp_device device;
+static int port;
+static uint64_t relay_ends = UINT64_MAX; /* when the relay goes off; UINT64_MAX while it is off */
+
+/* Whether an output may be switched so: the relay for a time, or off. A door may not stand open for good. */
+static bool may_be_done(const struct osdp_output *record)
+{
+    return record->output == 0 && (record->control == OSDP_OUTPUT_OFF || record->control == OSDP_OUTPUT_ON_FOR_A_TIME);
+}
+
+static void switch_relay(bool on, uint64_t ends)
+{
+    const uint8_t states[1] = { on };
+    relay_ends = ends;
+    (void)osdp_device_set_outputs(&device, states, 1);
+    tell("relay %s\n", on ? "on" : "off");
+}
+
+/* An OUT that may not be done is refused before it is answered; one that was confirmed is done. */
+static void take_out(const struct osdp_answer *answer, uint64_t now)
+{
+    struct osdp_output record;
+    for (size_t i = 0; osdp_output_of(&answer->command, i, &record) == OSDP_OK; i++) {
+        if (answer->order == OSDP_ORDER_PENDING && !may_be_done(&record)) {
+            (void)osdp_device_answer_refused(&device, OSDP_NAK_RECORD_NOT_PROCESSED);
+        } else if (answer->order == OSDP_ORDER_ONCE) {
+            bool on = record.control == OSDP_OUTPUT_ON_FOR_A_TIME;
+            switch_relay(on, on ? now + 100u * record.timer : UINT64_MAX);
+        }
+    }
+}
+
+/* The device does what it is to do, and then what it says goes out: so an order that is answered was done. */
+static void take_answer(const struct osdp_answer *answer, uint64_t now)
+{
+    take_out(answer, now);
+    if (answer->order == OSDP_ORDER_ONCE && (answer->command.code == OSDP_LED || answer->command.code == OSDP_BUZ)) {
+        tell("%s\n", command_text(&answer->command));
+    }
+    write_all(port, &answer->burst);
+}
+
+/* A card, keys or the contact, by its text: it is told to the next POLL. What the contact is from now on is the answer to ISTAT, too. */
+static void take_line(const char *line)
+{
+    uint8_t contact[1];
+    bool told = !tell_refusal(osdp_device_event_text(&device, line, strlen(line)));
+    if (told && strncmp(line, "ISTATR ", 7) == 0 && digits(line + 7, contact, 1) == 1) {
+        (void)osdp_device_set_inputs(&device, contact, 1);
+    }
+}
+
+int main(int count, char **words)
+{
+    static struct lines lines;
+    static const uint8_t off[1] = { 0 };
+    uint8_t bytes[4096];
+    words = take_words(&count, words, 3, "keypad_reader PORT RATE ADDRESS\n", NULL);
+    struct osdp_device_config config = { .address = number(words[2], "address"), .capacity = 64, .gap = 20, .serial = 1, .product.vendor = { 'S', 'I', 'M' } };
+    osdp_status status = osdp_device_new(&device, &config, NULL, 0);
+    if (status != OSDP_OK || osdp_device_set_outputs(&device, off, 1) != OSDP_OK || osdp_device_set_inputs(&device, off, 1) != OSDP_OK) {
+        stop(OUT_OF_MEMORY, "%s", osdp_status_text(status));
+    }
+    port = open_port(words[0], number(words[1], "rate"));
+    for (;;) {
+        size_t length = read_port(port, &lines, 10, bytes, sizeof bytes);
+        uint64_t now = moment(); /* after the read: not before it */
+        for (const char *line = next_line(&lines); line != NULL; line = next_line(&lines)) {
+            take_line(line);
+        }
+        if (relay_ends <= now) {
+            switch_relay(false, UINT64_MAX);
+        }
+        osdp_device_turn(&device, bytes, length, now, take_answer);
+    }
+}

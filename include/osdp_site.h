@@ -1,0 +1,164 @@
+/*
+ * What makers of panels write each time above a panel (osdp.h): which sessions begin when, which devices are online since when, and states that a device gets
+ * again whose session opens anew. The words are those of the proved crate osdp_site, in Rattle. This page and c/osdp_site.c are plain C over the calls of a
+ * panel: tested, and not proved. They take no memory: the caller owns the site and its entries.
+ *
+ * The program says once how an LED, an output, a buzzer or a text is to be (`osdp_site_wants`), hands on each report (`osdp_site_heed`), and calls
+ * `osdp_site_act` in each turn, before `osdp_panel_tick`:
+ *
+ *     static struct osdp_site_entry entries[3];
+ *     osdp_site site;
+ *     osdp_site_new(&site, entries, 3, now);               the entries are those of the panel, in the order of adding
+ *     osdp_site_wants(&site, door, &red);
+ *     for (;;) {
+ *         .. waits for bytes, at most until the earlier of osdp_panel_next_deadline and osdp_site_next_deadline ..
+ *         osdp_panel_bytes(&panel, bytes, length, now);
+ *         while (osdp_panel_next_report(&panel, &report) == OSDP_OK && report.kind != OSDP_REPORT_NONE) {
+ *             if (osdp_site_heed(&site, &report, now)) { .. it is online or offline from now on .. }
+ *         }
+ *         osdp_site_act(&site, &panel, now);
+ *         osdp_panel_tick(&panel, now, &burst);            and the reports that it left are taken as those above
+ *     }
+ */
+#ifndef OSDP_SITE_H
+#define OSDP_SITE_H
+
+#include "osdp.h"
+
+#ifdef __cplusplus
+extern "C" {
+#endif
+
+enum {
+    /* How many states may be wanted of each device. */
+    OSDP_SITE_ROOM = 16,
+    /* From a session that has ended to the next one, in milliseconds, where the program sets no other pause. */
+    OSDP_SITE_PAUSE = 1000,
+    /* The data of a state, in bytes, at most: those of the longest text. */
+    OSDP_SITE_MOST_DATA = 261
+};
+
+/* What became of `osdp_site_wants`. A refused call has changed nothing. */
+typedef enum osdp_site_status {
+    OSDP_SITE_OK = 0,
+    /* S2: there is no such entry. */
+    OSDP_SITE_NO_ENTRY = 2,
+    /* S3: as many states are wanted of the device as there is room for. */
+    OSDP_SITE_FULL = 3,
+    /* S4: several outputs or LEDs in one command: each is wanted by itself. */
+    OSDP_SITE_SEVERAL = 4,
+    /* S5: it lasts for a time, so it is an order and no state. */
+    OSDP_SITE_TIMED = 5,
+    /* S6: the command says nothing that holds from then on. */
+    OSDP_SITE_NO_STATE = 6
+} osdp_site_status;
+
+/* A command that says a state. */
+struct osdp_site_state {
+    uint16_t length;
+    uint8_t code;
+    uint8_t data[OSDP_SITE_MOST_DATA];
+};
+
+/* What is kept of an entry. Its fields are read by the caller, and not written. */
+struct osdp_site_entry {
+    /* The moment from which on its next session is due; UINT64_MAX where one has begun. */
+    uint64_t begins;
+    /* Since when it is online, or offline. */
+    uint64_t since;
+    bool is_online;
+    /* How many states are wanted, and how many of these, from the first on, were submitted since the session opened. */
+    uint16_t count, done;
+    struct osdp_site_state wanted[OSDP_SITE_ROOM];
+};
+
+/* A site. `pause` may be set by the caller. */
+typedef struct osdp_site {
+    struct osdp_site_entry *entries;
+    size_t count;
+    uint32_t pause;
+} osdp_site;
+
+/* A site for so many entries, those of the panel: all are offline since this moment, and their sessions are due. */
+void osdp_site_new(osdp_site *site, struct osdp_site_entry *entries, size_t count, uint64_t now);
+
+/*
+ * From now on a device is to be as the command says: an OUT or LED of one record, a BUZ or a TEXT. It stands in place of what was wanted of the same output, LED,
+ * buzzer or text before. Where the device is online, the next `osdp_site_act` submits it; and once again after each opening of its session.
+ *
+ * OSDP_SITE_NO_ENTRY. OSDP_SITE_SEVERAL. OSDP_SITE_TIMED: an output with control 5 or 6, an LED with a temporary state, a sound that is counted, a text for a
+ * time. What lasts for a time is an order: an OUT that opens a door for five seconds would open it again after each session that was lost. OSDP_SITE_NO_STATE:
+ * an output with another control, an LED without a permanent state, no tone, each other kind of command. OSDP_SITE_FULL.
+ */
+osdp_site_status osdp_site_wants(osdp_site *site, size_t entry, const struct osdp_message *command);
+
+/*
+ * A report of the panel, at the moment at which it came. Whether the device is online or offline by it and wasn't before: `entries[report->entry]` says
+ * which, and since when. A session that is lost or moved makes the next one due after the pause.
+ */
+bool osdp_site_heed(osdp_site *site, const struct osdp_report *report, uint64_t now);
+
+/*
+ * Begins each session that is due. Orders that wait for its device are stale, and are taken back: a program that is to be told of them withdraws them
+ * before. Then what is wanted of each device that is online, and wasn't submitted since its session opened, goes to the panel in the order in which it was
+ * wanted. What the panel refuses, as where its queue is full, and what comes after it is left for the next call.
+ */
+void osdp_site_act(osdp_site *site, osdp_panel *panel, uint64_t now);
+
+/* The earliest moment from which on `osdp_site_act` begins a session; UINT64_MAX where each has begun. */
+uint64_t osdp_site_next_deadline(const osdp_site *site);
+
+/* Whether a session of a device is due: the next `osdp_site_act` begins it. A program whose device may be elsewhere sets its address and rate before. */
+bool osdp_site_is_due(const osdp_site *site, size_t entry, uint64_t now);
+
+/* Whether a device is online, and all that is wanted of it was submitted since its session opened. */
+bool osdp_site_is_refreshed(const osdp_site *site, size_t entry);
+
+/* How long nothing is to be done at this moment, if nothing comes: until the site or its panel is due, and at most so long. */
+uint64_t osdp_site_wait(const osdp_site *site, osdp_panel *panel, uint64_t now, uint64_t most);
+
+/*
+ * An order: a command that is submitted once. Whether the panel took it. One for a device that is offline is refused, since it would be stale once that is
+ * online again.
+ */
+bool osdp_site_order(const osdp_site *site, osdp_panel *panel, size_t entry, const struct osdp_message *command);
+
+/* ---- A turn of a loop ---- */
+
+/*
+ * What a program does with a report, after the site has heeded it. `has_changed`: the device is online or offline by it and wasn't before; its entry of the site
+ * says which.
+ */
+typedef void osdp_site_takes(const struct osdp_report *report, bool has_changed, uint64_t now);
+
+/*
+ * One turn of a panel's loop, after each read of its port: the bytes that it gave, and the moment after it. Each report is heeded and then taken by the program, what
+ * the program wants and orders then is submitted, and what is due is written to `burst`, which goes out before the next turn. A moment that lies too far after the
+ * greatest one seen, as after a host has slept, is seen all the same (`osdp_panel_set_moment`).
+ */
+void osdp_site_turn(
+    osdp_site *site, osdp_panel *panel, const uint8_t *bytes, size_t length, uint64_t now, osdp_site_takes *takes, struct osdp_burst *burst);
+
+/* What a program does with what its device says: it acts, and then writes `answer->burst`. What it sets for a command that is pending is answered. */
+typedef void osdp_device_takes(const struct osdp_answer *answer, uint64_t now);
+
+/* The same of a device's loop: the bytes are handed over until all are taken and nothing is said, and then what the moment brings. */
+void osdp_device_turn(osdp_device *device, const uint8_t *bytes, size_t length, uint64_t now, osdp_device_takes *takes);
+
+/* ---- Commands as panels mostly give them ---- */
+
+/* An output is on for so many tenths of a second: an order. */
+void osdp_output_for(uint8_t output, uint16_t tenths, struct osdp_message *command);
+
+/* The first LED of the first reader has a color from now on: a state. And for so many tenths of a second: an order. */
+void osdp_color(uint8_t color, struct osdp_message *command);
+void osdp_color_for(uint8_t color, uint16_t tenths, struct osdp_message *command);
+
+/* The buzzer of the first reader sounds, half a second on and half a second off, until it is told otherwise, or is silent: states. */
+void osdp_sound(bool sounds, struct osdp_message *command);
+
+#ifdef __cplusplus
+}
+#endif
+
+#endif

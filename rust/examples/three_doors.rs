@@ -1,0 +1,134 @@
+//! A panel for three doors: `three_doors PORT RATE`, with readers at 1, 2 and 3. A card of the list unlocks its doors for five seconds. A reader's LED is red, and
+//! green while its door is unlocked. Input 0 of a reader is its door's contact, active while the door is open: its buzzer sounds once it is held open.
+mod port;
+
+use osdp::{
+    Card, Command, Entry, Moment, Panel, PanelConfig, Presence, Reply, Report, Site, color, state,
+};
+use port::{Came, Port, run_on_port};
+use std::error::Error;
+use std::process::ExitCode;
+use std::time::Duration;
+
+const DOORS: usize = 3;
+/// In tenths of a second.
+const UNLOCK: u16 = 50;
+/// After so long an open door is held open.
+const HELD: Duration = Duration::from_secs(10);
+/// How long it waits at most.
+const TURN: Duration = Duration::from_millis(100);
+
+/// Who may enter where: a card of 26 bits, and the doors.
+const ENTRANTS: [([u8; 4], &[usize]); 2] = [
+    ([0x12, 0x34, 0x56, 0x40], &[0, 1, 2]),
+    ([0x65, 0x43, 0x21, 0x80], &[0]),
+];
+
+fn may_enter(card: &Card, door: usize) -> bool {
+    let knows =
+        |(known, doors): &([u8; 4], &[usize])| card.bytes() == known && doors.contains(&door);
+    card.bits() == 26 && ENTRANTS.iter().any(knows)
+}
+
+type Done = Result<(), Box<dyn Error>>;
+
+struct Doors {
+    panel: Panel,
+    site: Site<DOORS>,
+    /// When a door is held open; none while it is closed, and once its buzzer sounds.
+    held: [Option<Moment>; DOORS],
+}
+
+impl Doors {
+    fn new(now: Moment) -> Result<Doors, Box<dyn Error>> {
+        let mut panel = Panel::new(&PanelConfig::default())?;
+        let mut site = Site::new(now);
+        for address in 1..=DOORS {
+            let door = panel.add(address as u8)?;
+            site.wants(door, &Command::color(color::RED)?)?;
+            site.wants(door, &Command::sound(false))?;
+        }
+        let held = [None; DOORS];
+        Ok(Doors { panel, site, held })
+    }
+
+    /// The strike, output 0, and a green LED, both for a time: orders, which a reader that comes back doesn't get again.
+    fn unlock(&mut self, door: Entry) -> Done {
+        let strike = Command::output_for(0, UNLOCK)?;
+        if self.site.order(&mut self.panel, door, &strike)? {
+            let green = Command::color_for(color::GREEN, UNLOCK)?;
+            self.site.order(&mut self.panel, door, &green)?;
+        }
+        Ok(())
+    }
+
+    /// The door's contact, as an event or an answer tells it. A buzzer is silent from then on: a state, which a reader that comes back gets again.
+    fn take_contact(&mut self, door: Entry, states: &[u8], now: Moment) -> Done {
+        let is_open = states.first() == Some(&state::ACTIVE);
+        self.held[door.index()] = is_open.then_some(now + HELD);
+        Ok(self.site.wants(door, &Command::sound(false))?)
+    }
+
+    fn take_reports(&mut self, now: Moment) -> Done {
+        while let Some((door, report, change)) = self.site.next_report(&mut self.panel, now) {
+            if let Some(presence) = change {
+                println!("door {} is {presence:?}", door.index() + 1);
+            }
+            if let Some(Presence::Online(_)) = change {
+                let asks = Command::raw(0x65, &[])?;
+                self.site.order(&mut self.panel, door, &asks)?;
+            }
+            match report {
+                // a card that may have been told before unlocks nothing again
+                Report::Event {
+                    event: Reply::Raw(card),
+                    maybe_again: false,
+                } if may_enter(&card, door.index()) => self.unlock(door)?,
+                Report::Event {
+                    event: Reply::Inputs(states),
+                    ..
+                }
+                | Report::Settled(_, Reply::Inputs(states)) => {
+                    self.take_contact(door, &states, now)?
+                }
+                _ => {}
+            }
+        }
+        Ok(())
+    }
+
+    /// The buzzer sounds at each door that is held open.
+    fn watch(&mut self, now: Moment) -> Done {
+        for door in self.panel.entries() {
+            let held = &mut self.held[door.index()];
+            if held.take_if(|held| *held <= now).is_some() {
+                self.site.wants(door, &Command::sound(true))?;
+            }
+        }
+        Ok(())
+    }
+}
+
+fn run(mut port: Port) -> Done {
+    let mut doors = Doors::new(port.now())?;
+    loop {
+        let until = doors.site.wait_until(&doors.panel, port.now() + TURN);
+        let came = port.wait(until)?;
+        let now = port.now(); // after the read: not before it
+        match &came {
+            Came::Bytes(bytes) => doors.panel.on_bytes(bytes, now)?,
+            Came::Line(line) => println!("refused line {line}"),
+            Came::Nothing => {}
+        }
+        doors.take_reports(now)?;
+        doors.watch(now)?;
+        doors.site.act(&mut doors.panel, now)?;
+        let unsent = doors.panel.tick(now)?;
+        unsent.send(|burst| port.write(burst))?;
+        doors.take_reports(now)?;
+    }
+}
+
+fn main() -> ExitCode {
+    run_on_port("three_doors", run)
+}

@@ -1,0 +1,391 @@
+//! What makers of panels write each time above a panel: which sessions begin when, which devices are online since when, and states that a device gets again
+//! whose session opens anew. The words are those of the proved crate `osdp_site`, in Rattle; this is ordinary Rust over the calls of a panel.
+
+use crate::error::Error;
+use crate::fields::{Buzzer, Led, LedState, Output};
+use crate::message::Command;
+use crate::named::{led, output, tone};
+use crate::panel::{Entry, Panel, Report};
+use crate::sys;
+use crate::time::Moment;
+use core::fmt;
+use core::time::Duration;
+
+/// How many states may be wanted of each device.
+const ROOM: usize = 16;
+
+/// From a session that has ended to the next one, where the program sets no other pause.
+const PAUSE: Duration = Duration::from_secs(1);
+
+/// Why a site refuses to want something. A refused call has changed nothing.
+#[derive(Clone, Copy, Debug, PartialEq, Eq)]
+pub enum SiteError {
+    /// There is no such entry.
+    NoEntry,
+    /// As many states are wanted of the device as there is room for: 16.
+    Full,
+    /// Several outputs or LEDs in one command: each is wanted by itself.
+    Several,
+    /// It lasts for a time, so it is an order and no state.
+    Timed,
+    /// The command says nothing that holds from then on.
+    NoState,
+}
+
+impl fmt::Display for SiteError {
+    fn fmt(&self, f: &mut fmt::Formatter<'_>) -> fmt::Result {
+        f.write_str(match self {
+            SiteError::NoEntry => "there is no such device",
+            SiteError::Full => "there is no room for another state",
+            SiteError::Several => "several outputs or LEDs in one command",
+            SiteError::Timed => "it lasts for a time, so it is an order",
+            SiteError::NoState => "the command says no state",
+        })
+    }
+}
+
+impl core::error::Error for SiteError {}
+
+/// Whether a device is there, and from which moment on.
+#[derive(Clone, Copy, Debug, PartialEq, Eq)]
+pub enum Presence {
+    /// Its session opened then, and is open.
+    Online(Moment),
+    /// Its session was lost or moved then, and none has opened since; or none ever has, and the site was made then.
+    Offline(Moment),
+}
+
+impl Presence {
+    /// Whether it is there.
+    pub fn is_online(self) -> bool {
+        matches!(self, Presence::Online(_))
+    }
+}
+
+/// The most data that a state has: those of the longest text.
+const MOST_DATA: usize = 261;
+
+/// A command that says a state.
+#[derive(Clone, Copy)]
+struct State {
+    code: u8,
+    length: u16,
+    data: [u8; MOST_DATA],
+}
+
+impl State {
+    const NONE: State = State {
+        code: 0,
+        length: 0,
+        data: [0; MOST_DATA],
+    };
+
+    /// What a command says, or why it says no state.
+    fn of(command: &Command) -> Result<State, SiteError> {
+        judge(command)?;
+        let bytes = command.data();
+        let mut data = [0; MOST_DATA];
+        data[..bytes.len()].copy_from_slice(bytes);
+        let (code, length) = (command.code(), bytes.len() as u16);
+        Ok(State { code, length, data })
+    }
+
+    /// Which output, LED, buzzer or text it is of: its numbers.
+    fn subject(&self) -> [u8; 4] {
+        let data = &self.data;
+        match u32::from(self.code) {
+            sys::OSDP_LED => [self.code, data[0], data[1], 0],
+            sys::OSDP_TEXT => [self.code, data[0], data[3], data[4]],
+            _ => [self.code, data[0], 0, 0],
+        }
+    }
+
+    fn command(&self) -> Result<Command, Error> {
+        Command::raw(self.code, &self.data[..usize::from(self.length)])
+    }
+}
+
+/// Whether a command says a state, or why it says none.
+fn judge(command: &Command) -> Result<(), SiteError> {
+    let data = command.data();
+    match (u32::from(command.code()), data) {
+        (sys::OSDP_OUT, [_, control, _, _]) => match control {
+            1..=4 => Ok(()),
+            5 | 6 => Err(SiteError::Timed),
+            _ => Err(SiteError::NoState),
+        },
+        (sys::OSDP_LED, [_, _, temporary, .., permanent, _, _, _, _]) if data.len() == 14 => {
+            match (temporary, permanent) {
+                (2.., _) => Err(SiteError::Timed),
+                (_, 1) => Ok(()),
+                _ => Err(SiteError::NoState),
+            }
+        }
+        (sys::OSDP_OUT | sys::OSDP_LED, _) => Err(SiteError::Several),
+        (sys::OSDP_BUZ, [_, tone, _, _, count]) => match (tone, count) {
+            (0, _) => Err(SiteError::NoState),
+            (2.., 1..) => Err(SiteError::Timed),
+            _ => Ok(()),
+        },
+        (sys::OSDP_TEXT, [_, shown, ..]) => match shown {
+            1 | 2 => Ok(()),
+            3 | 4 => Err(SiteError::Timed),
+            _ => Err(SiteError::NoState),
+        },
+        _ => Err(SiteError::NoState),
+    }
+}
+
+/// What is kept of an entry.
+#[derive(Clone, Copy)]
+struct Place {
+    wanted: [State; ROOM],
+    count: usize,
+    /// How many of these, from the first on, were submitted since the session opened.
+    done: usize,
+    presence: Presence,
+    begins: Option<Moment>,
+}
+
+impl Place {
+    /// A state is wanted, in place of the one of the same that was wanted before.
+    fn wants(&mut self, state: State) -> Result<(), SiteError> {
+        let is_same = |known: &State| known.subject() == state.subject();
+        if let Some(at) = self.wanted[..self.count].iter().position(is_same) {
+            self.wanted.copy_within(at + 1..self.count, at);
+            self.count -= 1;
+            self.done -= usize::from(at < self.done);
+        }
+        let free = self.wanted.get_mut(self.count).ok_or(SiteError::Full)?;
+        *free = state;
+        self.count += 1;
+        Ok(())
+    }
+
+    /// What is wanted and not submitted yet goes to the panel, up to the first that it refuses.
+    fn refresh(&mut self, panel: &mut Panel, entry: Entry) {
+        for state in &self.wanted[self.done..self.count] {
+            match state.command().and_then(|it| panel.submit(entry, &it)) {
+                Ok(()) => self.done += 1,
+                Err(_) => return,
+            }
+        }
+    }
+
+    /// Begins a session that is due, and submits what is wanted to a device that is online.
+    fn act(&mut self, panel: &mut Panel, entry: Entry, now: Moment) -> Result<(), Error> {
+        if self.begins.is_some_and(|begins| begins <= now) {
+            while panel.withdraw(entry)?.is_some() {}
+            match panel.begin(entry, now) {
+                Ok(()) | Err(Error::NotClosed) => self.begins = None,
+                refused => return refused,
+            }
+        }
+        if self.presence.is_online() {
+            self.refresh(panel, entry);
+        }
+        Ok(())
+    }
+}
+
+/// What a panel's program wants of its devices, and when their sessions begin. Its entries are those of one panel, which has so many.
+///
+/// The program says once how an LED, an output, a buzzer or a text is to be, hands on each report, and calls `act` in each turn, before `Panel::tick`. It takes
+/// no memory of the heap.
+pub struct Site<const ENTRIES: usize> {
+    places: [Place; ENTRIES],
+    pause: Duration,
+}
+
+impl<const ENTRIES: usize> Site<ENTRIES> {
+    /// All devices are offline since this moment, and their sessions are due. The pause from a session that has ended to the next is a second.
+    pub fn new(now: Moment) -> Site<ENTRIES> {
+        let place = Place {
+            wanted: [State::NONE; ROOM],
+            count: 0,
+            done: 0,
+            presence: Presence::Offline(now),
+            begins: Some(now),
+        };
+        Site {
+            places: [place; ENTRIES],
+            pause: PAUSE,
+        }
+    }
+
+    /// The same with another pause.
+    pub fn with_pause(self, pause: Duration) -> Site<ENTRIES> {
+        Site { pause, ..self }
+    }
+
+    fn place(&self, entry: Entry) -> Option<&Place> {
+        self.places.get(entry.index())
+    }
+
+    /// From now on a device is to be as the command says: an OUT or LED of one record, a BUZ or a TEXT. It stands in place of what was wanted of the same output,
+    /// LED, buzzer or text before. Where the device is online, the next `act` submits it; and once again after each opening of its session.
+    ///
+    /// # Errors
+    ///
+    /// `NoEntry`; `Several`; `Timed` for what lasts for a time: it is an order, and an OUT that opens a door for five seconds would open it again after each
+    /// session that was lost; `NoState` for a command that says nothing that holds from then on; `Full`.
+    pub fn wants(&mut self, entry: Entry, command: &Command) -> Result<(), SiteError> {
+        let place = self.places.get_mut(entry.index());
+        place.ok_or(SiteError::NoEntry)?.wants(State::of(command)?)
+    }
+
+    /// A report of the panel, at the moment at which it came. Where the device is online or offline by it and wasn't before, that is told, once. A session that is
+    /// lost or moved makes the next one due after the pause.
+    pub fn heed(&mut self, entry: Entry, report: &Report, now: Moment) -> Option<Presence> {
+        let place = self.places.get_mut(entry.index())?;
+        let presence = match report {
+            Report::Opened(_) => {
+                place.done = 0;
+                Presence::Online(now)
+            }
+            Report::Moved(..) | Report::Lost(..) => {
+                place.begins = Some(now + self.pause);
+                Presence::Offline(now)
+            }
+            _ => return None,
+        };
+        if place.presence.is_online() == presence.is_online() {
+            return None;
+        }
+        place.presence = presence;
+        Some(presence)
+    }
+
+    /// Takes the report that waits, as `Panel::next_report`, and heeds it: with it comes what has changed by it.
+    pub fn next_report(
+        &mut self,
+        panel: &mut Panel,
+        now: Moment,
+    ) -> Option<(Entry, Report, Option<Presence>)> {
+        let (entry, report) = panel.next_report()?;
+        let change = self.heed(entry, &report, now);
+        Some((entry, report, change))
+    }
+
+    /// An order: a command that is submitted once. Whether the panel took it. One for a device that is offline is refused, since it would be stale once that is
+    /// online again; so is one for which there is no room.
+    ///
+    /// # Errors
+    ///
+    /// Those of `Panel::submit` but `Full`.
+    pub fn order(&self, panel: &mut Panel, entry: Entry, command: &Command) -> Result<bool, Error> {
+        if !self.presence(entry).is_some_and(Presence::is_online) {
+            return Ok(false);
+        }
+        match panel.submit(entry, command) {
+            Ok(()) => Ok(true),
+            Err(Error::Full) => Ok(false),
+            Err(error) => Err(error),
+        }
+    }
+
+    /// Up to when nothing is to be done, if nothing comes: until the site or its panel is due, and at most up to a moment.
+    pub fn wait_until(&self, panel: &Panel, most: Moment) -> Moment {
+        let due = [self.next_deadline(), panel.next_deadline()];
+        due.into_iter().flatten().fold(most, Moment::min)
+    }
+
+    /// Begins each session that is due. Orders that wait for its device are stale, and are taken back: a program that is to be told of them withdraws them
+    /// before. Then what is wanted of each device that is online, and wasn't submitted since its session opened, goes to the panel in the order in which it was
+    /// wanted. What the panel refuses, as where its queue is full, and what comes after it is left for the next call.
+    ///
+    /// # Errors
+    ///
+    /// `MomentTooFar`. The session is due still.
+    pub fn act(&mut self, panel: &mut Panel, now: Moment) -> Result<(), Error> {
+        for (entry, place) in panel.entries().zip(&mut self.places) {
+            place.act(panel, entry, now)?;
+        }
+        Ok(())
+    }
+
+    /// The earliest moment from which on `act` begins a session. None where each has begun.
+    pub fn next_deadline(&self) -> Option<Moment> {
+        self.places.iter().filter_map(|place| place.begins).min()
+    }
+
+    /// Whether a session of a device is due: the next `act` begins it. A program whose device may be elsewhere sets its address and its rate before.
+    pub fn is_due(&self, entry: Entry, now: Moment) -> bool {
+        let begins = self.place(entry).and_then(|place| place.begins);
+        begins.is_some_and(|begins| begins <= now)
+    }
+
+    /// Whether a device is online, and since when. None where there is no such entry.
+    pub fn presence(&self, entry: Entry) -> Option<Presence> {
+        Some(self.place(entry)?.presence)
+    }
+
+    /// Whether a device is online, and all that is wanted of it was submitted since its session opened.
+    pub fn is_refreshed(&self, entry: Entry) -> bool {
+        self.place(entry)
+            .is_some_and(|place| place.presence.is_online() && place.done == place.count)
+    }
+}
+
+/// Commands as panels mostly give them, of the first LED and the buzzer of the first reader.
+impl Command {
+    /// An output is on for so many tenths of a second: an order.
+    ///
+    /// # Errors
+    ///
+    /// None today.
+    pub fn output_for(output: u8, tenths: u16) -> Result<Command, Error> {
+        Command::out(&[Output {
+            timer: tenths,
+            output,
+            control: output::ON_FOR_A_TIME,
+        }])
+    }
+
+    /// The LED has a color from now on: a state.
+    ///
+    /// # Errors
+    ///
+    /// None today.
+    pub fn color(color: u8) -> Result<Command, Error> {
+        Command::led(&[Led {
+            permanent: shines(led::SET_PERMANENT, color),
+            ..Led::default()
+        }])
+    }
+
+    /// The LED has a color for so many tenths of a second: an order.
+    ///
+    /// # Errors
+    ///
+    /// None today.
+    pub fn color_for(color: u8, tenths: u16) -> Result<Command, Error> {
+        Command::led(&[Led {
+            timer: tenths,
+            temporary: shines(led::SET_TEMPORARY, color),
+            ..Led::default()
+        }])
+    }
+
+    /// The buzzer sounds, half a second on and half a second off, until it is told otherwise, or is silent: states.
+    pub fn sound(sounds: bool) -> Command {
+        Command::buzzer(&Buzzer {
+            reader: 0,
+            tone: if sounds { tone::DEFAULT } else { tone::OFF },
+            on_time: 5,
+            off_time: 5,
+            count: 0,
+        })
+    }
+}
+
+/// A state of an LED that shines.
+fn shines(control: u8, color: u8) -> LedState {
+    LedState {
+        control,
+        on_time: 1,
+        off_time: 0,
+        on_color: color,
+        off_color: color,
+    }
+}

@@ -1,0 +1,223 @@
+//! A site over a panel and a device, which are joined in memory: what is refused; that states come once after each opening, the latest of each, and in their
+//! order, also where the panel has room for one command; that orders for a time are not repeated; and when sessions begin.
+mod settings;
+
+use osdp::{
+    Buzzer, Command, Device, DeviceConfig, Entry, Error, Led, Moment, Order, Output, Panel,
+    PanelConfig, Presence, Report, Site, SiteError, Step, Text, color,
+};
+use settings::DEVICE;
+use std::time::Duration;
+
+fn at(milliseconds: u64) -> Moment {
+    Moment::from_millis(milliseconds)
+}
+
+/// Both ends, and what has come of them.
+struct Line {
+    panel: Panel,
+    site: Site<1>,
+    door: Entry,
+    device: Device,
+    is_there: bool,
+    answered: Vec<u8>,
+    taken: Vec<String>,
+    told: Vec<Presence>,
+    now: u64,
+}
+
+fn line() -> Line {
+    let mut panel = Panel::new(&PanelConfig {
+        capacity: 1,
+        ..PanelConfig::default()
+    })
+    .unwrap();
+    let door = panel.add(5).unwrap();
+    let mut device = Device::new(&DeviceConfig {
+        clock_limit: Duration::ZERO, // a day: the device is away for a while
+        ..DEVICE
+    })
+    .unwrap();
+    device.set_outputs(&[0]).unwrap();
+    Line {
+        panel,
+        site: Site::new(at(1000)),
+        door,
+        device,
+        is_there: true,
+        answered: Vec::new(),
+        taken: Vec::new(),
+        told: Vec::new(),
+        now: 1000,
+    }
+}
+
+impl Line {
+    fn take_reports(&mut self) {
+        while let Some((_, _, change)) = self.site.next_report(&mut self.panel, at(self.now)) {
+            self.told.extend(change);
+        }
+    }
+
+    fn answer(&mut self, mut bytes: &[u8]) {
+        loop {
+            let Step { taken, answer } = self.device.step(bytes, at(self.now)).unwrap();
+            bytes = &bytes[taken..];
+            match answer {
+                Some(answer) => {
+                    if let Some(Order::Once(command)) = answer.order() {
+                        self.taken.push(command.to_string());
+                    }
+                    let put = |burst: &[u8]| {
+                        self.answered.extend(burst);
+                        Ok::<(), Error>(())
+                    };
+                    answer.send(put).unwrap();
+                }
+                None if bytes.is_empty() => return,
+                None => {}
+            }
+        }
+    }
+
+    /// Both ends run up to a moment, a millisecond each time.
+    fn run(&mut self, until: u64) {
+        while self.now < until {
+            let bytes = std::mem::take(&mut self.answered);
+            self.panel.on_bytes(&bytes, at(self.now)).unwrap();
+            self.take_reports();
+            self.site.act(&mut self.panel, at(self.now)).unwrap();
+            let mut burst = Vec::new();
+            let put = |bytes: &[u8]| {
+                burst.extend(bytes);
+                Ok::<(), Error>(())
+            };
+            self.panel.tick(at(self.now)).unwrap().send(put).unwrap();
+            self.take_reports();
+            if self.is_there {
+                self.answer(&burst);
+            }
+            self.now += 1;
+        }
+    }
+
+    fn wants(&mut self, command: &Command) {
+        assert_eq!(self.site.wants(self.door, command), Ok(()));
+    }
+}
+
+#[test]
+fn states_come_again_and_orders_do_not() {
+    let mut line = line();
+    line.wants(&Command::color(color::RED).unwrap());
+    line.wants(&Command::sound(false));
+    line.wants(&Command::color(color::GREEN).unwrap());
+    line.wants(&Command::text(&Text::new(b"AB").unwrap()));
+    let strike = Command::output_for(0, 50).unwrap();
+    assert_eq!(
+        line.site.order(&mut line.panel, line.door, &strike),
+        Ok(false)
+    );
+    line.run(3000);
+    let (sound, green, text) = (
+        "BUZ 0 1 5 5 0",
+        "LED 0:0:0:0:0:0:0:0:1:1:0:2:2",
+        "TEXT 0 1 0 1 1 4142",
+    );
+    assert_eq!(line.taken, [sound, green, text]);
+    assert_eq!(line.told, [Presence::Online(at(1401))]);
+    assert!(line.site.is_refreshed(line.door) && line.site.next_deadline().is_none());
+    line.taken.clear();
+    assert_eq!(
+        line.site.order(&mut line.panel, line.door, &strike),
+        Ok(true)
+    );
+    line.run(3500);
+    assert_eq!(line.taken, ["OUT 0:5:50"]);
+
+    // the device is gone, and comes back
+    (line.is_there, line.answered) = (false, Vec::new());
+    line.taken.clear();
+    line.run(6000);
+    assert_eq!(line.told.len(), 2);
+    assert!(
+        matches!(line.told[1], Presence::Offline(since) if since > at(3500) && since < at(4500))
+    );
+    assert_eq!(line.site.presence(line.door), Some(line.told[1]));
+    line.is_there = true;
+    line.run(12000);
+    assert_eq!(line.taken, [sound, green, text]);
+    assert!(line.told.len() == 3 && line.site.is_refreshed(line.door));
+}
+
+#[test]
+fn what_lasts_for_a_time_is_refused() {
+    let mut line = line();
+    let output = |output, control| Output {
+        output,
+        control,
+        timer: 30,
+    };
+    let out = |records: &[Output]| Command::out(records).unwrap();
+    let buzzer = |tone, count| {
+        Command::buzzer(&Buzzer {
+            reader: 0,
+            tone,
+            on_time: 5,
+            off_time: 5,
+            count,
+        })
+    };
+    let text = Text::new(b"AB").unwrap();
+    let rows = [
+        (out(&[output(0, 5)]), SiteError::Timed),
+        (out(&[output(0, 6)]), SiteError::Timed),
+        (out(&[output(0, 0)]), SiteError::NoState),
+        (out(&[output(0, 7)]), SiteError::NoState),
+        (out(&[output(0, 1), output(1, 1)]), SiteError::Several),
+        (
+            Command::color_for(color::RED, 50).unwrap(),
+            SiteError::Timed,
+        ),
+        (Command::led(&[Led::default()]).unwrap(), SiteError::NoState),
+        (
+            Command::led(&[Led::default(); 2]).unwrap(),
+            SiteError::Several,
+        ),
+        (buzzer(2, 3), SiteError::Timed),
+        (buzzer(0, 0), SiteError::NoState),
+        (Command::text(&text.for_seconds(5)), SiteError::Timed),
+        (Command::raw(0x65, &[]).unwrap(), SiteError::NoState),
+        (Command::comset(7, 9600).unwrap(), SiteError::NoState),
+    ];
+    for (command, error) in rows {
+        assert_eq!(line.site.wants(line.door, &command), Err(error));
+    }
+    for number in 0..=16 {
+        let wanted = line.site.wants(line.door, &out(&[output(number, 2)]));
+        let full = Err(SiteError::Full);
+        assert_eq!(wanted, if number < 16 { Ok(()) } else { full });
+    }
+    line.wants(&out(&[output(3, 1)])); // the same again needs no room
+    let other = line.panel.add(6).unwrap(); // the site has one entry
+    let wanted = line.site.wants(other, &Command::sound(false));
+    assert_eq!(wanted, Err(SiteError::NoEntry));
+}
+
+#[test]
+fn the_next_session_is_due_after_the_pause() {
+    let mut line = line();
+    let mut site = Site::<1>::new(at(0)).with_pause(Duration::from_millis(300));
+    assert!(site.is_due(line.door, at(0)));
+    assert_eq!(site.act(&mut line.panel, at(0)), Ok(()));
+    assert_eq!(site.next_deadline(), None);
+    assert_eq!(line.panel.is_closed(line.door), Ok(false));
+    let lost = Report::Lost(osdp::LostCause::NoReply, None);
+    assert_eq!(site.heed(line.door, &lost, at(1000)), None);
+    assert_eq!(site.presence(line.door), Some(Presence::Offline(at(0))));
+    assert_eq!(site.next_deadline(), Some(at(1300)));
+    assert!(!site.is_due(line.door, at(1299)) && site.is_due(line.door, at(1300)));
+    // the opening ID is due 400 ms after the session has begun
+    assert_eq!(site.wait_until(&line.panel, at(2000)), at(400));
+    assert_eq!(site.wait_until(&line.panel, at(300)), at(300));
+}

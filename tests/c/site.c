@@ -1,0 +1,191 @@
+/* A site (osdp_site.h) over a panel and a device of this library, which are joined in memory: what is refused; that states come once after each opening, the latest of
+ * each, and in their order, also where the panel has room for one command; that orders for a time are not repeated; and when sessions begin. */
+#include <string.h>
+
+#include "demands.h"
+#include "osdp_site.h"
+
+static osdp_panel panel;
+static osdp_device device;
+static osdp_site site;
+static struct osdp_site_entry entries[1];
+static bool is_there = true;
+static uint64_t now = 1000;
+static char taken[2048]; /* the texts of the orders that the device took */
+static char told[256];   /* each change of presence, with its moment */
+static uint8_t answered[4096];
+static size_t length;
+
+/* The text of an order, after those before it. */
+static void note(const struct osdp_message *command)
+{
+    char text[256];
+    size_t count;
+    demand(osdp_command_text(command->code, command->data, command->length, text, sizeof text, &count) == OSDP_OK);
+    demand(strlen(taken) + count + 2 < sizeof taken);
+    strcat(strncat(taken, text, count), ";");
+}
+
+static void take_answer(const struct osdp_answer *answer, uint64_t at)
+{
+    (void)at;
+    if (answer->order == OSDP_ORDER_ONCE) {
+        note(&answer->command);
+    }
+    memcpy(answered + length, answer->burst.bytes, answer->burst.length);
+    length += answer->burst.length;
+}
+
+static void take_report(const struct osdp_report *report, bool has_changed, uint64_t at)
+{
+    if (has_changed) {
+        demand(entries[report->entry].since == at);
+        sprintf(told + strlen(told), "%s %u;", entries[report->entry].is_online ? "online" : "offline", (unsigned)at);
+    }
+}
+
+/* Both ends run up to a moment, a millisecond each time. */
+static void run(uint64_t until)
+{
+    static struct osdp_burst burst;
+    static uint8_t bytes[sizeof answered];
+    for (; now < until; now++) {
+        size_t count = length;
+        memcpy(bytes, answered, count);
+        length = 0;
+        osdp_site_turn(&site, &panel, bytes, count, now, take_report, &burst);
+        if (is_there) {
+            osdp_device_turn(&device, burst.bytes, burst.length, now, take_answer);
+        }
+    }
+}
+
+static osdp_site_status wants_text(const char *text)
+{
+    static struct osdp_message command;
+    static osdp_panel reads; /* reads a text: its queue gives the command back */
+    size_t entry;
+    struct osdp_panel_config config;
+    osdp_panel_defaults(&config);
+    demand(osdp_panel_new(&reads, &config) == OSDP_OK && osdp_panel_add(&reads, 1, &entry) == OSDP_OK);
+    demand(osdp_panel_submit_text(&reads, entry, text, strlen(text)) == OSDP_OK);
+    demand(osdp_panel_withdraw(&reads, entry, &command) == OSDP_OK && command.present);
+    demand(osdp_panel_free(&reads) == OSDP_OK);
+    return osdp_site_wants(&site, 0, &command);
+}
+
+static void refusals(void)
+{
+    static const struct {
+        const char *text;
+        osdp_site_status status;
+    } rows[] = {
+        { "OUT 0:5:30", OSDP_SITE_TIMED }, { "OUT 0:6:30", OSDP_SITE_TIMED }, { "OUT 0:0:0", OSDP_SITE_NO_STATE }, { "OUT 0:7:0", OSDP_SITE_NO_STATE },
+        { "OUT 0:1:0 1:1:0", OSDP_SITE_SEVERAL }, { "LED 0:0:2:1:0:2:2:50:1:1:0:1:1", OSDP_SITE_TIMED }, { "LED 0:0:0:0:0:0:0:0:0:1:0:1:1", OSDP_SITE_NO_STATE },
+        { "LED 0:0:0:0:0:0:0:0:1:1:0:1:1 0:1:0:0:0:0:0:0:1:1:0:1:1", OSDP_SITE_SEVERAL }, { "BUZ 0 2 5 5 3", OSDP_SITE_TIMED }, { "BUZ 0 0 5 5 0", OSDP_SITE_NO_STATE },
+        { "TEXT 0 3 5 1 1 4142", OSDP_SITE_TIMED }, { "TEXT 0 4 5 1 1 4142", OSDP_SITE_TIMED }, { "TEXT 0 5 0 1 1 4142", OSDP_SITE_NO_STATE },
+        { "ISTAT", OSDP_SITE_NO_STATE }, { "COMSET 7 9600", OSDP_SITE_NO_STATE }, { "MFG 535349 01", OSDP_SITE_NO_STATE }, { "ID 0", OSDP_SITE_NO_STATE },
+    };
+    struct osdp_message none = { 0 };
+    for (size_t i = 0; i < sizeof rows / sizeof rows[0]; i++) {
+        demand(wants_text(rows[i].text) == rows[i].status && entries[0].count == 0);
+    }
+    osdp_sound(false, &none);
+    demand(osdp_site_wants(&site, 1, &none) == OSDP_SITE_NO_ENTRY);
+    none.length = 4; /* no BUZ has four bytes */
+    demand(osdp_site_wants(&site, 0, &none) == OSDP_SITE_NO_STATE && entries[0].count == 0);
+}
+
+/* Seventeen outputs are one too many; the same again needs no room. */
+static void room(void)
+{
+    char text[16];
+    for (unsigned i = 0; i <= OSDP_SITE_ROOM; i++) {
+        sprintf(text, "OUT %u:2:0", i);
+        demand(wants_text(text) == (i < OSDP_SITE_ROOM ? OSDP_SITE_OK : OSDP_SITE_FULL));
+    }
+    demand(wants_text("OUT 3:1:0") == OSDP_SITE_OK && entries[0].count == OSDP_SITE_ROOM);
+    osdp_site_new(&site, entries, 1, now);
+}
+
+static void lives(void)
+{
+    static struct osdp_message order;
+    demand(wants_text("LED 0:0:0:0:0:0:0:0:1:1:0:1:1") == OSDP_SITE_OK); /* red, which is wanted no more once green is */
+    demand(wants_text("BUZ 0 1 0 0 0") == OSDP_SITE_OK);
+    demand(wants_text("LED 0:0:0:0:0:0:0:0:1:1:0:2:2") == OSDP_SITE_OK);
+    demand(wants_text("TEXT 0 1 0 1 1 4142") == OSDP_SITE_OK);
+    demand(osdp_site_next_deadline(&site) == 1000 && osdp_site_is_due(&site, 0, 1000) && !osdp_site_is_due(&site, 0, 999));
+    osdp_output_for(0, 50, &order);
+    demand(!osdp_site_order(&site, &panel, 0, &order)); /* it is offline still */
+    run(3000);
+    demand(strcmp(taken, "BUZ 0 1 0 0 0;LED 0:0:0:0:0:0:0:0:1:1:0:2:2;TEXT 0 1 0 1 1 4142;") == 0);
+    demand(osdp_site_is_refreshed(&site, 0) && osdp_site_next_deadline(&site) == UINT64_MAX && strcmp(told, "online 1401;") == 0);
+    taken[0] = '\0';
+    demand(osdp_site_order(&site, &panel, 0, &order));
+    run(3500);
+    demand(strcmp(taken, "OUT 0:5:50;") == 0);
+    demand(wants_text("BUZ 0 2 5 5 0") == OSDP_SITE_OK && !osdp_site_is_refreshed(&site, 0));
+    run(4000);
+    demand(strcmp(taken, "OUT 0:5:50;BUZ 0 2 5 5 0;") == 0);
+    taken[0] = told[0] = '\0';
+}
+
+/* The device is gone for a while, and comes back: states come again, in the order in which they were wanted last, and the order doesn't. */
+static void comes_back(void)
+{
+    is_there = false;
+    length = 0;
+    run(6000);
+    demand(strncmp(told, "offline ", 8) == 0 && strchr(told, ';') == told + strlen(told) - 1); /* once, though sessions were lost again */
+    demand(!entries[0].is_online && entries[0].since > 4000 && entries[0].since < 5000);
+    is_there = true;
+    run(12000);
+    demand(strcmp(taken, "LED 0:0:0:0:0:0:0:0:1:1:0:2:2;TEXT 0 1 0 1 1 4142;BUZ 0 2 5 5 0;") == 0);
+    demand(entries[0].is_online && osdp_site_is_refreshed(&site, 0));
+}
+
+/* After the end of a session the next is due after the pause, at each entry by itself. */
+static void pauses(void)
+{
+    static struct osdp_site_entry two[2];
+    static struct osdp_report report;
+    osdp_site other;
+    osdp_site_new(&other, two, 2, 0);
+    other.pause = 300;
+    two[0].begins = two[1].begins = UINT64_MAX; /* both have begun */
+    report.kind = OSDP_REPORT_LOST;
+    report.entry = 1;
+    demand(!osdp_site_heed(&other, &report, 1000)); /* it was offline before */
+    demand(two[1].since == 0 && osdp_site_next_deadline(&other) == 1300);
+    demand(!osdp_site_is_due(&other, 1, 1299) && osdp_site_is_due(&other, 1, 1300) && !osdp_site_is_due(&other, 0, 5000) && !osdp_site_is_due(&other, 2, 5000));
+    report.entry = 2;
+    demand(!osdp_site_heed(&other, &report, 1000));
+    report.entry = 0;
+    report.kind = OSDP_REPORT_OPENED;
+    demand(osdp_site_heed(&other, &report, 1100) && !osdp_site_heed(&other, &report, 1200) && two[0].since == 1100);
+    report.kind = OSDP_REPORT_MOVED;
+    demand(osdp_site_heed(&other, &report, 1250) && two[0].since == 1250 && two[0].begins == 1550 && osdp_site_next_deadline(&other) == 1300);
+    report.kind = OSDP_REPORT_SETTLED;
+    demand(!osdp_site_heed(&other, &report, 1400) && two[0].begins == 1550);
+}
+
+int main(void)
+{
+    struct osdp_panel_config config;
+    const struct osdp_device_config reader = { .address = 5, .capacity = 2, .gap = 20 };
+    const uint8_t off[1] = { 0 };
+    size_t entry;
+    osdp_panel_defaults(&config);
+    config.capacity = 1; /* so the queue is full after the first state */
+    demand(osdp_panel_new(&panel, &config) == OSDP_OK && osdp_panel_add(&panel, 5, &entry) == OSDP_OK);
+    demand(osdp_device_new(&device, &reader, NULL, 0) == OSDP_OK && osdp_device_set_outputs(&device, off, 1) == OSDP_OK);
+    osdp_site_new(&site, entries, 1, now);
+    refusals();
+    room();
+    lives();
+    comes_back();
+    pauses();
+    demand(osdp_panel_free(&panel) == OSDP_OK && osdp_device_free(&device) == OSDP_OK);
+    return 0;
+}
