@@ -15,7 +15,7 @@ from pathlib import Path
 
 import port_line
 import port_words
-from port_line import ACK, COM, ID, OUT, PANEL, PDID, POLL, PORT, IDENTITY, Device, Line, asks, faults, has, opened, taken, tells
+from port_line import ACK, COM, COMSET, ID, OUT, PANEL, PDID, POLL, PORT, IDENTITY, Device, Line, asks, faults, has, opened, taken, tells
 from terminals import Terminal, packet
 
 QUICK = "poll-interval 20 reply-wait 100 sends 2 quiet-wait 60 check sum".split()
@@ -192,6 +192,16 @@ def ctrl_c():
         asks(line.stops(panel) == 1, "Ctrl-C: a panel whose session was lost has another status")
         asks(has(panel, "lost 5 no-reply OUT 0:2:1", "withdrawn 5 OUT 0:2:2")(), f"Ctrl-C: orders have no end: {panel.lines[-3:]}")
         asks(line.stops(reader) == 0, "Ctrl-C: a reader has another status")
+    with Line() as line:  # an answer is waited for longer than the panel takes to end
+        reader = line.reader(0, 5)
+        line.run(lambda: line.reader_ends[0].rate is not None and reader.lines)  # so that the first ID is heard
+        panel = line.panel("5", *PANEL, "reply-wait", "600000")
+        asks(line.run(opened(panel, 5)), "Ctrl-C: the session doesn't open")
+        line.loses = lambda way, burst: burst[5] == OUT
+        panel.say("5 OUT 0:2:1\n5 OUT 0:2:2")
+        line.run(lambda: any(burst[5] == OUT for _, burst in line.bursts))
+        line.stops(panel)
+        asks(has(panel, "lost 5 no-reply OUT 0:2:1", "withdrawn 5 OUT 0:2:2")(), f"Ctrl-C: orders have no end in a long wait: {panel.lines[-3:]}")
     with Line() as line:
         line.reader(0, 5)
         panel = line.panel("5")
@@ -234,6 +244,10 @@ def killed():
         again.say("7 on")
         asks(line.run(has(readers[0], "taken OUT 0:2:0")), f"killed: the order goes elsewhere: {again.lines[-6:]} {readers[0].lines}")
         asks(taken(readers[1]) == ["taken COMSET 6 19200"] or taken(readers[1]) == [], f"killed: the other one has taken {taken(readers[1])}")
+        line.loses = lambda way, burst: burst[5] == COM
+        again.say("7 move 9 19200")
+        line.run(lambda: any(burst[1] == 7 and burst[5] == COMSET for _, burst in line.bursts))
+        asks("5 at 7 19200 or 9 19200" in places.read_text(), f"killed: both places aren't kept before a COMSET goes out: {places.read_text()} {again.lines[-4:]}")
         line.stops(again)
         refused = line.panel("7,6", *PANEL, options=["--keep", places], stderr=subprocess.PIPE)
         refused.process.wait(timeout=60)

@@ -106,7 +106,8 @@ class Panel:
         text, _, reply = " ".join(words).partition(" = ")
         self.has_end(device, text)
         if not text.startswith("COMSET "):
-            device.stands(device.place)  # it answers here
+            if not self.awaits_move(device):
+                device.stands(device.place)  # it answers here
         elif reply.startswith("NAK"):
             device.stands(device.place)
             self.refuses_rate(device)
@@ -134,6 +135,11 @@ class Panel:
         self.met += 1
         self.has_end(device, " ".join(words[1:]))
         self.close(device, PAUSE)
+
+    @staticmethod
+    def awaits_move(device):
+        """Whether a COMSET waits or is on its way: its new place stays kept."""
+        return any(text.startswith("COMSET ") for text in device.orders)
 
     @staticmethod
     def has_end(device, text):
@@ -263,7 +269,7 @@ class Panel:
             raise Refused(f"the session with {device.address} isn't open")
         if device.other:
             raise Refused(f"another device stands at {device.address}: type {device.address} accept if it is the right one")
-        if any(text.startswith("COMSET ") for text in device.orders) or device.is_in_doubt():
+        if self.awaits_move(device) or device.is_in_doubt():
             raise Refused(f"where device {device.address} is isn't known until its COMSET has an answer")
         if self.rounds.is_leaving or not self.rounds.is_reached(device):
             sought = " and ".join(str(each.address) for each in self.rounds.seekers())
