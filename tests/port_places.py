@@ -52,12 +52,13 @@ def order_each(line, what, timer=[0]):
         asks(took == 1, f"{what}: an order was taken {took} times")
 
 
-def loses_once(line, count, settings, what, loses, addresses=(5, 6, 7)):
-    """A COMSET of the rate is given, and what `loses` says is lost until all orders have their ends. Then all are found."""
+def loses_once(line, count, settings, what, loses, addresses=(5, 6, 7), before=()):
+    """A COMSET of the rate is given, after other orders, and what `loses` says is lost until all orders have their ends. Then all are found."""
     global runs
     runs += 1
     line.loses = loses
-    line.order("5 rate 19200")
+    for order in (*before, "5 rate 19200"):
+        line.order(order)
     what = f"{count} readers, {settings}, {what}"
     asks(line.run(lambda: not any(device.orders for device in line.panel.devices), 60), f"{what}: an order has no end")
     line.loses = lambda way, burst: False
@@ -92,6 +93,13 @@ def lost_answers():
             seen = itertools.count()
             loses_once(opened_line(count, settings), count, settings, f"answers {at} to {at + length - 1} lost",
                        lambda way, burst, seen=seen, at=at, length=length: way == "in" and at <= next(seen) < at + length)
+
+
+def after_other_orders():
+    """The answers to the COMSETs are lost, and other orders are settled while the COMSETs wait."""
+    for count, settings in itertools.product((1, 2, 3), SETTINGS[:2]):
+        loses_once(opened_line(count, settings), count, settings, "COM lost after other orders", lambda way, burst: burst[5] == COM,
+                   before=[f"{address} on" for address in (5, 6, 7)[:count]])
 
 
 def lost_at_random(seeds=30):
@@ -315,6 +323,7 @@ def main(path):
     begun = time.monotonic()
     lost_answers()
     lost_at_random()
+    after_other_orders()
     new_addresses()
     refusing()
     gone()
