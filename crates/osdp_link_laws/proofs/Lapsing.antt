@@ -7,12 +7,13 @@ use Rattle.osdp_msg.specs.declared.event.Event.{Event}
 use Rattle.osdp_controller.specs.Machine as controllers
 use Rattle.osdp_controller.specs.declared.fault.ControllerFault.{ControllerFault}
 use Rattle.osdp_reader.specs.Queue.{Queue}
+use Rattle.osdp_reader.specs.State.{ReaderState}
 use Rattle.osdp_reader.specs.Table.{kind_of, outcome}
 use Rattle.osdp_reader.specs.declared.handler.Answer.{Answer}
 use Rattle.osdp_reader.specs.declared.kind.Kind.{Kind}
 use Rattle.osdp_reader.specs.declared.kind.Kind.TheVariants.{Silent, Secured, Zero, Repeat, Taken, Busy, Wrong}
 use Rattle.std.specs.Prelude.{option_to_list}
-use Rattle.osdp_link_laws.specs.Lapses.{DifferByLapse, IsNotZeroIf, LapsesAreUnheard, NextBeginsWithout, Offers, StayInSession, StaysInSession, lapses}
+use Rattle.osdp_link_laws.specs.Lapses.{DifferByLapse, IsNotZero, IsNotZeroIf, KeepSession, KeepsSession, LapsesAreUnheard, NextBeginsWithout, Offers, SessionsHideLapses, StayInSession, StaysInSession, lapses}
 use Rattle.osdp_link_laws.specs.Link as link
 use Rattle.osdp_link_laws.specs.Link.{Delivered, Delivery, Link, LoseToController, LoseToReader, Lost, Move, Queue as QueueEvent, Reopen, Repeated, RestartController, RestartReader, Retarget, SetBusy, SetHandler, Submit, Tick, ToController, ToReader, Withdraw, WithdrawEvent, after_move, run}
 use Rattle.osdp_link_laws.specs.Headline.{Begins, MaySubmit}
@@ -20,6 +21,7 @@ use Rattle.osdp_link_laws.specs.Peers.{ReadEachOther}
 use Rattle.osdp_link_laws.proofs.InARow.{stands}
 use Rattle.osdp_link_laws.proofs.Lines.{each_all, each_rest}
 use Rattle.osdp_link_laws.proofs.Numbers.{is_false}
+use Rattle.osdp_link_laws.proofs.PastOpening.{IsNoReopen, IsNumbered, NoneOfferedOrPast, OpeningIsPast, numbered_goes_on, opening_is_past, past_on}
 use Rattle.osdp_link_laws.proofs.Removed.{gone}
 use Rattle.osdp_link_laws.proofs.Stages.{Each}
 
@@ -231,3 +233,48 @@ module _ {H : Type 0} where
         Begins (record next { earlier = [] }) × (next.account.queued ≡ rest) × (next.earlier ≡ l.account ∷ l.earlier)) (is_off event rest l is)
         (next_with (controllers.begin_refusal l.controller) l.to_reader l.to_controller now event rest room l s.current
         (each_rest MaySubmit (gone l.account) l.controller.waiting s.goes.holds.2.waiting) may there here there here)
+
+    -- ---- a session in which an event was offered
+
+    not_zero : (ps : List Packet) (r : ReaderState H) → Each IsNumbered ps → IsNotZero ps r
+    not_zero [] r all = tt
+    not_zero (p ∷ ps) r all = numbered_goes_on r p all.0
+
+    not_zero_if : (how : Delivery) (ps : List Packet) (r : ReaderState H) → Each IsNumbered ps → IsNotZeroIf how ps r
+    not_zero_if Delivered ps r all = not_zero ps r all
+    not_zero_if Lost ps r all = tt
+    not_zero_if Repeated ps r all = not_zero ps r all
+
+    keeps_so : (move : Move H) (l : Link H) → OpeningIsPast l → KeepsSession answer_of after move l → StaysInSession move l × IsNoReopen move
+    keeps_so (QueueEvent e) l past keeps = (keeps, tt)
+    keeps_so (Reopen now) l past keeps = absurd keeps
+    keeps_so (ToReader how) l past keeps = (not_zero_if how l.to_reader l.reader past.frames, tt)
+    keeps_so (Submit c) l past keeps = (tt, tt)
+    keeps_so (SetBusy busy) l past keeps = (tt, tt)
+    keeps_so (Tick now) l past keeps = (tt, tt)
+    keeps_so (ToController how now) l past keeps = (tt, tt)
+    keeps_so (SetHandler handler) l past keeps = (tt, tt)
+    keeps_so Withdraw l past keeps = (tt, tt)
+    keeps_so (Retarget address) l past keeps = (tt, tt)
+    keeps_so WithdrawEvent l past keeps = (tt, tt)
+    keeps_so (RestartReader address handler room) l past keeps = (tt, tt)
+    keeps_so (RestartController config room) l past keeps = (tt, tt)
+    keeps_so (LoseToReader place) l past keeps = (tt, tt)
+    keeps_so (LoseToController place) l past keeps = (tt, tt)
+
+    keep_so : (moves : List (Move H)) (l : Link H) → OpeningIsPast l → KeepSession answer_of after moves l → StayInSession answer_of after moves l
+    keep_so [] l past keep = tt
+    keep_so (move ∷ moves) l past keep =
+        let k = keeps_so move l past keep.0 in
+        (k.0, keep_so moves (after_move answer_of after move l) (past_on answer_of after move l k.1 past) keep.1)
+
+    pub sessions_hide_lapses : ReadEachOther answer_of after → SessionsHideLapses answer_of after
+    sessions_hide_lapses peers first moves event rest more begin fits is some keep =
+        by_past (opening_is_past answer_of after peers first moves begin fits)
+      where
+        l : Link H
+        l = run answer_of after moves first
+
+        by_past : NoneOfferedOrPast l → DifferByLapse (run answer_of after more (lapses l)) (run answer_of after more l)
+        by_past (inl none) = absurd (some none)
+        by_past (inr past) = all_so more l event rest is (keep_so more l past keep)

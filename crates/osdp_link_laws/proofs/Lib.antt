@@ -51,4 +51,5 @@ pub mod Addresses
 pub mod Doing
 pub mod Counting
 pub mod Costing
+mod PastOpening
 mod Lapsing

@@ -69,3 +69,22 @@ module _ {H : Type 0} where
         Offers event rest l → begin_refusal l.controller ≡ None → l.to_reader ≡ [] → l.to_controller ≡ []
         → let next = after_move answer_of after (Reopen now) (lapses l) in
         Begins (record next { earlier = [] }) × (next.account.queued ≡ rest) × (next.earlier ≡ l.account ∷ l.earlier)
+
+    -- no session begins, and an event that is queued finds room
+    abbrev pub KeepsSession : Move H → Link H → Type 0
+    KeepsSession (Queue event) l = length l.reader.queue.events < l.reader.queue.capacity
+    KeepsSession (Reopen now) l = ⊥
+    KeepsSession _ l = Unit {0}
+
+    abbrev pub KeepSession : List (Move H) → Link H → Type 0
+    KeepSession [] l = Unit {0}
+    KeepSession (move ∷ moves) l = KeepsSession move l × KeepSession moves (after_move answer_of after move l)
+
+    -- of a link from its first session on: where the reader has offered an event in this session, number 0 comes to it no more in it, and nobody hears that the
+    -- event lapses
+    abbrev pub SessionsHideLapses : Type 0
+    SessionsHideLapses = (first : Link H) (moves : List (Move H)) (event : Event) (rest : List Event) (more : List (Move H)) → Begins first
+        → MovesFit answer_of after moves first
+        → let l = run answer_of after moves first in
+        Offers event rest l → l.account.offered ≢ [] → KeepSession more l
+        → DifferByLapse (run answer_of after more (lapses l)) (run answer_of after more l)

@@ -1,18 +1,21 @@
 //! Events that their device lets lapse, over one link.
 
-ghost use Rattle.osdp_link_laws.specs.Lapses.{LapsesAreUnheard, NextBeginsWithout};
+ghost use Rattle.osdp_link_laws.specs.Lapses.{LapsesAreUnheard, NextBeginsWithout, SessionsHideLapses};
 
 use osdp_reader::Handler;
 
 /// A device lets the event lapse that it has offered (`Device::lapse_event`, `expire_event`): the event leaves the queue as in doubt. As long as the
-/// session lasts nobody hears of it: a repeat still has the stored reply as its answer, so the report may come after the lapse, or be lost. The line, the
-/// controller and the account are as they would be without the lapse, and so is the device, but for this event, until it takes its next command, and in all from then on. So
-/// what is promised of a session holds of one in which events lapse. Where the session ends before, the next one begins without the event.
+/// session lasts nobody hears of it: a repeat still has the stored reply as its answer, so the report may come after the lapse, or be lost. The line,
+/// the controller and the account are as they would be without the lapse. So is the device, but for this event, until it takes its next command, and in
+/// all from then on. So what is promised of a session holds of one in which events lapse. Clause `run` says so of each event that was offered in its
+/// session. Clause `unheard` says it of any link, as long as no number 0 comes to the reader. Both ask that an event that is queued after the lapse
+/// finds room also where nothing has lapsed.
 ///
-/// Each event that is queued after the lapse finds room also where nothing has lapsed. That no later session offers the event again, a law of
-/// `osdp_reader_laws` says (`lets_go_what_is_in_doubt`).
+/// Where the session ends after the lapse, the next one begins without the event (clause `next`), and what is promised of a link from its first
+/// session on holds from there on. That no later session offers the event, a law of `osdp_reader_laws` says too (`lets_go_what_is_in_doubt`).
 pub fn nobody_hears_a_lapse<H: Handler>()
     ensures unheard { LapsesAreUnheard H.answer_of H.after }
+    ensures run { SessionsHideLapses H.answer_of H.after }
     ensures next { NextBeginsWithout H.answer_of H.after }
 {
     crate::read_each_other::<H>();
