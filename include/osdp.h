@@ -81,15 +81,22 @@ extern "C" {
 
 /* ---- Statuses ---- */
 
-/* In C23 and C++17, where a program defines OSDP_CHECK_RESULTS before this page is read, the compiler warns of each call whose status isn't looked at. */
-#if defined OSDP_CHECK_RESULTS && ((defined __cplusplus && __cplusplus >= 201703L) || (defined __STDC_VERSION__ && __STDC_VERSION__ > 201710L))
+/*
+ * Where a program defines OSDP_CHECK_RESULTS before this page is read, the compiler warns of each call whose status isn't looked at: in C23 and C++17 each
+ * compiler, and in the versions before them GCC and Clang. There a cast to void doesn't stop GCC's warning; `if (call(..)) {}` does.
+ */
+#if !defined OSDP_CHECK_RESULTS
+#define OSDP_CHECKED
+#elif (defined __cplusplus && __cplusplus >= 201703L) || (defined __STDC_VERSION__ && __STDC_VERSION__ > 201710L)
 #define OSDP_CHECKED [[nodiscard]]
+#elif defined __GNUC__
+#define OSDP_CHECKED __attribute__((warn_unused_result))
 #else
 #define OSDP_CHECKED
 #endif
 
 /* What became of a call. The two digits from 11 on are those of the machines' own refusals: 1 for M, 2 for B, 3 for C, 4 for N. */
-typedef enum OSDP_CHECKED osdp_status {
+typedef enum osdp_status {
     /* The call was done. */
     OSDP_OK = 0,
     /* The handle holds no machine. */
@@ -238,10 +245,10 @@ struct osdp_burst {
  * OSDP_UNKNOWN_CODE (M1), OSDP_BAD_LENGTH (M2), OSDP_BAD_COUNT (M3): the code and data stand for no command.
  * OSDP_TOO_SMALL: the text is longer than the room; its length is written, and no text.
  */
-static inline osdp_status osdp_command_text(uint8_t code, const uint8_t *data, size_t length, char *text, size_t room, size_t *text_length);
+OSDP_CHECKED static inline osdp_status osdp_command_text(uint8_t code, const uint8_t *data, size_t length, char *text, size_t room, size_t *text_length);
 
 /* The same of a reply. An event's text is that of the reply that tells it, as in `KEYPAD 0 31`. */
-static inline osdp_status osdp_reply_text(uint8_t code, const uint8_t *data, size_t length, char *text, size_t room, size_t *text_length);
+OSDP_CHECKED static inline osdp_status osdp_reply_text(uint8_t code, const uint8_t *data, size_t length, char *text, size_t room, size_t *text_length);
 
 /* ---- The fields of a message ---- */
 
@@ -269,11 +276,31 @@ struct osdp_keypad {
     uint8_t digits[255];
 };
 
-/* A byte for each input or output: of an ISTATR or an OSTATR. 1,434 bytes. */
+/* A card as the reader formatted it: of a FMT. 258 bytes. */
+struct osdp_formatted {
+    /* Which reader of the device, counted from 0. */
+    uint8_t reader;
+    /* How the card was drawn: OSDP_CARD_FORWARD or OSDP_CARD_REVERSE. */
+    uint8_t direction;
+    /* How many characters there are, 0 to 255, */
+    uint8_t count;
+    /* in their order. */
+    uint8_t digits[255];
+};
+
+/* The state of the device itself: of an LSTATR. 2 bytes. */
+struct osdp_local_state {
+    /* OSDP_STATE_NORMAL or OSDP_STATE_TAMPERED. */
+    uint8_t tamper;
+    /* OSDP_STATE_NORMAL or OSDP_STATE_POWER_FAILS. */
+    uint8_t power;
+};
+
+/* A byte for each input, output or reader: of an ISTATR, an OSTATR or an RSTATR. 1,434 bytes. */
 struct osdp_states {
     /* How many there are, 0 to 1,432. */
     uint16_t length;
-    /* 1 where the input is active or the output on, else 0. */
+    /* OSDP_STATE_ACTIVE where the input is active or the output on, else OSDP_STATE_INACTIVE; of a reader OSDP_READER_NORMAL to OSDP_READER_TAMPERED. */
     uint8_t states[1432];
 };
 
@@ -296,6 +323,32 @@ struct osdp_pd_id {
     struct osdp_product product;
 };
 
+/* What a device can do in one respect: a record of a PDCAP. 3 bytes. */
+struct osdp_capability {
+    /* OSDP_FUNCTION_CONTACT_STATUS to OSDP_FUNCTION_VERSION. */
+    uint8_t function;
+    /* How far it goes, and how many there are: both as the standard has it for the function. */
+    uint8_t level;
+    uint8_t count;
+};
+
+/* How a device communicates: of a COMSET, and of a COM, which confirms it. 8 bytes. */
+struct osdp_communication {
+    /* In bits per second. */
+    uint32_t baud_rate;
+    /* The address of the device, 0 to 255; those of devices are 0 to 126. */
+    uint32_t address;
+};
+
+/* A message of a device's maker: of a MFG, and of a MFGREP. 1,434 bytes. */
+struct osdp_maker {
+    /* How many bytes follow the maker's code, 0 to 1,429. */
+    uint16_t length;
+    /* The maker's code. */
+    uint8_t vendor[3];
+    uint8_t bytes[1429];
+};
+
 /* Why a command wasn't done: of a NAK. 1,434 bytes. */
 struct osdp_nak {
     /* How many bytes of detail there are, 0 to 1,431. */
@@ -307,7 +360,7 @@ struct osdp_nak {
 
 /* What one output is to do: a record of an OUT. 4 bytes. */
 struct osdp_output {
-    /* In 100 ms: how long it lasts, where the control is 5 or 6. */
+    /* In 100 ms: how long it lasts, where it is for a time. */
     uint16_t timer;
     /* The output of the device, counted from 0. */
     uint8_t output;
@@ -367,32 +420,76 @@ struct osdp_text {
  * OSDP_OTHER_MESSAGE: it is another reply; nothing is written. OSDP_UNKNOWN_CODE (M1), OSDP_BAD_LENGTH (M2), OSDP_BAD_COUNT (M3): it is no reply;
  * where `present` is 0 its code is 0, and no reply has that.
  */
-osdp_status osdp_raw_of(const struct osdp_message *reply, struct osdp_raw *raw);
-osdp_status osdp_keypad_of(const struct osdp_message *reply, struct osdp_keypad *keypad);
-osdp_status osdp_inputs_of(const struct osdp_message *reply, struct osdp_states *inputs);
-osdp_status osdp_outputs_of(const struct osdp_message *reply, struct osdp_states *outputs);
-osdp_status osdp_pd_id_of(const struct osdp_message *reply, struct osdp_pd_id *id);
-osdp_status osdp_nak_of(const struct osdp_message *reply, struct osdp_nak *nak);
+OSDP_CHECKED osdp_status osdp_raw_of(const struct osdp_message *reply, struct osdp_raw *raw);
+OSDP_CHECKED osdp_status osdp_formatted_of(const struct osdp_message *reply, struct osdp_formatted *formatted);
+OSDP_CHECKED osdp_status osdp_keypad_of(const struct osdp_message *reply, struct osdp_keypad *keypad);
+OSDP_CHECKED osdp_status osdp_local_state_of(const struct osdp_message *reply, struct osdp_local_state *state);
+OSDP_CHECKED osdp_status osdp_inputs_of(const struct osdp_message *reply, struct osdp_states *inputs);
+OSDP_CHECKED osdp_status osdp_outputs_of(const struct osdp_message *reply, struct osdp_states *outputs);
+OSDP_CHECKED osdp_status osdp_readers_of(const struct osdp_message *reply, struct osdp_states *readers);
+OSDP_CHECKED osdp_status osdp_pd_id_of(const struct osdp_message *reply, struct osdp_pd_id *id);
+OSDP_CHECKED osdp_status osdp_nak_of(const struct osdp_message *reply, struct osdp_nak *nak);
+OSDP_CHECKED osdp_status osdp_com_of(const struct osdp_message *reply, struct osdp_communication *communication);
+OSDP_CHECKED osdp_status osdp_maker_reply_of(const struct osdp_message *reply, struct osdp_maker *maker);
 
 /*
- * Reads the record of an OUT at a place, counted from 0: call it for 0, 1, 2 and so on while it gives OSDP_OK.
+ * Reads the record of a PDCAP at a place, counted from 0: call it for 0, 1, 2 and so on while it gives OSDP_OK.
+ *
+ * OSDP_OTHER_MESSAGE: it is another reply, or has no record there; nothing is written. Else as above.
+ */
+OSDP_CHECKED osdp_status osdp_capability_of(const struct osdp_message *reply, size_t at, struct osdp_capability *capability);
+
+/*
+ * Each reads the fields of one command, such as that of an answer, and writes them. The commands without fields of a program's, from OSDP_POLL to
+ * OSDP_RSTAT, are told by their code.
+ *
+ * OSDP_OTHER_MESSAGE: it is another command; nothing is written. OSDP_UNKNOWN_CODE (M1), OSDP_BAD_LENGTH (M2), OSDP_BAD_COUNT (M3): it is no command;
+ * where `present` is 0 its code is 0, and no command has that.
+ */
+OSDP_CHECKED osdp_status osdp_buzzer_of(const struct osdp_message *command, struct osdp_buzzer *buzzer);
+OSDP_CHECKED osdp_status osdp_text_of(const struct osdp_message *command, struct osdp_text *text);
+OSDP_CHECKED osdp_status osdp_comset_of(const struct osdp_message *command, struct osdp_communication *communication);
+OSDP_CHECKED osdp_status osdp_maker_of(const struct osdp_message *command, struct osdp_maker *maker);
+
+/*
+ * Each reads the record of an OUT, or of a LED, at a place, counted from 0: call it for 0, 1, 2 and so on while it gives OSDP_OK.
  *
  * OSDP_OTHER_MESSAGE: it is another command, or has no record there; nothing is written. OSDP_UNKNOWN_CODE (M1), OSDP_BAD_LENGTH (M2),
  * OSDP_BAD_COUNT (M3): it is no command.
  */
-osdp_status osdp_output_of(const struct osdp_message *command, size_t at, struct osdp_output *output);
+OSDP_CHECKED osdp_status osdp_output_of(const struct osdp_message *command, size_t at, struct osdp_output *output);
+OSDP_CHECKED osdp_status osdp_led_of(const struct osdp_message *command, size_t at, struct osdp_led *led);
 
 /*
- * Each writes a command: `osdp_panel_submit(&panel, entry, command.code, command.data, command.length)` orders it.
+ * Each writes a command: `osdp_panel_submit(&panel, entry, command.code, command.data, command.length)` orders it. ID and CAP carry one byte, which is 0:
+ * the standard has no other for it. One without it is no command (OSDP_BAD_LENGTH). LSTAT, ISTAT, OSTAT and RSTAT carry nothing:
+ * `osdp_panel_submit(&panel, entry, OSDP_LSTAT, NULL, 0)` orders one.
  *
- * OSDP_BAD_LENGTH (M2): there is no record, or more than 358 of an OUT or 102 of a LED; nothing is written. OSDP_ADDRESS_OUT_OF_RANGE (B6): the
- * address of a COMSET is above 126, which are those that devices have; nothing is written.
+ * OSDP_BAD_LENGTH (M2): there is no record, or more than 358 of an OUT or 102 of a LED, or the maker's bytes are more than 1,429; nothing is written.
+ * OSDP_ADDRESS_OUT_OF_RANGE (B6): the address of a COMSET is above 126, which are those that devices have; nothing is written.
  */
-static inline osdp_status osdp_out(const struct osdp_output *outputs, size_t count, struct osdp_message *command);
-static inline osdp_status osdp_led(const struct osdp_led *leds, size_t count, struct osdp_message *command);
+void osdp_id(struct osdp_message *command);
+void osdp_cap(struct osdp_message *command);
+OSDP_CHECKED static inline osdp_status osdp_out(const struct osdp_output *outputs, size_t count, struct osdp_message *command);
+OSDP_CHECKED static inline osdp_status osdp_led(const struct osdp_led *leds, size_t count, struct osdp_message *command);
 void osdp_buzzer(const struct osdp_buzzer *buzzer, struct osdp_message *command);
 void osdp_text(const struct osdp_text *text, struct osdp_message *command);
-osdp_status osdp_comset(uint32_t address, uint32_t baud_rate, struct osdp_message *command);
+OSDP_CHECKED osdp_status osdp_comset(uint32_t address, uint32_t baud_rate, struct osdp_message *command);
+OSDP_CHECKED osdp_status osdp_maker(const struct osdp_maker *maker, struct osdp_message *command);
+
+/*
+ * Each writes the reply that tells an event: `osdp_device_event(&device, event.code, event.data, event.length)` puts it after those that wait.
+ *
+ * OSDP_BAD_LENGTH (M2): the length is more than there is room for in the struct; nothing is written. OSDP_BAD_COUNT (M3): the bytes of a card aren't as
+ * many as its bits need (bits divided by 8, rounded up); nothing is written.
+ */
+OSDP_CHECKED osdp_status osdp_raw(const struct osdp_raw *raw, struct osdp_message *event);
+void osdp_formatted(const struct osdp_formatted *formatted, struct osdp_message *event);
+void osdp_keypad(const struct osdp_keypad *keypad, struct osdp_message *event);
+void osdp_local_state(const struct osdp_local_state *state, struct osdp_message *event);
+OSDP_CHECKED osdp_status osdp_inputs(const struct osdp_states *inputs, struct osdp_message *event);
+OSDP_CHECKED osdp_status osdp_outputs(const struct osdp_states *outputs, struct osdp_message *event);
+OSDP_CHECKED osdp_status osdp_readers(const struct osdp_states *readers, struct osdp_message *event);
 
 /* ---- Numbers in the fields ---- */
 
@@ -588,10 +685,10 @@ void osdp_panel_defaults(struct osdp_panel_config *config);
  * OSDP_IN_USE: the handle holds a panel, which stays. OSDP_PANEL_OUT_OF_RANGE (B5): a setting is out of its range.
  * OSDP_PANEL_NO_MEMORY (B1).
  */
-osdp_status osdp_panel_new(osdp_panel *panel, const struct osdp_panel_config *config);
+OSDP_CHECKED osdp_status osdp_panel_new(osdp_panel *panel, const struct osdp_panel_config *config);
 
 /* Frees a panel and all that belongs to it; the handle is none after it. OSDP_NO_MACHINE. */
-osdp_status osdp_panel_free(osdp_panel *panel);
+OSDP_CHECKED osdp_status osdp_panel_free(osdp_panel *panel);
 
 /*
  * Adds a device at an address, 0 to 126, whose session is closed. Its number is written to `entry`: 0 to 15, in the order of adding.
@@ -599,14 +696,14 @@ osdp_status osdp_panel_free(osdp_panel *panel);
  * OSDP_NO_MACHINE. OSDP_TOO_MANY (B2): sixteen are there. OSDP_PANEL_OUT_OF_RANGE (B5): the address is above 126. OSDP_ADDRESS_TAKEN (B3):
  * it is that of a device or reserved for one. OSDP_PANEL_NO_MEMORY (B1).
  */
-osdp_status osdp_panel_add(osdp_panel *panel, uint32_t address, size_t *entry);
+OSDP_CHECKED osdp_status osdp_panel_add(osdp_panel *panel, uint32_t address, size_t *entry);
 
 /*
  * Begins a session of a device: it is left quiet for `quiet_wait`, then the opening ID goes out in its turn.
  *
  * OSDP_NO_MACHINE. OSDP_MOMENT_TOO_FAR. OSDP_NO_ENTRY (B4). OSDP_NOT_CLOSED (C5): its session has begun.
  */
-osdp_status osdp_panel_begin(osdp_panel *panel, size_t entry, uint64_t now);
+OSDP_CHECKED osdp_status osdp_panel_begin(osdp_panel *panel, size_t entry, uint64_t now);
 
 /*
  * Puts a command after those that wait for a device, whether or not its session has begun. What becomes of it comes as a report.
@@ -616,14 +713,14 @@ osdp_status osdp_panel_begin(osdp_panel *panel, size_t entry, uint64_t now);
  * be out of reach. OSDP_ADDRESS_TAKEN (B3): a COMSET to an address of another device or reserved for one, or where one is reserved for this device
  * already. OSDP_COMMANDS_FULL (C3).
  */
-static inline osdp_status osdp_panel_submit(osdp_panel *panel, size_t entry, uint8_t code, const uint8_t *data, size_t length);
+OSDP_CHECKED static inline osdp_status osdp_panel_submit(osdp_panel *panel, size_t entry, uint8_t code, const uint8_t *data, size_t length);
 
 /*
  * The same of a command's text, such as `OUT 0:5:30`. Its words have one or more spaces between each two, and it ends after `length` bytes.
  *
  * OSDP_NO_MACHINE. OSDP_BAD_TEXT: it is the text of no command. The others are those of `osdp_panel_submit`.
  */
-static inline osdp_status osdp_panel_submit_text(osdp_panel *panel, size_t entry, const char *text, size_t length);
+OSDP_CHECKED static inline osdp_status osdp_panel_submit_text(osdp_panel *panel, size_t entry, const char *text, size_t length);
 
 /*
  * Takes back the command that has waited longest for a device: it won't be sent. None (`present` is 0) where none waits, or where its session
@@ -631,7 +728,7 @@ static inline osdp_status osdp_panel_submit_text(osdp_panel *panel, size_t entry
  *
  * OSDP_NO_MACHINE. OSDP_NO_ENTRY (B4).
  */
-osdp_status osdp_panel_withdraw(osdp_panel *panel, size_t entry, struct osdp_message *command);
+OSDP_CHECKED osdp_status osdp_panel_withdraw(osdp_panel *panel, size_t entry, struct osdp_message *command);
 
 /*
  * Sets the address of a device, 0 to 126, and frees the one that is reserved for it.
@@ -639,7 +736,7 @@ osdp_status osdp_panel_withdraw(osdp_panel *panel, size_t entry, struct osdp_mes
  * OSDP_NO_MACHINE. OSDP_NO_ENTRY (B4). OSDP_NOT_CLOSED (C5): its session has begun. OSDP_PANEL_OUT_OF_RANGE (B5): the address is above 126.
  * OSDP_ADDRESS_TAKEN (B3): it is that of another device or reserved for one, or a COMSET waits for this one.
  */
-osdp_status osdp_panel_retarget(osdp_panel *panel, size_t entry, uint32_t address);
+OSDP_CHECKED osdp_status osdp_panel_retarget(osdp_panel *panel, size_t entry, uint32_t address);
 
 /*
  * Bytes have come from the line, in any pieces. Each packet that they finish goes to the device of its address. A call with no bytes
@@ -647,20 +744,20 @@ osdp_status osdp_panel_retarget(osdp_panel *panel, size_t entry, uint32_t addres
  *
  * OSDP_NO_MACHINE. OSDP_MOMENT_TOO_FAR.
  */
-static inline osdp_status osdp_panel_bytes(osdp_panel *panel, const uint8_t *bytes, size_t length, uint64_t now);
+OSDP_CHECKED static inline osdp_status osdp_panel_bytes(osdp_panel *panel, const uint8_t *bytes, size_t length, uint64_t now);
 
 /* The line was seen silent: the run of bytes is over, and what was begun is no packet. OSDP_NO_MACHINE. OSDP_MOMENT_TOO_FAR. */
-osdp_status osdp_panel_silence(osdp_panel *panel, uint64_t now);
+OSDP_CHECKED osdp_status osdp_panel_silence(osdp_panel *panel, uint64_t now);
 
 /* What is due at a moment: a burst to write. While a report waits, none. OSDP_NO_MACHINE. OSDP_MOMENT_TOO_FAR. */
-osdp_status osdp_panel_tick(osdp_panel *panel, uint64_t now, struct osdp_burst *burst);
+OSDP_CHECKED osdp_status osdp_panel_tick(osdp_panel *panel, uint64_t now, struct osdp_burst *burst);
 
 /*
  * A moment is seen, however far it lies after the greatest one: of a host that slept. One that lies before the greatest changes nothing.
  *
  * OSDP_NO_MACHINE.
  */
-osdp_status osdp_panel_set_moment(osdp_panel *panel, uint64_t now);
+OSDP_CHECKED osdp_status osdp_panel_set_moment(osdp_panel *panel, uint64_t now);
 
 /* A moment, where there is one. 16 bytes. */
 struct osdp_moment {
@@ -675,7 +772,7 @@ struct osdp_moment {
  *
  * OSDP_NO_MACHINE.
  */
-osdp_status osdp_panel_next_deadline(osdp_panel *panel, struct osdp_moment *deadline);
+OSDP_CHECKED osdp_status osdp_panel_next_deadline(osdp_panel *panel, struct osdp_moment *deadline);
 
 /* What a report tells. docs/GUIDE.md says what a panel does with each. */
 enum {
@@ -686,7 +783,7 @@ enum {
     /* `command` was answered by `reply`, which may be a NAK. */
     OSDP_REPORT_SETTLED = 2,
     /* `command`, a COMSET, was answered by `reply`, a COM with the same address: the device is there, and the session has ended. Its rate
-       is the COM's, which may be another than was ordered: data[1] to data[4], low byte first. */
+       is the COM's, which may be another than was ordered: `osdp_com_of` reads it. */
     OSDP_REPORT_MOVED = 3,
     /* The device told an event; `reply` is the reply that tells it. `detail` is OSDP_EVENT_MAYBE_AGAIN where it may have been reported before. */
     OSDP_REPORT_EVENT = 4,
@@ -732,19 +829,19 @@ struct osdp_report {
 };
 
 /* How many devices the panel has. OSDP_NO_MACHINE. */
-osdp_status osdp_panel_entries(osdp_panel *panel, size_t *count);
+OSDP_CHECKED osdp_status osdp_panel_entries(osdp_panel *panel, size_t *count);
 
 /* The address that a device has now. OSDP_NO_MACHINE. OSDP_NO_ENTRY (B4). */
-osdp_status osdp_panel_address(osdp_panel *panel, size_t entry, uint32_t *address);
+OSDP_CHECKED osdp_status osdp_panel_address(osdp_panel *panel, size_t entry, uint32_t *address);
 
 /* How many commands wait for a device; the one that is under way isn't counted. OSDP_NO_MACHINE. OSDP_NO_ENTRY (B4). */
-osdp_status osdp_panel_waiting(osdp_panel *panel, size_t entry, size_t *count);
+OSDP_CHECKED osdp_status osdp_panel_waiting(osdp_panel *panel, size_t entry, size_t *count);
 
 /* Whether the session of a device is closed: 1, else 0. OSDP_NO_MACHINE. OSDP_NO_ENTRY (B4). */
-osdp_status osdp_panel_is_closed(osdp_panel *panel, size_t entry, uint32_t *closed);
+OSDP_CHECKED osdp_status osdp_panel_is_closed(osdp_panel *panel, size_t entry, uint32_t *closed);
 
 /* Takes the report that waits. OSDP_NO_MACHINE. */
-osdp_status osdp_panel_next_report(osdp_panel *panel, struct osdp_report *report);
+OSDP_CHECKED osdp_status osdp_panel_next_report(osdp_panel *panel, struct osdp_report *report);
 
 /* ---- A device: the reader's end of the link ---- */
 
@@ -773,8 +870,8 @@ struct osdp_device_config {
 /*
  * A reader to which nothing has come. The handle is none before.
  *
- * `capabilities` is what it answers to CAP: three bytes for each, of which the first is the function (OSDP_FUNCTION_CONTACT_STATUS and others), the second the
- * level and the third the count; `length` is how many bytes there are. It has no inputs, outputs and readers, no tamper and no failure of power until it is told of them.
+ * `capabilities` is what it answers to CAP: three bytes for each, as a `struct osdp_capability` has them, so an array of these may be given as bytes;
+ * `length` is how many bytes there are. It has no inputs, outputs and readers, no tamper and no failure of power until it is told of them.
  *
  * Before each command but POLL, ID, CAP and COMSET `osdp_device_step` stops, and the program may set what is said to it (`osdp_device_answer_done` and the
  * others). Where it sets nothing, LED, BUZ and TEXT are answered ACK, and so is an OUT whose outputs are all there, whatever its controls are; each other OUT
@@ -783,11 +880,11 @@ struct osdp_device_config {
  * OSDP_IN_USE: the handle holds a reader, which stays. OSDP_BAD_LENGTH (M2): the capabilities have more than 1,432 bytes, or a number that isn't a
  * multiple of three. OSDP_DEVICE_OUT_OF_RANGE (N3): the address, the capacity or the gap. OSDP_DEVICE_NO_MEMORY (N1).
  */
-static inline osdp_status osdp_device_new(
+OSDP_CHECKED static inline osdp_status osdp_device_new(
     osdp_device *device, const struct osdp_device_config *config, const uint8_t *capabilities, size_t length);
 
 /* Frees a reader and all that belongs to it; the handle is none after it. OSDP_NO_MACHINE. */
-osdp_status osdp_device_free(osdp_device *device);
+OSDP_CHECKED osdp_status osdp_device_free(osdp_device *device);
 
 /*
  * Sets what ISTAT, OSTAT and RSTAT are answered from now on: a byte for each input, 1 where it is active; for each output, 1 where it is on; for each
@@ -795,15 +892,15 @@ osdp_status osdp_device_free(osdp_device *device);
  *
  * OSDP_NO_MACHINE. OSDP_BAD_LENGTH (M2): more than 1,432.
  */
-static inline osdp_status osdp_device_set_inputs(osdp_device *device, const uint8_t *states, size_t length);
-static inline osdp_status osdp_device_set_outputs(osdp_device *device, const uint8_t *states, size_t length);
-static inline osdp_status osdp_device_set_readers(osdp_device *device, const uint8_t *states, size_t length);
+OSDP_CHECKED static inline osdp_status osdp_device_set_inputs(osdp_device *device, const uint8_t *states, size_t length);
+OSDP_CHECKED static inline osdp_status osdp_device_set_outputs(osdp_device *device, const uint8_t *states, size_t length);
+OSDP_CHECKED static inline osdp_status osdp_device_set_readers(osdp_device *device, const uint8_t *states, size_t length);
 
 /* Sets what LSTAT is answered from now on: 1 where the device is tampered with, 1 where its power fails, else 0. OSDP_NO_MACHINE. */
-osdp_status osdp_device_set_local(osdp_device *device, uint8_t tamper, uint8_t power);
+OSDP_CHECKED osdp_status osdp_device_set_local(osdp_device *device, uint8_t tamper, uint8_t power);
 
 /* Sets whether the reader is busy: 0 not, else it is. A busy reader takes nothing, but repeats its last reply. OSDP_NO_MACHINE. */
-osdp_status osdp_device_set_busy(osdp_device *device, uint32_t busy);
+OSDP_CHECKED osdp_status osdp_device_set_busy(osdp_device *device, uint32_t busy);
 
 /*
  * Puts an event after those that wait: it is told when the panel polls. Its code and data are those of the reply that tells it: LSTATR, ISTATR, OSTATR,
@@ -813,29 +910,29 @@ osdp_status osdp_device_set_busy(osdp_device *device, uint32_t busy);
  * OSDP_NO_MACHINE. OSDP_UNKNOWN_CODE (M1), OSDP_BAD_LENGTH (M2), OSDP_BAD_COUNT (M3): the code and data stand for no reply. OSDP_NO_EVENT: for one that
  * tells no event. OSDP_EVENTS_FULL (N2).
  */
-static inline osdp_status osdp_device_event(osdp_device *device, uint8_t code, const uint8_t *data, size_t length);
+OSDP_CHECKED static inline osdp_status osdp_device_event(osdp_device *device, uint8_t code, const uint8_t *data, size_t length);
 
 /*
  * The same of an event's text, such as `KEYPAD 0 31`. Its words have one or more spaces between each two, and it ends after `length` bytes.
  *
  * OSDP_NO_MACHINE. OSDP_BAD_TEXT: it is the text of no event. OSDP_EVENTS_FULL (N2).
  */
-static inline osdp_status osdp_device_event_text(osdp_device *device, const char *text, size_t length);
+OSDP_CHECKED static inline osdp_status osdp_device_event_text(osdp_device *device, const char *text, size_t length);
 
 /* The address that the device has now. OSDP_NO_MACHINE. */
-osdp_status osdp_device_address(osdp_device *device, uint32_t *address);
+OSDP_CHECKED osdp_status osdp_device_address(osdp_device *device, uint32_t *address);
 
 /* How many events wait, the one that is offered included. OSDP_NO_MACHINE. */
-osdp_status osdp_device_waiting(osdp_device *device, size_t *count);
+OSDP_CHECKED osdp_status osdp_device_waiting(osdp_device *device, size_t *count);
 
 /* Whether the session of a device is closed: 1 where it refuses each number but 0, as one that is new or has moved, else 0. OSDP_NO_MACHINE. */
-osdp_status osdp_device_is_closed(osdp_device *device, uint32_t *closed);
+OSDP_CHECKED osdp_status osdp_device_is_closed(osdp_device *device, uint32_t *closed);
 
 /*
  * Whether no panel is there at a moment: 1 where the device has answered no packet for 8,000 ms, or none ever, else 0. It answers each command to its own
  * address or to the configuration address that comes whole and undamaged. OSDP_NO_MACHINE. OSDP_MOMENT_TOO_FAR.
  */
-osdp_status osdp_device_is_offline(osdp_device *device, uint64_t now, uint32_t *offline);
+OSDP_CHECKED osdp_status osdp_device_is_offline(osdp_device *device, uint64_t now, uint32_t *offline);
 
 /* What became of an event that was too old. */
 enum {
@@ -858,20 +955,20 @@ enum {
  *
  * OSDP_NO_MACHINE. OSDP_MOMENT_TOO_FAR: nothing has changed.
  */
-osdp_status osdp_device_expire_event(
+OSDP_CHECKED osdp_status osdp_device_expire_event(
     osdp_device *device, uint64_t now, uint64_t limit, uint32_t *expired, struct osdp_message *event);
 
 /*
  * Takes back the oldest event that was never offered, in this session or in one before: no answer has told it, and none will. It is written as the reply that
  * would have told it; where there is none, no message is there. OSDP_NO_MACHINE.
  */
-osdp_status osdp_device_withdraw_event(osdp_device *device, struct osdp_message *event);
+OSDP_CHECKED osdp_status osdp_device_withdraw_event(osdp_device *device, struct osdp_message *event);
 
 /*
  * Lets the oldest event go where it was ever offered, in this session or in one before: its answer may be lost, so the panel may have it or not. A repeat
  * within this session may still tell it. Where it was never offered no message is there, and nothing changes. OSDP_NO_MACHINE.
  */
-osdp_status osdp_device_lapse_event(osdp_device *device, struct osdp_message *event);
+OSDP_CHECKED osdp_status osdp_device_lapse_event(osdp_device *device, struct osdp_message *event);
 
 /* How a packet was answered. */
 enum {
@@ -952,7 +1049,7 @@ struct osdp_answer {
  *
  * OSDP_NO_MACHINE. OSDP_MOMENT_TOO_FAR.
  */
-static inline osdp_status osdp_device_step(
+OSDP_CHECKED static inline osdp_status osdp_device_step(
     osdp_device *device, const uint8_t *bytes, size_t length, uint64_t now, size_t *taken, struct osdp_answer *answer);
 
 /*
@@ -961,13 +1058,13 @@ static inline osdp_status osdp_device_step(
  *
  * OSDP_NO_MACHINE. OSDP_MOMENT_TOO_FAR.
  */
-osdp_status osdp_device_tick(osdp_device *device, uint64_t now, struct osdp_answer *answer);
+OSDP_CHECKED osdp_status osdp_device_tick(osdp_device *device, uint64_t now, struct osdp_answer *answer);
 
 /* The line was seen silent: the run is over. Else as `osdp_device_tick`. OSDP_NO_MACHINE. OSDP_MOMENT_TOO_FAR. */
-osdp_status osdp_device_silence(osdp_device *device, uint64_t now, struct osdp_answer *answer);
+OSDP_CHECKED osdp_status osdp_device_silence(osdp_device *device, uint64_t now, struct osdp_answer *answer);
 
 /* A moment is seen, however far it lies after the greatest one: as `osdp_panel_set_moment`. OSDP_NO_MACHINE. */
-osdp_status osdp_device_set_moment(osdp_device *device, uint64_t now);
+OSDP_CHECKED osdp_status osdp_device_set_moment(osdp_device *device, uint64_t now);
 
 /*
  * The command that the next packet will have acted on, where the reader doesn't answer it by itself; none (`present` is 0) where there is no such
@@ -975,7 +1072,7 @@ osdp_status osdp_device_set_moment(osdp_device *device, uint64_t now);
  *
  * OSDP_NO_MACHINE.
  */
-osdp_status osdp_device_pending(osdp_device *device, struct osdp_message *command);
+OSDP_CHECKED osdp_status osdp_device_pending(osdp_device *device, struct osdp_message *command);
 
 /*
  * Sets what is said to the command before which the last call has stopped, in place of what was set before. It is said once, to that command and no
@@ -986,11 +1083,11 @@ osdp_status osdp_device_pending(osdp_device *device, struct osdp_message *comman
  *
  * OSDP_NO_MACHINE. OSDP_NOT_ASKED: no call has stopped before a command since the last answer. OSDP_BAD_LENGTH (M2): the list or the bytes are too long.
  */
-osdp_status osdp_device_answer_done(osdp_device *device);
-osdp_status osdp_device_answer_local(osdp_device *device, uint8_t tamper, uint8_t power);
-static inline osdp_status osdp_device_answer_list(osdp_device *device, const uint8_t *states, size_t length);
-osdp_status osdp_device_answer_refused(osdp_device *device, uint8_t reason);
-static inline osdp_status osdp_device_answer_maker(osdp_device *device, const uint8_t *vendor, const uint8_t *bytes, size_t length);
+OSDP_CHECKED osdp_status osdp_device_answer_done(osdp_device *device);
+OSDP_CHECKED osdp_status osdp_device_answer_local(osdp_device *device, uint8_t tamper, uint8_t power);
+OSDP_CHECKED static inline osdp_status osdp_device_answer_list(osdp_device *device, const uint8_t *states, size_t length);
+OSDP_CHECKED osdp_status osdp_device_answer_refused(osdp_device *device, uint8_t reason);
+OSDP_CHECKED static inline osdp_status osdp_device_answer_maker(osdp_device *device, const uint8_t *vendor, const uint8_t *bytes, size_t length);
 
 /* ---- What the archive needs from outside ---- */
 
@@ -1017,23 +1114,23 @@ void rattle_dealloc(void *block);
  * pointer becomes one to some byte where the length is 0, so that nothing of it is read or written. With another length the call is
  * refused with OSDP_BAD_LENGTH, and the archive is not called.
  */
-osdp_status osdp_command_text_nonnull(uint8_t code, const uint8_t *data, size_t length, char *text, size_t room, size_t *text_length);
-osdp_status osdp_reply_text_nonnull(uint8_t code, const uint8_t *data, size_t length, char *text, size_t room, size_t *text_length);
-osdp_status osdp_out_nonnull(const struct osdp_output *outputs, size_t count, struct osdp_message *command);
-osdp_status osdp_led_nonnull(const struct osdp_led *leds, size_t count, struct osdp_message *command);
-osdp_status osdp_panel_submit_nonnull(osdp_panel *panel, size_t entry, uint8_t code, const uint8_t *data, size_t length);
-osdp_status osdp_panel_submit_text_nonnull(osdp_panel *panel, size_t entry, const char *text, size_t length);
-osdp_status osdp_panel_bytes_nonnull(osdp_panel *panel, const uint8_t *bytes, size_t length, uint64_t now);
-osdp_status osdp_device_new_nonnull(osdp_device *device, const struct osdp_device_config *config, const uint8_t *capabilities, size_t length);
-osdp_status osdp_device_set_inputs_nonnull(osdp_device *device, const uint8_t *states, size_t length);
-osdp_status osdp_device_set_outputs_nonnull(osdp_device *device, const uint8_t *states, size_t length);
-osdp_status osdp_device_set_readers_nonnull(osdp_device *device, const uint8_t *states, size_t length);
-osdp_status osdp_device_event_nonnull(osdp_device *device, uint8_t code, const uint8_t *data, size_t length);
-osdp_status osdp_device_event_text_nonnull(osdp_device *device, const char *text, size_t length);
-osdp_status osdp_device_step_nonnull(
+OSDP_CHECKED osdp_status osdp_command_text_nonnull(uint8_t code, const uint8_t *data, size_t length, char *text, size_t room, size_t *text_length);
+OSDP_CHECKED osdp_status osdp_reply_text_nonnull(uint8_t code, const uint8_t *data, size_t length, char *text, size_t room, size_t *text_length);
+OSDP_CHECKED osdp_status osdp_out_nonnull(const struct osdp_output *outputs, size_t count, struct osdp_message *command);
+OSDP_CHECKED osdp_status osdp_led_nonnull(const struct osdp_led *leds, size_t count, struct osdp_message *command);
+OSDP_CHECKED osdp_status osdp_panel_submit_nonnull(osdp_panel *panel, size_t entry, uint8_t code, const uint8_t *data, size_t length);
+OSDP_CHECKED osdp_status osdp_panel_submit_text_nonnull(osdp_panel *panel, size_t entry, const char *text, size_t length);
+OSDP_CHECKED osdp_status osdp_panel_bytes_nonnull(osdp_panel *panel, const uint8_t *bytes, size_t length, uint64_t now);
+OSDP_CHECKED osdp_status osdp_device_new_nonnull(osdp_device *device, const struct osdp_device_config *config, const uint8_t *capabilities, size_t length);
+OSDP_CHECKED osdp_status osdp_device_set_inputs_nonnull(osdp_device *device, const uint8_t *states, size_t length);
+OSDP_CHECKED osdp_status osdp_device_set_outputs_nonnull(osdp_device *device, const uint8_t *states, size_t length);
+OSDP_CHECKED osdp_status osdp_device_set_readers_nonnull(osdp_device *device, const uint8_t *states, size_t length);
+OSDP_CHECKED osdp_status osdp_device_event_nonnull(osdp_device *device, uint8_t code, const uint8_t *data, size_t length);
+OSDP_CHECKED osdp_status osdp_device_event_text_nonnull(osdp_device *device, const char *text, size_t length);
+OSDP_CHECKED osdp_status osdp_device_step_nonnull(
     osdp_device *device, const uint8_t *bytes, size_t length, uint64_t now, size_t *taken, struct osdp_answer *answer);
-osdp_status osdp_device_answer_list_nonnull(osdp_device *device, const uint8_t *states, size_t length);
-osdp_status osdp_device_answer_maker_nonnull(osdp_device *device, const uint8_t *vendor, const uint8_t *bytes, size_t length);
+OSDP_CHECKED osdp_status osdp_device_answer_list_nonnull(osdp_device *device, const uint8_t *states, size_t length);
+OSDP_CHECKED osdp_status osdp_device_answer_maker_nonnull(osdp_device *device, const uint8_t *vendor, const uint8_t *bytes, size_t length);
 
 /* Whether there is nothing at a pointer, though so many bytes or records are to be there. */
 static inline int osdp_is_missing(const void *pointer, size_t length)

@@ -48,24 +48,27 @@ for language in "-std=c99 -xc" "-std=c11 -xc" "-std=c++17 -xc++"; do
       { cat "$work/said"; fail "$file.c as $language says something"; }
   done
 done
-# a status that isn't looked at is warned of where the program asks for that, and not else
+# a status that isn't looked at is warned of where the program asks for that, and not else; also one of a call that the header itself has
 cat >"$work/ignores.c" <<'CODE'
 #include "osdp.h"
 void forgets(osdp_panel *panel);
 void forgets(osdp_panel *panel)
 {
-    osdp_panel_free(panel);
+    CALL;
 }
 CODE
-for language in "-std=c2x -xc" "-std=c++17 -xc++"; do
-  "$CC" $language -Wall -Wextra -Werror -Iinclude -c -o "$work/beside.o" "$work/ignores.c" 2>"$work/said" || fail "a status that isn't looked at is warned of as $language"
-  "$CC" $language -Wall -Wextra -Werror -DOSDP_CHECK_RESULTS -Iinclude -c -o "$work/beside.o" "$work/ignores.c" 2>"$work/said" &&
-    fail "a status that isn't looked at is not warned of as $language"
+for language in "-std=c99 -xc" "-std=c11 -xc" "-std=c2x -xc" "-std=c++11 -xc++" "-std=c++17 -xc++"; do
+  for call in "osdp_panel_free(panel)" "osdp_panel_bytes(panel, NULL, 0, 0)"; do
+    ignores=("$CC" $language -Wall -Wextra -Werror "-DCALL=$call" -Iinclude -c -o "$work/beside.o" "$work/ignores.c")
+    "${ignores[@]}" 2>"$work/said" || fail "a status that isn't looked at is warned of as $language: $call"
+    "${ignores[@]}" -DOSDP_CHECK_RESULTS 2>"$work/said" && fail "a status that isn't looked at is not warned of as $language: $call"
+    grep -q unused-result "$work/said" || fail "another warning as $language: $call"
+  done
 done
 build texts tests/c/texts.c c/osdp_texts.c && passes "$work/texts"
 build structs tests/c/structs.c c/heap_malloc.c "$archive" && passes "$work/structs"
 build structs_checked tests/c/structs.c c/heap_malloc.c "$archive" "${checked[@]}" && passes "$work/structs_checked"
-for name in ages limits moments nulls; do
+for name in ages limits messages moments nulls; do
   build "$name" "tests/c/$name.c" c/heap_malloc.c "$archive" "${checked[@]}" && passes "$work/$name"
 done
 

@@ -5,7 +5,7 @@
 - What the archive needs from outside is what the header says: its heap, and three calls of C.
 - The constants of both have the same names and values, and the structs the same fields, in their order and of the same types.
 - Each constant has the number that a definition of crates/osdp_c_values/specs, or of the crates below, gives it, and each such number has a constant. Those of
-  fields, for which there is no definition, have the number of the standard's tables.
+  fields, for which there is no definition, have the number of the standard's tables; and so have those of crates/osdp_names/src/named.rt, and of rust/src/named.rs.
 - The functions of both have the same parameters, by names and types."""
 import re
 import subprocess
@@ -91,8 +91,12 @@ def defined():
         folder = TOP / "crates" if file.startswith("/") else TOP / SPECS
         for each in re.finditer(line, (folder / (file.lstrip("/") + ("" if file.endswith(".rt") else ".antt"))).read_text(), re.M):
             found[front + constant(each["name"])] = int(each["number"], 0)
-    found.update({f"OSDP_{group}_{name}": int(number) for group, row in STANDARD.items() for name, number in re.findall(r"(\w+)=(\d+)", row)})
-    return found
+    return found | standard()
+
+
+def standard():
+    """The numbers in the fields of messages, by their constants."""
+    return {f"OSDP_{group}_{name}": int(number) for group, row in STANDARD.items() for name, number in re.findall(r"(\w+)=(\d+)", row)}
 
 
 def c_type(text):
@@ -116,6 +120,8 @@ def parts(text, end):
 def header():
     """What the header declares: its functions, constants and structs."""
     text = re.sub(r"/\*.*?\*/", "", (TOP / "include/osdp.h").read_text(), flags=re.S)
+    faults.extend(f"{name}: its status may be passed over without a warning" for name in re.findall(r"^(?:static inline )?osdp_status (\w+)\([^;{]*;", text, re.M))
+    text = text.replace("OSDP_CHECKED ", "")
     text = re.sub(r"^static inline [^;{]*;", "", text, flags=re.M)  # what the header itself defines, over functions of the archive
     functions = {}
     for gives, name, takes in re.findall(r"^([\w ]+?[ *])((?:osdp|rattle)_\w+)\(([^)]*)\);", text, re.M | re.S):
@@ -141,6 +147,20 @@ def rust():
     return functions, constants, structs
 
 
+def named():
+    """What the numbers in fields are called in Rattle, by the constants of the header that have the same names."""
+    text = re.sub(r"//.*", "", (TOP / "crates/osdp_names/src/named.rt").read_text())
+    groups = re.findall(r"^pub mod (\w+) \{(.*?)^\}", text, re.M | re.S)
+    return {f"OSDP_{group.upper()}_{name}": int(value) for group, body in groups for name, value in re.findall(r"pub const (\w+): u8 = (\d+);", body)}
+
+
+def named_in_rust():
+    """The constants of sys.rs that rust/src/named.rs names, each by the name that it gives it."""
+    text = re.sub(r"//.*", "", (TOP / "rust/src/named.rs").read_text())
+    groups = re.findall(r"^    (\w+) \{(.*?)^    \}", text, re.M | re.S)
+    return {f"OSDP_{group.upper()}_{name}": value for group, body in groups for name, value in re.findall(r"(\w+) = (\w+),", body)}
+
+
 def names(archive, *words):
     """The names that nm prints."""
     printed = subprocess.run(["nm", *words, archive], check=True, capture_output=True, text=True).stdout
@@ -152,6 +172,8 @@ def main():
     compare("function", {name: one for name, one in declared.items() if name not in HEAP | BESIDE}, rust()[0])
     compare("constant", constants, rust()[1])
     compare("constant", constants, defined(), SPECS)
+    compare("constant", standard(), named(), "crates/osdp_names/src/named.rt")
+    compare("constant", {name: name for name in standard()}, named_in_rust(), "rust/src/named.rs")
     compare("struct", {name: one for name, one in structs.items() if name != "osdp_block"}, rust()[2])
     for name in sorted((declared.keys() - HEAP - BESIDE) ^ names(sys.argv[1], "--defined-only", "--extern-only")):
         faults.append(f"{name}: only {'the header' if name in declared else 'the archive'} has it")

@@ -45,7 +45,7 @@ static void note_door(struct door *door)
 
 void heed_door(struct door *door, const struct osdp_report *report, uint64_t now)
 {
-    const uint8_t *com = report->reply.data; /* of a COM: the address, and the rate with its lowest byte first */
+    struct osdp_communication com;
     (void)osdp_site_heed(&door->site, report, now);
     if (report->kind == OSDP_REPORT_OPENED && osdp_pd_id_of(&report->reply, &door->seen) == OSDP_OK) {
         door->is_other = !is_same(door->stand, &door->seen);
@@ -56,8 +56,8 @@ void heed_door(struct door *door, const struct osdp_report *report, uint64_t now
         }
     } else if (report->kind == OSDP_REPORT_SETTLED && report->command.code == OSDP_COMSET) {
         note_door(door); /* it was refused */
-    } else if (report->kind == OSDP_REPORT_MOVED) {
-        stands_at(door->stand, (struct place){ com[0], com[1] | (uint32_t)com[2] << 8 | (uint32_t)com[3] << 16 | (uint32_t)com[4] << 24 });
+    } else if (report->kind == OSDP_REPORT_MOVED && osdp_com_of(&report->reply, &com) == OSDP_OK) {
+        stands_at(door->stand, (struct place){ com.address, com.baud_rate });
         (void)keep_door();
     }
     if (report->kind == OSDP_REPORT_LOST || report->kind == OSDP_REPORT_MOVED) {

@@ -14,7 +14,8 @@ static bool may_be_done(const struct osdp_output *record)
 #ifdef UNIT_TEST
 int main(void)
 {
-    const struct osdp_output opens = { 30, 0, 5 }, closes = { 0, 1, 1 }, for_good = { 0, 0, 2 }, third = { 30, 2, 5 };
+    const struct osdp_output opens = { 30, 0, OSDP_OUTPUT_ON_FOR_A_TIME }, closes = { 0, 1, OSDP_OUTPUT_OFF };
+    const struct osdp_output for_good = { 0, 0, OSDP_OUTPUT_ON }, third = { 30, 2, OSDP_OUTPUT_ON_FOR_A_TIME };
     return may_be_done(&opens) && may_be_done(&closes) && !may_be_done(&for_good) && !may_be_done(&third) ? 0 : 1;
 }
 #else
@@ -70,9 +71,10 @@ static void let_go(uint64_t now)
 /* A card of 26 bits was read, where a line says so: it is told to the next POLL. */
 static void take_line(const char *line)
 {
-    uint8_t card[8] = { 0, 0, 26, 0 };
-    if (strncmp(line, "card ", 5) == 0 && digits(line + 5, card + 4, 4) == 4) {
-        (void)osdp_device_event(&device, OSDP_RAW, card, sizeof card);
+    static struct osdp_raw card = { .format = OSDP_CARD_RAW, .bits = 26, .length = 4 };
+    static struct osdp_message event;
+    if (strncmp(line, "card ", 5) == 0 && digits(line + 5, card.bytes, 4) == 4 && osdp_raw(&card, &event) == OSDP_OK) {
+        (void)osdp_device_event(&device, event.code, event.data, event.length);
     }
 }
 

@@ -132,8 +132,9 @@ void comset_over(struct known *reader)
 
 struct place place_told(const struct osdp_message *com, uint32_t rate)
 {
-    const uint8_t *data = com->data; /* an address, and a rate with its lowest byte first */
-    struct place place = { data[0], data[1] | (uint32_t)data[2] << 8 | (uint32_t)data[3] << 16 | (uint32_t)data[4] << 24 };
+    struct osdp_communication told = { 0 };
+    (void)osdp_com_of(com, &told); /* what moved a device is a COM */
+    struct place place = { told.address, told.baud_rate };
     if (!has_rate(place.rate)) {
         tell("no rate %u\n", (unsigned)place.rate);
         place.rate = rate;

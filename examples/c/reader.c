@@ -51,13 +51,13 @@ static void tell_outputs(uint64_t now)
 }
 
 /* Does what one record of an OUT says. Controls that aren't named here ask for nothing, though the reader confirms them too. */
-static void switch_output(const uint8_t *record, uint64_t now)
+static void switch_output(const struct osdp_output *record, uint64_t now)
 {
-    struct output *output = &outputs[record[0]];
-    uint8_t control = record[1];
+    struct output *output = &outputs[record->output];
+    uint8_t control = record->control;
     if (control == OSDP_OUTPUT_ON_FOR_A_TIME || control == OSDP_OUTPUT_OFF_FOR_A_TIME) {
         output->for_a_time = control == OSDP_OUTPUT_ON_FOR_A_TIME;
-        output->until = now + 100 * (record[2] + 256 * (uint64_t)record[3]);
+        output->until = now + 100 * (uint64_t)record->timer;
     } else if (control == OSDP_OUTPUT_ON || control == OSDP_OUTPUT_OFF || control == OSDP_OUTPUT_ON_AFTER || control == OSDP_OUTPUT_OFF_AFTER) {
         output->for_good = control == OSDP_OUTPUT_ON || control == OSDP_OUTPUT_ON_AFTER;
         output->until = control == OSDP_OUTPUT_ON || control == OSDP_OUTPUT_OFF ? 0 : output->until; /* else a time that runs goes on */
@@ -67,8 +67,9 @@ static void switch_output(const uint8_t *record, uint64_t now)
 /* Does what an OUT says. One of an output that isn't here was refused. */
 static void switch_outputs(const struct osdp_message *out, uint64_t now)
 {
-    for (size_t i = 0; i + 4 <= out->length && out->data[i] < OUTPUTS; i += 4) {
-        switch_output(out->data + i, now);
+    struct osdp_output record;
+    for (size_t i = 0; osdp_output_of(out, i, &record) == OSDP_OK && record.output < OUTPUTS; i++) {
+        switch_output(&record, now);
     }
     tell_outputs(now);
 }

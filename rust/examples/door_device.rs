@@ -3,8 +3,8 @@
 mod port;
 
 use osdp::{
-    Answer, Command, Device, DeviceAnswer, DeviceConfig, Moment, NakReason, Order, Output, Step,
-    output,
+    Answer, Card, Command, Device, DeviceAnswer, DeviceConfig, Moment, NakReason, Order, Output,
+    Reply, Step, card, output,
 };
 use port::{Came, Port, run_on_port};
 use std::error::Error;
@@ -26,6 +26,12 @@ fn decide(command: &Command) -> Option<DeviceAnswer<'static>> {
     let refused = DeviceAnswer::Refused(NakReason::RecordNotProcessed);
     let may = command.outputs().all(|record| may_be_done(&record));
     (!may).then_some(refused)
+}
+
+/// The card that a line tells: 26 bits at the first reader.
+fn card_of(line: &str) -> Option<Reply> {
+    let bits = u32::from_str_radix(line.strip_prefix("card ")?, 16).ok()?;
+    Card::new(0, card::RAW, 26, &bits.to_be_bytes()).map(Reply::Raw)
 }
 
 /// Switches an output on.
@@ -81,8 +87,7 @@ fn run(mut port: Port) -> Done {
         match &came {
             Came::Bytes(bytes) => hear(&mut device, &mut port, bytes, now)?,
             Came::Line(line) => {
-                let event = line.replacen("card ", "RAW 0 0 26 ", 1);
-                if device.event_text(&event).is_err() {
+                if card_of(line).is_none_or(|card| device.submit_event(&card).is_err()) {
                     println!("refused line");
                 }
             }
@@ -107,6 +112,7 @@ fn a_door_does_not_stand_open() {
         control,
         timer: 30,
     };
-    assert!(may_be_done(&record(0, 5)) && may_be_done(&record(1, 1)));
-    assert!(!may_be_done(&record(0, 2)) && !may_be_done(&record(2, 5)));
+    let opens = output::ON_FOR_A_TIME;
+    assert!(may_be_done(&record(0, opens)) && may_be_done(&record(1, output::OFF)));
+    assert!(!may_be_done(&record(0, output::ON)) && !may_be_done(&record(2, opens)));
 }

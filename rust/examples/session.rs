@@ -1,15 +1,21 @@
 //! A panel and a reader in one program, joined in memory: a card opens a door. One answer in seven is lost on the way.
 use osdp::{
-    Card, Command, Device, DeviceConfig, Error, Moment, Order, Output, Panel, PanelConfig, PdId,
-    Product, Reply, Report, Step,
+    Capability, Card, Command, Device, DeviceConfig, Error, Moment, Order, Output, Panel,
+    PanelConfig, PdId, Product, Reply, Report, Step, card, function, output,
 };
 use std::time::Duration;
 
-const CARD: &str = "RAW 0 0 26 12345640";
+/// A card of 26 bits.
+const CARD: [u8; 4] = [0x12, 0x34, 0x56, 0x40];
 const STRIKE: Output = Output {
     output: 0,
-    control: 5,
+    control: output::ON_FOR_A_TIME,
     timer: 30,
+};
+const CARDS_ARE_TOLD: Capability = Capability {
+    function: function::CARD_DATA_FORMAT,
+    level: 1,
+    count: 0,
 };
 const CARDS: usize = 20;
 
@@ -66,12 +72,14 @@ fn main() -> Result<(), Error> {
                 ..Product::default()
             },
         },
-        capabilities: &[[3, 1, 0]],
+        capabilities: &[CARDS_ARE_TOLD],
         ..DeviceConfig::new(5)
     })?;
     device.set_outputs(&[0])?;
+    let card = Card::new(0, card::RAW, 26, &CARD).ok_or(Error::BadCount)?;
+    let event = Reply::Raw(card);
     for _ in 0..CARDS {
-        device.event_text(CARD)?;
+        device.submit_event(&event)?;
     }
     let mut now = Moment::from_millis(0);
     panel.begin(door, now)?;
@@ -84,10 +92,10 @@ fn main() -> Result<(), Error> {
             match report {
                 Report::Opened(id) => println!("opened by {id:?}"),
                 Report::Event {
-                    event: Reply::Raw(card),
+                    event: told,
                     maybe_again: false,
                 } => {
-                    assert_eq!(Some(card), Card::new(0, 0, 26, &[0x12, 0x34, 0x56, 0x40]));
+                    assert_eq!(told, event);
                     cards += 1;
                     panel.submit(entry, &Command::out(&[STRIKE])?)?;
                 }
@@ -121,7 +129,7 @@ fn main() -> Result<(), Error> {
         Err(Error::BadText)
     );
     assert_eq!(panel.add(5), Err(Error::AddressTaken));
-    assert_eq!(device.event(0x40, &[]), Err(Error::NoEvent));
+    assert_eq!(device.submit_event(&Reply::Ack), Err(Error::NoEvent));
     assert_eq!(device.waiting(), 0);
     Ok(())
 }

@@ -43,8 +43,8 @@ impl Doors {
     fn new(now: Moment) -> Result<Doors, Box<dyn Error>> {
         let mut panel = Panel::new(&PanelConfig::default())?;
         let mut site = Site::new(now);
-        for address in 1..=DOORS {
-            let door = panel.add(address as u8)?;
+        for address in (1..).take(DOORS) {
+            let door = panel.add(address)?;
             site.wants(door, &Command::color(color::RED)?)?;
             site.wants(door, &Command::sound(false))?;
         }
@@ -75,7 +75,7 @@ impl Doors {
                 println!("door {} is {presence:?}", door.index() + 1);
             }
             if let Some(Presence::Online(_)) = change {
-                let asks = Command::raw(0x65, &[])?;
+                let asks = Command::input_status();
                 self.site.order(&mut self.panel, door, &asks)?;
             }
             match report {

@@ -1,7 +1,7 @@
 //! The device's end of a line.
 
 use crate::error::{Error, check};
-use crate::fields::{NakReason, PdId, Product, Reply};
+use crate::fields::{Capabilities, Capability, NakReason, PdId, Product, Reply};
 use crate::message::{Command, Unsent, no_burst, no_message};
 use crate::numbered::numbered;
 use crate::panel::{limit, milliseconds};
@@ -24,8 +24,8 @@ pub struct DeviceConfig<'a> {
     pub clock_limit: Duration,
     /// What is answered to ID.
     pub id: PdId,
-    /// What is answered to CAP: function, level and count of each capability.
-    pub capabilities: &'a [[u8; 3]],
+    /// What is answered to CAP, at most 477.
+    pub capabilities: &'a [Capability],
 }
 
 const NO_ID: PdId = PdId {
@@ -232,7 +232,8 @@ impl Device {
             clock_limit: limit(config.clock_limit)?,
             product: config.id.product,
         };
-        let capabilities = config.capabilities.as_flattened();
+        let capabilities = Capabilities::new(config.capabilities).ok_or(Error::BadLength)?;
+        let capabilities = capabilities.bytes();
         // SAFETY: the handle is none, and the pointers are good for as much as the call is told.
         check(unsafe {
             sys::osdp_device_new_nonnull(
@@ -293,6 +294,26 @@ impl Device {
         let _ = unsafe { sys::osdp_device_set_busy(self.0.get(), busy.into()) };
     }
 
+    /// Puts an event, as the reply that tells it, after those that wait: `LocalState`, `Inputs`, `Outputs`, `Readers`, `Raw`, `Formatted` or `Keypad`. It came at
+    /// the greatest moment that any call has handed in, from which its age counts; one that comes before any was handed in is never too old.
+    ///
+    /// ```no_run
+    /// use osdp::{Card, Device, Error, Reply, card};
+    ///
+    /// fn tell(device: &mut Device, bits: &[u8; 4]) -> Result<(), Error> {
+    ///     let card = Card::new(0, card::RAW, 26, bits).ok_or(Error::BadCount)?;
+    ///     device.submit_event(&Reply::Raw(card))
+    /// }
+    /// ```
+    ///
+    /// # Errors
+    ///
+    /// `BadLength`, as of `Reply::write`; `NoEvent`, `Full`.
+    pub fn submit_event(&mut self, event: &Reply) -> Result<(), Error> {
+        let event = event.write()?;
+        self.event(event.code(), event.data())
+    }
+
     /// Puts an event, by the code and data of the reply that tells it, after those that wait. It came at the greatest moment that any call has handed in,
     /// from which its age counts; one that comes before any was handed in is never too old.
     ///
@@ -340,7 +361,7 @@ impl Device {
     /// # Errors
     ///
     /// `MomentTooFar`.
-    pub fn is_offline(&mut self, now: Moment) -> Result<bool, Error> {
+    pub fn is_offline(&self, now: Moment) -> Result<bool, Error> {
         let mut offline = 0;
         // SAFETY: the handle is ours alone, and the number is one.
         check(unsafe { sys::osdp_device_is_offline(self.0.get(), now.as_millis(), &mut offline) })?;

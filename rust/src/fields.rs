@@ -2,14 +2,15 @@
 
 use crate::error::Error;
 use crate::message::RawReply;
+use crate::named::text;
 use crate::numbered::numbered;
 use crate::sys;
 use core::fmt;
 use core::mem::zeroed;
 
 pub use crate::sys::{
-    osdp_buzzer as Buzzer, osdp_led as Led, osdp_led_state as LedState, osdp_output as Output,
-    osdp_pd_id as PdId, osdp_product as Product,
+    osdp_buzzer as Buzzer, osdp_capability as Capability, osdp_led as Led,
+    osdp_led_state as LedState, osdp_output as Output, osdp_pd_id as PdId, osdp_product as Product,
 };
 
 /// What the display of a reader shows.
@@ -21,7 +22,7 @@ impl Text {
     pub fn new(characters: &[u8]) -> Option<Text> {
         let mut text = sys::osdp_text {
             reader: 0,
-            command: 1,
+            command: text::PERMANENT,
             time: 0,
             row: 1,
             column: 1,
@@ -34,8 +35,20 @@ impl Text {
 
     /// The same for so many seconds.
     pub fn for_seconds(mut self, seconds: u8) -> Text {
-        self.0.command = 3;
+        self.0.command = match self.0.command {
+            text::PERMANENT_WRAPPED | text::TEMPORARY_WRAPPED => text::TEMPORARY_WRAPPED,
+            _ => text::TEMPORARY,
+        };
         self.0.time = seconds;
+        self
+    }
+
+    /// The same, which goes on in the next row.
+    pub fn wrapped(mut self) -> Text {
+        self.0.command = match self.0.command {
+            text::TEMPORARY | text::TEMPORARY_WRAPPED => text::TEMPORARY_WRAPPED,
+            _ => text::PERMANENT_WRAPPED,
+        };
         self
     }
 
@@ -53,6 +66,56 @@ impl Text {
 
     pub(crate) fn as_sys(&self) -> &sys::osdp_text {
         &self.0
+    }
+
+    pub(crate) fn of(told: sys::osdp_text) -> Text {
+        Text(told)
+    }
+
+    /// Which reader of the device shows it, counted from 0.
+    pub fn reader(&self) -> u8 {
+        self.0.reader
+    }
+
+    /// How it is shown, as `text` has it.
+    pub fn command(&self) -> u8 {
+        self.0.command
+    }
+
+    /// For how many seconds, where it is shown for a time.
+    pub fn seconds(&self) -> u8 {
+        self.0.time
+    }
+
+    /// The row and the column of its first character, counted from 1.
+    pub fn place(&self) -> (u8, u8) {
+        (self.0.row, self.0.column)
+    }
+
+    /// Its characters.
+    pub fn characters(&self) -> &[u8] {
+        &self.0.characters[..usize::from(self.0.count)]
+    }
+}
+
+impl PartialEq for Text {
+    fn eq(&self, other: &Text) -> bool {
+        let parts = |text: &Text| (text.reader(), text.command(), text.seconds(), text.place());
+        parts(self) == parts(other) && self.characters() == other.characters()
+    }
+}
+
+impl Eq for Text {}
+
+impl fmt::Debug for Text {
+    fn fmt(&self, f: &mut fmt::Formatter<'_>) -> fmt::Result {
+        f.debug_struct("Text")
+            .field("reader", &self.reader())
+            .field("command", &self.command())
+            .field("seconds", &self.seconds())
+            .field("place", &self.place())
+            .field("characters", &self.characters())
+            .finish()
     }
 }
 
@@ -132,12 +195,16 @@ impl Card {
         Some(Card(card))
     }
 
+    pub(crate) fn as_sys(&self) -> &sys::osdp_raw {
+        &self.0
+    }
+
     /// Which reader of the device has read it, counted from 0.
     pub fn reader(&self) -> u8 {
         self.0.reader
     }
 
-    /// How the bits are to be understood.
+    /// How the bits are to be understood, as `named::card` has it.
     pub fn format(&self) -> u8 {
         self.0.format
     }
@@ -214,17 +281,6 @@ impl fmt::Debug for Bytes {
     }
 }
 
-/// What a device can do in one respect.
-#[derive(Clone, Copy, Debug, PartialEq, Eq)]
-pub struct Capability {
-    /// What it is about; `docs/PROTOCOL.md` has the functions.
-    pub function: u8,
-    /// How far it goes.
-    pub level: u8,
-    /// How many there are.
-    pub count: u8,
-}
-
 /// What a device can do, in the order in which it tells it.
 #[derive(Clone, Copy, Debug, PartialEq, Eq)]
 pub struct Capabilities(Bytes);
@@ -235,9 +291,13 @@ impl Capabilities {
         let mut held = Bytes::new(&[])?;
         held.length = u16::try_from(capabilities.len() * 3).ok()?;
         for (place, told) in held.bytes.chunks_exact_mut(3).zip(capabilities) {
-            place.copy_from_slice(&[told.function, told.level, told.count]);
+            place.copy_from_slice(&spelled(told));
         }
         (usize::from(held.length) <= held.bytes.len()).then_some(Capabilities(held))
+    }
+
+    pub(crate) fn bytes(&self) -> &[u8] {
+        &self.0
     }
 
     /// One by one.
@@ -263,17 +323,17 @@ pub enum Reply {
     PdId(PdId),
     /// What the device can do.
     PdCap(Capabilities),
-    /// Whether the device is tampered with, and whether its power fails: 1, else 0.
+    /// Whether the device is tampered with, and whether its power fails, as `named::state` has it.
     LocalState(u8, u8),
-    /// A byte for each input: 1 where it is active.
+    /// A byte for each input, as `named::state` has it.
     Inputs(Bytes),
-    /// A byte for each output: 1 where it is on.
+    /// A byte for each output, as `named::state` has it.
     Outputs(Bytes),
-    /// A byte for each reader: 0 where it works.
+    /// A byte for each reader, as `named::reader` has it.
     Readers(Bytes),
     /// A card's bits.
     Raw(Card),
-    /// A card's characters: the reader of the device, the direction in which it was drawn, and the characters.
+    /// A card's characters: the reader of the device, the direction in which it was drawn (`named::card`), and the characters.
     Formatted(u8, u8, Bytes),
     /// Pressed keys, at a reader of the device.
     Keypad(u8, Bytes),
@@ -287,16 +347,21 @@ pub enum Reply {
     Other(RawReply),
 }
 
-/// The struct of a reply's fields, where a call for C finds them.
-fn read<T>(
-    reply: &RawReply,
+/// The struct of a message's fields, where a call for C finds them.
+pub(crate) fn read<T>(
+    message: &sys::osdp_message,
     call: unsafe extern "C" fn(*const sys::osdp_message, *mut T) -> sys::osdp_status,
 ) -> Option<T> {
-    // SAFETY: each struct of fields is of numbers and arrays of bytes, so zeros are one; the reply is a message, and the struct is apart.
+    // SAFETY: each struct of fields is of numbers and arrays of bytes, so zeros are one; the message is good, and the struct is apart.
     unsafe {
         let mut fields = zeroed();
-        (call(&reply.0, &mut fields) == sys::OSDP_OK).then_some(fields)
+        (call(message, &mut fields) == sys::OSDP_OK).then_some(fields)
     }
+}
+
+/// The numbers of a capability, as they stand on the line.
+fn spelled(told: &Capability) -> [u8; 3] {
+    [told.function, told.level, told.count]
 }
 
 impl Reply {
@@ -310,46 +375,47 @@ impl Reply {
     }
 
     fn known(reply: &RawReply) -> Option<Reply> {
+        let told = &reply.0;
         Some(match u32::from(reply.code()) {
             sys::OSDP_ACK => Reply::Ack,
             sys::OSDP_BUSY => Reply::Busy,
             sys::OSDP_NAK => {
-                let nak = read(reply, sys::osdp_nak_of)?;
+                let nak = read(told, sys::osdp_nak_of)?;
                 Reply::Nak(Nak {
                     number: nak.reason,
                     detail: Bytes::new(&nak.detail[..nak.length.into()])?,
                 })
             }
-            sys::OSDP_PDID => Reply::PdId(read(reply, sys::osdp_pd_id_of)?),
+            sys::OSDP_PDID => Reply::PdId(read(told, sys::osdp_pd_id_of)?),
             sys::OSDP_PDCAP => Reply::PdCap(Capabilities(Bytes::new(reply.data())?)),
-            sys::OSDP_LSTATR => match reply.data() {
-                [tamper, power] => Reply::LocalState(*tamper, *power),
-                _ => return None,
-            },
-            sys::OSDP_RSTATR => Reply::Readers(Bytes::new(reply.data())?),
-            sys::OSDP_FMT => match reply.data() {
-                [reader, direction, _, characters @ ..] => {
-                    Reply::Formatted(*reader, *direction, Bytes::new(characters)?)
-                }
-                _ => return None,
-            },
-            sys::OSDP_MFGREP => match reply.data() {
-                [a, b, c, bytes @ ..] => Reply::Maker([*a, *b, *c], Bytes::new(bytes)?),
-                _ => return None,
-            },
+            sys::OSDP_LSTATR => {
+                let state = read(told, sys::osdp_local_state_of)?;
+                Reply::LocalState(state.tamper, state.power)
+            }
             sys::OSDP_ISTATR => Reply::Inputs(Bytes::new(reply.data())?),
             sys::OSDP_OSTATR => Reply::Outputs(Bytes::new(reply.data())?),
-            sys::OSDP_RAW => Reply::Raw(Card(read(reply, sys::osdp_raw_of)?)),
+            sys::OSDP_RSTATR => Reply::Readers(Bytes::new(reply.data())?),
+            sys::OSDP_RAW => Reply::Raw(Card(read(told, sys::osdp_raw_of)?)),
+            sys::OSDP_FMT => {
+                let card = read(told, sys::osdp_formatted_of)?;
+                let characters = Bytes::new(&card.digits[..card.count.into()])?;
+                Reply::Formatted(card.reader, card.direction, characters)
+            }
             sys::OSDP_KEYPAD => {
-                let keys = read(reply, sys::osdp_keypad_of)?;
+                let keys = read(told, sys::osdp_keypad_of)?;
                 Reply::Keypad(keys.reader, Bytes::new(&keys.digits[..keys.count.into()])?)
             }
-            sys::OSDP_COM => match reply.data() {
-                [address, rate @ ..] => {
-                    Reply::Com(*address, u32::from_le_bytes(rate.try_into().ok()?))
-                }
-                [] => return None,
-            },
+            sys::OSDP_COM => {
+                let set = read(told, sys::osdp_com_of)?;
+                Reply::Com(set.address as u8, set.baud_rate)
+            }
+            sys::OSDP_MFGREP => {
+                let maker = read(told, sys::osdp_maker_reply_of)?;
+                Reply::Maker(
+                    maker.vendor,
+                    Bytes::new(&maker.bytes[..maker.length.into()])?,
+                )
+            }
             _ => return None,
         })
     }

@@ -5,7 +5,7 @@
 //!
 //! ```no_run
 //! use core::time::Duration;
-//! use osdp::{Card, Command, Entry, Error, Moment, Output, Panel, PanelConfig, Reply, Report};
+//! use osdp::{Card, Command, Entry, Error, Moment, Output, Panel, PanelConfig, Reply, Report, output};
 //!
 //! # fn read(_: &mut [u8], _: Option<Moment>) -> usize { 0 }
 //! # fn write(_: &[u8]) -> Result<(), Error> { Ok(()) }
@@ -17,7 +17,7 @@
 //! }
 //!
 //! fn open(panel: &mut Panel, door: Entry) -> Result<(), Error> {
-//!     let strike = Output { output: 0, control: 5, timer: 30 }; // on for three seconds
+//!     let strike = Output { output: 0, control: output::ON_FOR_A_TIME, timer: 30 }; // three seconds
 //!     match panel.submit(door, &Command::out(&[strike])?) {
 //!         Err(Error::Full) => Ok(()), // as many orders wait as may: the door stays closed
 //!         done => done,
@@ -69,19 +69,22 @@
 //! program links a heap of its own, such as `c/heap_pool.c`.
 #![no_std]
 
+mod command_fields;
 mod device;
 mod error;
 mod fields;
 #[cfg(feature = "heap")]
 mod heap;
 mod message;
-mod named;
+pub mod named;
 mod numbered;
 mod panel;
+mod reply_data;
 mod site;
 pub mod sys;
 mod time;
 
+pub use command_fields::{CommandFields, Leds, Outputs};
 pub use device::{Answer, Device, DeviceAnswer, DeviceConfig, Expired, Moved, Order, Said, Step};
 pub use error::Error;
 pub use fields::{

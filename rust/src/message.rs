@@ -79,7 +79,7 @@ pub(crate) fn no_message() -> sys::osdp_message {
     }
 }
 
-/// The message of a code and data that a table has been asked about.
+/// The message of a code and data that a table has, as many as there is room for.
 fn message_of(code: u8, data: &[u8]) -> sys::osdp_message {
     let mut message = no_message();
     message.data[..data.len()].copy_from_slice(data);
@@ -153,11 +153,50 @@ message! {
 }
 
 message! {
-    /// A reply as its code and data. `Reply::read` gives its fields.
+    /// A reply as its code and data. `Reply::from` gives its fields, and `Reply::write` makes one of them.
     RawReply, osdp_reply_text_nonnull
 }
 
+/// The command that a call writes.
+fn written(write: impl FnOnce(&mut sys::osdp_message)) -> Command {
+    let mut message = no_message();
+    write(&mut message);
+    Command(message)
+}
+
 impl Command {
+    /// Asks what the device is. Its byte is 0: the standard has no other.
+    pub fn id() -> Command {
+        // SAFETY: the message is good.
+        written(|message| unsafe { sys::osdp_id(message) })
+    }
+
+    /// Asks what the device can do. Its byte is 0: the standard has no other.
+    pub fn cap() -> Command {
+        // SAFETY: the message is good.
+        written(|message| unsafe { sys::osdp_cap(message) })
+    }
+
+    /// Asks for the state of the device itself.
+    pub fn local_status() -> Command {
+        Command(message_of(sys::OSDP_LSTAT as u8, &[]))
+    }
+
+    /// Asks for the states of the inputs.
+    pub fn input_status() -> Command {
+        Command(message_of(sys::OSDP_ISTAT as u8, &[]))
+    }
+
+    /// Asks for the states of the outputs.
+    pub fn output_status() -> Command {
+        Command(message_of(sys::OSDP_OSTAT as u8, &[]))
+    }
+
+    /// Asks for the states of the readers.
+    pub fn reader_status() -> Command {
+        Command(message_of(sys::OSDP_RSTAT as u8, &[]))
+    }
+
     /// What the outputs are to do.
     ///
     /// # Errors
@@ -184,18 +223,14 @@ impl Command {
 
     /// How the buzzer of a reader sounds.
     pub fn buzzer(buzzer: &Buzzer) -> Command {
-        let mut message = no_message();
         // SAFETY: a `Buzzer` is an `osdp_buzzer`, and the message is apart.
-        unsafe { sys::osdp_buzzer(buzzer, &mut message) };
-        Command(message)
+        written(|message| unsafe { sys::osdp_buzzer(buzzer, message) })
     }
 
     /// What the display of a reader shows.
     pub fn text(text: &Text) -> Command {
-        let mut message = no_message();
         // SAFETY: a `Text` is an `osdp_text`, and the message is apart.
-        unsafe { sys::osdp_text(text.as_sys(), &mut message) };
-        Command(message)
+        written(|message| unsafe { sys::osdp_text(text.as_sys(), message) })
     }
 
     /// The address, and the rate in baud, that a device is to have.
@@ -210,14 +245,23 @@ impl Command {
         Ok(Command(message))
     }
 
-    /// The records of an OUT, in their order; none of another command.
-    pub fn outputs(&self) -> impl Iterator<Item = Output> + '_ {
-        (0..).map_while(|at| {
-            let mut output = Output::default();
-            // SAFETY: the command is a message, and the output is apart.
-            let status = unsafe { sys::osdp_output_of(&self.0, at, &mut output) };
-            (status == sys::OSDP_OK).then_some(output)
-        })
+    /// A command of the device's maker: his code, and his bytes.
+    ///
+    /// # Errors
+    ///
+    /// `BadLength`: there are more than 1,429 bytes.
+    pub fn maker(vendor: [u8; 3], bytes: &[u8]) -> Result<Command, Error> {
+        let mut maker = sys::osdp_maker {
+            length: u16::try_from(bytes.len()).map_err(|_| Error::BadLength)?,
+            vendor,
+            bytes: [0; 1429],
+        };
+        let room = maker.bytes.get_mut(..bytes.len());
+        room.ok_or(Error::BadLength)?.copy_from_slice(bytes);
+        let mut message = no_message();
+        // SAFETY: the maker's message is good, and the message is apart.
+        check(unsafe { sys::osdp_maker(&maker, &mut message) })?;
+        Ok(Command(message))
     }
 }
 

@@ -257,6 +257,12 @@ structs! {
     osdp_keypad, 257 { reader: u8, count: u8, digits: [u8; 255], }
 
     #[derive(Clone, Copy)]
+    osdp_formatted, 258 { reader: u8, direction: u8, count: u8, digits: [u8; 255], }
+
+    #[derive(Clone, Copy)]
+    osdp_local_state, 2 { tamper: u8, power: u8, }
+
+    #[derive(Clone, Copy)]
     osdp_states, 1434 { length: u16, states: [u8; 1432], }
 
     /// What a device is, but for its serial number.
@@ -285,25 +291,41 @@ structs! {
         product: osdp_product,
     }
 
+    /// What a device can do in one respect.
+    #[derive(Clone, Copy, Debug, Default, PartialEq, Eq)]
+    osdp_capability, 3 {
+        /// What it is about, as `named::function` has it: 1 to 16.
+        function: u8,
+        /// How far it goes, as the standard has it for the function.
+        level: u8,
+        /// How many there are, as the standard has it for the function.
+        count: u8,
+    }
+
+    #[derive(Clone, Copy)]
+    osdp_communication, 8 { baud_rate: u32, address: u32, }
+
+    #[derive(Clone, Copy)]
+    osdp_maker, 1434 { length: u16, vendor: [u8; 3], bytes: [u8; 1429], }
+
     #[derive(Clone, Copy)]
     osdp_nak, 1434 { length: u16, reason: u8, detail: [u8; 1431], }
 
     /// What one output is to do: a record of an OUT.
     #[derive(Clone, Copy, Debug, Default, PartialEq, Eq)]
     osdp_output, 4 {
-        /// In 100 ms: how long it lasts, where the control is 5 or 6.
+        /// In 100 ms: how long it lasts, where it is for a time.
         timer: u16,
         /// The output of the device, counted from 0.
         output: u8,
-        /// 0 no change; 1 off for good and 2 on for good, and a timed operation ends; 3 off for good and 4 on for good, and a timed operation
-        /// goes on to its end; 5 on for a time; 6 off for a time.
+        /// What it is to do, as `named::output` has it: 0 to 6.
         control: u8,
     }
 
-    /// How an LED blinks. Times are in 100 ms. Colors: 0 off, 1 red, 2 green, 3 amber, 4 blue, 5 magenta, 6 cyan, 7 white.
+    /// How an LED blinks. Times are in 100 ms. Colors are those of `named::color`.
     #[derive(Clone, Copy, Debug, Default, PartialEq, Eq)]
     osdp_led_state, 5 {
-        /// 0 nothing is set; of a temporary state 1 cancel, 2 set; of the permanent state 1 set.
+        /// What becomes of it, as `named::led` has it.
         control: u8,
         /// How long it has the first color.
         on_time: u8,
@@ -335,7 +357,7 @@ structs! {
     osdp_buzzer, 5 {
         /// The reader of the device, counted from 0.
         reader: u8,
-        /// 0 none, 1 off, 2 default.
+        /// What sounds, as `named::tone` has it: 0 to 2.
         tone: u8,
         /// In 100 ms.
         on_time: u8,
@@ -392,15 +414,31 @@ calls! {
     osdp_device_silence(device: *mut osdp_device, now: u64, answer: *mut osdp_answer);
 
     osdp_raw_of(reply: *const osdp_message, raw: *mut osdp_raw);
+    osdp_formatted_of(reply: *const osdp_message, formatted: *mut osdp_formatted);
     osdp_keypad_of(reply: *const osdp_message, keypad: *mut osdp_keypad);
+    osdp_local_state_of(reply: *const osdp_message, state: *mut osdp_local_state);
     osdp_inputs_of(reply: *const osdp_message, inputs: *mut osdp_states);
     osdp_outputs_of(reply: *const osdp_message, outputs: *mut osdp_states);
+    osdp_readers_of(reply: *const osdp_message, readers: *mut osdp_states);
     osdp_pd_id_of(reply: *const osdp_message, id: *mut osdp_pd_id);
     osdp_nak_of(reply: *const osdp_message, nak: *mut osdp_nak);
+    osdp_com_of(reply: *const osdp_message, communication: *mut osdp_communication);
+    osdp_maker_reply_of(reply: *const osdp_message, maker: *mut osdp_maker);
+    osdp_capability_of(reply: *const osdp_message, at: usize, capability: *mut osdp_capability);
+    osdp_buzzer_of(command: *const osdp_message, buzzer: *mut osdp_buzzer);
+    osdp_text_of(command: *const osdp_message, text: *mut osdp_text);
+    osdp_comset_of(command: *const osdp_message, communication: *mut osdp_communication);
+    osdp_maker_of(command: *const osdp_message, maker: *mut osdp_maker);
     osdp_output_of(command: *const osdp_message, at: usize, output: *mut osdp_output);
+    osdp_led_of(command: *const osdp_message, at: usize, led: *mut osdp_led);
     osdp_out_nonnull(outputs: *const osdp_output, count: usize, command: *mut osdp_message);
     osdp_led_nonnull(leds: *const osdp_led, count: usize, command: *mut osdp_message);
     osdp_comset(address: u32, baud_rate: u32, command: *mut osdp_message);
+    osdp_maker(maker: *const osdp_maker, command: *mut osdp_message);
+    osdp_raw(raw: *const osdp_raw, event: *mut osdp_message);
+    osdp_inputs(inputs: *const osdp_states, event: *mut osdp_message);
+    osdp_outputs(outputs: *const osdp_states, event: *mut osdp_message);
+    osdp_readers(readers: *const osdp_states, event: *mut osdp_message);
     osdp_panel_entries(panel: *mut osdp_panel, count: *mut usize);
     osdp_panel_address(panel: *mut osdp_panel, entry: usize, address: *mut u32);
     osdp_panel_waiting(panel: *mut osdp_panel, entry: usize, count: *mut usize);
@@ -424,4 +462,9 @@ unsafe extern "C" {
     pub fn osdp_panel_defaults(config: *mut osdp_panel_config);
     pub fn osdp_buzzer(buzzer: *const osdp_buzzer, command: *mut osdp_message);
     pub fn osdp_text(text: *const osdp_text, command: *mut osdp_message);
+    pub fn osdp_id(command: *mut osdp_message);
+    pub fn osdp_cap(command: *mut osdp_message);
+    pub fn osdp_formatted(formatted: *const osdp_formatted, event: *mut osdp_message);
+    pub fn osdp_keypad(keypad: *const osdp_keypad, event: *mut osdp_message);
+    pub fn osdp_local_state(state: *const osdp_local_state, event: *mut osdp_message);
 }

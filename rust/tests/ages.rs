@@ -1,7 +1,7 @@
 //! Events that are too old: where nobody polls, a card is told to nobody after a limit.
 
 use core::time::Duration;
-use osdp::{Device, DeviceConfig, Error, Expired, Moment, Reply};
+use osdp::{Bytes, Card, Device, DeviceConfig, Error, Expired, Moment, Reply, card};
 
 /// The opening ID, and POLL with number 1, to the device at 5.
 const ID: [u8; 8] = [0x53, 0x05, 0x08, 0x00, 0x00, 0x61, 0x00, 0x3F];
@@ -30,7 +30,8 @@ fn a_card_of_long_ago_is_told_to_nobody() -> Result<(), Error> {
     let mut device = Device::new(&DeviceConfig::new(5))?;
     assert!(device.is_offline(at(0))?);
     assert_eq!(answer_code(&mut device, &ID, 1000)?, 0x45);
-    device.event_text("RAW 0 0 26 12345640")?;
+    let card = Card::new(0, card::RAW, 26, &[0x12, 0x34, 0x56, 0x40]);
+    device.submit_event(&card.map(Reply::Raw).ok_or(Error::BadCount)?)?;
     assert!(!device.is_offline(at(8999))? && device.is_offline(at(9000))?);
     assert_eq!(device.expire_event(at(31_000), LIMIT)?, None);
     assert_eq!(device.expire_event(at(31_001), Duration::ZERO)?, None);
@@ -49,8 +50,10 @@ fn a_card_of_long_ago_is_told_to_nobody() -> Result<(), Error> {
 fn what_was_told_is_in_doubt() -> Result<(), Error> {
     let mut device = Device::new(&DeviceConfig::new(5))?;
     assert_eq!(answer_code(&mut device, &ID, 1000)?, 0x45);
-    device.event_text("KEYPAD 0 31")?;
-    device.event_text("KEYPAD 0 32")?;
+    for key in [b"1", b"2"] {
+        let keys = Bytes::new(key).ok_or(Error::BadLength)?;
+        device.submit_event(&Reply::Keypad(0, keys))?;
+    }
     assert_eq!(answer_code(&mut device, &POLL, 1100)?, 0x53);
     assert!(matches!(device.withdraw_event(), Some(Reply::Keypad(..))));
     assert_eq!(device.withdraw_event(), None);

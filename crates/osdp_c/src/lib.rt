@@ -4,6 +4,8 @@
 //! a call does is the definitions in `specs/`, over those of the machines.
 #![tactic(auto)]
 
+mod events;
+mod fields;
 mod held;
 mod messages;
 mod panel;

@@ -2,6 +2,8 @@ pub mod Addresses
 pub mod Answers
 pub mod Calls
 pub mod Clocks
+pub mod Commands
+pub mod Events
 pub mod Fields
 pub mod Making
 pub mod Moments
@@ -9,6 +11,7 @@ pub mod Owning
 pub mod Panels
 pub mod Pieces
 pub mod Readers
+pub mod Replies
 pub mod Reports
 pub mod Settings
 pub mod Statuses

@@ -5,15 +5,18 @@ use Rattle.osdp_msg.specs.CommandFields.{records_within}
 use Rattle.osdp_msg.specs.declared.command.Command.{Command}
 use Rattle.osdp_msg.specs.declared.command.Command.TheVariants as command
 use Rattle.osdp_msg.specs.declared.command_fields.Buzzer.{Buzzer}
+use Rattle.osdp_msg.specs.declared.command_fields.MakerMessage.{MakerMessage}
 use Rattle.osdp_msg.specs.declared.command_fields.Text.{Text}
 use Rattle.osdp_msg.specs.declared.fault.MsgFault.TheVariants.{Length}
 use Rattle.osdp_msg.specs.declared.leds.LedRecord.{LedRecord}
 use Rattle.osdp_msg.specs.declared.outputs.OutputRecord.{OutputRecord}
+use Rattle.osdp_msg.specs.Limits.{most_maker_bytes}
 use Rattle.osdp_c_values.specs.declared.fields.OutputStruct.{OutputStruct}
 use Rattle.osdp_c_values.specs.declared.making.BuzzerStruct.{BuzzerStruct}
 use Rattle.osdp_c_values.specs.declared.making.LedStruct.{LedStruct}
 use Rattle.osdp_c_values.specs.declared.making.TextStruct.{TextStruct}
 use Rattle.osdp_c_values.specs.declared.message.MessageStruct.{MessageStruct}
+use Rattle.osdp_c_values.specs.declared.shared.MakerStruct.{MakerStruct}
 use Rattle.osdp_c_values.specs.declared.status.Status.TheVariants as status
 use Rattle.osdp_c_values.specs.Fields.{Read, reads, unread}
 use Rattle.osdp_c_values.specs.Structs.{command_struct}
@@ -61,3 +64,11 @@ abbrev pub made_comset : ℕ → ℕ → MessageStruct → Read MessageStruct
 made_comset address baud_rate out =
     if nat_lt address 127 then made (Some (command.Comset (record { address = address; baud_rate = baud_rate }))) out
     else record { status = status.Panel AddressOutOfRange; out = out }
+
+-- as many bytes as the length says
+abbrev pub maker_in : MakerStruct → MakerMessage
+maker_in s = record { vendor = s.vendor; bytes = record { items = take s.length s.bytes } }
+
+-- a MFG, where there is room for as many bytes as the length says
+abbrev pub made_maker : MakerStruct → MessageStruct → Read MessageStruct
+made_maker s out = if nat_lt most_maker_bytes s.length then unread Length out else made (Some (command.Maker (maker_in s))) out

@@ -102,7 +102,7 @@ impl MessageStruct {
     }
 
     /// The command that it is.
-    fn read_command(&self) -> Result<Command, MsgFault>
+    pub fn read_command(&self) -> Result<Command, MsgFault>
         ensures { result ≡ command_in self.now }
     {
         Command::read(self.code, self.data())

@@ -3,17 +3,19 @@
 ghost use Rattle.std.specs.Prelude.{◌≡◌, ◌≤◌, length, map, option_map, Some};
 ghost use Rattle.osdp_msg.specs.CommandFields.{records_within};
 ghost use Rattle.osdp_msg.specs.declared.command.Command.TheVariants as command;
-ghost use Rattle.osdp_c_values.specs.Making.{buzzer_in, led_record, made, made_comset, made_led, made_out, output_record, text_in};
+ghost use Rattle.osdp_c_values.specs.Making.{buzzer_in, led_record, made, made_comset, made_led, made_maker, made_out, output_record, text_in};
 ghost use Rattle.osdp_c_values.specs.Structs.{command_struct};
 
 use crate::fields::OutputStruct;
 use crate::message::MessageStruct;
+use crate::shared::MakerStruct;
 use crate::status::Status;
 use arrayvec::ArrayVec;
 use osdp_bus::BusFault;
 use osdp_frame::Address;
 use osdp_msg::{
-    Buzzer, Command, Communication, LedRecord, Leds, MsgFault, OutputRecord, Outputs, Text,
+    Buzzer, Command, Communication, LedRecord, Leds, MAX_MAKER_BYTES, MakerMessage, MsgFault,
+    OutputRecord, Outputs, Text,
 };
 
 /// How an LED blinks. Times are in 100 ms. Colors: 0 off, 1 red, 2 green, 3 amber, 4 blue, 5 magenta, 6 cyan, 7 white.
@@ -221,6 +223,22 @@ impl MessageStruct {
             column: given.column,
             characters: characters.unwrap(),
         })));
+    }
+
+    /// Writes a MFG of 0 to 1,429 bytes. Length (M2) for more; nothing is written then.
+    pub fn make_maker(&mut self, given: &MakerStruct) -> Status
+        ensures status { result ≡ (made_maker given.now self.old).status }
+        ensures written { self.new ≡ (made_maker given.now self.old).out }
+    {
+        let count = usize::from(given.length);
+        if count > MAX_MAKER_BYTES {
+            return Status::Message(MsgFault::Length);
+        }
+        let bytes = ArrayVec::try_from(&given.bytes[..count]);
+        self.make(Some(Command::Maker(MakerMessage {
+            vendor: given.vendor,
+            bytes: bytes.unwrap(),
+        })))
     }
 
     /// Writes a COMSET to an address of 0 to 126. AddressOutOfRange (B6) for any other; nothing is written then.
