@@ -5,62 +5,48 @@
 //!
 //! ```no_run
 //! use core::time::Duration;
-//! use osdp::{Card, Command, Entry, Error, Moment, Output, Panel, PanelConfig, Reply, Report, output};
+//! use osdp::{Card, Command, Entry, Error, Moment, Panel, PanelConfig, Reply, Report, Site, color};
 //!
-//! # fn read(_: &mut [u8], _: Option<Moment>) -> usize { 0 }
+//! # fn read(_: &mut [u8], _: Moment) -> usize { 0 }
 //! # fn write(_: &[u8]) -> Result<(), Error> { Ok(()) }
 //! # fn now() -> Moment { Moment::from_millis(0) }
-//! const PAUSE: Duration = Duration::from_secs(1); // from a lost session to the next one
+//! const TURN: Duration = Duration::from_millis(100); // how long it waits at most
 //!
 //! fn may_enter(card: &Card) -> bool {
 //!     (card.bits(), card.bytes()) == (26, &[0x12, 0x34, 0x56, 0x40])
 //! }
 //!
-//! fn open(panel: &mut Panel, door: Entry) -> Result<(), Error> {
-//!     let strike = Output { output: 0, control: output::ON_FOR_A_TIME, timer: 30 }; // three seconds
-//!     match panel.submit(door, &Command::out(&[strike])?) {
-//!         Err(Error::Full) => Ok(()), // as many orders wait as may: the door stays closed
-//!         done => done,
-//!     }
+//! /// The strike is on for three seconds. Where the door is offline, or as many orders wait as may, it stays closed.
+//! fn open(panel: &mut Panel, site: &Site<1>, door: Entry) -> Result<(), Error> {
+//!     site.order(panel, door, &Command::output_for(0, 30)?)?;
+//!     Ok(())
 //! }
 //!
-//! /// The orders that wait for a door that was out of reach are stale.
-//! fn begin_again(panel: &mut Panel, door: Entry, at: Moment) -> Result<(), Error> {
-//!     while panel.withdraw(door)?.is_some() {}
-//!     panel.begin(door, at)
-//! }
-//!
-//! /// Takes what the panel reports; gives the moment at which a lost session is to begin again.
-//! fn take_reports(panel: &mut Panel, now: Moment) -> Result<Option<Moment>, Error> {
-//!     let mut begins = None;
-//!     while let Some((door, report)) = panel.next_report() {
+//! fn take_reports(panel: &mut Panel, site: &mut Site<1>, now: Moment) -> Result<(), Error> {
+//!     while let Some((door, report, _)) = site.next_report(panel, now) {
 //!         match report {
-//!             Report::Event { event: Reply::Raw(card), maybe_again: false } if may_enter(&card) => open(panel, door)?,
-//!             Report::Moved(..) => begin_again(panel, door, now)?,
-//!             Report::Lost(..) => begins = Some(now + PAUSE),
+//!             Report::Event { event: Reply::Raw(card), maybe_again: false } if may_enter(&card) => open(panel, site, door)?,
 //!             _ => {}
 //!         }
 //!     }
-//!     Ok(begins)
+//!     Ok(())
 //! }
 //!
-//! # fn main() -> Result<(), Error> {
+//! # fn main() -> Result<(), Box<dyn core::error::Error>> {
 //! let mut panel = Panel::new(&PanelConfig::default())?;
 //! let door = panel.add(5)?;
-//! let mut begins = Some(now());
+//! let mut site = Site::new(now()); // begins the session, and again a second after it was lost
+//! site.wants(door, &Command::color(color::RED)?)?; // also when the door comes back
 //! let mut bytes = [0; 256];
 //! loop {
-//!     let until = [panel.next_deadline(), begins].into_iter().flatten().min();
+//!     let until = site.wait_until(&panel, now() + TURN);
 //!     let count = read(&mut bytes, until); // waits for bytes, at most until that moment
 //!     let now = now();
 //!     panel.on_bytes(&bytes[..count], now)?;
-//!     begins = take_reports(&mut panel, now)?.or(begins);
-//!     if begins.is_some_and(|at| at <= now) {
-//!         begin_again(&mut panel, door, now)?;
-//!         begins = None;
-//!     }
+//!     take_reports(&mut panel, &mut site, now)?;
+//!     site.act(&mut panel, now)?;
 //!     panel.tick(now)?.send(|burst| write(burst))?;
-//!     begins = take_reports(&mut panel, now)?.or(begins);
+//!     take_reports(&mut panel, &mut site, now)?;
 //! }
 //! # }
 //! ```

@@ -108,6 +108,20 @@ static void room(void)
     osdp_site_new(&site, entries, 1, now);
 }
 
+/* Two outputs, LEDs, buzzers or texts at two places are two states; each of them again is none. */
+static void subjects(void)
+{
+    static const char *const texts[] = {
+        "OUT 0:2:0", "OUT 1:2:0", "LED 0:0:0:0:0:0:0:0:1:1:0:1:1", "LED 0:1:0:0:0:0:0:0:1:1:0:1:1", "LED 1:0:0:0:0:0:0:0:1:1:0:1:1",
+        "BUZ 0 1 0 0 0", "BUZ 1 1 0 0 0", "TEXT 0 1 0 1 1 41", "TEXT 0 1 0 1 2 41", "TEXT 0 1 0 2 1 41", "TEXT 1 1 0 1 1 41",
+    };
+    for (unsigned i = 0; i < 2 * sizeof texts / sizeof texts[0]; i++) {
+        demand(wants_text(texts[i % (sizeof texts / sizeof texts[0])]) == OSDP_SITE_OK);
+    }
+    demand(entries[0].count == sizeof texts / sizeof texts[0]);
+    osdp_site_new(&site, entries, 1, now);
+}
+
 static void lives(void)
 {
     static struct osdp_message order;
@@ -134,9 +148,15 @@ static void lives(void)
 /* The device is gone for a while, and comes back: states come again, in the order in which they were wanted last, and the order doesn't. */
 static void comes_back(void)
 {
+    static struct osdp_message stale;
+    uint32_t closed = 0;
     is_there = false;
     length = 0;
-    run(6000);
+    for (run(6000); !closed; run(now + 1)) { /* up to a pause */
+        demand(osdp_panel_is_closed(&panel, 0, &closed) == OSDP_OK);
+    }
+    osdp_output_for(0, 50, &stale); /* ordered all the same: it is taken back before the next session */
+    demand(osdp_panel_submit(&panel, 0, stale.code, stale.data, stale.length) == OSDP_OK);
     demand(strncmp(told, "offline ", 8) == 0 && strchr(told, ';') == told + strlen(told) - 1); /* once, though sessions were lost again */
     demand(!entries[0].is_online && entries[0].since > 4000 && entries[0].since < 5000);
     is_there = true;
@@ -183,6 +203,7 @@ int main(void)
     osdp_site_new(&site, entries, 1, now);
     refusals();
     room();
+    subjects();
     lives();
     comes_back();
     pauses();
