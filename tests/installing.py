@@ -370,10 +370,10 @@ DOOR = {
     f"{SHUT}: `OUT`, and `reply .. NAK`": (
         lambda seen: any(name.startswith("NAK") for *_, names in seen.outs() for name in names),
         [(f"refused by NAK {reason}", anew(lambda reason=reason: Reader(events=[(60, *CARD)], out=(NAK, bytes([reason]))), decides=opens())) for reason in (3, 9)]),
-    f"{SHUT}: an `OUT` whose records end in `:0`, or have 1, 3 or 6 in the middle": (
+    f"{SHUT}: an `OUT` such as `0:5:0`, or one with 1, 3 or 6 in the middle": (
         lambda seen: any(each.split(":")[1] in "136" or each.split(":")[1] == "5" and each.endswith(":0") for _, records, _ in seen.outs() for each in records),
         [(f"OUT {strike}", anew(lambda: Reader(events=[(60, *CARD)]), decides=opens(strike=strike))) for strike in ("0:5:0", "0:1:0", "0:6:30")]),
-    f"{SHUT}: `OUT`, and `reply .. ACK`": (lambda seen: any("ACK" in names for *_, names in seen.outs()), [("the strike's wire", anew(lambda: Reader(events=[(60, *CARD)]), decides=opens()))]),
+    f"{SHUT}: `OUT`, and `reply .. ACK`": (lambda seen: any("ACK" in names for *_, names in seen.outs()), [(f"the strike's wire, OUT {strike}", anew(lambda: Reader(events=[(60, *CARD)]), decides=opens(strike=strike))) for strike in ("0:5:30", "0:2:0")]),
     f"{TWICE}: a `KEYPAD` comes again with another `seq`, and no `ID` between": (
         lambda seen: seen.twice() and not any(seen.twice()), [("keys sent anew", anew(lambda: Reader(events=[each for key in KEYS for each in (key, key)])))]),
     f"{TWICE}: a `KEYPAD` comes again after an `ID`": (

@@ -156,7 +156,7 @@ def new_rate():
 
 
 def noise():
-    """30 seconds of noise between and over packets: no order is done twice, none is without an end, and all goes on after it."""
+    """30 seconds of noise between and over packets, a third of them so much that no session lasts: no order is done twice, each has one end, and all goes on after it."""
     with Line() as line:
         chance = random.Random(7)
         reader, panel = line.reader(0, 5), line.panel("5", *QUICK)
@@ -164,20 +164,23 @@ def noise():
         ends, number, due = time.monotonic() + 30, 0, time.monotonic()
         while time.monotonic() < ends:
             line.rests(0.03)
+            often = 0.6 if (ends - time.monotonic()) % 3 < 1 else 0.03
             for end in (line.panel_end, line.reader_ends[0]):
-                if chance.random() < 0.5:
+                if chance.random() < often:
                     os.write(end.end, bytes(chance.choice((0x53, 0x85, 0x05, 0xFF, chance.randrange(256))) for _ in range(chance.randrange(1, 12))))
             if time.monotonic() >= due:
-                number, due = number + 1, due + 0.5
+                number, due = number + 1, due + 0.1
                 panel.say(f"5 OUT 0:2:{number}")
         line.rests(1)
         panel.say("5 OUT 1:2:0")
         line.run(lambda: has(panel, "settled 5 OUT 1:2:0 = ACK")() or panel.say("5 OUT 1:2:0") or line.rests(1))
         done = [each for each in taken(reader) if "OUT 0:2:" in each]
         asks(len(done) == len(set(done)), "noise: an order was taken twice")
-        for order in [each.split(" ", 1)[1] for each in panel.lines if each.startswith("ordered")]:
-            ended = [each for each in panel.lines if order.split(" ", 1)[1] in each.split(" = ")[0] and each.startswith(("settled", "lost", "withdrawn", "unread", "not taken"))]
-            asks(len(ended) >= 1, f"noise: {order} has no end")
+        for order in [each.split(" ", 2)[2] for each in panel.lines if each.startswith("ordered")]:
+            ended = [each for each in panel.lines if each.split(" = ")[0].endswith(f" {order}") and each.startswith(("settled", "lost", "withdrawn", "unread", "not taken"))]
+            asks(len(ended) == 1 or order == "OUT 1:2:0", f"noise: {order} has {len(ended)} ends: {ended}")
+        ends = {word: sum(each.startswith(word) and " OUT " in each for each in panel.lines) for word in ("settled", "lost", "withdrawn")}
+        asks(ends["settled"] > 10 and ends["lost"] + ends["withdrawn"] > 0, f"noise: too little or too much of it: {ends}")
         asks(panel.process.poll() is None and reader.process.poll() is None, "noise: a program has ended")
 
 
@@ -244,6 +247,7 @@ def killed():
         again.say("7 on")
         asks(line.run(has(readers[0], "taken OUT 0:2:0")), f"killed: the order goes elsewhere: {again.lines[-6:]} {readers[0].lines}")
         asks(taken(readers[1]) == ["taken COMSET 6 19200"] or taken(readers[1]) == [], f"killed: the other one has taken {taken(readers[1])}")
+        line.run(has(again, "settled 7 OUT 0:2:0 = ACK"))
         line.loses = lambda way, burst: burst[5] == COM
         again.say("7 move 9 19200")
         line.run(lambda: any(burst[1] == 7 and burst[5] == COMSET for _, burst in line.bursts))
