@@ -87,14 +87,14 @@ void begin_door(osdp_panel *panel, struct door *door, int port, uint64_t now)
 
 void take_line(osdp_panel *panel, struct door *door, const char *line)
 {
-    char comset[32];
+    static struct osdp_message comset;
     unsigned address, rate;
     if (strcmp(line, "accept") == 0 && door->is_other) {
         note_door(door);
-    } else if (sscanf(line, "move %3u %6u", &address, &rate) == 2 && address <= 126 && has_rate(rate) && door->may_order && door->stand->count == 1) {
+    } else if (sscanf(line, "move %3u %6u", &address, &rate) == 2 && address <= 126 && has_rate(rate) && door->may_order && door->stand->count == 1
+        && osdp_comset(address, rate, &comset) == OSDP_OK) {
         may_move(door->stand, (struct place){ address, rate });
-        snprintf(comset, sizeof comset, "COMSET %u %u", address, rate);
-        if (!keep_door() || tell_refusal(osdp_panel_submit_text(panel, door->entry, comset, strlen(comset)))) {
+        if (!keep_door() || tell_refusal(osdp_panel_submit(panel, door->entry, comset.code, comset.data, comset.length))) {
             stands_at(door->stand, place_of(door->stand));
             (void)keep_door();
         }

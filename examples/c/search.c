@@ -110,7 +110,8 @@ static bool fetch(struct known *reader)
     }
     snprintf(comset, sizeof comset, "COMSET %u %u", (unsigned)to.address, (unsigned)to.rate);
     tell("ordered %zu %s\n", sought + 1, comset);
-    return osdp_panel_submit_text(&finder, 0, comset, strlen(comset)) == OSDP_OK;
+    static struct osdp_message command;
+    return osdp_comset(to.address, to.rate, &command) == OSDP_OK && osdp_panel_submit(&finder, 0, command.code, command.data, command.length) == OSDP_OK;
 }
 
 void take_found(uint64_t now)

@@ -2,7 +2,7 @@
 //! `5 at 7 9600 or 5 9600 is 53494D 1 12345`, by the address at which the device was first. The panel in C keeps the same lines.
 #![allow(dead_code)] // a device's program has no use for it
 use super::{Port, RATES};
-use osdp::{Entry, Moment, Panel, PdId, Reply, Report, Site};
+use osdp::{Command, Entry, Moment, Panel, PdId, Reply, Report, Site};
 use std::error::Error;
 use std::fs::{self, File};
 use std::io::{self, Write};
@@ -207,14 +207,16 @@ impl Door {
                 let (Ok(address), Ok(rate)) = (address.parse(), rate.parse()) else {
                     return Ok(false);
                 };
-                if address > 126 || !RATES.contains(&rate) {
+                let Ok(comset) = Command::comset(address, rate) else {
+                    return Ok(false);
+                };
+                if !RATES.contains(&rate) {
                     return Ok(false);
                 }
-                let comset = format!("COMSET {address} {rate}");
                 let place = self.stands[self.at].place();
                 self.stands[self.at].places = vec![(address, rate), place];
                 self.keep()?; // before it goes out: it may be there from then on
-                if panel.submit_text(self.entry, &comset).is_err() {
+                if panel.submit(self.entry, &comset).is_err() {
                     self.stands_at(place)?;
                     return Ok(false);
                 }
