@@ -127,7 +127,7 @@ queued_again all earlier t waiting q left among (gone, before, apart, offered) =
 abbrev pub StaysApart : {H : Type 0} → Link H → Type 0
 StaysApart {H} l = IsApart l.account.withdrawn [] l.account.queued l.account.stayed (unoffered_in l.reader.queue)
 
-begins_apart : (q : Queue) → IsApart [] [] q.events q.events (unoffered_in q)
+pub begins_apart : (q : Queue) → IsApart [] [] q.events q.events (unoffered_in q)
 begins_apart q = record {
   older = ever_in_front q;
   others = ever_in_front q;
@@ -174,7 +174,7 @@ module _ {H : Type 0} (answer_of : H → Command → Answer) (after : H → Comm
     plainly = peers.plainly;
   }
 
-  apart_on : (move : Move H) (l : Link H) → GoesOn move → StaysApart l → StaysApart (after_move answer_of after move l)
+  pub apart_on : (move : Move H) (l : Link H) → GoesOn move → StaysApart l → StaysApart (after_move answer_of after move l)
   apart_on move l on apart =
       let new = after_move answer_of after move l in
       let go = events_go answer_of after move l on in
@@ -199,7 +199,7 @@ module _ {H : Type 0} (answer_of : H → Command → Answer) (after : H → Comm
       }
 
   -- a session begins again
-  begun_again : (fixed : ControllerConfig) (now : ℕ) (l : Link H) → Goes fixed answer_of after settings l → l.to_reader ≡ [] → l.to_controller ≡ []
+  pub begun_again : (fixed : ControllerConfig) (now : ℕ) (l : Link H) → Goes fixed answer_of after settings l → l.to_reader ≡ [] → l.to_controller ≡ []
       → Goes l.controller.session.config answer_of after settings (link.reopens None [] [] now l)
   begun_again fixed now l h here there =
       fresh l.controller.session.config answer_of after settings (link.reopens None [] [] now l) (record {

@@ -38,14 +38,14 @@ has_room event rest room less = (
 
 module _ {H : Type 0} where
   -- a link with this in its queue
-  abbrev off : Event → List Event → ℕ → Link H → Link H
+  abbrev pub off : Event → List Event → ℕ → Link H → Link H
   off event rest room l = record l { reader = record l.reader { queue = offered_queue event rest room } }
 
   offers_it : (event : Event) (rest : List Event) (room : ℕ) (l : Link H) → Offers event rest (off event rest room l)
   offers_it event rest room l = record { events = refl; offered = refl; ever_offered = refl }
 
   -- it is such a link already
-  is_off : (event : Event) (rest : List Event) (l : Link H) → Offers event rest l → off event rest l.reader.queue.capacity l ≡ l
+  pub is_off : (event : Event) (rest : List Event) (l : Link H) → Offers event rest l → off event rest l.reader.queue.capacity l ≡ l
   is_off event rest l is = λ i. record l {
     reader = record l.reader {
       queue = record {
@@ -164,7 +164,7 @@ module _ {H : Type 0} where
       moves_so (LoseToController place) rest room l stays = yet rest room (after_move answer_of after (LoseToController place) l)
 
   module _ (answer_of : H → Command → Answer) (after : H → Command → H) where
-    move_so : (move : Move H) (l : Link H) (event : Event) (rest : List Event) → Offers event rest l → StaysInSession move l
+    pub move_so : (move : Move H) (l : Link H) (event : Event) (rest : List Event) → Offers event rest l → StaysInSession move l
         → DifferByLapse (after_move answer_of after move (lapses l)) (after_move answer_of after move l)
     move_so move l event rest is stays =
         let same = is_off event rest l is in
@@ -240,7 +240,7 @@ module _ {H : Type 0} where
     not_zero [] r all = tt
     not_zero (p ∷ ps) r all = numbered_goes_on r p all.0
 
-    not_zero_if : (how : Delivery) (ps : List Packet) (r : ReaderState H) → Each IsNumbered ps → IsNotZeroIf how ps r
+    pub not_zero_if : (how : Delivery) (ps : List Packet) (r : ReaderState H) → Each IsNumbered ps → IsNotZeroIf how ps r
     not_zero_if Delivered ps r all = not_zero ps r all
     not_zero_if Lost ps r all = tt
     not_zero_if Repeated ps r all = not_zero ps r all

@@ -53,3 +53,4 @@ pub mod Counting
 pub mod Costing
 mod PastOpening
 mod Lapsing
+mod LapsingRuns

@@ -38,6 +38,7 @@ use Rattle.osdp_link_laws.specs.Peers.{ReadEachOther}
 use Rattle.osdp_link_laws.proofs.InARow.{Assumed, Stands, assumed_of, begins as begins_so, standing}
 use Rattle.osdp_link_laws.proofs.Lines.{both, each_append, each_lost, each_map, runs_each}
 use Rattle.osdp_link_laws.proofs.Numbers.{next_above_zero}
+use Rattle.osdp_link_laws.proofs.Once.{Goes as SessionGoes}
 use Rattle.osdp_link_laws.proofs.Parts.{At}
 use Rattle.osdp_link_laws.proofs.Removed.{as_waiting}
 use Rattle.osdp_link_laws.proofs.Stages.{After, Asks, Behind, Each, Fresh, IsAsked, IsFrame, IsOldFrame, Level, Past, Rest, Restarted, Rests, Runs, Stage, Start, number_after}
@@ -380,13 +381,16 @@ module _ {H : Type 0} where
         by_kind Wrong is = IsNot (λ same. let e = sym is ∙ same in absurd cc)
 
     module _ (settings : ReaderConfig) where
-      -- the session as it stands
-      past_now : (l : Link H) (p : Packet) (ps : List Packet) → Stands answer_of after settings l → l.to_reader ≡ p ∷ ps → IsNumbered p → OpeningIsPast l
+      -- the session as it stands, at an address
+      abbrev pub IsHeld : Link H → Type 0
+      IsHeld l = (fixed : ControllerConfig) × SessionGoes fixed answer_of after settings l
+
+      past_now : (l : Link H) (p : Packet) (ps : List Packet) → IsHeld l → l.to_reader ≡ p ∷ ps → IsNumbered p → OpeningIsPast l
       past_now l p ps h is above =
-          let past = past_by h.fixed answer_of after settings h.goes.holds.0 h.goes.holds.1 (as_waiting l) p ps is above h.goes.holds.2 in
+          let past = past_by h.0 answer_of after settings h.1.holds.0 h.1.holds.1 (as_waiting l) p ps is above h.1.holds.2 in
           record { frames = past.frames; controller = past.controller }
 
-      gets_past : (p : Packet) (ps : List Packet) (l m : Link H) → Stands answer_of after settings l → l.to_reader ≡ p ∷ ps
+      gets_past : (p : Packet) (ps : List Packet) (l m : Link H) → IsHeld l → l.to_reader ≡ p ∷ ps
           → m.account ≡ (link.reader_gets answer_of after p l).account → (OpeningIsPast l → OpeningIsPast m) → NoneOfferedOrPast l → NoneOfferedOrPast m
       gets_past p ps l m h at account on is = by_kind (taken_or_not l.reader p)
         where
@@ -395,7 +399,7 @@ module _ {H : Type 0} where
           by_kind (IsNot differs) =
               as_none l m (ap (λ (t : Account). t.offered) account ∙ gets_offers (kind_of l.reader p) p l.reader l.account differs) on is
 
-      to_reader_offers : (how : Delivery) (ps : List Packet) (l : Link H) → l.to_reader ≡ ps → Stands answer_of after settings l → NoneOfferedOrPast l
+      to_reader_offers : (how : Delivery) (ps : List Packet) (l : Link H) → l.to_reader ≡ ps → IsHeld l → NoneOfferedOrPast l
           → NoneOfferedOrPast (link.to_reader answer_of after ps how l)
       to_reader_offers how [] l at h is = is
       to_reader_offers Delivered (p ∷ ps) l at h is =
@@ -405,7 +409,7 @@ module _ {H : Type 0} where
       to_reader_offers Repeated (p ∷ ps) l at h is =
           gets_past p ps l (link.to_reader answer_of after (p ∷ ps) Repeated l) h at refl (to_reader_past answer_of after Repeated (p ∷ ps) l at) is
 
-      one_past : (move : Move H) (l : Link H) → Stands answer_of after settings l → NoneOfferedOrPast l → NoneOfferedOrPast (after_move answer_of after move l)
+      pub one_past : (move : Move H) (l : Link H) → IsHeld l → NoneOfferedOrPast l → NoneOfferedOrPast (after_move answer_of after move l)
       one_past (ToReader how) l h is = to_reader_offers how l.to_reader l refl h is
       one_past (Reopen now) l h is = reopens_past (controllers.begin_refusal l.controller) l.to_reader l.to_controller now l is
       one_past (Submit c) l h is =
@@ -438,7 +442,7 @@ module _ {H : Type 0} where
           → NoneOfferedOrPast l → NoneOfferedOrPast (run answer_of after moves l)
       all_past given [] l fits h is = is
       all_past given (move ∷ moves) l fits h is =
-          all_past given moves (after_move answer_of after move l) fits.1 (standing answer_of after settings given move l fits.0 h) (one_past move l h is)
+          all_past given moves (after_move answer_of after move l) fits.1 (standing answer_of after settings given move l fits.0 h) (one_past move l (h.fixed, h.goes) is)
 
     -- so it is from a first session on
     pub opening_is_past : ReadEachOther answer_of after → (first : Link H) (moves : List (Move H)) → Begins first → MovesFit answer_of after moves first

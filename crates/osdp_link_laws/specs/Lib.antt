@@ -15,3 +15,4 @@ pub mod Effects
 pub mod Costs
 pub mod Withdrawn
 pub mod Lapses
+pub mod LapsingRuns

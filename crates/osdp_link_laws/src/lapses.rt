@@ -1,6 +1,7 @@
 //! Events that their device lets lapse, over one link.
 
 ghost use Rattle.osdp_link_laws.specs.Lapses.{LapsesAreUnheard, NextBeginsWithout, SessionsHideLapses};
+ghost use Rattle.osdp_link_laws.specs.LapsingRuns.{LapsingHoldsOnce};
 
 use osdp_reader::Handler;
 
@@ -17,6 +18,17 @@ pub fn nobody_hears_a_lapse<H: Handler>()
     ensures unheard { LapsesAreUnheard H.answer_of H.after }
     ensures run { SessionsHideLapses H.answer_of H.after }
     ensures next { NextBeginsWithout H.answer_of H.after }
+{
+    crate::read_each_other::<H>();
+}
+
+/// A link whose device lets events lapse that it has offered in their session, any number of them: in each session commands are taken once and in
+/// order and events are reported once and in order, as without lapses. A session begins with what the one before it leaves, or with all of that but
+/// the event in front, which has lapsed. So an event that has lapsed is reported once in its session at most, and in no session after it.
+///
+/// Asked is that each event that is queued leaves room for one more, and that no event lapses that was offered in an earlier session alone.
+pub fn holds_once_with_lapses<H: Handler>()
+    ensures { LapsingHoldsOnce H.answer_of H.after }
 {
     crate::read_each_other::<H>();
 }
