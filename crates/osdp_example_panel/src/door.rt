@@ -2,6 +2,8 @@
 
 use super::kept::{Call, Identity, Place, Stand, comset, read_call};
 use osdp_panel::{Address, Command, Entry, Panel, Report};
+use osdp_site::{Site, SiteConfig};
+use std::alloc::Global;
 use std::io;
 
 /// The first device of the panel.
@@ -11,27 +13,25 @@ pub const FIRST: Place = Place {
     address: 5,
     rate: 9600,
 };
-/// From a lost session to the next one, in milliseconds.
-const PAUSE: u64 = 1000;
-
-/// Where the door is, the rate of the port, the device that has answered the opening, and when the next session begins.
+/// Where the door is, the rate of the port, the device that has answered the opening, and the site, which says when the next session begins.
 #[derive(Drop)]
 pub struct Door {
     stand: Stand,
     rate: u32,
     answered: Option<Identity>,
-    pub begins: Option<u64>,
+    pub site: Site,
 }
 
 impl Door {
-    /// At first it is where it was made to be.
-    pub fn new() -> Door {
-        Door {
+    /// At first it is where it was made to be. None where there is no memory.
+    pub fn new(alloc: Global) -> Option<Door> {
+        let site = Site::new(alloc, 1, SiteConfig::new(), 0).ok()?;
+        Some(Door {
             stand: Stand::new(FIRST),
             rate: FIRST.rate,
             answered: None,
-            begins: Some(0),
-        }
+            site,
+        })
     }
 
     /// Whether the session is open, and the device is the door.
@@ -49,10 +49,9 @@ impl Door {
 
     /// Begins a session whose moment has come, at each of its places in turn. The orders that waited are stale.
     pub fn begin(&mut self, rt: &HostRuntime, panel: &mut Panel, now: u64) -> io::Result<()> {
-        if !self.begins.is_some_and(|begins| begins <= now) {
+        if self.site.is_due(DOOR, now) != Some(true) {
             return Ok(());
         }
-        self.begins = None;
         for _ in 0..panel.waiting(DOOR).unwrap_or(0) {
             let _ = panel.withdraw(DOOR);
         }
@@ -61,7 +60,7 @@ impl Door {
         if let Some(address) = Address::device(address) {
             let _ = panel.retarget(DOOR, address);
         }
-        let _ = panel.begin(DOOR, now);
+        self.site.act(panel, now);
         if rate != self.rate {
             self.rate = rate;
             println!(rt; "rate {rate}")?;
@@ -81,14 +80,9 @@ impl Door {
         }
     }
 
-    /// The session has ended, and begins again at a moment.
-    fn close(&mut self, begins: u64) {
-        self.answered = None;
-        self.begins = Some(begins);
-    }
-
     /// Does what a report asks for about the door's place and its session.
     pub fn heed(&mut self, rt: &HostRuntime, report: &Report, now: u64) -> io::Result<()> {
+        let _ = self.site.heed(DOOR, report, now);
         match report {
             Report::Opened(id) => {
                 let identity = Identity::of(id);
@@ -106,11 +100,11 @@ impl Door {
             Report::Moved(_, com) => {
                 let (address, rate) = (com.address, com.baud_rate);
                 self.stand.is_at(Place { address, rate });
-                self.close(now);
+                self.answered = None;
                 self.keep(rt)
             }
             Report::Lost(..) => {
-                self.close(now.saturating_add(PAUSE));
+                self.answered = None;
                 Ok(())
             }
             _ => Ok(()),

@@ -72,14 +72,14 @@ fn turn(
 
 fn main(rt: HostRuntime) -> io::Result<()> {
     let mut panel = new_panel(rt.alloc()).ok_or(io::ErrorKind::OutOfMemory)?;
-    let mut door = Door::new();
+    let mut door = Door::new(rt.alloc()).ok_or(io::ErrorKind::OutOfMemory)?;
     for line in rt.lines(rt.alloc()) {
         let line = line?;
         match read_line(rt.alloc(), line.as_str())? {
             Line::Turn(now, bytes) => turn(&rt, &mut panel, &mut door, bytes.as_slice(), now)?,
             Line::Card(_) | Line::Other => door.call(&rt, &mut panel, line.as_str())?,
         }
-        tell_due(&rt, [panel.next_deadline(), door.begins])?;
+        tell_due(&rt, [panel.next_deadline(), door.site.next_deadline()])?;
     }
     Ok(())
 }
