@@ -1,5 +1,5 @@
 -- What a panel's program takes of an entry's events, each with its mark, is what was told of the entry, and that is what its sessions have reported.
-use Rattle.std.proofs.Common.{◌≡◌, ℕ, suc, true, false, cond, List, [], ◌∷◌, ◌++◌, length, map, Option, Some, None, refl, sym, subst, ap, ◌∙◌, inl, inr, arith, append_assoc}
+use Rattle.std.proofs.Common.{◌≡◌, ◌≢◌, ℕ, suc, Bool, true, false, cond, List, [], ◌∷◌, ◌++◌, length, map, Option, Some, None, refl, sym, subst, ap, ◌∙◌, inl, inr, arith, append_assoc}
 use Rattle.std.proofs.lemmas.List.{append-nil}
 use Rattle.std.proofs.lemmas.Bool.Decides.{eqb_tells}
 use Rattle.std.specs.Prelude.{◌==◌, option_to_list}
@@ -8,7 +8,9 @@ use Rattle.osdp_msg.specs.declared.event.Event.{Event}
 use Rattle.osdp_controller.specs.declared.report.Report.{Report}
 use Rattle.osdp_controller.specs.declared.report.Report.TheVariants as report
 use Rattle.osdp_bus.specs.Buses.{BusState, device_of, is_told_maybe_again, new_bus}
-use Rattle.osdp_bus.specs.Remembering.{Remembered, may_be_again, memory_at, nothing_yet, remembers}
+use Rattle.std.specs.Str.{bytes_eq}
+use Rattle.std.proofs.lemmas.Slice.Eq.{bytes_eq-Decides}
+use Rattle.osdp_bus.specs.Remembering.{event_bytes, Remembered, may_be_again, memory_at, nothing_yet, remembers}
 use Rattle.osdp_bus.specs.Settings.{IsBusConfig}
 use Rattle.osdp_bus.specs.declared.config.BusConfig.{BusConfig}
 use Rattle.osdp_bus.specs.declared.device.Device.{Device}
@@ -27,7 +29,7 @@ use Rattle.osdp_shared_line.proofs.Sites.{some_same}
 use Rattle.osdp_calls.specs.Calls.{Call, NewDevice, NewPanel, Next, OfPanel, Pending, SetBusy, SetHandler, Silence, Step, SubmitEvent, Take, TickDevice, WithdrawEvent, after_call, after_calls}
 use Rattle.osdp_calls.specs.Ends.{KeepsPanel, one_panel_call, panel_calls}
 use Rattle.osdp_calls.specs.Lines.{InUse, Station, bus_with}
-use Rattle.osdp_calls.specs.Marks.{CallsMarkRepeats, all_reported, all_taken, event_of, event_waiting, last_event, marked, marked_in, taken_in}
+use Rattle.osdp_calls.specs.Marks.{CallsMarkRepeats, MarksWhatIsToldAgain, all_reported, all_taken, event_of, event_waiting, is_equal_to, last_event, marked, marked_in, taken_in, unmarked}
 use Rattle.osdp_calls.specs.Sayings.{NoneRefused}
 use Rattle.osdp_calls.proofs.Ends.{more_calls, one_bus}
 use Rattle.osdp_calls.proofs.Heeding.{new_at}
@@ -36,6 +38,30 @@ use Rattle.osdp_calls.proofs.MarkedDevices.{step_tells, told_by}
 use Rattle.osdp_calls.proofs.Marking.{Agrees, Told, all_of, marks_of, next}
 use Rattle.osdp_calls.proofs.Places.{those}
 use Rattle.osdp_calls.proofs.Sayings.{adds_make_the_bus}
+
+-- ---- which marks these are
+
+same_bytes : (e : Event) → is_equal_to (Some e) e ≡ true
+same_bytes e = (bytes_eq-Decides (event_bytes e) (event_bytes e)).1 refl
+
+other_bytes : (o : Option Event) (e : Event) → ((other : Event) → o ≡ Some other → event_bytes e ≢ event_bytes other) → is_equal_to o e ≡ false
+other_bytes None e differs = refl
+other_bytes (Some other) e differs = by_test (bytes_eq (event_bytes e) (event_bytes other)) refl
+  where
+    by_test : (b : Bool) → bytes_eq (event_bytes e) (event_bytes other) ≡ b → b ≡ false
+    by_test false is = refl
+    by_test true is = absurd (differs other refl ((bytes_eq-Decides (event_bytes e) (event_bytes other)).0 is))
+
+pub marks_what_is_told_again : MarksWhatIsToldAgain
+marks_what_is_told_again = record {
+  again = λ t earlier event events is last.
+      ap (λ es. marked earlier ++ marked_in (last_event (all_reported earlier)) es) is
+      ∙ ap (λ o. marked earlier ++ (event, is_equal_to o event) ∷ unmarked events) last
+      ∙ ap (λ b. marked earlier ++ (event, b) ∷ unmarked events) (same_bytes event);
+  others = λ t earlier event events is differs.
+      ap (λ es. marked earlier ++ marked_in (last_event (all_reported earlier)) es) is
+      ∙ ap (λ b. marked earlier ++ (event, b) ∷ unmarked events) (other_bytes (last_event (all_reported earlier)) event differs);
+}
 
 -- nothing was told yet
 abbrev untold : Told

@@ -1,5 +1,5 @@
 -- Events that are told again from one session of an entry to the next, and which of the reports that a panel's program takes are marked.
-use Rattle.std.specs.Prelude.{◌≡◌, ◌+◌, ℕ, Bool, false, ◌==◌, if◌then◌else◌, All, List, [], ◌∷◌, ◌++◌, length, map, Option, Some, None}
+use Rattle.std.specs.Prelude.{◌≡◌, ◌≢◌, true, ◌+◌, ℕ, Bool, false, ◌==◌, if◌then◌else◌, All, List, [], ◌∷◌, ◌++◌, length, map, Option, Some, None}
 use Rattle.std.specs.Str.{bytes_eq}
 use Rattle.osdp_msg.specs.declared.command.Command.{Command}
 use Rattle.osdp_msg.specs.declared.event.Event.{Event}
@@ -50,6 +50,14 @@ marked_in before (event ∷ events) = (event, is_equal_to before event) ∷ unma
 abbrev pub marked : List Account → List (Event × Bool)
 marked [] = []
 marked (t ∷ earlier) = marked earlier ++ marked_in (last_event (all_reported earlier)) t.reported
+
+-- what is marked so: the first event of a session where it is the last one that was reported before, and else none but one with the bytes of that
+pub record MarksWhatIsToldAgain : Type 0 where
+  pub again : (t : Account) (earlier : List Account) (event : Event) (events : List Event) → t.reported ≡ event ∷ events
+      → last_event (all_reported earlier) ≡ Some event → marked (t ∷ earlier) ≡ marked earlier ++ (event, true) ∷ unmarked events
+  pub others : (t : Account) (earlier : List Account) (event : Event) (events : List Event) → t.reported ≡ event ∷ events
+      → ((other : Event) → last_event (all_reported earlier) ≡ Some other → event_bytes event ≢ event_bytes other)
+      → marked (t ∷ earlier) ≡ marked earlier ++ unmarked (event ∷ events)
 
 -- ---- what the panel's program takes
 

@@ -6,7 +6,7 @@ ghost use Rattle.osdp_bus.specs.Buses.{BusState};
 ghost use Rattle.osdp_calls.specs.Ends.{BusIsReached, GoByTheirOwn, OneExchange};
 ghost use Rattle.osdp_calls.specs.Handing.{HandsOver};
 ghost use Rattle.osdp_calls.specs.Lines.{InUse};
-ghost use Rattle.osdp_calls.specs.Marks.{CallsMarkRepeats};
+ghost use Rattle.osdp_calls.specs.Marks.{CallsMarkRepeats, MarksWhatIsToldAgain};
 ghost use Rattle.osdp_calls.specs.OneDevice.{OneDeviceHoldsOnce};
 ghost use Rattle.osdp_calls.specs.Programs.{CallsRuleSuffices, RuledCallsHoldOnce};
 ghost use Rattle.osdp_calls.specs.Promises.{CallsHoldOnce, CallsKeepApart};
@@ -154,7 +154,8 @@ pub fn ordinary_is_undisturbed<H: Handler>()
 /// What the panel's program takes of an entry's events, and then the one that waits, are the events that the sessions of this life have reported,
 /// in their order, each with its mark. Nothing is asked of what the ends read.
 pub fn repeats_are_marked<H: Handler>()
-    ensures { CallsMarkRepeats H.answer_of H.after }
+    ensures calls { CallsMarkRepeats H.answer_of H.after }
+    ensures again { MarksWhatIsToldAgain }
 {
     osdp_bus_laws::reports_are_told_once();
 }
