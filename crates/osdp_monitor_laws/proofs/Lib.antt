@@ -13,4 +13,5 @@ pub mod PanelLines
 pub mod Remembering
 pub mod Missing
 pub mod Telling
+pub mod Naming
 pub mod FittingReplies

@@ -23,7 +23,7 @@ use Rattle.osdp_monitor_laws.specs.Misses.{IsCopyOrReply, IsFrom, IsRemembered, 
 
 -- ---- what is found, where the packet is judged
 
-sent_found : (line : Knowledge) (a : ℕ) (q : Packet) (accusation : Option Accusation) → IsTo a q → a ≢ 127 → is_foreign q ≡ false
+pub sent_found : (line : Knowledge) (a : ℕ) (q : Packet) (accusation : Option Accusation) → IsTo a q → a ≢ 127 → is_foreign q ≡ false
     → panel_accused (line.devices a).last (line.devices a) q ≡ accusation → (found_in line q).accusation ≡ accusation
 sent_found line a q accusation to device plain accused =
     let k = line.devices q.address in
@@ -32,7 +32,7 @@ sent_found line a q accusation to device plain accused =
     ∙ ap (λ f. f.accusation) (cond-false q.reply (found_in_reply k.last k q) (found_in_sent k q) to.0)
     ∙ subst (λ b. panel_accused (line.devices b).last (line.devices b) q ≡ accusation) (sym to.1) accused
 
-reply_found : (line : Knowledge) (a : ℕ) (s p : Packet) (accusation : Accusation) → IsFrom a s → a ≢ 127 → is_foreign s ≡ false
+pub reply_found : (line : Knowledge) (a : ℕ) (s p : Packet) (accusation : Accusation) → IsFrom a s → a ≢ 127 → is_foreign s ≡ false
     → (line.devices a).last ≡ Some p → reader_accused (line.devices a) p s ≡ Some accusation → (found_in line s).accusation ≡ Some accusation
 reply_found line a s p accusation from device plain last accused =
     let k = line.devices s.address in
@@ -43,15 +43,15 @@ reply_found line a s p accusation from device plain last accused =
     (ap (λ o. (found_in_reply o (line.devices a) s).accusation) last ∙ accused)
 
 -- the address is that of a device
-device_of : (line : Knowledge) (a : ℕ) (p : Packet) → p.address ≡ a → IsRemembered a (PacketItem p) line → a ≢ 127
+pub device_of : (line : Knowledge) (a : ℕ) (p : Packet) → p.address ≡ a → IsRemembered a (PacketItem p) line → a ≢ 127
 device_of line a p here is all = is.0 (here ∙ all)
 
 -- ---- another packet with the number of the last
 
-abbrev IsLast : Packet → Known → Type 0
+abbrev pub IsLast : Packet → Known → Type 0
 IsLast p k = k.last ≡ Some p
 
-last_step : (a : ℕ) (p : Packet) (line : Knowledge) (x : Packet) → IsLast p (line.devices a) → (x.address ≡ a → IsCopyOrReply p x)
+pub last_step : (a : ℕ) (p : Packet) (line : Knowledge) (x : Packet) → IsLast p (line.devices a) → (x.address ≡ a → IsCopyOrReply p x)
     → IsRemembered a (PacketItem x) line → IsLast p ((after_packet line x).devices a)
 last_step a p line x known each is =
     at_remembered a (IsLast p) line x is (λ _. known) (λ _ _ _. known)
@@ -62,7 +62,7 @@ last_step a p line x known each is =
     (λ _ _ last _ heard. by_fate (IsLast p) (line.devices a) last x (λ _. known) (λ unheard. absurd (false≢true (sym heard ∙ unheard)))
     (last_by (said x) (line.devices a) last x ∙ known))
 
-first_last : (a : ℕ) (line : Knowledge) (p : Packet) → IsTo a p → IsRemembered a (PacketItem p) line → IsLast p ((after_packet line p).devices a)
+pub first_last : (a : ℕ) (line : Knowledge) (p : Packet) → IsTo a p → IsRemembered a (PacketItem p) line → IsLast p ((after_packet line p).devices a)
 first_last a line p to is =
     at_remembered a (IsLast p) line p is (λ other. absurd (other to.1)) (λ _ reply. absurd (false≢true (sym to.0 ∙ reply)))
     (λ _ _. (sent_asked (line.devices a) p).last) (λ _ reply. absurd (false≢true (sym to.0 ∙ reply)))

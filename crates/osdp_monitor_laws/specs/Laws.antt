@@ -2,5 +2,6 @@
 pub use Rattle.osdp_monitor_laws.specs.Misses.{MissesNoOtherPacket, MissesNoOtherReply, MissesNoUnanswered}
 pub use Rattle.osdp_monitor_laws.specs.AnyReader.{AccusesNoReaderByTheRules}
 pub use Rattle.osdp_monitor_laws.specs.Late.{TellsLateAnswers}
+pub use Rattle.osdp_monitor_laws.specs.Names.{MissesNoPacketOutOfTurn, NamesReaders, NamesSecondReplies}
 pub use Rattle.osdp_monitor_laws.specs.PanelLine.{AccusesNoPanel}
 pub use Rattle.osdp_monitor_laws.specs.ReaderLine.{AccusesNoReader}

@@ -3,4 +3,5 @@ pub mod AnyReader
 pub mod PanelLine
 pub mod Misses
 pub mod Late
+pub mod Names
 pub mod Laws

@@ -2,7 +2,7 @@
 //! their contracts are laws.
 #![tactic(auto)]
 
-ghost use Rattle.osdp_monitor_laws.specs.Laws.{AccusesNoPanel, AccusesNoReader, AccusesNoReaderByTheRules, MissesNoOtherPacket, MissesNoOtherReply, MissesNoUnanswered, TellsLateAnswers};
+ghost use Rattle.osdp_monitor_laws.specs.Laws.{AccusesNoPanel, AccusesNoReader, AccusesNoReaderByTheRules, MissesNoOtherPacket, MissesNoOtherReply, MissesNoPacketOutOfTurn, MissesNoUnanswered, NamesReaders, NamesSecondReplies, TellsLateAnswers};
 
 use osdp_reader::Handler;
 
@@ -45,4 +45,19 @@ pub fn misses_no_other_reply()
 /// reader is not accused.
 pub fn tells_late_answers()
     ensures { TellsLateAnswers }
+{}
+
+/// Where nothing was forgotten since, a packet whose number is neither 0, nor the last, nor the next is accused so.
+pub fn misses_no_packet_out_of_turn()
+    ensures { MissesNoPacketOutOfTurn }
+{}
+
+/// Where nothing was forgotten since, the first reply to a packet after one that was answered is accused by the name of the rule that it breaks.
+pub fn names_readers()
+    ensures { NamesReaders }
+{}
+
+/// Where nothing was forgotten since, one more reply to a packet after one that was answered is accused as a second reply.
+pub fn names_second_replies()
+    ensures { NamesSecondReplies }
 {}

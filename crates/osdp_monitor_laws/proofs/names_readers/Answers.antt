@@ -1,0 +1,5 @@
+use Rattle.osdp_monitor_laws.proofs.Naming.{names_readers}
+use Rattle.osdp_monitor_laws.proofs.names_readers.Goals as goal
+
+pub returns : goal.returns
+returns c = names_readers
