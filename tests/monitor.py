@@ -60,7 +60,7 @@ class Listener:
 def table(text):
     """The rows of the last table, and the counts of the last line."""
     *_, rows = text.split("device  asked")
-    lines = rows.splitlines()[1:]
+    lines = [row for row in rows.splitlines()[1:] if not row.startswith("diagnosis: ")]
     words = lines[-1].split()
     return {int(row.split()[0]): dict(zip(COLUMNS, map(int, row.split()[1:]))) for row in lines[:-1]}, dict(zip(words[::2], map(int, words[1::2])))
 

@@ -20,7 +20,7 @@ OWN = bytes.fromhex("53494D010105000000010000")
 ACCUSED = re.compile(r"^\d+:\d+ (panel to|reader) (\d+): (.*) \((?:standard|profile)\)$", re.M)
 NOTICED = re.compile(r"^\d+:\d+ device (\d+): (.*)$", re.M)
 ALL = "537F07000060C7"
-counts, faults = Counter(), 0
+counts = Counter()
 
 
 def crc(data):
@@ -319,13 +319,20 @@ def deaf_listeners():
         yield Case("a listener that loses 1%", Line(f"deaf {seed}", 0, unheard=0.01, **QUIET))
 
 
-CASES = [*good_lines(), *late_readers(), *faulty_lines(), *deaf_listeners()]
-for case, text in zip(CASES, listen(CASES)):
-    wrong = case.judge(text)
-    if wrong and not case.name.startswith("a listener"):
-        faults += 1
-        print(f"strangers: {case.name}: {', '.join(dict.fromkeys(wrong))}")
-for name in dict.fromkeys(name for name, _ in counts):
-    print(f"{name}: {', '.join(f'{what} {counts[name, what]}' for what in ('lines', 'packets', 'found', 'accusations', 'falsely told'))}")
-print(f"strangers: {faults} faults")
-sys.exit(1 if faults else 0)
+def main():
+    """Listens to all lines, and prints the counts."""
+    faults = 0
+    cases = [*good_lines(), *late_readers(), *faulty_lines(), *deaf_listeners()]
+    for case, text in zip(cases, listen(cases)):
+        wrong = case.judge(text)
+        if wrong and not case.name.startswith("a listener"):
+            faults += 1
+            print(f"strangers: {case.name}: {', '.join(dict.fromkeys(wrong))}")
+    for name in dict.fromkeys(name for name, _ in counts):
+        print(f"{name}: {', '.join(f'{what} {counts[name, what]}' for what in ('lines', 'packets', 'found', 'accusations', 'falsely told'))}")
+    print(f"strangers: {faults} faults")
+    return 1 if faults else 0
+
+
+if __name__ == "__main__":
+    sys.exit(main())

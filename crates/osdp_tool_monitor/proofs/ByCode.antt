@@ -14,6 +14,6 @@ poll_is read true h = sym (ap is_poll (h.0 refl))
 poll_is read false h = refl
 
 pub other_by_code : (code : ℕ) (bytes : List ℕ) → nat_eq code 0x41 ≡ false → nat_eq code 0x50 ≡ false → nat_eq code 0x51 ≡ false → nat_eq code 0x53 ≡ false
-    → nat_eq code 0x79 ≡ false → kind_of_reply (reply_of code bytes) ≡ Other
+    → nat_eq code 0x54 ≡ false → nat_eq code 0x79 ≡ false → kind_of_reply (reply_of code bytes) ≡ Other
 unfolding reply_of reply_fault reply_at
-other_by_code code bytes nak raw formatted keypad busy = grind arith
+other_by_code code bytes nak raw formatted keypad sets busy = grind arith

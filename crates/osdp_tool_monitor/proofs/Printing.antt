@@ -11,7 +11,7 @@ use Rattle.osdp_monitor.specs.Line.{after_items, expected_in, found_in}
 use Rattle.osdp_tool_show.specs.ToldItems.{shown_line}
 use Rattle.osdp_tool_monitor.specs.Laws.{PrintsAccusations, both_packets, culprit, naming_line}
 use Rattle.osdp_tool_monitor.specs.Listening.{Listening, heard_item, item_report, items_report, told_in}
-use Rattle.osdp_tool_monitor.specs.Text.{accusation_line, accused_text, expected_bytes, expected_lines, is_left_out, is_profile, notice_line, told}
+use Rattle.osdp_tool_monitor.specs.Text.{accusation_line, accused_text, expected_bytes, expected_lines, is_left_out, is_profile, notice_line}
 use Rattle.osdp_tool_monitor.specs.InTurn.{after_all, report_of_all}
 
 in_parts : (s n a e r : List ℕ) → (s ++ (n ++ (a ++ e))) ++ r ≡ s ++ (n ++ (a ++ (e ++ r)))

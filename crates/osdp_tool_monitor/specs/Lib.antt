@@ -1,5 +1,7 @@
 pub mod Text
 pub mod Counts
+pub mod Trail
+pub mod Diagnoses
 pub mod Listening
 pub mod Hearing
 pub mod Laws

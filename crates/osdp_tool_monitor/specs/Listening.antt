@@ -12,7 +12,10 @@ use Rattle.osdp_tool_streams.specs.declared.fault.ToolFault.TheVariants.{NoMemor
 use Rattle.osdp_tool_show.specs.declared.detail.Detail.{Detail}
 use Rattle.osdp_tool_monitor.specs.declared.counts.Counts.{Counts}
 use Rattle.osdp_tool_monitor.specs.declared.listener.Listener.{Listener}
-use Rattle.osdp_tool_monitor.specs.Counts.{counts_after, is_unjudged, more_if, no_counts, table_of}
+use Rattle.osdp_tool_monitor.specs.Counts.{counts_after, counts_after_damage, is_unjudged, more_if, no_counts, table_of}
+use Rattle.osdp_tool_monitor.specs.Diagnoses.{diagnoses_text}
+use Rattle.osdp_tool_monitor.specs.Trail.{after_bad, hit_by, is_clean, no_trail, trail_after}
+use Rattle.osdp_tool_monitor.specs.declared.trail.Trail.{Trail}
 use Rattle.osdp_tool_monitor.specs.InTurn.{after_all, report_of_all}
 use Rattle.osdp_frame.specs.Packet.{Packet}
 use Rattle.osdp_monitor.specs.declared.found.Found.{Found}
@@ -23,6 +26,8 @@ pub record Listening : Type 0 where
   pub knowledge : Knowledge
   -- where the next item stands, and how many there were of each kind
   pub tally : Tally
+  -- what stands there since the last packet
+  pub trail : Trail
   -- what is counted of each address
   pub counts : List Counts
   -- how many packets were judged, and how many accusations there were
@@ -33,7 +38,7 @@ pub record Listening : Type 0 where
 
 abbrev pub nothing_heard : Bool → Listening
 nothing_heard standard =
-    record { knowledge = no_knowledge; tally = no_tally; counts = replicate 128 no_counts; judged = 0; accused = 0; standard = standard }
+    record { knowledge = no_knowledge; tally = no_tally; trail = no_trail; counts = replicate 128 no_counts; judged = 0; accused = 0; standard = standard }
 
 -- what is told of a packet, after what has been heard
 abbrev pub told_in : Listening → Packet → Found
@@ -41,9 +46,9 @@ told_in l p = told l.standard (found_in l.knowledge p)
 
 -- what is counted of an item
 abbrev pub counts_of : Listening → RunItem → List Counts
-counts_of l (PacketItem p) = counts_after p (copies_last l.knowledge p) (told_in l p) l.counts
-counts_of l (SkippedItem b) = l.counts
-counts_of l (RefusedItem fault) = l.counts
+counts_of l (PacketItem p) = counts_after p (is_clean l.trail.bad) (copies_last l.knowledge p) (told_in l p) l.counts
+counts_of l (SkippedItem b) = counts_after_damage (hit_by l.trail (after_bad l.trail.bad)) l.counts
+counts_of l (RefusedItem fault) = counts_after_damage (hit_by l.trail 7) l.counts
 
 abbrev pub accused_of : Listening → RunItem → ℕ
 accused_of l (PacketItem p) = more_if (is_some (told_in l p).accusation) l.accused
@@ -60,6 +65,7 @@ abbrev pub heard_item : Listening → RunItem → Listening
 heard_item l part = record {
   knowledge = after_item l.knowledge part;
   tally = tally_after l.tally part;
+  trail = trail_after l.trail part;
   counts = counts_of l part;
   judged = judged_of l part;
   accused = accused_of l part;
@@ -96,7 +102,7 @@ abbrev pub run_report : Detail → Listening → List ℕ → List ℕ
 run_report detail l run = items_report detail l (reading run)
 
 abbrev pub table : Listening → List ℕ
-table l = table_of l.tally l.counts l.judged l.accused
+table l = table_of l.tally l.counts l.judged l.accused ++ diagnoses_text l.tally l.counts
 
 -- somebody was accused, something refused, or of all packets none was judged
 abbrev pub is_wrong : Listening → Bool
@@ -111,7 +117,7 @@ IsLineFault count fault = ⊥
 -- ---- a listener
 
 abbrev pub listening_of : Listener → Listening
-listening_of l = record { knowledge = knowledge_of l.monitor; tally = l.tally; counts = l.counts.items; judged = l.judged; accused = l.accused; standard = l.standard }
+listening_of l = record { knowledge = knowledge_of l.monitor; tally = l.tally; trail = l.trail; counts = l.counts.items; judged = l.judged; accused = l.accused; standard = l.standard }
 
 -- which items are printed
 abbrev pub detail_of : Listener → Detail

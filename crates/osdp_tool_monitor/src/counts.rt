@@ -1,12 +1,12 @@
 //! What is counted of an address.
 
-ghost use Rattle.std.specs.Prelude.{◌≡◌, None, true};
+ghost use Rattle.std.specs.Prelude.{◌≡◌, None, true, false, nat_eq};
 ghost use Rattle.osdp_monitor.specs.Saying.{asked, reply_told};
-ghost use Rattle.osdp_tool_monitor.specs.Counts.{is_poll, kind_of_reply, more_if};
+ghost use Rattle.osdp_tool_monitor.specs.Counts.{is_demand, is_poll, is_refused, kind_of_reason, kind_of_reply, more_if, rate_after};
 
 use osdp_frame::FrameView;
-use osdp_monitor::{Found, Notice, is_poll};
-use osdp_msg::{MsgFault, Reply};
+use osdp_monitor::{Accusation, Found, Notice, is_poll};
+use osdp_msg::{MsgFault, NakReason, Reply};
 
 /// What is counted of an address. A count stays at the greatest number of 64 bits.
 #[derive(Clone, Copy, Debug, PartialEq, Eq)]
@@ -35,6 +35,24 @@ pub struct Counts {
     pub forgot: u64,
     /// Accusations of either end.
     pub accused: u64,
+    /// NAK 4: restarts of the device.
+    pub restarted: u64,
+    /// Second replies to one packet, of which the reader was accused.
+    pub seconds: u64,
+    /// Copies of a packet that was answered.
+    pub needless: u64,
+    /// NAK 6: it demands Secure Channel.
+    pub demands: u64,
+    /// Packets to the device and from it with a security block.
+    pub secured: u64,
+    /// Packets to the device after which damage came before any other packet.
+    pub damaged: u64,
+    /// Packets to the device and from it with no damage before them.
+    pub clean: u64,
+    /// The rate that its last COM named, in bits a second; 0 where none came.
+    pub rate: u32,
+    /// Whether a reply other than BUSY and NAK has come to the last packet.
+    pub heard: bool,
 }
 
 /// A reply, as it is counted.
@@ -42,7 +60,11 @@ pub struct Counts {
 pub(crate) enum ReplyKind {
     Busy,
     Refused,
+    /// NAK 6.
+    Demands,
     Event,
+    /// A COM that names this rate.
+    Sets(u32),
     Other,
 }
 
@@ -65,15 +87,27 @@ fn counts_as_poll(packet: &FrameView<'_>) -> bool
     is_poll(packet)
 }
 
+/// Whether the code alone tells that nothing is counted of a reply but an answer.
+fn is_other(code: u8) -> bool
+    ensures nak { result ≡ true → nat_eq code 0x41 ≡ false }
+    ensures raw { result ≡ true → nat_eq code 0x50 ≡ false }
+    ensures formatted { result ≡ true → nat_eq code 0x51 ≡ false }
+    ensures keypad { result ≡ true → nat_eq code 0x53 ≡ false }
+    ensures sets { result ≡ true → nat_eq code 0x54 ≡ false }
+    ensures busy { result ≡ true → nat_eq code 0x79 ≡ false }
+{
+    code != 0x41 && code != 0x50 && code != 0x51 && code != 0x53 && code != 0x54 && code != 0x79
+}
+
 /// How a reply is counted. Of most kinds the code tells, and nothing is read.
 #[tactic(auto, using(crate::proofs::ByCode::other_by_code))]
 fn kind_of_reply(packet: &FrameView<'_>) -> ReplyKind
     ensures { result ≡ kind_of_reply (reply_told packet.now) }
 {
-    match packet.code() {
-        0x41 | 0x50 | 0x51 | 0x53 | 0x79 => kind_by_reading(packet),
-        _ => ReplyKind::Other,
+    if is_other(packet.code()) {
+        return ReplyKind::Other;
     }
+    kind_by_reading(packet)
 }
 
 /// The same of one that is read.
@@ -91,9 +125,37 @@ fn by_reading(read: &Result<Reply, MsgFault>) -> ReplyKind
 {
     match read {
         Ok(Reply::Busy) => ReplyKind::Busy,
-        Ok(Reply::Nak(_)) => ReplyKind::Refused,
+        Ok(Reply::Nak(nak)) => kind_of_reason(nak.reason),
+        Ok(Reply::Com(named)) => ReplyKind::Sets(named.baud_rate),
         Ok(Reply::Raw(_) | Reply::Formatted(_) | Reply::Keypad(_)) => ReplyKind::Event,
         Ok(_) | Err(_) => ReplyKind::Other,
+    }
+}
+
+/// How a NAK is counted, by its reason.
+fn kind_of_reason(reason: NakReason) -> ReplyKind
+    ensures { result ≡ kind_of_reason reason }
+{
+    match reason {
+        NakReason::SecurityConditions => ReplyKind::Demands,
+        _ => ReplyKind::Refused,
+    }
+}
+
+/// Whether it is a NAK.
+fn is_refused(kind: ReplyKind) -> bool
+    ensures { result ≡ is_refused kind }
+{
+    matches!(kind, ReplyKind::Refused | ReplyKind::Demands)
+}
+
+/// The rate that a reply sets, and else the one before.
+fn rate_after(kind: ReplyKind, before: u32) -> u32
+    ensures { result ≡ rate_after kind before }
+{
+    match kind {
+        ReplyKind::Sets(rate) => rate,
+        _ => before,
     }
 }
 
@@ -110,7 +172,7 @@ fn is_answer_alone(kind: ReplyKind, found: &Found) -> bool
 }
 
 impl Counts {
-    ghost use Rattle.osdp_tool_monitor.specs.Counts.{after_any, after_packet, after_reply, after_sent, is_silent, no_counts};
+    ghost use Rattle.osdp_tool_monitor.specs.Counts.{after_any, after_any_packet, after_damage, after_found, after_packet, after_reply, after_sent, is_ghost, is_silent};
 
     /// Nothing came.
     pub const NONE: Counts = Counts {
@@ -126,6 +188,15 @@ impl Counts {
         judged: 0,
         forgot: 0,
         accused: 0,
+        restarted: 0,
+        seconds: 0,
+        needless: 0,
+        demands: 0,
+        secured: 0,
+        damaged: 0,
+        clean: 0,
+        rate: 0,
+        heard: false,
     };
 
     /// Whether nothing came.
@@ -135,15 +206,38 @@ impl Counts {
         self.asked == 0 && self.answered == 0 && self.busy == 0 && self.nak == 0
     }
 
-    /// A packet came; `copy` where it is the last one to its address once more.
-    pub(crate) fn count(&mut self, packet: &FrameView<'_>, copy: bool, found: &Found)
-        ensures { self.new ≡ after_packet packet.now copy found.now self.old }
+    /// Whether fewer than three packets of each kind came, after damage alone: damage made them.
+    pub(crate) fn is_ghost(&self) -> bool
+        ensures { result ≡ is_ghost self.now }
     {
+        self.clean == 0 && self.asked < 3 && self.answered < 3 && self.busy < 3 && self.nak < 3
+    }
+
+    /// A packet came; `clean` where it came without damage before it, and `copy` where it is the last one to its address once more.
+    pub(crate) fn count(&mut self, packet: &FrameView<'_>, clean: bool, copy: bool, found: &Found)
+        ensures { self.new ≡ after_packet packet.now clean copy found.now self.old }
+    {
+        self.count_packet(packet, clean);
         if packet.is_reply() {
             self.count_reply(kind_of_reply(packet), found);
         } else {
             self.count_sent(packet, copy, found);
         }
+    }
+
+    /// What is counted of any packet.
+    fn count_packet(&mut self, packet: &FrameView<'_>, clean: bool)
+        ensures { self.new ≡ after_any_packet packet.now clean self.old }
+    {
+        self.clean = more_if(clean, self.clean);
+        self.secured = more_if(packet.has_block(), self.secured);
+    }
+
+    /// Damage came after a packet to it, before any other packet.
+    pub(crate) fn count_damage(&mut self)
+        ensures { self.new ≡ after_damage self.old }
+    {
+        self.damaged = more_if(true, self.damaged);
     }
 
     /// A packet to a device came. In most nothing is found, and they are no copies.
@@ -155,9 +249,12 @@ impl Counts {
         self.asked = more_if(true, self.asked);
         self.polls = more_if(counts_as_poll(packet), self.polls);
         if !copy && found.accusation.is_none() {
+            self.heard = false;
             return;
         }
         self.repeats = more_if(copy, self.repeats);
+        self.needless = more_if(copy && self.heard, self.needless);
+        self.heard = copy && self.heard;
         self.accused = more_if(found.accusation.is_some(), self.accused);
     }
 
@@ -168,6 +265,7 @@ impl Counts {
         self.judged = more_if(found.judged, self.judged);
         if is_answer_alone(kind, found) {
             self.answered = more_if(true, self.answered);
+            self.heard = true;
             return;
         }
         self.count_any(kind, found);
@@ -179,13 +277,31 @@ impl Counts {
         ensures { self.new ≡ after_any kind found.now self.old }
     {
         let is_busy = matches!(kind, ReplyKind::Busy);
-        let is_refused = matches!(kind, ReplyKind::Refused);
+        let is_refused = is_refused(kind);
         self.answered = more_if(!is_busy && !is_refused, self.answered);
+        self.heard = self.heard || !(is_busy || is_refused);
         self.busy = more_if(is_busy, self.busy);
         self.nak = more_if(is_refused, self.nak);
+        self.demands = more_if(matches!(kind, ReplyKind::Demands), self.demands);
         self.events = more_if(matches!(kind, ReplyKind::Event), self.events);
+        self.rate = rate_after(kind, self.rate);
+        self.count_found(found);
+    }
+
+    /// What is counted of what is found in a reply.
+    fn count_found(&mut self, found: &Found)
+        ensures { self.new ≡ after_found found.now self.old }
+    {
         self.opened = more_if(matches!(found.notice, Some(Notice::Opened)), self.opened);
         self.moved = more_if(matches!(found.notice, Some(Notice::Moved(_))), self.moved);
+        self.restarted = more_if(
+            matches!(found.notice, Some(Notice::Restarted)),
+            self.restarted,
+        );
+        self.seconds = more_if(
+            matches!(found.accusation, Some(Accusation::SecondReply)),
+            self.seconds,
+        );
         self.accused = more_if(found.accusation.is_some(), self.accused);
     }
 }

@@ -3,6 +3,7 @@
 
 mod command;
 mod counts;
+mod diagnosis;
 mod input;
 pub mod laws;
 mod listener;
@@ -13,6 +14,7 @@ mod output;
 mod session;
 mod table;
 mod text;
+mod trail;
 
 pub use command::monitor;
 pub use counts::Counts;

@@ -7,8 +7,10 @@ ghost use Rattle.osdp_frame.specs.Shown.{item_of, item_read};
 ghost use Rattle.osdp_tool_show.specs.Tally.{counted};
 
 use crate::counts::{Counts, more_if};
+use crate::diagnosis::push_diagnoses;
 use crate::table::{is_unjudged, push_table};
 use crate::text::{push_found, told};
+use crate::trail::Trail;
 use osdp_frame::{Burst, FrameView, Item, ReadItem, read_at, whole_item};
 use osdp_monitor::Monitor;
 use osdp_tool_show::{Detail, Tally, tell};
@@ -17,6 +19,9 @@ use std::alloc::{AllocError, Global};
 
 /// So many addresses there are.
 const ADDRESSES: usize = 128;
+
+/// A refused byte is damage, as so many bytes that begin no packet.
+const DAMAGE: u8 = 7;
 
 /// As much as is counted of each kind at most: then the input is too long.
 const MOST: u64 = 1_152_921_504_606_846_976;
@@ -27,6 +32,7 @@ pub struct Listener {
     detail: Detail,
     monitor: Monitor,
     tally: Tally,
+    trail: Trail,
     counts: Vec<Counts>,
     judged: u64,
     accused: u64,
@@ -38,7 +44,8 @@ pub struct Listener {
 impl Listener {
     ghost use Rattle.osdp_monitor.specs.Line.{after_packet, copies_last, expected_in};
     ghost use Rattle.osdp_monitor.specs.Monitors.{knowledge_of};
-    ghost use Rattle.osdp_tool_monitor.specs.Counts.{counts_after, more_if};
+    ghost use Rattle.osdp_tool_monitor.specs.Counts.{counts_after, counts_after_damage, more_if};
+    ghost use Rattle.osdp_tool_monitor.specs.Trail.{hit_by, is_clean, trail_after_packet};
     ghost use Rattle.osdp_tool_monitor.specs.Listening.{HearsFirst, HearsItem, HearsRun, IsLineFault, ended, is_wrong, listening_of, nothing_heard, table, told_in, detail_of};
     ghost use Rattle.osdp_tool_monitor.specs.Text.{expected_bytes, found_text};
 
@@ -55,6 +62,7 @@ impl Listener {
             detail,
             monitor,
             tally: Tally::new(),
+            trail: Trail::new(),
             counts,
             judged: 0,
             accused: 0,
@@ -74,9 +82,10 @@ impl Listener {
         ensures fault { IfErr result (λ fault. fault ≡ ToolFault.NoMemory) }
         ensures tells { OnOk result (detail_of self.new ≡ detail_of self.old) }
         ensures tally { OnOk result (self.new.tally ≡ self.old.tally) }
+        ensures trail { OnOk result (self.new.trail ≡ trail_after_packet packet.now) }
         ensures knowledge { OnOk result (knowledge_of self.new.monitor ≡ after_packet (knowledge_of self.old.monitor) packet.now) }
         ensures counts { OnOk result (self.new.counts.items
-            ≡ counts_after packet.now (copies_last (knowledge_of self.old.monitor) packet.now) (told_in (listening_of self.old) packet.now) self.old.counts.items) }
+            ≡ counts_after packet.now (is_clean self.old.trail.bad) (copies_last (knowledge_of self.old.monitor) packet.now) (told_in (listening_of self.old) packet.now) self.old.counts.items) }
         ensures judged { OnOk result (self.new.judged ≡ more_if (told_in (listening_of self.old) packet.now).judged self.old.judged) }
         ensures accused { OnOk result (self.new.accused ≡ more_if (is_some (told_in (listening_of self.old) packet.now).accusation) self.old.accused) }
         ensures standard { OnOk result (self.new.standard ≡ self.old.standard) }
@@ -89,7 +98,8 @@ impl Listener {
             Err(_) => return Err(ToolFault::NoMemory),
         };
         let counts = &mut self.counts[usize::from(packet.address().get())];
-        counts.count(packet, copy, &found);
+        counts.count(packet, self.trail.is_clean(), copy, &found);
+        self.trail = Trail::after_packet(packet);
         self.judged = more_if(found.judged, self.judged);
         self.accused = more_if(found.accusation.is_some(), self.accused);
         let expected = self.expected.as_slice();
@@ -97,6 +107,23 @@ impl Listener {
             Ok(()) => Ok(()),
             Err(_) => Err(ToolFault::NoMemory),
         }
+    }
+
+    /// So many bad bytes stand there since the last packet: where they begin damage, it is counted.
+    fn hear_bad(&mut self, bad: u8)
+        ensures counts { self.new.counts.items ≡ counts_after_damage (hit_by self.old.trail bad) self.old.counts.items }
+        ensures trail { self.new.trail ≡ record self.old.trail { bad = bad } }
+        ensures detail { self.new.detail ≡ self.old.detail }
+        ensures monitor { knowledge_of self.new.monitor ≡ knowledge_of self.old.monitor }
+        ensures tally { self.new.tally ≡ self.old.tally }
+        ensures judged { self.new.judged ≡ self.old.judged }
+        ensures accused { self.new.accused ≡ self.old.accused }
+        ensures standard { self.new.standard ≡ self.old.standard }
+    {
+        if let Some(address) = self.trail.hit_by(bad) {
+            self.counts[usize::from(address.get())].count_damage();
+        }
+        self.trail.bad = bad;
     }
 
     /// Takes an item. TooLong once 2^60 are counted.
@@ -116,8 +143,14 @@ impl Listener {
         }
         match item {
             Item::Packet(packet) => return self.hear_packet(packet, run, place, text),
-            Item::Skipped(_) => self.monitor.skip(),
-            Item::Refused(_) => self.monitor.forget(),
+            Item::Skipped(_) => {
+                self.monitor.skip();
+                self.hear_bad(self.trail.one_more());
+            }
+            Item::Refused(_) => {
+                self.monitor.forget();
+                self.hear_bad(DAMAGE);
+            }
         }
         Ok(())
     }
@@ -196,10 +229,8 @@ impl Listener {
         ensures text { OnOk result (string_bytes text.new ≡ string_bytes text.old ++ table (listening_of self.now)) }
         ensures fault { IfErr result (λ fault. fault ≡ ToolFault.NoMemory) }
     {
-        match push_table(text, &self.tally, &self.counts, self.judged, self.accused) {
-            Ok(()) => Ok(()),
-            Err(_) => Err(ToolFault::NoMemory),
-        }
+        or_fault(push_table(text, &self.tally, &self.counts, self.judged, self.accused))?;
+        or_fault(push_diagnoses(text, &self.tally, &self.counts))
     }
 
     /// Whether somebody was accused, something refused, or of all packets none was judged.

@@ -84,14 +84,14 @@ fn push_row(text: &mut String, address: u64, counts: &Counts) -> Result<(), Allo
 fn push_row_if(text: &mut String, address: u64, counts: &Counts) -> Result<(), AllocError>
     ensures { OnOk result (string_bytes text.new ≡ string_bytes text.old ++ row_if address counts.now) }
 {
-    if counts.is_silent() {
+    if counts.is_silent() || counts.is_ghost() {
         return Ok(());
     }
     push_row(text, address, counts)
 }
 
 /// What was counted of an address.
-fn row_at(counts: &[Counts], address: usize) -> Counts
+pub(crate) fn row_at(counts: &[Counts], address: usize) -> Counts
     requires { address < length counts.now }
     ensures { slice_get counts.now address ≡ Some result }
 {

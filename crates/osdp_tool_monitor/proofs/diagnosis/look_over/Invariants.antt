@@ -1,0 +1,7 @@
+use Rattle.std.proofs.Common.{◌≡◌, drop}
+use Rattle.osdp_tool_monitor.specs.Diagnoses.{add, survey_of}
+use Rattle.osdp_tool_monitor.specs.InTurn.{after_all}
+use Rattle.osdp_tool_monitor.proofs.diagnosis.look_over.Given as goal
+
+abbrev pub invariant-addresses : goal.invariant-addresses
+invariant-addresses l = after_all add l.survey (drop l.address l.counts) ≡ survey_of l.counts
