@@ -37,7 +37,7 @@ def bare(text):
 
 
 def rows():
-    """The rows of the page's tables of messages, and the messages that a line says why a cell may be empty for."""
+    """The rows of the page's tables of messages, and the cells of which a line says why they are empty."""
     found, why, inside = [], set(), False
     for line in text_of(PAGE).splitlines():
         cells = [cell.strip() for cell in line.strip("|").split("|")] if line.startswith("|") else []
@@ -47,8 +47,9 @@ def rows():
             inside = True
         elif inside and cells[0].isupper():
             found.append(cells)
-        if line.startswith("`-`: "):
-            why |= set(re.findall(r"\b[A-Z]+\b", line))
+        reason = re.match(r"`-` of (\w+) \((.*?)\): ", line)
+        if reason:
+            why |= {(reason[1], column) for column in reason[2].split("; ")}
     return found, why
 
 
@@ -113,11 +114,13 @@ def check_table():
         for column, cell in zip(COLUMNS[1:], cells[1:], strict=True):
             language = column.partition(",")[0]
             told = re.findall(r"`(?:struct )?([\w:]+)`", cell)
-            if cell == "-" and cells[0] in why:
+            if cell == "-" and (cells[0], column) in why:
                 continue
             if not told:
                 faults.append(f"{cells[0]}, {column}: the cell has no name")
             for name in told:
+                if language == "C" and not name.startswith("OSDP_") and name.endswith("_of") != column.endswith("read"):
+                    faults.append(f"{cells[0]}, {column}: {name} does the other")
                 if not is_public[language](name):
                     faults.append(f"{cells[0]}, {column}: {name} isn't public")
                 call = name.rpartition("::")[2]
