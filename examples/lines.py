@@ -32,15 +32,16 @@ def tell(line):
         stop("standard output can't be written")
 
 
-def take_words(usage, least):
-    """The words, so many at least. `--help` prints the usage. Ctrl-C ends the example, which then tells what became of its orders."""
+def take_words(usage, least, option=None):
+    """The words, so many at least after an option and its value. `--help` prints the usage. Ctrl-C ends the example, which then tells what became of its orders."""
     for number in STOPS:
         signal.signal(number, lambda number, _: sys.exit(128 + number))
     words = sys.argv[1:]
     if words in (["--help"], ["-h"]):
         tell(usage.strip())
         raise SystemExit(0)
-    if len(words) < least or words[0].startswith("-"):
+    rest = words[2:] if words[:1] == [option] else words
+    if len(rest) < least or rest[0].startswith("-"):
         stop("bad words: --help tells the right ones", BAD_WORDS)
     return words
 
@@ -53,12 +54,12 @@ def number(word, what):
 
 
 class Program:
-    """`osdp panel` or `osdp reader`, with its settings. A first word with a `/` is the path of the program."""
+    """`osdp panel` or `osdp reader`, with its settings, some before and some after these. A first word with a `/` is the path of the program."""
 
-    def __init__(self, name, words):
+    def __init__(self, name, words, first=(), last=()):
         path, words = (words[0], words[1:]) if words and "/" in words[0] else ("osdp", words)
         try:
-            self.process = subprocess.Popen([path, name, *words], stdin=subprocess.PIPE, stdout=subprocess.PIPE, start_new_session=True)
+            self.process = subprocess.Popen([path, name, *first, *words, *last], stdin=subprocess.PIPE, stdout=subprocess.PIPE, start_new_session=True)
         except OSError:
             stop(f"the program can't be started: {path}", NO_PROGRAM)
 

@@ -1,6 +1,6 @@
 #!/usr/bin/env python3
-"""A small reader on a serial port, to copy. `osdp-port` has more: a place that is kept, ports that come back, traces.
-    reader.py PORT RATE [PROGRAM] [SETTING VALUE]..
+"""A small reader on a serial port, to copy. `osdp-port` has more: ports that come back, traces.
+    reader.py [--keep FILE] PORT RATE [PROGRAM] [SETTING VALUE]..
 
 It carries the port's bytes to `osdp reader`, with the moments at which they come, and what that sends to the port. PROGRAM is the path of osdp, with
 a `/` in it, where it isn't found by its name. Its settings are in its manual.
@@ -9,41 +9,28 @@ Each line of standard input is handed over too: `event KEYPAD 0 31`, `busy on`, 
 Each line of standard output is such a line, or what is told. `taken` and a command is for the device to do, once: an OUT is done here, before it is
 answered. `refused` and a command was answered by a NAK: nothing of it is done. `again` and a command came with number 0, and may come once more.
 
-The reader has eight outputs, which an OUT switches; the time of an output is counted here. Its address is lost with its power: osdp-port keeps it.
+Events leave that are older than 10 s while no panel is there: by a card of long ago no door is to open. `offline` and `online` tell that the panel went
+and came. `withdrawn` and an event: the panel hasn't got it, and never will. `in doubt` and an event: the panel may have it. `expire 0` keeps them all.
+
+The reader has eight outputs, which an OUT switches; the time of an output is counted here. `moved` is a new address and rate. The file of `--keep` keeps
+them, before the panel is told, and a reader that starts again goes by it, and not by the address and the rate that it is given.
 
 Status: 2 bad words or settings, 3 the port or standard output fails, 4 out of memory, 127 there is no such program, 130 at Ctrl-C.
 """
+from kept import take_kept
 from lines import Lines, Program, moment, number, take_words, tell
+from outputs import Output
 from port import Port
 
 TURN = 0.01  # how long a read waits, in seconds
 NAK = 0x41  # the code of a reply that says that nothing was done
+ABSENT = ("expire", "10000", "presence", "on")  # what it does while no panel is there
 CALLS = ("event", "busy", "inputs", "readers", "local")  # what a line of standard input may begin with
 
 
-class Output:
-    """An output: whether it is on for good, and whether it is on for a time, which counts until a moment."""
-
-    def __init__(self):
-        self.for_good = self.for_a_time = False
-        self.until = 0
-
-    def is_on(self):
-        return self.for_a_time if moment() < self.until else self.for_good
-
-    def switch(self, control, time):
-        """Does what one record of an OUT says. 1 and 2 are off and on for good, at once. 3 and 4 are the same, but a time that runs goes on.
-        5 and 6 are on and off for a time. Other controls ask for nothing, though the reader confirms them too."""
-        if control in (5, 6):
-            self.for_a_time, self.until = control == 5, moment() + 100 * time
-        elif control in (1, 2, 3, 4):
-            self.for_good = control in (2, 4)
-            self.until = 0 if control in (1, 2) else self.until
-
-
 class Reader:
-    def __init__(self, port, program):
-        self.port, self.program, self.lines = port, program, Lines()
+    def __init__(self, port, rate, program, kept):
+        self.port, self.rate, self.program, self.kept, self.lines = port, rate, program, kept, Lines()
         self.outputs = [Output() for _ in range(8)]
         self.told = None  # what the program was told of them
         self.tell_outputs()
@@ -64,10 +51,18 @@ class Reader:
                     self.outputs[output].switch(control, time)
                 self.tell_outputs()
             elif name == "moved":
-                self.port.write(burst)
+                self.move(*map(int, words), burst)
                 burst = b""
-                if not self.port.set_rate(int(words[1])):
-                    tell(f"no rate {words[1]}")
+
+    def move(self, address, rate, burst):
+        """Goes to another place, once the panel is told: where it is kept before, it isn't lost with the power."""
+        if not self.kept.keep(address, rate, self.rate):
+            tell(f"not kept {address} {rate}")
+        self.port.write(burst)
+        if self.port.set_rate(rate):
+            self.rate = rate
+        else:
+            tell(f"no rate {rate}")
 
     def tell_outputs(self):
         """Tells the program which outputs are on, where that has changed: by it OSTAT is answered."""
@@ -93,7 +88,8 @@ class Reader:
 
 
 if __name__ == "__main__":
-    path, rate, *settings = take_words(__doc__, 2)
-    reader = Reader(Port(path, number(rate, "rate")), Program("reader", settings))
+    kept, (path, word, *settings) = take_kept(take_words(__doc__, 2, "--keep"))
+    place, rate = kept.first(number(word, "rate"))
+    reader = Reader(Port(path, rate), rate, Program("reader", settings, ABSENT, place), kept)
     while True:
         reader.turn()

@@ -48,6 +48,9 @@ expect 'the later of two' 0 $'due none\ndue none\nrefused C3\ndue none\n' '' pan
   < <(printf 'add 5\nsubmit 1 ID 0\nsubmit 1 ID 0\n')
 expect 'the last address' 0 '' '' reader address 126 </dev/null
 expect 'the configuration address' 2 '' $'osdp: bad words\nosdp: no setting: address 127\n' reader address 127 </dev/null
+expect 'an age above an hour' 2 '' $'osdp: bad words\nosdp: no setting: expire 3600001\n' reader expire 3600001 </dev/null
+expect 'no age' 2 '' $'osdp: bad words\nosdp: no setting: expire off\n' reader expire off </dev/null
+expect 'neither on nor off' 2 '' $'osdp: bad words\nosdp: no setting: presence yes\n' reader expire 0 presence yes </dev/null
 expect 'a vendor of two bytes' 2 '' $'osdp: bad words\nosdp: no setting: vendor 5349\n' reader vendor 5349 </dev/null
 expect 'firmware of two numbers' 2 '' $'osdp: bad words\nosdp: no setting: firmware 1:2\n' reader firmware 1:2 </dev/null
 expect 'a capability too great' 2 '' $'osdp: bad words\nosdp: no setting: cap 1:1:256\n' reader cap 1:1:256 </dev/null

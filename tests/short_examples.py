@@ -4,11 +4,13 @@ import os
 import signal
 import subprocess
 import sys
+import tempfile
+import termios
 import time
 from pathlib import Path
 
 import port_line
-from port_line import ACK, OUT, PANEL, Device, asks, faults, has, opened, tells
+from port_line import ACK, COM, COMSET, ID, OUT, PANEL, PDID, Device, asks, faults, has, opened, tells
 from terminals import Script, Terminal, commands, packet
 
 TOP = Path(__file__).resolve().parent.parent
@@ -122,6 +124,66 @@ def no_room(reader_words):
     terminal.close()
 
 
+def until(script, holds, seconds=30):
+    """Reads what a program tells, until something holds. Whether it has come to hold."""
+    end = time.monotonic() + seconds
+    while not holds() and time.monotonic() < end:
+        time.sleep(0.02)
+        script.read()
+    return holds()
+
+
+def asked(terminal, address, number, code, data=b""):
+    """The code of the reply to a packet; none where none comes."""
+    os.write(terminal.end, packet(address, number, code, data))
+    return terminal.next_burst()[5:6] if port_line.select.select([terminal.end], [], [], 2)[0] else b""
+
+
+def kept_place(reader_words):
+    """A reader keeps its place before the panel is told, and starts there again, whatever its words say. One that can't says so and goes on."""
+    example, program = reader_words
+    with tempfile.TemporaryDirectory() as folder:
+        kept = Path(folder) / "place"
+        moved = bytes([7]) + (19200).to_bytes(4, "little")
+        for option, text in ((kept, "7 19200\n"), (Path(folder) / "none/place", None)):
+            terminal = Terminal()
+            reader = Script(*example, "--keep", option, terminal.path, 9600, *program, "address", 5)
+            asks(asked(terminal, 5, 0, ID, b"\0") == bytes([PDID]), "kept: ID isn't answered")
+            asks(not option.exists(), "kept: a place was written before the reader has moved")
+            asks(asked(terminal, 5, 1, COMSET, moved) == bytes([COM]), "kept: the COMSET isn't answered")
+            asks((option.read_text() if option.exists() else None) == text, "kept: another place is kept as the COM goes out")
+            asks(until(reader, has(reader, "moved 7 19200")) and ("not kept 7 19200" in reader.lines) == (text is None), f"kept: the reader tells {reader.lines}")
+            reader.process.kill()
+            terminal.close()
+        terminal = Terminal()
+        again = Script(*example, "--keep", kept, terminal.path, 9600, *program, "address", 5)
+        asks(asked(terminal, 7, 0, ID, b"\0") == bytes([PDID]), "kept: the reader that starts again isn't where it was")
+        terminal.note_rate()
+        asks(terminal.rate == termios.B19200, "kept: the reader that starts again has another rate")
+        asks(not asked(terminal, 5, 0, ID, b"\0"), "kept: the reader is at its first address too")
+        again.process.kill()
+        for text in ("", "7\n", "7 x\n", "7 9600 1\n"):
+            kept.write_text(text)
+            script = Script(*example, "--keep", kept, terminal.path, 9600, *program, stderr=subprocess.PIPE)
+            ended(script, 3, f"the kept place can't be read: {kept}", f"kept: a file with {text!r}")
+        terminal.close()
+
+
+def old_events(reader_words):
+    """An event that no panel has asked for in time isn't told to the panel that comes then; without an age it is."""
+    for age, told, reply in (("300", True, ACK), ("0", False, 0x53)):
+        terminal = Terminal()
+        reader = started(reader_words, terminal, [], "address", "5", "expire", age)
+        reader.say("event KEYPAD 0 31")
+        asks(until(reader, has(reader, "withdrawn KEYPAD 0 31"), 30 if told else 1) == told, f"old events: at an age of {age} the reader tells {reader.lines}")
+        asks("online" not in reader.lines and "offline" not in reader.lines, "old events: it was told that a panel came or went")
+        asks(asked(terminal, 5, 0, ID, b"\0") == bytes([PDID]), "old events: ID isn't answered")
+        asks(asked(terminal, 5, 1, 0x60) == bytes([reply]), f"old events: at an age of {age} another reply to POLL")
+        asks(until(reader, has(reader, "online")), "old events: it isn't told that a panel came")
+        reader.process.kill()
+        terminal.close()
+
+
 def main(osdp):
     words = list(commands(TOP, osdp, None))
     begun = time.monotonic()
@@ -131,11 +193,13 @@ def main(osdp):
     bad_lists(words[0])
     acts_first(words[1])
     no_room(words[1])
+    kept_place(words[1])
+    old_events(words[1])
     for example in words:
         name = example[0][-1]
         shown = subprocess.run([*map(str, example[0]), "--help"], capture_output=True, text=True)
         asks(shown.returncode == 0 and "Status: 2 bad words" in shown.stdout and not shown.stderr, f"{name}: --help is another text")
-    for name in ("panel", "reader", "port", "lines"):
+    for name in ("panel", "reader", "port", "lines", "outputs", "kept"):
         length = len((TOP / f"examples/{name}.py").read_text().splitlines())
         asks(length < 100, f"examples/{name}.py has {length} lines: it is to stay a short one")
     print(f"short examples: {len(faults)} faults in {time.monotonic() - begun:.1f} s", *faults, sep="\n")

@@ -8,7 +8,7 @@ from .faults import BAD_WORDS, FAILED, Stop
 from .keep import PanelPlaces, ReaderPlace
 from .panel import Panel, first_rate, new_devices
 from .program import Lines, find_program
-from .reader import Reader
+from .reader import ABSENT, Reader
 from .serial_port import Port, needs_pyserial
 from .shown import Shown
 from .trace import Bursts, Trace, digits, osdpcap
@@ -76,8 +76,9 @@ def panel(words, port, console, osdp, kept, devices):
 
 def reader(words, port, console, osdp, kept, place):
     ends = taps(words, port, console, osdp)
-    program = Lines(osdp, ["reader", *words.rest[1:], "address", str(place[0])])
-    console.say(f"reader at {port.path} {port.rate}: address {place[0]}; settings {' '.join(words.rest[1:]) or 'as osdp has them'}")
+    settings = [*ABSENT, *words.rest[1:]]
+    program = Lines(osdp, ["reader", *settings, "address", str(place[0])])
+    console.say(f"reader at {port.path} {port.rate}: address {place[0]}; settings {' '.join(settings)}")
     machine = Reader(port, program, moment, console.say, kept)
     return runs(machine, port, console, ends)
 

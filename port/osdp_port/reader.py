@@ -7,6 +7,9 @@ from .serial_port import has_rate
 
 TURN = 10  # how long a read waits, in milliseconds
 NAK = 0x41  # the code of a reply that says that nothing was done
+ABSENT = ("expire", "10000", "presence", "on")  # what it does while no panel is there, where its words don't say otherwise
+MEANS = {"offline": "no panel has asked for 8 seconds", "online": "a panel asks",
+         "withdrawn": "too old while no panel asked; no panel will get it", "in": "too old while no panel asked; the panel may have got it or not"}
 OWN = ("at", "bytes", "silence", "tick", "outputs")  # the calls that are made here, and aren't taken from standard input
 COULD = "what can stand there is card, keys, event, busy, inputs, readers, local and help"
 HELP = """card FACILITY NUMBER   a card of 26 bits was read
@@ -63,7 +66,7 @@ class Reader:
             name = "refused"
         elif name == "refused":
             words = [{"N2": "no room for another event", "line": f"osdp doesn't read this line: man osdp-reader has them; of word 1 {COULD}"}.get(words[0], words[0])]
-        self.say(" ".join([name, *words]))
+        self.say(" ".join([name, *words]) + (f": {MEANS[name]}" if name in MEANS else ""))
         if name == "taken" and words[0] == "OUT":
             self.outputs.switch(words[1:])
             self.tell_outputs()

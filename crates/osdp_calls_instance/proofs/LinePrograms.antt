@@ -1,6 +1,7 @@
 -- Lines are calls of a line in use.
-use Rattle.std.proofs.Common.{◌≡◌, ℕ, zero, suc, ◌<◌, Bool, true, false, cond, List, [], ◌∷◌, ◌++◌, drop, length, length-drop, map, Option, Some, None, refl, sym, subst, ap, ◌∙◌, arith, inl, inr}
+use Rattle.std.proofs.Common.{◌≡◌, ℕ, zero, suc, ◌<◌, Bool, true, false, cond, option_map, slice_get, List, [], ◌∷◌, ◌++◌, drop, length, length-drop, map, Option, Some, None, refl, sym, subst, ap, ◌∙◌, arith, inl, inr}
 use Rattle.std.specs.Prelude.{◌==◌}
+use Rattle.std.specs.List.{AllByRecursion}
 use Rattle.std.proofs.lemmas.Bool.Decides.{eqb_tells}
 use Rattle.osdp_msg.specs.declared.command.Command.{Command}
 use Rattle.osdp_msg.specs.declared.event.Event.{Event}
@@ -35,12 +36,17 @@ use Rattle.osdp_line_laws.specs.PanelRuns as panel_runs
 use Rattle.osdp_line_laws.specs.ReaderRuns as device_runs
 use Rattle.osdp_link_laws.proofs.Lines.{each_all}
 use Rattle.osdp_link_laws.proofs.Stages.{Each}
-use Rattle.osdp_reader.specs.State.{ReaderState, after_submit}
+use Rattle.osdp_reader.specs.State.{ReaderState, after_lapse_event, after_submit, after_withdraw_event}
+use Rattle.osdp_device.specs.Ages.{AgesState, after_expiry, after_removal, expired, expired_front, expires}
+use Rattle.osdp_device.specs.declared.events.Expired.{Expired}
+use Rattle.osdp_device.specs.declared.events.Expired.TheVariants.{Withdrawn, InDoubt}
+use Rattle.osdp_line_calls.proofs.LettingGo.{none_left}
+use Rattle.osdp_line_calls.specs.ReaderAbsence.{LetGo, goes_first, keeps_all, lets_some_go}
 use Rattle.osdp_reader.specs.declared.handler.Answer.{Answer}
 use Rattle.osdp_calls.specs.Calls.{Call, OfPanel, Take}
 use Rattle.osdp_calls.specs.Ends.{Held, device_after, takes_event}
 use Rattle.osdp_calls.specs.Sayings.{AddsMakeTheBus}
-use Rattle.osdp_calls_instance.specs.LinePrograms.{DeviceAnew, DeviceLine, LinesAreThese, PanelAnew, PanelLine, SaysToDevice, SaysToPanel, after_adds, after_device_line, after_device_lines, after_panel_line, after_panel_lines, calls_of_line, device_line_calls, handing, line_device, line_panel, nexts, reading, unless_done}
+use Rattle.osdp_calls_instance.specs.LinePrograms.{DeviceAnew, DeviceLine, IsWithdrawn, LinesAreThese, PanelAnew, PanelLine, SaysToDevice, SaysToPanel, after_adds, after_device_line, after_device_lines, after_panel_line, after_panel_lines, calls_of_line, device_line_calls, handing, leaving_by, leaving_calls, line_device, line_panel, nexts, reading, unless_done}
 use Rattle.osdp_calls_instance.specs.OwnCalls.{AreDeviceCalls, ArePanelCalls, IsOfDevice, IsOfPanel, bus_after_each, device_after_each}
 
 pub own_device : (k : ℕ) → (k == k) ≡ true
@@ -337,12 +343,61 @@ event_is : (full : Bool) (event : Event) (d : Held DeviceStatus)
 event_is true event d = refl
 event_is false event d = refl
 
-call_is : (k : ℕ) (call : ReaderCall) (s : device.Session) → CallFits call → IsAllRead s.line × IsReceived s.line
+-- ---- events that leave
+
+withdrawn_is : (r : ReaderState DeviceStatus) (e : Event) → expired_front r.queue ≡ Some (Withdrawn e) → after_expiry r ≡ after_withdraw_event r
+withdrawn_is r e is = by_ever r.queue.ever_offered is
+  where
+    differ : (first : Option Event) → option_map (expired true) first ≡ Some (Withdrawn e) → ⊥
+    differ None none = cc
+    differ (Some x) doubt = cc
+    by_ever : (ever : Bool) → option_map (expired ever) (slice_get r.queue.events 0) ≡ Some (Withdrawn e)
+        → cond ever (after_lapse_event r) (after_withdraw_event r) ≡ after_withdraw_event r
+    by_ever true doubt = absurd (differ (slice_get r.queue.events 0) doubt)
+    by_ever false known = refl
+
+abbrev with_queue : ReaderState DeviceStatus → Received → Held DeviceStatus
+with_queue r l = record { reader = r; line = l }
+
+left_so : (n k now limit : ℕ) (r : ReaderState DeviceStatus) (l : Received) (a : AgesState)
+    → AllByRecursion IsWithdrawn (lets_some_go n now limit r a).expired
+    → with_queue (lets_some_go n now limit r a).reader l
+    ≡ device_after_each status_answer status_after (leaving_calls k (lets_some_go n now limit r a).expired) (with_queue r l)
+left_so zero k now limit r l a none = refl
+left_so (suc n) k now limit r l a none = by_test (expires now limit (length r.queue.events) a) refl none
+  where
+    later : AgesState
+    later = after_removal false (length r.queue.events) a
+    rest : LetGo
+    rest = lets_some_go n now limit (after_expiry r) later
+    abbrev Is : LetGo → Type 0
+    Is g = with_queue g.reader l ≡ device_after_each status_answer status_after (leaving_calls k g.expired) (with_queue r l)
+    by_front : (front : Option Expired) → expired_front r.queue ≡ front → expires now limit (length r.queue.events) a ≡ true
+        → AllByRecursion IsWithdrawn (goes_first front rest).expired → Is (goes_first front rest)
+    by_front None is test known =
+        absurd (let stays : expires now limit (length r.queue.events) a ≡ false = none_left now limit r a
+        (sym is ∙ ap (λ t. cond t (expired_front r.queue) None) (sym test)) in
+        let e : true ≡ false = sym test ∙ stays in cc)
+    by_front (Some (InDoubt e)) is test known = absurd known.0
+    by_front (Some (Withdrawn e)) is test known =
+        left_so n k now limit (after_expiry r) l later known.1
+        ∙ ap (λ (q : ReaderState DeviceStatus). device_after_each status_answer status_after (leaving_calls k rest.expired) (with_queue q l)) (withdrawn_is r e is)
+    by_test : (test : Bool) → expires now limit (length r.queue.events) a ≡ test
+        → AllByRecursion IsWithdrawn (cond test (goes_first (expired_front r.queue) rest) (keeps_all r a)).expired
+        → Is (cond test (goes_first (expired_front r.queue) rest) (keeps_all r a))
+    by_test true is known = by_front (expired_front r.queue) refl is known
+    by_test false is known = refl
+
+leaving_own : (k : ℕ) (gone : List Expired) → Each (IsOfDevice k) (leaving_calls k gone)
+leaving_own k [] = tt
+leaving_own k (expired ∷ gone) = (own_device k, leaving_own k gone)
+
+call_is : (k : ℕ) (call : ReaderCall) (s : device.Session) → line_device.Fits (SaysToDevice (Some call)) s → IsAllRead s.line × IsReceived s.line
     → with_line (device.does call s).session ≡ device_after_each status_answer status_after (calls_of_line k call s) (with_line s)
-call_is k (line.At later) s fits is = refl
+call_is k (line.At later) s fits is = left_so (length s.reader.queue.events) k later s.absence.expire s.reader s.line s.ages fits.1
 call_is k (line.Bytes list) s fits is =
     sym (hands status_answer status_after (suc (turns_left list.items s.now s.line)) k list.items s.now s.reader s.line (omega arith) is.1 is.0
-    (λ place. omega (arith, fits.1 place))).is
+    (λ place. omega (arith, fits.0.1 place))).is
 call_is k line.Silence s fits is = sym (reading_is status_answer status_after k s.reader (after_silence s.now s.line))
 call_is k line.Tick s fits is = sym (reading_is status_answer status_after k s.reader (after_tick s.now s.line))
 call_is k (line.Event event) s fits is = sym (event_is (device.is_full s.reader) event (with_line s))
@@ -376,7 +431,7 @@ call_sound (line.Readers list) s fits is = is
 call_sound (line.Local tamper power) s fits is = is
 
 line_own : (k : ℕ) (call : ReaderCall) (s : device.Session) → Each (IsOfDevice k) (calls_of_line k call s)
-line_own k (line.At later) s = tt
+line_own k (line.At later) s = leaving_own k (leaving_by (line.At later) s)
 line_own k (line.Bytes list) s = handing_own status_answer status_after (suc (turns_left list.items s.now s.line)) k list.items s.now s.reader s.line
 line_own k line.Silence s = (own_device k, nexts_own DeviceStatus k (length (said_to_all status_answer status_after (items_of (after_silence s.now s.line).held) s.reader)))
 line_own k line.Tick s = (own_device k, nexts_own DeviceStatus k (length (said_to_all status_answer status_after (items_of (after_tick s.now s.line).held) s.reader)))
@@ -401,7 +456,7 @@ of_device k (DeviceAnew address room gap) s fits is = refl
 stays_sound : (own : DeviceLine) (s : device.Session) → line_device.Fits own s → IsSound s → IsSound (after_device_line own s)
 stays_sound (SaysToDevice None) s fits is = is
 stays_sound (SaysToDevice (Some call)) s fits is =
-    subst (λ (d : Held DeviceStatus). IsAllRead d.line × IsReceived d.line) (sym (done_is call s)) (call_sound call s fits is)
+    subst (λ (d : Held DeviceStatus). IsAllRead d.line × IsReceived d.line) (sym (done_is call s)) (call_sound call s fits.0 is)
 stays_sound (DeviceAnew address room gap) s fits is =
     (record { goes_on = refl; undecided = decided_nothing false }, received_new gap fits)
 

@@ -1,5 +1,8 @@
 -- Programs by lines: a panel that `osdp panel` runs and devices that `osdp reader` runs, and which calls of a line in use their lines are.
 use Rattle.std.specs.Prelude.{◌≡◌, ℕ, suc, zero, ◌≤◌, List, [], ◌∷◌, ◌++◌, drop, length, map, Option, Some, None}
+use Rattle.std.specs.List.{AllByRecursion}
+use Rattle.osdp_device.specs.declared.events.Expired.{Expired}
+use Rattle.osdp_device.specs.declared.events.Expired.TheVariants.{Withdrawn, InDoubt}
 use Rattle.osdp_msg.specs.declared.command.Command.{Command}
 use Rattle.osdp_bus.specs.Buses.{new_bus}
 use Rattle.osdp_bus.specs.declared.config.BusConfig.{BusConfig}
@@ -11,6 +14,7 @@ use Rattle.osdp_device.specs.declared.status.DeviceStatus.{DeviceStatus}
 use Rattle.osdp_line_calls.specs.Answers.{Speaks}
 use Rattle.osdp_line_calls.specs.PanelLines as panel_lines
 use Rattle.osdp_line_calls.specs.PanelSessions as panel
+use Rattle.osdp_line_calls.specs.ReaderAbsence.{lets_go}
 use Rattle.osdp_line_calls.specs.ReaderCalls.{CallFits}
 use Rattle.osdp_line_calls.specs.ReaderLines as device_lines
 use Rattle.osdp_line_calls.specs.ReaderSessions as device
@@ -25,7 +29,7 @@ use Rattle.osdp_line_laws.specs.PanelRuns as panel_runs
 use Rattle.osdp_line_laws.specs.ReaderRuns as device_runs
 use Rattle.osdp_reader.specs.State.{ReaderState}
 use Rattle.osdp_reader.specs.declared.handler.Answer.{Answer}
-use Rattle.osdp_calls.specs.Calls.{Call, NewDevice, NewPanel, Next, OfPanel, SetBusy, SetHandler, Silence, SubmitEvent, Take, TickDevice}
+use Rattle.osdp_calls.specs.Calls.{Call, NewDevice, NewPanel, Next, OfPanel, SetBusy, SetHandler, Silence, SubmitEvent, Take, TickDevice, WithdrawEvent}
 use Rattle.osdp_calls.specs.Sayings.{NoneRefused}
 use Rattle.osdp_calls_instance.specs.OwnCalls.{ArePanelCalls, DeviceKind, PanelKind}
 
@@ -76,11 +80,25 @@ pub data DeviceLine : Type 0 where
 
 abbrev pub after_device_line : DeviceLine → device.Session → device.Session
 after_device_line (SaysToDevice said) s = device_runs.after_said said s
-after_device_line (DeviceAnew address room gap) s = device.new_session (record s.reader.config { address = address }) room gap
+after_device_line (DeviceAnew address room gap) s = device.new_session (record s.reader.config { address = address }) room gap s.absence
+
+-- the events that leave by a line since they are too old at its moment
+abbrev pub leaving : device.Session → List Expired
+leaving s = (lets_go s.now s.absence.expire s.reader s.ages).expired
+
+abbrev pub leaving_by : ReaderCall → device.Session → List Expired
+leaving_by (line.At later) s = leaving (record s { now = later })
+leaving_by _ s = []
+
+-- Each of them is withdrawn. No call of a line in use lets an event go that is in doubt: so a run stands outside in which a line tells `in doubt`, which
+-- takes the setting `expire`.
+abbrev pub IsWithdrawn : Expired → Type 0
+IsWithdrawn (Withdrawn event) = Unit {0}
+IsWithdrawn (InDoubt event) = ⊥
 
 abbrev pub DeviceLineFits : DeviceLine → device.Session → Type 0
 DeviceLineFits (SaysToDevice None) s = Unit {0}
-DeviceLineFits (SaysToDevice (Some call)) s = CallFits call
+DeviceLineFits (SaysToDevice (Some call)) s = CallFits call × AllByRecursion IsWithdrawn (leaving_by call s)
 DeviceLineFits (DeviceAnew address room gap) s = 1 ≤ gap
 
 module _ {H : Type 0} where
@@ -106,9 +124,13 @@ module _ {H : Type 0} where
         let read = reads_all answer_of after r (after_take bytes now l) in
         Take k bytes now ∷ (reading k r (after_take bytes now l) ++ unless_done rest (handing turns k rest now read.reader read.line))
 
+-- what the device takes back is a call of its own
+abbrev pub leaving_calls : ℕ → List Expired → List (Call DeviceStatus)
+leaving_calls k gone = map (λ (expired : Expired). WithdrawEvent k) gone
+
 -- which calls that is
 abbrev pub calls_of_line : ℕ → ReaderCall → device.Session → List (Call DeviceStatus)
-calls_of_line k (line.At later) s = []
+calls_of_line k (line.At later) s = leaving_calls k (leaving_by (line.At later) s)
 calls_of_line k (line.Bytes list) s =
     handing status_answer status_after (suc (turns_left list.items s.now s.line)) k list.items s.now s.reader s.line
 calls_of_line k line.Silence s = Silence k s.now ∷ reading status_answer status_after k s.reader (after_silence s.now s.line)

@@ -1,6 +1,7 @@
 pub mod ReaderRows
 pub mod ReaderTurns
 pub mod ReaderCalls
+pub mod LettingGo
 pub mod PanelRows
 pub mod PanelCalls
 mod Listening

@@ -1,21 +1,23 @@
 -- Answers that are written in turn.
-use Rattle.std.proofs.Common.{◌≡◌, ℕ, ◌+◌, ◌-◌, ◌<◌, ◌≤◌, Bool, true, false, cond, min, List, [], ◌∷◌, ◌++◌, length, length-drop, take, drop, Option, refl, sym, subst, ap, ◌∙◌, arith, append_assoc, append-nil}
+use Rattle.std.proofs.Common.{◌≡◌, ℕ, ◌+◌, ◌-◌, ◌<◌, ◌≤◌, Bool, true, false, cond, max, min, List, [], ◌∷◌, ◌++◌, length, length-drop, take, drop, Option, refl, sym, subst, ap, ◌∙◌, arith, append_assoc, append-nil}
 use Rattle.std.proofs.Math.Seq.{drop-drop}
 use Rattle.std.proofs.lemmas.List.{drop_all, take_all}
 use Rattle.osdp_frame.proofs.Head.{AreBytes-drop}
 use Rattle.osdp_frame.specs.Bytes.{AreBytes}
 use Rattle.osdp_frame.specs.Held.{Held}
 use Rattle.osdp_reader.specs.State.{ReaderState}
+use Rattle.osdp_device.specs.Ages.{AgesState, after_saying}
 use Rattle.osdp_device.specs.Hearing.{Heard, hears_bytes, reads_all, turns_left}
-use Rattle.osdp_frame.specs.Receiving.{IsAllRead, IsReceived, Received, after_take, count_taken, ends_silent, seen}
+use Rattle.osdp_frame.specs.Receiving.{IsAllRead, IsReceived, Received, after_take, count_taken, ends_run, ends_silent, is_silent, seen}
 use Rattle.osdp_device.specs.Saying.{Said}
 use Rattle.osdp_device.specs.Status.{status_after, status_answer}
 use Rattle.osdp_device.specs.Telling.{TellsInTurn, Told, next_told}
 use Rattle.osdp_device.specs.declared.status.DeviceStatus.{DeviceStatus}
+use Rattle.osdp_device.proofs.Moments.{moments_are_seen}
 use Rattle.osdp_device.proofs.Pieces.{all_read, fewer_turns, last_turn, seen_in_turn, takes_in_turn}
 use Rattle.osdp_frame.proofs.Receipt.{received_take}
 use Rattle.osdp_device.proofs.Turning.{tells_in_turn}
-use Rattle.osdp_line_calls.specs.ReaderSessions.{IsHeard}
+use Rattle.osdp_line_calls.specs.ReaderSessions.{IsHeard, ages_heard, is_any}
 use Rattle.osdp_line_calls.specs.ReaderTexts.{all_lines, said_lines}
 
 abbrev State : Type 0
@@ -50,24 +52,58 @@ pub line_on : (first l m : Received) (held : Held) → ◌≡◌ {A = Received} 
 line_on first l m held so_far next =
     next ∙ ap (λ (x : Received). record x { held = held }) so_far ∙ ap (λ (h : Held). record first { held = h }) (sym (ap (λ (x : Received). x.held) next))
 
+-- ---- when a packet came last
+
+said_again : (more : Bool) (g : ℕ) (a : AgesState) → after_saying more g (after_saying true g a) ≡ after_saying true g a
+said_again true g a = refl
+said_again false g a = refl
+
+-- something is said, and then more
+said_both : (xs ys : List Said) (g : ℕ) (a : AgesState) → after_saying (is_any ys) g (after_saying (is_any xs) g a) ≡ after_saying (is_any (xs ++ ys)) g a
+said_both [] ys g a = refl
+said_both (x ∷ xs) ys g a = said_again (is_any ys) g a
+
+pub ages_on : (all others : List Said) (s : Said) (g h : ℕ) (a next start : AgesState) → all ≡ s ∷ others → next ≡ after_saying true h a → h ≡ g
+    → after_saying (is_any all) g a ≡ start → after_saying (is_any others) g next ≡ start
+ages_on all others s g h a next start are says same so_far =
+    ap (after_saying (is_any others) g) (says ∙ ap (λ x. after_saying true x a) same)
+    ∙ said_again (is_any others) g a ∙ sym (ap (λ l. after_saying (is_any l) g a) are) ∙ so_far
+
+take_greatest : (bytes : List ℕ) (now : ℕ) (l : Received) → (after_take bytes now l).greatest ≡ max l.greatest now
+take_greatest [] now l = refl
+take_greatest (byte ∷ bytes) now l = by_test (is_silent (seen now l))
+  where
+    by_test : (t : Bool) → (cond t (ends_run (seen now l)) (seen now l)).greatest ≡ max l.greatest now
+    by_test true = refl
+    by_test false = refl
+
+-- bytes that are taken bring the line to the same moment as all of them
+taken_when : (bytes : List ℕ) (now : ℕ) (r : State) (l : Received)
+    → (after_take bytes now l).greatest ≡ (hears_bytes status_answer status_after bytes now r l).line.greatest
+taken_when bytes now r l = take_greatest bytes now l ∙ sym ((moments_are_seen status_answer status_after r l).bytes bytes now)
+
 -- ---- turns of taking and writing
 
 -- the device is on the way to where the bytes bring it
-pub record IsOnTheWay (start : List ℕ) (all : Heard DeviceStatus) (now : ℕ) (written_so_far : List ℕ) (rest : List ℕ) (r : State) (l : Received) : Type 0 where
+pub record IsOnTheWay (start : List ℕ) (all : Heard DeviceStatus) (first : AgesState) (now : ℕ) (written_so_far : List ℕ) (rest : List ℕ) (r : State)
+    (l : Received) (ages : AgesState) : Type 0 where
   pub read : IsAllRead l
   pub text : written_so_far ++ all_lines (hears_bytes status_answer status_after rest now r l).said ≡ start ++ all_lines all.said
   pub reader : (hears_bytes status_answer status_after rest now r l).reader ≡ all.reader
   pub line : (hears_bytes status_answer status_after rest now r l).line ≡ all.line
+  pub when : ages_heard (hears_bytes status_answer status_after rest now r l) ages ≡ ages_heard all first
 
 -- after a turn it still is
-turn_on : (start : List ℕ) (all : Heard DeviceStatus) (now : ℕ) (text next : List ℕ) (rest left : List ℕ) (r q : State) (l taken m : Received)
-    → IsReceived l → AreBytes rest → IsOnTheWay start all now text rest r l
+turn_on : (start : List ℕ) (all : Heard DeviceStatus) (first : AgesState) (now : ℕ) (text next : List ℕ) (rest left : List ℕ) (r q : State)
+    (l taken m : Received) (a b : AgesState)
+    → IsReceived l → AreBytes rest → IsOnTheWay start all first now text rest r l a
     → taken ≡ after_take rest now l → left ≡ drop (count_taken rest now l) rest
     → next ≡ text ++ all_lines (reads_all status_answer status_after r taken).said
     → q ≡ (reads_all status_answer status_after r taken).reader → m ≡ (reads_all status_answer status_after r taken).line
+    → b ≡ after_saying (is_any (reads_all status_answer status_after r taken).said) taken.greatest a
     → IsReceived taken
-    → IsOnTheWay start all now next left q m
-turn_on start all now text next rest left r q l taken m is fits on takes lefts writes reader line received =
+    → IsOnTheWay start all first now next left q m b
+turn_on start all first now text next rest left r q l taken m a b is fits on takes lefts writes reader line when received =
     let h : Heard DeviceStatus = reads_all status_answer status_after r (after_take rest now l) in
     let same : reads_all status_answer status_after r taken ≡ h = ap (reads_all status_answer status_after r) takes in
     let q_is : q ≡ h.reader = reader ∙ ap (λ (x : Heard DeviceStatus). x.reader) same in
@@ -78,6 +114,12 @@ turn_on start all now text next rest left r q l taken m is fits on takes lefts w
     let whole = takes_in_turn status_answer status_after rest now r l is on.read fits in
     let said : h.said ++ further.said ≡ (hears_bytes status_answer status_after rest now r l).said =
     ap (λ (x : Heard DeviceStatus). h.said ++ x.said) there ∙ ap (λ (x : Heard DeviceStatus). x.said) whole in
+    let there_when : further.line.greatest ≡ (hears_bytes status_answer status_after rest now r l).line.greatest =
+    ap (λ (x : Heard DeviceStatus). x.line.greatest) there ∙ ap (λ (x : Heard DeviceStatus). x.line.greatest) whole in
+    let last : ℕ = (hears_bytes status_answer status_after rest now r l).line.greatest in
+    let b_is : b ≡ after_saying (is_any h.said) last a =
+    when ∙ ap (λ (t : Received). after_saying (is_any (reads_all status_answer status_after r t).said) t.greatest a) takes
+    ∙ ap (λ g. after_saying (is_any h.said) g a) (taken_when rest now r l) in
     record {
       read = subst IsAllRead (sym line) (all_read status_answer status_after r taken received);
       text = ap (λ t. t ++ all_lines further.said) (writes ∙ ap (λ (x : Heard DeviceStatus). text ++ all_lines x.said) same)
@@ -85,6 +127,8 @@ turn_on start all now text next rest left r q l taken m is fits on takes lefts w
           ∙ ap (λ l. text ++ l) (sym (all_lines-append h.said further.said) ∙ ap all_lines said) ∙ on.text;
       reader = ap (λ (x : Heard DeviceStatus). x.reader) there ∙ ap (λ (x : Heard DeviceStatus). x.reader) whole ∙ on.reader;
       line = ap (λ (x : Heard DeviceStatus). x.line) there ∙ ap (λ (x : Heard DeviceStatus). x.line) whole ∙ on.line;
+      when = ap (λ g. after_saying (is_any further.said) g b) there_when ∙ ap (after_saying (is_any further.said) last) b_is
+          ∙ said_both h.said further.said last a ∙ ap (λ l. after_saying (is_any l) last a) said ∙ on.when;
     }
 
 -- and needs fewer turns
@@ -99,9 +143,10 @@ turn_fewer now rest left r l taken m is all fits some takes lefts line =
     omega (arith, same, fewer_turns status_answer status_after rest now r l is all fits some)
 
 -- after the last turn, all was said
-there : (start : List ℕ) (all : Heard DeviceStatus) (now : ℕ) (text rest : List ℕ) (r : State) (l : Received) → IsOnTheWay start all now text rest r l
-    → rest ≡ [] → now ≤ l.greatest → IsHeard start text r l all
-there start all now text rest r l on none seen =
+there : (start : List ℕ) (all : Heard DeviceStatus) (first : AgesState) (now : ℕ) (text rest : List ℕ) (r : State) (l : Received) (a : AgesState)
+    → IsOnTheWay start all first now text rest r l a
+    → rest ≡ [] → now ≤ l.greatest → IsHeard start text r l first a all
+there start all first now text rest r l a on none seen =
     let h : Heard DeviceStatus = record { said = []; reader = r; line = l } in
     let last : hears_bytes status_answer status_after [] now r l ≡ h = last_turn status_answer status_after now h on.read seen in
     let nothing : hears_bytes status_answer status_after rest now r l ≡ h = ap (λ b. hears_bytes status_answer status_after b now r l) none ∙ last in
@@ -109,6 +154,7 @@ there start all now text rest r l on none seen =
       text = sym (append-nil text) ∙ sym (ap (λ (x : Heard DeviceStatus). text ++ all_lines x.said) nothing) ∙ on.text;
       reader_is = sym (ap (λ (x : Heard DeviceStatus). x.reader) nothing) ∙ on.reader;
       line_is = sym (ap (λ (x : Heard DeviceStatus). x.line) nothing) ∙ on.line;
+      ages_is = sym (ap (λ (x : Heard DeviceStatus). ages_heard x a) nothing) ∙ on.when;
       read = on.read;
     }
 
@@ -160,29 +206,34 @@ wrote : (text next : List ℕ) (r q : State) (taken : Received) → q ≡ r → 
 wrote text next r q taken same writes = writes ∙ ap (λ x. text ++ all_lines (reads_all status_answer status_after x taken).said) same
 
 -- A turn, and the answers to it: the device stays on the way, and is there, or needs fewer turns.
-pub record Turned (start : List ℕ) (all : Heard DeviceStatus) (now : ℕ) (bytes : List ℕ) (at count : ℕ) (next : List ℕ) (q : State) (l m : Received)
-    : Type 0 where
+pub record Turned (start : List ℕ) (all : Heard DeviceStatus) (first : AgesState) (now : ℕ) (bytes : List ℕ) (at count : ℕ) (next : List ℕ) (q : State)
+    (l m : Received) (b : AgesState) : Type 0 where
   pub within : at + count ≤ length bytes
-  pub way : IsOnTheWay start all now next (drop (at + count) bytes) q m
-  pub whole : at + count ≡ length bytes → IsHeard start next q m all
+  pub way : IsOnTheWay start all first now next (drop (at + count) bytes) q m b
+  pub whole : at + count ≡ length bytes → IsHeard start next q m first b all
   pub fewer : (at + count ≡ length bytes → ⊥) → turns_left (drop (at + count) bytes) now m < turns_left (drop at bytes) now l
 
-pub turned_on : (start : List ℕ) (all : Heard DeviceStatus) (now : ℕ) (bytes : List ℕ) (at count : ℕ) (text next : List ℕ) (r p q : State)
-    (l taken m : Received) → AreBytes bytes → at ≤ length bytes → IsReceived l → IsOnTheWay start all now text (drop at bytes) r l
+pub turned_on : (start : List ℕ) (all : Heard DeviceStatus) (first : AgesState) (now : ℕ) (bytes : List ℕ) (at count : ℕ) (text next : List ℕ)
+    (r p q : State) (l taken m : Received) (a same_ages b : AgesState)
+    → AreBytes bytes → at ≤ length bytes → IsReceived l → IsOnTheWay start all first now text (drop at bytes) r l a
     → count ≡ count_taken (take (length bytes - at) (drop at bytes)) now l → taken ≡ after_take (take (length bytes - at) (drop at bytes)) now l
     → p ≡ r → next ≡ text ++ all_lines (reads_all status_answer status_after p taken).said
     → q ≡ (reads_all status_answer status_after p taken).reader → m ≡ (reads_all status_answer status_after p taken).line
-    → Turned start all now bytes at count next q l m
-turned_on start all now bytes at count text next r p q l taken m fits within is way counts takes same writes reader line =
+    → same_ages ≡ a → b ≡ after_saying (is_any (reads_all status_answer status_after p taken).said) taken.greatest same_ages
+    → Turned start all first now bytes at count next q l m b
+turned_on start all first now bytes at count text next r p q l taken m a same_ages b fits within is way counts takes same writes reader line kept when =
     let rest = drop at bytes in
     let left = drop (at + count) bytes in
     let t = turn now bytes at count r l taken fits within is counts takes in
     let line_is = line ∙ ap (λ x. (reads_all status_answer status_after x taken).line) same in
-    let on = turn_on start all now text next rest left r q l taken m is t.fits way t.takes t.lefts (wrote text next r p taken same writes)
-    (reader ∙ ap (λ x. (reads_all status_answer status_after x taken).reader) same) line_is t.received in
+    let when_is : b ≡ after_saying (is_any (reads_all status_answer status_after r taken).said) taken.greatest a =
+    when ∙ ap (after_saying (is_any (reads_all status_answer status_after p taken).said) taken.greatest) kept
+    ∙ ap (λ x. after_saying (is_any (reads_all status_answer status_after x taken).said) taken.greatest a) same in
+    let on = turn_on start all first now text next rest left r q l taken m a b is t.fits way t.takes t.lefts (wrote text next r p taken same writes)
+    (reader ∙ ap (λ x. (reads_all status_answer status_after x taken).reader) same) line_is when_is t.received in
     record {
       within = t.within;
       way = on;
-      whole = λ done. there start all now next left q m on (drop_all (at + count) bytes (omega (arith, done))) (seen_by now rest r l taken m t.takes line_is);
+      whole = λ done. there start all first now next left q m b on (drop_all (at + count) bytes (omega (arith, done))) (seen_by now rest r l taken m t.takes line_is);
       fewer = λ more. turn_fewer now rest left r l taken m is way.read t.fits (omega (arith, length-drop at bytes, t.within, more)) t.takes t.lefts line_is;
     }

@@ -1,5 +1,6 @@
 pub mod ReaderCalls
 pub mod ReaderTexts
+pub mod ReaderAbsence
 pub mod LineAnswers
 pub mod ReaderSessions
 pub mod ReaderLines

@@ -1,33 +1,77 @@
 -- What a call comes to.
-use Rattle.std.specs.Prelude.{◌≡◌, ℕ, ◌==◌, Bool, List, [], ◌++◌, length, if◌then◌else◌}
+use Rattle.std.specs.Prelude.{◌≡◌, ℕ, ◌==◌, Bool, true, false, List, [], ◌∷◌, ◌++◌, length, if◌then◌else◌}
 use Rattle.osdp_msg.specs.declared.event.Event.{Event}
+use Rattle.osdp_device.specs.Ages.{AgesState, after_arrival, after_saying, is_offline, no_ages}
 use Rattle.osdp_device.specs.Hearing.{Heard, hears_bytes, hears_silence, hears_tick}
 use Rattle.osdp_frame.specs.Receiving.{IsAllRead, Received, new_line}
+use Rattle.osdp_device.specs.Saying.{Said}
 use Rattle.osdp_device.specs.Status.{new_status, status_after, status_answer}
 use Rattle.osdp_device.specs.declared.status.DeviceStatus.{DeviceStatus}
 use Rattle.osdp_reader.specs.State.{ReaderState, after_set_busy, after_set_handler, after_submit, new_reader}
 use Rattle.osdp_reader.specs.declared.config.ReaderConfig.{ReaderConfig}
 use Rattle.osdp_line_calls.specs.LineAnswers.{CalledIn}
+use Rattle.osdp_line_calls.specs.ReaderAbsence.{LetGo, lets_go}
 use Rattle.osdp_line_calls.specs.declared.reader_call.ReaderCall.{ReaderCall}
 use Rattle.osdp_line_calls.specs.declared.reader_call.ReaderCall.TheVariants as call
-use Rattle.osdp_line_calls.specs.ReaderTexts.{all_lines, full_line, waiting_line}
+use Rattle.osdp_line_calls.specs.declared.reader_absence.Absence.{Absence}
+use Rattle.osdp_line_calls.specs.ReaderTexts.{all_lines, expired_lines, full_line, presence_text, waiting_line}
 
 -- a device, and the moment of the calls to come
 pub record Session : Type 0 where
   pub reader : ReaderState DeviceStatus
   pub line : Received
+  pub ages : AgesState
   pub now : ℕ
+  -- what it does while its panel is gone, and whether the panel was gone when that was looked at last
+  pub absence : Absence
+  pub gone : Bool
 
 abbrev pub Called : Type 0
 Called = CalledIn Session
 
--- a device to whose line nothing has come, at moment 0
-abbrev pub new_session : ReaderConfig → ℕ → ℕ → Session
-new_session config capacity gap = record { reader = new_reader config new_status capacity; line = new_line gap; now = 0 }
+-- a device to whose line nothing has come, at moment 0: no panel has been there yet
+abbrev pub new_session : ReaderConfig → ℕ → ℕ → Absence → Session
+new_session config capacity gap absence = record {
+  reader = new_reader config new_status capacity;
+  line = new_line gap;
+  ages = no_ages capacity;
+  now = 0;
+  absence = absence;
+  gone = true;
+}
+
+-- one after the other: the second in the session that the first leaves
+abbrev pub then_does : Called → (Session → Called) → Called
+then_does first more = let second = more first.session in record { text = first.text ++ second.text; session = second.session }
+
+abbrev pub is_any : List Said → Bool
+is_any [] = false
+is_any (said ∷ more) = true
+
+-- a packet that is answered counts for the panel
+abbrev pub ages_heard : Heard DeviceStatus → AgesState → AgesState
+ages_heard h a = after_saying (is_any h.said) h.line.greatest a
 
 -- what is said, a line for each part, and the device after it
 abbrev pub heard : Heard DeviceStatus → Session → Called
-heard h s = record { text = all_lines h.said; session = record s { reader = h.reader; line = h.line } }
+heard h s = record { text = all_lines h.said; session = record s { reader = h.reader; line = h.line; ages = ages_heard h s.ages } }
+
+-- that the panel went, or that it came, if that is to be told
+abbrev pub tells_presence : Session → Called
+tells_presence s =
+    let gone = is_offline s.now s.ages in
+    record { text = if s.absence.told then presence_text s.gone gone else []; session = record s { gone = gone } }
+
+-- the events leave that are too old
+abbrev pub of_let_go : LetGo → Session → Called
+of_let_go g s = record { text = expired_lines g.expired; session = record s { reader = g.reader; ages = g.ages } }
+
+abbrev pub lets_events_go : Session → Called
+lets_events_go s = of_let_go (lets_go s.now s.absence.expire s.reader s.ages) s
+
+-- a moment comes: it is looked whether the panel is there
+abbrev pub looks : Session → Called
+looks s = then_does (tells_presence s) lets_events_go
 
 -- nothing is said, and the reader is another
 abbrev pub sets : ReaderState DeviceStatus → Session → Called
@@ -43,12 +87,16 @@ submit_text r = if is_full r then full_line else []
 abbrev pub after_event : Event → ReaderState DeviceStatus → ReaderState DeviceStatus
 after_event event r = if is_full r then r else after_submit event r
 
+abbrev pub ages_submitted : ℕ → ReaderState DeviceStatus → AgesState → AgesState
+ages_submitted now r a = if is_full r then a else after_arrival now (length r.queue.events) a
+
 abbrev pub does : ReaderCall → Session → Called
-does (call.At now) s = record { text = []; session = record s { now = now } }
-does (call.Bytes list) s = heard (hears_bytes status_answer status_after list.items s.now s.reader s.line) s
-does call.Silence s = heard (hears_silence status_answer status_after s.now s.reader s.line) s
-does call.Tick s = heard (hears_tick status_answer status_after s.now s.reader s.line) s
-does (call.Event event) s = record { text = submit_text s.reader; session = record s { reader = after_event event s.reader } }
+does (call.At now) s = looks (record s { now = now })
+does (call.Bytes list) s = then_does (heard (hears_bytes status_answer status_after list.items s.now s.reader s.line) s) tells_presence
+does call.Silence s = then_does (heard (hears_silence status_answer status_after s.now s.reader s.line) s) tells_presence
+does call.Tick s = then_does (heard (hears_tick status_answer status_after s.now s.reader s.line) s) tells_presence
+does (call.Event event) s =
+    record { text = submit_text s.reader; session = record s { reader = after_event event s.reader; ages = ages_submitted s.now s.reader s.ages } }
 does (call.Busy busy) s = sets (after_set_busy busy s.reader) s
 does (call.Inputs list) s = sets (after_set_handler (record s.reader.handler { inputs = list }) s.reader) s
 does (call.Outputs list) s = sets (after_set_handler (record s.reader.handler { outputs = list }) s.reader) s
@@ -57,17 +105,22 @@ does (call.Local tamper power) s =
     sets (after_set_handler (record s.reader.handler { tamper = tamper; power = power }) s.reader) s
 
 -- each answer ends with how many events wait
+abbrev pub tells_waiting : Session → Called
+tells_waiting s = record { text = waiting_line (length s.reader.queue.events); session = s }
+
 abbrev pub ended : Called → Called
-ended c = record c { text = c.text ++ waiting_line (length c.session.reader.queue.events) }
+ended c = then_does c tells_waiting
 
 abbrev pub answered : ReaderCall → Session → Called
 answered call s = ended (does call s)
 
--- what is heard, as the code has it: the text grows by its lines, and reader and line are those after it, with all read that came
-pub record IsHeard (before after : List ℕ) (reader : ReaderState DeviceStatus) (line : Received) (h : Heard DeviceStatus) : Type 0 where
+-- what is heard, as the code has it: the text grows by its lines, and reader, line and ages are those after it, with all read that came
+pub record IsHeard (before after : List ℕ) (reader : ReaderState DeviceStatus) (line : Received) (ages_before ages : AgesState) (h : Heard DeviceStatus)
+    : Type 0 where
   pub text : after ≡ before ++ all_lines h.said
   pub reader_is : reader ≡ h.reader
   pub line_is : line ≡ h.line
+  pub ages_is : ages ≡ ages_heard h ages_before
   pub read : IsAllRead line
 
 -- the code's answer to a call: the text grows by its lines, and the session is the one after it, with all read that came

@@ -1,14 +1,16 @@
 -- The settings of a reader: their words, and what each sets.
-use Rattle.std.specs.Prelude.{ℕ, ◌<◌, ◌^◌, List, [], ◌∷◌, ◌++◌, codes, length, replicate, nat_lt, if◌then◌else◌, slice_index, Option, Some, None}
-use Rattle.osdp_frame.specs.Times.{IsTime}
+use Rattle.std.specs.Prelude.{ℕ, ◌<◌, ◌≤◌, false, ◌^◌, List, [], ◌∷◌, ◌++◌, codes, length, replicate, nat_lt, if◌then◌else◌, slice_index, Option, Some, None}
+use Rattle.osdp_frame.specs.Times.{IsTime, longest_time}
 use Rattle.osdp_msg.specs.Limits.{IsRoom}
 use Rattle.osdp_msg.specs.declared.reply_fields.PdCap.{PdCap}
 use Rattle.osdp_msg.specs.declared.reply_fields.PdId.{PdId}
 use Rattle.osdp_msg.specs.ReplyFields.{capability_at, pd_id_at}
 use Rattle.osdp_words.specs.Word.{bytes, number, numbers}
 use Rattle.osdp_line_calls.specs.declared.reader_command.ReaderSetting.{ReaderSetting}
-use Rattle.osdp_line_calls.specs.declared.reader_command.ReaderSetting.TheVariants.{At, Vendor, Model, Version, Serial, Firmware, Cap, Room, Gap}
+use Rattle.osdp_line_calls.specs.declared.reader_command.ReaderSetting.TheVariants.{At, Vendor, Model, Version, Serial, Firmware, Cap, Room, Gap, Expire, Presence}
 use Rattle.osdp_line_calls.specs.declared.reader_command.ReaderSettings.{ReaderSettings}
+use Rattle.osdp_line_calls.specs.declared.reader_absence.Absence.{Absence}
+use Rattle.osdp_line_calls.specs.ReaderCalls.{switch_word}
 use Rattle.osdp_line_calls.specs.Settings.{Entry, IsTriple, IsVendor, Make, SettingFits, setting_words}
 
 -- the name of each, its value as a word, and the range that is asked of it
@@ -22,6 +24,11 @@ entry (Firmware ns) = record { name = codes "firmware"; value = numbers ns; Fits
 entry (Cap ns) = record { name = codes "cap"; value = numbers ns; Fits = IsTriple ns }
 entry (Room n) = record { name = codes "room"; value = number n; Fits = IsRoom n }
 entry (Gap n) = record { name = codes "gap"; value = number n; Fits = IsTime n }
+entry (Expire n) = record { name = codes "expire"; value = number n; Fits = n ≤ longest_time }
+entry (Presence told) = record { name = codes "presence"; value = switch_word told; Fits = Unit {0} }
+
+abbrev pub with_absence : Absence → ReaderSettings → ReaderSettings
+with_absence a r = record r { absence = a }
 
 abbrev pub with_id : PdId → ReaderSettings → ReaderSettings
 with_id id r = record r { config = record r.config { id = id } }
@@ -49,8 +56,11 @@ put (Firmware ns) r = Some (with_id (with_firmware ns r.config.id) r)
 put (Cap ns) r = put_capability ns r
 put (Room n) r = Some (record r { room = n })
 put (Gap n) r = Some (record r { gap = n })
+put (Expire n) r = Some (with_absence (record r.absence { expire = n }) r)
+put (Presence told) r = Some (with_absence (record r.absence { told = told }) r)
 
--- without settings the reader is at address 0, tells zeros of itself and no capabilities, has room for 64 events, and a gap of 20 ms
+-- without settings the reader is at address 0, tells zeros of itself and no capabilities, has room for 64 events, and a gap of 20 ms; events wait
+-- without end, and it isn't told whether the panel is there
 abbrev pub defaults : ReaderSettings
 defaults = record {
   config = record {
@@ -60,6 +70,7 @@ defaults = record {
   };
   room = 64;
   gap = 20;
+  absence = record { expire = 0; told = false };
 }
 
 -- the words are settings of a reader, and they make this one of the defaults
@@ -71,3 +82,4 @@ pub record AreInRange (r : ReaderSettings) : Type 0 where
   pub address : r.config.address < 127
   pub room : IsRoom r.room
   pub gap : IsTime r.gap
+  pub expire : r.absence.expire ≤ longest_time

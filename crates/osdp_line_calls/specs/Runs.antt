@@ -64,7 +64,7 @@ abbrev pub RunsPanel : {I O : Type 0} → OfRuns I O
 RunsPanel = Runs IsPanelOf PanelAnswers
 
 abbrev pub new_device : ReaderSettings → ReaderSession
-new_device settings = new_reader settings.config settings.room settings.gap
+new_device settings = new_reader settings.config settings.room settings.gap settings.absence
 
 abbrev pub IsDeviceOf : List (List ℕ) → ReaderSession → Type 0
 IsDeviceOf = SetBy AreOfReader new_device

@@ -6,6 +6,7 @@ ghost use Rattle.osdp_words.specs.Reading.{ReadsWords};
 ghost use Rattle.osdp_words.specs.Word.{bytes, number, texts};
 ghost use Rattle.osdp_line_calls.specs.ReaderCalls.{AreStates, CallFits, call_words, switch_word};
 
+use crate::values::switch;
 use crate::words::{one_list, one_moment, one_word};
 use arrayvec::ArrayVec;
 use osdp_msg::MAX_DATA;
@@ -64,11 +65,7 @@ fn parse_event(words: &[&str]) -> Option<osdp_msg::Event>
 fn parse_switch(words: &[&str]) -> Option<bool>
     ensures { ReadsWords (λ busy. switch_word busy ∷ []) (λ busy. Unit {0}) (texts words.now) result }
 {
-    match one_word(words)? {
-        "on" => Some(true),
-        "off" => Some(false),
-        _ => None,
-    }
+    switch(one_word(words)?)
 }
 
 /// The call whose words begin with a name and go on with these.

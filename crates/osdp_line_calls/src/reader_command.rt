@@ -9,10 +9,11 @@ ghost use Rattle.osdp_line_calls.specs.Runs.{IsDeviceOf};
 ghost use Rattle.osdp_line_calls.specs.Settings.{ReadsSettings, SettingFits, setting_words};
 ghost use Rattle.osdp_line_calls.specs.Wrong.{IsWrong};
 
+use crate::reader_absence::Absence;
 use crate::reader_session::LineDevice;
 use crate::run::LineCommand;
 use crate::settings::{Configured, read_settings};
-use crate::values::{device_address, room, time, triple};
+use crate::values::{device_address, limit, room, switch, time, triple};
 use crate::wrong::WrongSetting;
 use arrayvec::ArrayVec;
 use osdp_frame::Address;
@@ -43,6 +44,10 @@ pub enum ReaderSetting {
     Room(usize),
     /// `gap`: after how long a silence a run of bytes is over, in milliseconds, 1 to 3,600,000.
     Gap(u32),
+    /// `expire`: how old an event may become while the device is offline, in milliseconds, up to 3,600,000; at 0 none is too old.
+    Expire(u32),
+    /// `presence`: whether it is told when the device goes offline and when it comes online.
+    Presence(bool),
 }
 
 /// What a reader's device is made of.
@@ -54,6 +59,8 @@ pub struct ReaderSettings {
     pub room: usize,
     /// After how long a silence a run of bytes is over, in milliseconds, 1 to 3,600,000.
     pub gap: u32,
+    /// What the device does while its panel is gone.
+    pub absence: Absence,
 }
 
 impl ReaderSetting {
@@ -71,6 +78,8 @@ impl ReaderSetting {
             "cap" => Some(ReaderSetting::Cap(triple(value)?)),
             "room" => Some(ReaderSetting::Room(room(value)?)),
             "gap" => Some(ReaderSetting::Gap(time(value)?)),
+            "expire" => Some(ReaderSetting::Expire(limit(value)?)),
+            "presence" => Some(ReaderSetting::Presence(switch(value)?)),
             _ => None,
         }
     }
@@ -95,6 +104,8 @@ impl ReaderSetting {
             ReaderSetting::Cap(numbers) => return add_capability(settings, numbers),
             ReaderSetting::Room(count) => settings.room = count,
             ReaderSetting::Gap(wait) => settings.gap = wait,
+            ReaderSetting::Expire(limit) => settings.absence.expire = limit,
+            ReaderSetting::Presence(told) => settings.absence.told = told,
         }
         Some(settings)
     }
@@ -117,7 +128,8 @@ fn add_capability(settings: ReaderSettings, numbers: [u8; 3]) -> Option<ReaderSe
     }
 }
 
-/// A reader at address 0 that tells zeros of itself, with room for 64 events and a gap of 20 milliseconds.
+/// A reader at address 0 that tells zeros of itself, with room for 64 events and a gap of 20 milliseconds. Its events wait without end, and it isn't
+/// told whether its panel is there.
 fn default_settings() -> ReaderSettings
     ensures { result ≡ defaults }
 {
@@ -141,6 +153,10 @@ fn default_settings() -> ReaderSettings
         },
         room: 64,
         gap: 20,
+        absence: Absence {
+            expire: 0,
+            told: false,
+        },
     }
 }
 
@@ -186,7 +202,13 @@ impl LineCommand for LineDevice {
         let Ok(settings) = reader_settings(words) else {
             return Err(ToolFault::BadWords);
         };
-        match LineDevice::new(alloc, settings.config, settings.room, settings.gap) {
+        match LineDevice::new(
+            alloc,
+            settings.config,
+            settings.room,
+            settings.gap,
+            settings.absence,
+        ) {
             Ok(device) => Ok(device),
             Err(_) => Err(ToolFault::NoMemory),
         }

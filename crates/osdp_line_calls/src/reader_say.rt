@@ -3,9 +3,9 @@
 ghost use Rattle.std.specs.Prelude.{◌≡◌, ◌++◌, OnOk, codes, string_bytes};
 ghost use Rattle.std.specs.Option.{option_copied};
 ghost use Rattle.osdp_device.specs.Saying.{said_in};
-ghost use Rattle.osdp_line_calls.specs.ReaderTexts.{command_line, moved_line, said_lines, send_line, waiting_line};
+ghost use Rattle.osdp_line_calls.specs.ReaderTexts.{command_line, expired_line, moved_line, presence_text, said_lines, send_line, waiting_line};
 
-use osdp_device::{again, taken};
+use osdp_device::{Expired, again, taken};
 use osdp_msg::{Command, Communication};
 use osdp_reader::Response;
 use osdp_words::ByteList;
@@ -46,6 +46,27 @@ pub(crate) fn push_response(text: &mut String, response: &Response) -> Result<()
     push_command(text, "taken", taken(response))?;
     push_command(text, "again", again(response))?;
     push_moved(text, response.comset())
+}
+
+/// Writes that the panel went, or that it came, by whether it was gone before and whether it is now.
+pub(crate) fn push_presence(text: &mut String, before: bool, now: bool) -> Result<(), AllocError>
+    ensures { OnOk result (string_bytes text.new ≡ string_bytes text.old ++ presence_text before now) }
+{
+    match (before, now) {
+        (false, true) => text.push_str("offline\n"),
+        (true, false) => text.push_str("online\n"),
+        (false, false) | (true, true) => Ok(()),
+    }
+}
+
+/// Writes an event that was too old, and whether the panel may have it.
+pub(crate) fn push_expired(text: &mut String, expired: &Expired) -> Result<(), AllocError>
+    ensures { OnOk result (string_bytes text.new ≡ string_bytes text.old ++ expired_line expired.now) }
+{
+    match expired {
+        Expired::Withdrawn(event) => writeln!(text, "withdrawn {event}"),
+        Expired::InDoubt(event) => writeln!(text, "in doubt {event}"),
+    }
 }
 
 /// Writes how many events wait.

@@ -1,6 +1,7 @@
 //! A device that is called by lines.
 
 ghost use Rattle.std.specs.Prelude.{◌≡◌, ◌↔◌, ◌⊎◌, ◌<◌, ◌++◌, IfOk, IsErrOf, OnOk, length, string_bytes};
+ghost use Rattle.osdp_device.specs.Ages.{after_saying};
 ghost use Rattle.osdp_device.specs.Hearing.{hears_bytes, hears_silence, hears_tick, reads_all};
 ghost use Rattle.osdp_frame.specs.Receiving.{IsAllRead};
 ghost use Rattle.osdp_frame.specs.Times.{IsTime, longest_time};
@@ -8,12 +9,13 @@ ghost use Rattle.osdp_msg.specs.Limits.{most_waiting};
 ghost use Rattle.osdp_device.specs.Status.{status_after, status_answer};
 ghost use Rattle.osdp_reader.specs.State.{after_set_busy, after_set_handler};
 ghost use Rattle.osdp_reader.specs.declared.fault.ReaderFault.TheVariants.{OutOfRange};
-ghost use Rattle.osdp_line_calls.specs.ReaderSessions.{Called, Comes, IsHeard, Session, after_event, answered, does, heard, new_session, submit_text};
+ghost use Rattle.osdp_line_calls.specs.ReaderSessions.{Called, Comes, IsHeard, Session, after_event, ages_submitted, answered, does, heard, is_any, lets_events_go, looks, new_session, submit_text, tells_presence};
 ghost use Rattle.osdp_line_calls.specs.ReaderLines.{refuses};
 ghost use Rattle.osdp_line_calls.specs.ReaderTexts.{all_lines, waiting_line};
 
+use crate::reader_absence::{Absence, let_go};
 use crate::reader_call::ReaderCall;
-use crate::reader_say::{push_response, push_waiting};
+use crate::reader_say::{push_presence, push_response, push_waiting};
 use osdp_device::{Device, DeviceStatus};
 use osdp_frame::is_time;
 use osdp_msg::{Event, is_room};
@@ -26,12 +28,14 @@ use std::marker::Model;
 pub struct LineDevice {
     device: Device<DeviceStatus>,
     now: u64,
+    absence: Absence,
+    gone: bool,
 }
 
 impl Model for LineDevice {
     ghost Value = { Session };
 
-    ghost view = { λ d. record { reader = d.device.reader; line = d.device.line; now = d.now } };
+    ghost view = { λ d. record { reader = d.device.reader; line = d.device.line; ages = d.device.ages; now = d.now; absence = d.absence; gone = d.gone } };
 }
 
 /// Writes what the device says to all that is held.
@@ -40,6 +44,7 @@ fn say_all(device: &mut Device<DeviceStatus>, text: &mut String) -> Result<(), A
         ++ all_lines (reads_all status_answer status_after device.old.reader device.old.line).said) }
     ensures reader { OnOk result (device.new.reader ≡ (reads_all status_answer status_after device.old.reader device.old.line).reader) }
     ensures line { OnOk result (device.new.line ≡ (reads_all status_answer status_after device.old.reader device.old.line).line) }
+    ensures ages { OnOk result (device.new.ages ≡ after_saying (is_any (reads_all status_answer status_after device.old.reader device.old.line).said) device.old.line.greatest device.old.ages) }
 {
     'responses: while let Some(response) = device.next() {
         push_response(text, &response)?;
@@ -55,7 +60,7 @@ fn hear(
     text: &mut String,
 ) -> Result<(), AllocError>
     requires { IsAllRead device.old.line }
-    ensures { OnOk result (IsHeard (string_bytes text.old) (string_bytes text.new) device.new.reader device.new.line
+    ensures { OnOk result (IsHeard (string_bytes text.old) (string_bytes text.new) device.new.reader device.new.line device.old.ages device.new.ages
         (hears_bytes status_answer status_after bytes.now now device.old.reader device.old.line)) }
 {
     let mut at = 0;
@@ -77,6 +82,7 @@ fn submit(
 ) -> Result<(), AllocError>
     ensures text { OnOk result (string_bytes text.new ≡ string_bytes text.old ++ submit_text device.old.reader) }
     ensures reader { OnOk result (device.new.reader ≡ after_event event device.old.reader) }
+    ensures ages { OnOk result (device.new.ages ≡ ages_submitted now device.old.reader device.old.ages) }
     ensures line { device.new.line ≡ device.old.line }
 {
     match device.submit_event(event, now) {
@@ -87,7 +93,7 @@ fn submit(
 
 impl LineDevice {
     /// A device to whose line nothing has come, at moment 0. Its reader has room for `capacity` events, and a run of bytes is over after a
-    /// silence of `gap` milliseconds.
+    /// silence of `gap` milliseconds. No panel has been there yet.
     ///
     /// OutOfRange (N3) where the address is above 126, the capacity isn't one of 1 to 1024, or the gap isn't one of 1 to 3,600,000; else
     /// NoMemory (N1) where there is none.
@@ -96,8 +102,9 @@ impl LineDevice {
         config: ReaderConfig,
         capacity: usize,
         gap: u32,
+        absence: Absence,
     ) -> Result<LineDevice, ReaderFault>
-        ensures made { IfOk result (λ d. d ≡ new_session config capacity gap) }
+        ensures made { IfOk result (λ d. d ≡ new_session config capacity gap absence) }
         ensures read { IfOk result (λ d. IsAllRead d.line) }
         ensures range { IsErrOf result OutOfRange
             ↔ ((126 < config.address) ⊎ (capacity < 1) ⊎ (most_waiting < capacity) ⊎ (gap < 1) ⊎ (longest_time < gap)) }
@@ -110,7 +117,12 @@ impl LineDevice {
         }
         let reader = Reader::new(alloc, config, DeviceStatus::new(), capacity)?;
         let device = Device::new(alloc, reader, gap)?;
-        Ok(LineDevice { device, now: 0 })
+        Ok(LineDevice {
+            device,
+            now: 0,
+            absence,
+            gone: true,
+        })
     }
 }
 
@@ -141,16 +153,65 @@ impl LineDevice {
         say_all(&mut self.device, text)
     }
 
+    /// Writes that the panel went, or that it came, if that is to be told.
+    fn tell_presence(&mut self, text: &mut String) -> Result<(), AllocError>
+        requires { IsAllRead self.old.line }
+        ensures { OnOk result (Comes (string_bytes text.old) (string_bytes text.new) self.new (tells_presence self.old)) }
+    {
+        let before = self.gone;
+        self.gone = self.device.is_offline(self.now);
+        if self.absence.told {
+            push_presence(text, before, self.gone)
+        } else {
+            Ok(())
+        }
+    }
+
+    /// Lets the events go that are too old, and writes them.
+    fn let_go(&mut self, text: &mut String) -> Result<(), AllocError>
+        requires { IsAllRead self.old.line }
+        ensures { OnOk result (Comes (string_bytes text.old) (string_bytes text.new) self.new (lets_events_go self.old)) }
+    {
+        let_go(&mut self.device, self.now, self.absence.expire, text)
+    }
+
+    /// Looks whether the panel is there, and writes what comes of that.
+    fn look(&mut self, text: &mut String) -> Result<(), AllocError>
+        requires { IsAllRead self.old.line }
+        ensures { OnOk result (Comes (string_bytes text.old) (string_bytes text.new) self.new (looks self.old)) }
+    {
+        self.tell_presence(text)?;
+        self.let_go(text)
+    }
+
+    /// A moment comes: looks whether the panel is there, and writes what comes of that.
+    fn come(&mut self, now: u64, text: &mut String) -> Result<(), AllocError>
+        requires { IsAllRead self.old.line }
+        ensures { OnOk result (Comes (string_bytes text.old) (string_bytes text.new) self.new (looks (record self.old { now = now }))) }
+    {
+        self.now = now;
+        self.look(text)
+    }
+
     /// Does what a call orders, and writes what comes of it.
     fn call(&mut self, call: ReaderCall, text: &mut String) -> Result<(), AllocError>
         requires { IsAllRead self.old.line }
         ensures { OnOk result (Comes (string_bytes text.old) (string_bytes text.new) self.new (does call self.old)) }
     {
         match call {
-            ReaderCall::At(now) => self.now = now,
-            ReaderCall::Bytes(list) => return self.hear(list.as_slice(), text),
-            ReaderCall::Silence => return self.silence(text),
-            ReaderCall::Tick => return self.tick(text),
+            ReaderCall::At(now) => return self.come(now, text),
+            ReaderCall::Bytes(list) => {
+                self.hear(list.as_slice(), text)?;
+                return self.tell_presence(text);
+            }
+            ReaderCall::Silence => {
+                self.silence(text)?;
+                return self.tell_presence(text);
+            }
+            ReaderCall::Tick => {
+                self.tick(text)?;
+                return self.tell_presence(text);
+            }
             ReaderCall::Event(event) => return submit(&mut self.device, event, self.now, text),
             ReaderCall::Busy(busy) => self.device.set_busy(busy),
             ReaderCall::Inputs(list) => self.device.handler_mut().inputs = list,

@@ -1,10 +1,11 @@
 //! The values of settings.
 
-ghost use Rattle.std.specs.Prelude.{◌<◌};
-ghost use Rattle.osdp_frame.specs.Times.{IsTime};
+ghost use Rattle.std.specs.Prelude.{◌<◌, ◌≤◌};
+ghost use Rattle.osdp_frame.specs.Times.{IsTime, longest_time};
 ghost use Rattle.osdp_msg.specs.Limits.{IsRoom};
 ghost use Rattle.osdp_words.specs.Reading.{Reads};
 ghost use Rattle.osdp_words.specs.Word.{number, numbers};
+ghost use Rattle.osdp_line_calls.specs.ReaderCalls.{switch_word};
 ghost use Rattle.osdp_line_calls.specs.Settings.{IsSends, IsTriple};
 
 use osdp_frame::{Address, is_time};
@@ -20,6 +21,28 @@ pub(crate) fn time(word: &str) -> Option<u32>
         return None;
     }
     Some(wait)
+}
+
+/// Milliseconds, up to an hour.
+pub(crate) fn limit(word: &str) -> Option<u32>
+    ensures { Reads number (λ n. n ≤ longest_time) word.now result }
+{
+    let wait = number_u32(word)?;
+    if wait != 0 && !is_time(wait) {
+        return None;
+    }
+    Some(wait)
+}
+
+/// `on` or `off`.
+pub(crate) fn switch(word: &str) -> Option<bool>
+    ensures { Reads switch_word (λ on. Unit {0}) word.now result }
+{
+    match word {
+        "on" => Some(true),
+        "off" => Some(false),
+        _ => None,
+    }
 }
 
 /// How often a frame is sent, 1 to 255.

@@ -6,3 +6,4 @@ pub mod ReaderRuns
 mod OneSession
 mod Openness
 mod Beside
+mod OldEvents

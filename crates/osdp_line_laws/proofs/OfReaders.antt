@@ -1,5 +1,8 @@
 -- Lines to a reader's device as steps of its reader.
-use Rattle.std.proofs.Common.{◌≡◌, ◌∙◌, ◌⊎◌, ap, sym, refl, ℕ, List, [], ◌∷◌, ◌++◌, false, length, inl, inr, append-nil, append_assoc}
+use Rattle.std.proofs.Common.{◌≡◌, ◌∙◌, ◌⊎◌, ap, sym, refl, ℕ, zero, suc, Bool, true, cond, Option, Some, None, option_map, slice_get, List, [], ◌∷◌, ◌++◌, false, length, inl, inr, append-nil, append_assoc}
+use Rattle.osdp_device.specs.Ages.{AgesState, after_expiry, after_removal, expired, expired_front, expires}
+use Rattle.osdp_device.specs.declared.events.Expired.{Expired}
+use Rattle.osdp_device.specs.declared.events.Expired.TheVariants.{Withdrawn, InDoubt}
 use Rattle.osdp_device.specs.Hearing.{Heard, hears_bytes, reads_all, reads_on, then_reads}
 use Rattle.osdp_frame.specs.Receiving.{Received, ends_silent, seen, after_tick, after_silence}
 use Rattle.osdp_device.specs.Saying.{Said}
@@ -10,15 +13,16 @@ use Rattle.osdp_frame.specs.Items.{items}
 use Rattle.osdp_frame.specs.Reading.{RunItem, PacketItem, SkippedItem, RefusedItem}
 use Rattle.osdp_line_calls.specs.Answers.{Speaks}
 use Rattle.osdp_line_calls.specs.Calls.{Says, SaysNothing}
-use Rattle.osdp_reader.specs.State.{ReaderState}
+use Rattle.osdp_reader.specs.State.{ReaderState, after_lapse_event, after_withdraw_event}
 use Rattle.osdp_line_calls.specs.declared.reader_call.ReaderCall.{ReaderCall}
 use Rattle.osdp_line_calls.specs.declared.reader_call.ReaderCall.TheVariants.{At, Bytes, Silence, Tick, Event, Busy, Inputs, Outputs, Readers, Local}
 use Rattle.osdp_line_calls.specs.ReaderCalls.{CallFits, call_words}
 use Rattle.osdp_line_calls.specs.ReaderLines.{Answers, IsAnswered}
-use Rattle.osdp_line_calls.specs.ReaderSessions.{Called, Session, does, submit_text}
-use Rattle.osdp_line_calls.specs.ReaderTexts.{all_lines, said_lines, waiting_line}
+use Rattle.osdp_line_calls.specs.ReaderAbsence.{LetGo, goes_first, keeps_all, lets_some_go}
+use Rattle.osdp_line_calls.specs.ReaderSessions.{Called, Session, does, heard, looks, submit_text, tells_presence, then_does}
+use Rattle.osdp_line_calls.specs.ReaderTexts.{all_lines, expired_lines, said_lines, waiting_line}
 use Rattle.osdp_line_laws.proofs.Lines.{of_all}
-use Rattle.osdp_line_laws.specs.ReaderLines.{Hears, Refused, Step, TakesSteps, after_step, after_steps, hears_held, hears_packets, hears_with, ordered, step_text, steps_text}
+use Rattle.osdp_line_laws.specs.ReaderLines.{Hears, Refused, Step, TakesSteps, after_step, after_steps, hears_held, hears_packets, hears_with, leaves, left_text, lets_go_steps, looks_step, looks_steps, ordered, step_text, steps_text}
 
 abbrev Reader : Type 0
 Reader = ReaderState DeviceStatus
@@ -100,15 +104,95 @@ pub record Does (call : ReaderCall) (s : Session) : Type 0 where
   pub reader : (does call s).session.reader ≡ after_steps (ordered call s) s.reader
   pub text : (does call s).text ≡ steps_text (ordered call s) s.reader
 
-heard_steps : (call : ReaderCall) (s : Session) (h : Heard DeviceStatus) → Comes s.reader (ordered call s) h
-    → (does call s).session.reader ≡ h.reader → (does call s).text ≡ all_lines h.said → Does call s
-heard_steps call s h comes reader text = record { reader = reader ∙ comes.reader; text = text ∙ comes.text }
+-- ---- it is looked whether the panel is there
+
+-- the events that leave are steps
+record Leave (n now limit : ℕ) (r : Reader) (a : AgesState) : Type 0 where
+  reader : (lets_some_go n now limit r a).reader ≡ after_steps (lets_go_steps n now limit r a) r
+  text : expired_lines (lets_some_go n now limit r a).expired ≡ steps_text (lets_go_steps n now limit r a) r
+
+after_leaving : (r : Reader) → after_expiry r ≡ after_step (leaves r.queue.ever_offered) r
+after_leaving r = by_ever r.queue.ever_offered
+  where
+    by_ever : (ever : Bool) → cond ever (after_lapse_event r) (after_withdraw_event r) ≡ after_step (leaves ever) r
+    by_ever true = refl
+    by_ever false = refl
+
+text_leaving : (r : Reader) → left_text (expired_front r.queue) ≡ step_text (leaves r.queue.ever_offered) r
+text_leaving r = by_ever r.queue.ever_offered refl
+  where
+    by_ever : (ever : Bool) → r.queue.ever_offered ≡ ever
+        → left_text (option_map (expired ever) (slice_get r.queue.events 0)) ≡ step_text (leaves ever) r
+    by_ever true is = ap (λ b. left_text (option_map InDoubt (cond b (slice_get r.queue.events 0) None))) (sym is)
+    by_ever false is = ap (λ b. left_text (option_map Withdrawn (slice_get r.queue.events (cond b 1 0)))) (sym is)
+
+lines_first : (front : Option Expired) (g : LetGo) → expired_lines (goes_first front g).expired ≡ left_text front ++ expired_lines g.expired
+lines_first None g = refl
+lines_first (Some e) g = refl
+
+reader_first : (front : Option Expired) (g : LetGo) → (goes_first front g).reader ≡ g.reader
+reader_first None g = refl
+reader_first (Some e) g = refl
+
+leave : (n now limit : ℕ) (r : Reader) (a : AgesState) → Leave n now limit r a
+leave zero now limit r a = record { reader = refl; text = refl }
+leave (suc n) now limit r a = record {
+  reader = reader_by (expires now limit (length r.queue.events) a);
+  text = text_by (expires now limit (length r.queue.events) a);
+}
+  where
+    rest : LetGo
+    rest = lets_some_go n now limit (after_expiry r) (after_removal false (length r.queue.events) a)
+
+    step : Step
+    step = leaves r.queue.ever_offered
+
+    steps : List Step
+    steps = lets_go_steps n now limit (after_expiry r) (after_removal false (length r.queue.events) a)
+
+    more : Leave n now limit (after_expiry r) (after_removal false (length r.queue.events) a)
+    more = leave n now limit (after_expiry r) (after_removal false (length r.queue.events) a)
+
+    reader_by : (test : Bool) → (cond test (goes_first (expired_front r.queue) rest) (keeps_all r a)).reader ≡ after_steps (cond test (step ∷ steps) []) r
+    reader_by true = reader_first (expired_front r.queue) rest ∙ more.reader ∙ ap (after_steps steps) (after_leaving r)
+    reader_by false = refl
+
+    text_by : (test : Bool) → expired_lines (cond test (goes_first (expired_front r.queue) rest) (keeps_all r a)).expired ≡ steps_text (cond test (step ∷ steps) []) r
+    text_by true =
+        lines_first (expired_front r.queue) rest
+        ∙ (λ i. text_leaving r i ++ (more.text ∙ ap (steps_text steps) (after_leaving r)) i)
+    text_by false = refl
+
+-- so is all of it
+look : (s : Session) → ((looks s).session.reader ≡ after_steps (looks_steps s) s.reader) × ((looks s).text ≡ steps_text (looks_steps s) s.reader)
+look s =
+    let l = leave (length s.reader.queue.events) s.now s.absence.expire s.reader s.ages in
+    (l.reader, ap (λ t. (tells_presence s).text ++ t) l.text)
+
+heard_steps : (call : ReaderCall) (s : Session) (h : Heard DeviceStatus) (steps : List Step) → Comes s.reader steps h
+    → ordered call s ≡ steps ++ looks_step (heard h s).session ∷ [] → does call s ≡ then_does (heard h s) tells_presence → Does call s
+heard_steps call s h steps comes orders is =
+    let next = (heard h s).session in
+    let last : List Step = looks_step next ∷ [] in
+    record {
+      reader = ap (λ (c : Called). c.session.reader) is ∙ comes.reader
+          ∙ sym (after_more steps last s.reader) ∙ sym (ap (λ x. after_steps x s.reader) orders);
+      text = ap (λ (c : Called). c.text) is ∙ ap (λ t. t ++ (tells_presence next).text) comes.text
+          ∙ ap (λ t. steps_text steps s.reader ++ t) (sym (append-nil (tells_presence next).text))
+          ∙ sym (text_more steps last s.reader) ∙ sym (ap (λ x. steps_text x s.reader) orders);
+    }
 
 pub call_steps : (call : ReaderCall) (s : Session) → Does call s
-call_steps (At later) s = record { reader = refl; text = refl }
-call_steps (Bytes list) s = heard_steps (Bytes list) s _ (bytes_read list.items s.now s.reader s.line) refl refl
-call_steps Silence s = heard_steps Silence s _ (all_read s.reader (after_silence s.now s.line)) refl refl
-call_steps Tick s = heard_steps Tick s _ (all_read s.reader (after_tick s.now s.line)) refl refl
+call_steps (At later) s = let l = look (record s { now = later }) in record { reader = l.0; text = l.1 }
+call_steps (Bytes list) s =
+    heard_steps (Bytes list) s (hears_bytes status_answer status_after list.items s.now s.reader s.line) (hears_with list.items (seen s.now s.line))
+    (bytes_read list.items s.now s.reader s.line) refl refl
+call_steps Silence s =
+    heard_steps Silence s (reads_all status_answer status_after s.reader (after_silence s.now s.line)) (hears_held (after_silence s.now s.line))
+    (all_read s.reader (after_silence s.now s.line)) refl refl
+call_steps Tick s =
+    heard_steps Tick s (reads_all status_answer status_after s.reader (after_tick s.now s.line)) (hears_held (after_tick s.now s.line))
+    (all_read s.reader (after_tick s.now s.line)) refl refl
 call_steps (Event event) s = record { reader = refl; text = sym (append-nil (submit_text s.reader)) }
 call_steps (Busy busy) s = record { reader = refl; text = refl }
 call_steps (Inputs list) s = record { reader = refl; text = refl }

@@ -33,17 +33,20 @@ now_is : (call : ReaderCall) (s : Session) → (does call s).session.now ≡ mom
 now_is (At later) s = refl
 now_is call s = refl
 
-of_fields : (x : Session) (r : ReaderState DeviceStatus) (l : Received) (n : ℕ) → x.reader ≡ r → x.line ≡ l → x.now ≡ n
-    → x ≡ record { reader = r; line = l; now = n }
-of_fields x r l n is_r is_l is_n =
-    ap (λ a. record { reader = a; line = x.line; now = x.now }) is_r
-    ∙ ap (λ a. record { reader = r; line = a; now = x.now }) is_l
-    ∙ ap (λ a. record { reader = r; line = l; now = a }) is_n
+absence_is : (call : ReaderCall) (s : Session) → (does call s).session.absence ≡ s.absence
+absence_is (At later) s = refl
+absence_is call s = refl
 
 whole : (call : ReaderCall) (s : Session) → (does call s).session ≡ after_said (Some call) s
 whole call s =
-    of_fields (does call s).session (after_steps (ordered call s) s.reader) (line_after call s.now s.line) (moment_after call s.now)
-    (call_steps call s).reader (line_is call s) (now_is call s)
+    (λ i. record {
+      reader = (call_steps call s).reader i;
+      line = line_is call s i;
+      ages = (does call s).session.ages;
+      now = now_is call s i;
+      absence = absence_is call s i;
+      gone = (does call s).session.gone;
+    })
 
 -- ---- one line
 

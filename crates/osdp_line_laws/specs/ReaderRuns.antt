@@ -9,7 +9,7 @@ use Rattle.osdp_line_calls.specs.declared.reader_call.ReaderCall.{ReaderCall}
 use Rattle.osdp_line_calls.specs.declared.reader_call.ReaderCall.TheVariants as line
 use Rattle.osdp_line_calls.specs.ReaderCalls.{CallFits, call_words}
 use Rattle.osdp_line_calls.specs.ReaderLines.{Answers}
-use Rattle.osdp_line_calls.specs.ReaderSessions.{Session}
+use Rattle.osdp_line_calls.specs.ReaderSessions.{Session, does}
 use Rattle.osdp_line_calls.specs.ReaderTexts.{no_line, waiting_line}
 use Rattle.osdp_line_laws.specs.ReaderLines.{after_steps, ordered, steps_text}
 
@@ -34,12 +34,15 @@ line_after line.Silence now l = read_out (after_silence now l)
 line_after line.Tick now l = read_out (after_tick now l)
 line_after _ now l = l
 
--- the whole device after a line, and what is told of it
+-- the whole device after a line, and what is told of it; the moments of its events, and whether the panel is gone, are those of the call
 abbrev pub after_said : Option ReaderCall → Session → Session
 after_said (Some call) s = record {
   reader = after_steps (ordered call s) s.reader;
   line = line_after call s.now s.line;
+  ages = (does call s).session.ages;
   now = moment_after call s.now;
+  absence = s.absence;
+  gone = (does call s).session.gone;
 }
 after_said None s = s
 

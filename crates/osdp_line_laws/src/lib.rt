@@ -4,6 +4,7 @@
 //! called by lines, and the program writes what the machines' tables say of those calls.
 #![tactic(auto)]
 
+ghost use Rattle.osdp_line_laws.specs.OldEvents.{OldEventsAlwaysLeave};
 ghost use Rattle.osdp_line_laws.specs.PanelLines.{ComesOfCalls, IsCallOrNone};
 ghost use Rattle.osdp_line_laws.specs.PanelListening.{ListensAlways};
 ghost use Rattle.osdp_line_laws.specs.PanelRuns.{RunsAreCalls as PanelRunsAreCalls};
@@ -26,6 +27,12 @@ pub fn a_panel_comes_of_calls()
 /// how many events wait. A line that is none changes nothing.
 pub fn a_line_is_steps()
     ensures { IsStepsOrNone }
+{}
+
+/// After a moment of a device by lines no event waits that is too old by the setting `expire` while the panel is gone. Those that left are the oldest of those
+/// that waited, and the others wait, in their order.
+pub fn old_events_leave()
+    ensures { OldEventsAlwaysLeave }
 {}
 
 /// Lines to a new device come to a list of steps of a new reader, so what each step keeps holds after them.

@@ -257,6 +257,8 @@ usage: osdp reader [SETTING VALUE]...
   cap F:L:N       a capability more: its function, level and count
   room N          how many events may wait, 1 to 1024: 64
   gap MS          after how long a silence a run of bytes is over: 20
+  expire MS       how old an event may become while no panel is there; 0 is without end: 0
+  presence on     the lines offline and online tell whether a panel is there: off
 
 Input: a call on each line. Another program carries the port: share/osdp/examples/reader.py is one.
 
@@ -283,6 +285,10 @@ Answers: before the last line of an answer stand lines like these.
   taken X             do command X, once; nothing where the bytes sent are a NAK, whose sixth byte is 41
   again X             command X with number 0 may come again: do only what may be done twice for one order
   moved ADDRESS RATE  keep both where no loss of power takes them; then send, and set the port to this rate
+  offline             with presence on: no packet was answered for 8 seconds, so no panel is there
+  online              with presence on: one is answered again, or for the first time
+  withdrawn EVENT     with expire: it was too old, and the panel will never get it
+  in doubt EVENT      with expire: it was too old, and the panel may have got it
   refused line        no call: its name, how many words it has, or one that is no value or out of its range
   refused N2          no room for another event
   waiting N           the last line: how many events wait

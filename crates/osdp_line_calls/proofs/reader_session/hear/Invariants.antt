@@ -9,8 +9,8 @@ abbrev pub invariant-turns : goal.invariant-turns
 invariant-turns l = record {
   within : l.at ≤ length l.bytes;
   way : IsOnTheWay (string_bytes l.initial.text)
-      (hears_bytes status_answer status_after l.bytes l.now l.initial.device.reader l.initial.device.line) l.now (string_bytes l.text)
-      (drop l.at l.bytes) l.device.reader l.device.line;
+      (hears_bytes status_answer status_after l.bytes l.now l.initial.device.reader l.initial.device.line) l.initial.device.ages l.now
+      (string_bytes l.text) (drop l.at l.bytes) l.device.reader l.device.line l.device.ages;
 }
 
 abbrev pub decreases-turns : goal.decreases-turns

@@ -1,11 +1,13 @@
 use Rattle.std.proofs.Common.{◌≡◌, ◌++◌, suc, length, string_bytes, Some, None, sym, ap, ◌∙◌, arith, append-nil, refl}
+use Rattle.osdp_device.specs.Ages.{after_saying}
 use Rattle.osdp_frame.specs.Receiving.{Received}
 use Rattle.osdp_frame.specs.Held.{Held}
 use Rattle.osdp_device.specs.Saying.{said_in}
 use Rattle.osdp_device.specs.Status.{status_after, status_answer}
 use Rattle.osdp_device.specs.Telling.{after_items, after_all, items_of, said_to_all}
+use Rattle.osdp_line_calls.specs.ReaderSessions.{is_any}
 use Rattle.osdp_line_calls.specs.ReaderTexts.{all_lines}
-use Rattle.osdp_line_calls.proofs.ReaderTurns.{line_on, turned, written}
+use Rattle.osdp_line_calls.proofs.ReaderTurns.{ages_on, line_on, turned, written}
 use Rattle.osdp_line_calls.proofs.reader_session.say_all.Goals as goal
 
 pub responses-smaller : goal.responses-smaller
@@ -26,6 +28,8 @@ responses-preserved c =
       reader = sym t.reader ∙ c.responses.invariant.reader;
       left = sym t.left ∙ c.responses.invariant.left;
       line = line_on c.args.device.now.line c.responses.device.line c.next.new.self.line _ c.responses.invariant.line c.next.ensures.line;
+      ages = ages_on _ _ (said_in c.in-Some.response) c.args.device.now.line.greatest c.responses.device.line.greatest c.responses.device.ages c.next.new.self.ages _
+          t.said c.in-Some.ensures.ages (ap (λ (l : Received). l.greatest) c.responses.invariant.line) c.responses.invariant.ages;
     }
 
 pub returns-clause-text : goal.returns-clause-text
@@ -48,3 +52,11 @@ returns-clause-line c =
     let left = sym (t.left ∙ ap (λ parts. after_all c.next.new.self.line.held parts) (t.all refl)) ∙ c.responses.invariant.left in
     line_on c.args.device.now.line c.responses.device.line c.next.new.self.line _ c.responses.invariant.line c.next.ensures.line
     ∙ ap (λ (h : Held). record c.args.device.now.line { held = h }) left
+
+pub returns-clause-ages : goal.returns-clause-ages
+returns-clause-ages c =
+    let t = turned c.responses.device.reader c.responses.device.line.held None c.next.new.self.reader c.next.new.self.line.held
+    c.in_default.ensures.said c.next.ensures.reader (ap (λ (l : Received). l.held) c.next.ensures.line) in
+    let nothing = t.said ∙ ap (λ parts. said_to_all status_answer status_after parts c.next.new.self.reader) (t.all refl) in
+    c.in_default.ensures.ages
+    ∙ sym (ap (λ l. after_saying (is_any l) c.args.device.now.line.greatest c.responses.device.ages) nothing) ∙ c.responses.invariant.ages

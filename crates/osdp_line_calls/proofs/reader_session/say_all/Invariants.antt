@@ -1,7 +1,9 @@
 use Rattle.std.proofs.Common.{◌≡◌, ◌++◌, length, string_bytes}
+use Rattle.osdp_device.specs.Ages.{AgesState, after_saying}
 use Rattle.osdp_frame.specs.Receiving.{Received}
 use Rattle.osdp_device.specs.Status.{status_after, status_answer}
 use Rattle.osdp_device.specs.Telling.{after_items, after_all, items_of, said_to_all}
+use Rattle.osdp_line_calls.specs.ReaderSessions.{is_any}
 use Rattle.osdp_line_calls.specs.ReaderTexts.{all_lines}
 use Rattle.osdp_line_calls.proofs.reader_session.say_all.Given as goal
 
@@ -16,6 +18,10 @@ invariant-responses l = record {
   left : after_all l.device.line.held (items_of l.device.line.held)
       ≡ after_all l.initial.device.line.held (items_of l.initial.device.line.held);
   line : ◌≡◌ {A = Received} l.device.line (record l.initial.device.line { held = l.device.line.held });
+  ages : ◌≡◌ {A = AgesState}
+      (after_saying (is_any (said_to_all status_answer status_after (items_of l.device.line.held) l.device.reader)) l.initial.device.line.greatest l.device.ages)
+      (after_saying (is_any (said_to_all status_answer status_after (items_of l.initial.device.line.held) l.initial.device.reader))
+      l.initial.device.line.greatest l.initial.device.ages);
 }
 
 abbrev pub decreases-responses : goal.decreases-responses
