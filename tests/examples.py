@@ -335,7 +335,7 @@ def refused_order(words):
             os.write(end.end, packet(5, number, code, data))
             asks(end.next_burst()[5:6] == bytes([reply]), f"refused: the reply to {code:02X} is another one")
         line.run(has(reader, "taken OUT 7:2:0"))
-        asks(reader.lines == ["again ID 0", "refused OUT 9:2:0", "taken OUT 7:2:0"], f"refused: the reader tells {reader.lines}")
+        asks(reader.lines == ["again ID 0", "online", "refused OUT 9:2:0", "taken OUT 7:2:0"], f"refused: the reader tells {reader.lines}")
 
 
 def own_calls(words):

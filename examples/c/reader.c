@@ -6,7 +6,8 @@
 #include "port.h"
 #include "words.h"
 
-#define TURN 10 /* how long a read waits, in milliseconds */
+#define TURN 10       /* how long a read waits, in milliseconds */
+#define TOO_OLD 10000 /* how long an event may wait while no panel is there, in milliseconds */
 #define OUTPUTS 8
 
 static const char usage[] =
@@ -20,6 +21,8 @@ static const char usage[] =
     "`moved` is a new address and rate. The file of `--keep` keeps them, before the panel is told, and a reader that starts\n"
     "again is there, whatever its words say. Without such a file it is where its words say, and the panel doesn't find it.\n"
     "`not kept` tells that the file couldn't be written.\n"
+    "`offline` and `online` tell that the panel went and came. Events that have waited for more than 10 s while it was gone\n"
+    "leave: `withdrawn`, or `in doubt` where the panel may have the event.\n"
     "The reader has eight outputs, which an OUT switches; the time of an output is counted here.\n"
     "The file of `--trace` gets each burst, both ways, as `osdp show` reads it.\n"
     "\n"
@@ -159,6 +162,21 @@ static void take_lines(struct lines *lines)
     }
 }
 
+/* Tells whether the panel went or came, and lets events go that have waited for too long while it was gone. */
+static void look(uint64_t now)
+{
+    static bool was_gone = true; /* no panel has been there yet */
+    static struct osdp_message event;
+    uint32_t gone, expired;
+    if (osdp_device_is_offline(&reader, now, &gone) == OSDP_OK && (gone != 0) != was_gone) {
+        was_gone = !was_gone;
+        tell(was_gone ? "offline\n" : "online\n");
+    }
+    while (osdp_device_expire_event(&reader, now, TOO_OLD, &expired, &event) == OSDP_OK && expired != OSDP_EXPIRED_NONE) {
+        tell("%s %s\n", expired == OSDP_EXPIRED_WITHDRAWN ? "withdrawn" : "in doubt", reply_text(&event));
+    }
+}
+
 /* Waits for bytes and for lines, and hands them to the reader. */
 static void turn(struct lines *lines)
 {
@@ -166,12 +184,14 @@ static void turn(struct lines *lines)
     uint8_t bytes[4096];
     size_t count = read_port(port, lines, TURN, bytes, sizeof bytes);
     uint64_t now = moment(); /* after the read: not before it */
+    look(now); /* before anything is heard: so a panel that is back gets no card of long ago */
     tell_outputs(now);
     hear(bytes, count, now);
     take_lines(lines);
     if (osdp_device_tick(&reader, now, &answer) == OSDP_OK) {
         act(&answer, now);
         hear(bytes, 0, now);
+        look(now);
     } else {
         (void)osdp_device_set_moment(&reader, now); /* the program was stopped for more than a day */
     }

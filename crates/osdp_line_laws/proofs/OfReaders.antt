@@ -134,24 +134,22 @@ reader_first : (front : Option Expired) (g : LetGo) → (goes_first front g).rea
 reader_first None g = refl
 reader_first (Some e) g = refl
 
-leave : (n now limit : ℕ) (r : Reader) (a : AgesState) → Leave n now limit r a
-leave zero now limit r a = record { reader = refl; text = refl }
-leave (suc n) now limit r a = record {
-  reader = reader_by (expires now limit (length r.queue.events) a);
-  text = text_by (expires now limit (length r.queue.events) a);
-}
+abbrev later_ages : Reader → AgesState → AgesState
+later_ages r a = after_removal false (length r.queue.events) a
+
+-- one more
+leave_more : (n now limit : ℕ) (r : Reader) (a : AgesState) → Leave n now limit (after_expiry r) (later_ages r a) → Leave (suc n) now limit r a
+leave_more n now limit r a more =
+    record { reader = reader_by (expires now limit (length r.queue.events) a); text = text_by (expires now limit (length r.queue.events) a) }
   where
     rest : LetGo
-    rest = lets_some_go n now limit (after_expiry r) (after_removal false (length r.queue.events) a)
+    rest = lets_some_go n now limit (after_expiry r) (later_ages r a)
 
     step : Step
     step = leaves r.queue.ever_offered
 
     steps : List Step
-    steps = lets_go_steps n now limit (after_expiry r) (after_removal false (length r.queue.events) a)
-
-    more : Leave n now limit (after_expiry r) (after_removal false (length r.queue.events) a)
-    more = leave n now limit (after_expiry r) (after_removal false (length r.queue.events) a)
+    steps = lets_go_steps n now limit (after_expiry r) (later_ages r a)
 
     reader_by : (test : Bool) → (cond test (goes_first (expired_front r.queue) rest) (keeps_all r a)).reader ≡ after_steps (cond test (step ∷ steps) []) r
     reader_by true = reader_first (expired_front r.queue) rest ∙ more.reader ∙ ap (after_steps steps) (after_leaving r)
@@ -162,6 +160,10 @@ leave (suc n) now limit r a = record {
         lines_first (expired_front r.queue) rest
         ∙ (λ i. text_leaving r i ++ (more.text ∙ ap (steps_text steps) (after_leaving r)) i)
     text_by false = refl
+
+leave : (n now limit : ℕ) (r : Reader) (a : AgesState) → Leave n now limit r a
+leave zero now limit r a = record { reader = refl; text = refl }
+leave (suc n) now limit r a = leave_more n now limit r a (leave n now limit (after_expiry r) (later_ages r a))
 
 -- so is all of it
 look : (s : Session) → ((looks s).session.reader ≡ after_steps (looks_steps s) s.reader) × ((looks s).text ≡ steps_text (looks_steps s) s.reader)

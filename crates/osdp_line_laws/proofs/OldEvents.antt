@@ -1,5 +1,5 @@
 -- Events that are too old leave, and they are the oldest.
-use Rattle.std.proofs.Common.{◌≡◌, ◌∙◌, ap, sym, refl, ℕ, zero, suc, ◌≤◌, Bool, true, false, cond, Option, Some, None, option_map, slice_get, List, [], ◌∷◌, ◌++◌, drop, length, map, arith}
+use Rattle.std.proofs.Common.{◌≡◌, ◌∙◌, ap, sym, refl, ℕ, zero, suc, ◌≤◌, Bool, true, false, cond, Option, Some, option_map, slice_get, List, [], ◌∷◌, ◌++◌, drop, length, map, arith}
 use Rattle.osdp_device.specs.Ages.{AgesState, after_expiry, after_removal, expired, expired_front, expires}
 use Rattle.osdp_device.specs.declared.events.Expired.{Expired}
 use Rattle.osdp_device.specs.declared.status.DeviceStatus.{DeviceStatus}
@@ -7,7 +7,6 @@ use Rattle.osdp_msg.specs.declared.event.Event.{Event}
 use Rattle.osdp_reader.specs.State.{ReaderState}
 use Rattle.osdp_line_calls.proofs.LettingGo.{front_gone, none_here}
 use Rattle.osdp_line_calls.specs.ReaderAbsence.{LetGo, goes_first, keeps_all, lets_some_go}
-use Rattle.osdp_line_calls.specs.ReaderSessions.{Session}
 use Rattle.osdp_line_laws.specs.OldEvents.{OldEventsAlwaysLeave, event_of}
 
 abbrev Reader : Type 0
@@ -22,35 +21,34 @@ record Left (n now limit : ℕ) (r : Reader) (a : AgesState) : Type 0 where
   none : let g = lets_some_go n now limit r a in expires now limit (length g.reader.queue.events) g.ages ≡ false
   oldest : let g = lets_some_go n now limit r a in r.queue.events ≡ map event_of g.expired ++ g.reader.queue.events
 
-left : (n now limit : ℕ) (r : Reader) (a : AgesState) → length r.queue.events ≤ n → Left n now limit r a
-left zero now limit r a few = record {
-  none = ap (λ m. expires now limit m a) none_wait ∙ none_here now limit a;
-  oldest = refl;
-}
+left_none : (now limit : ℕ) (r : Reader) (a : AgesState) → length r.queue.events ≤ 0 → Left 0 now limit r a
+left_none now limit r a few =
+    let none_wait : length r.queue.events ≡ 0 = omega (arith, few) in
+    record { none = ap (λ m. expires now limit m a) none_wait ∙ none_here now limit a; oldest = refl }
+
+-- one leaves, and one less waits
+one_less : (n : ℕ) (r : Reader) → length r.queue.events ≤ suc n → length (after_expiry r).queue.events ≤ n
+one_less n r few = by_events r.queue.events refl
   where
-    none_wait : length r.queue.events ≡ 0
-    none_wait = omega (arith, few)
-left (suc n) now limit r a few = record {
+    by_events : (events : List Event) → r.queue.events ≡ events → length (after_expiry r).queue.events ≤ n
+    by_events [] is = let e = ap length (front_gone r) ∙ ap (λ (xs : List Event). length (drop 1 xs)) is in omega (arith, e)
+    by_events (event ∷ later) is =
+        let e = ap length (front_gone r) ∙ ap (λ (xs : List Event). length (drop 1 xs)) is in omega (arith, e, few, ap length is)
+
+abbrev later_ages : Reader → AgesState → AgesState
+later_ages r a = after_removal false (length r.queue.events) a
+
+left_more : (n now limit : ℕ) (r : Reader) (a : AgesState) → Left n now limit (after_expiry r) (later_ages r a) → Left (suc n) now limit r a
+left_more n now limit r a more = record {
   none = none_by (expires now limit (length r.queue.events) a) refl r.queue.events refl;
   oldest = oldest_by (expires now limit (length r.queue.events) a) refl r.queue.events refl;
 }
   where
     rest : LetGo
-    rest = lets_some_go n now limit (after_expiry r) (after_removal false (length r.queue.events) a)
+    rest = lets_some_go n now limit (after_expiry r) (later_ages r a)
 
     whole : Bool → Option Expired → LetGo
     whole test front = cond test (goes_first front rest) (keeps_all r a)
-
-    fewer : length (after_expiry r).queue.events ≤ n
-    fewer = by_events r.queue.events refl
-      where
-        by_events : (events : List Event) → r.queue.events ≡ events → length (after_expiry r).queue.events ≤ n
-        by_events [] is = let e = ap length (front_gone r) ∙ ap (λ (xs : List Event). length (drop 1 xs)) is in omega (arith, e)
-        by_events (event ∷ later) is =
-            let e = ap length (front_gone r) ∙ ap (λ (xs : List Event). length (drop 1 xs)) is in omega (arith, e, few, ap length is)
-
-    more : Left n now limit (after_expiry r) (after_removal false (length r.queue.events) a)
-    more = left n now limit (after_expiry r) (after_removal false (length r.queue.events) a) fewer
 
     none_wait : r.queue.events ≡ [] → expires now limit (length r.queue.events) a ≡ false
     none_wait is = ap (λ (xs : List Event). expires now limit (length xs) a) is ∙ none_here now limit a
@@ -74,6 +72,10 @@ left (suc n) now limit r a few = record {
         sym (front_gone r ∙ ap (drop 1) waits) ∙ more.oldest in
         waits ∙ (λ i. sym (event_told r.queue.ever_offered event) i ∷ told i)
         ∙ sym (ap (λ (f : Option Expired). map event_of (whole true f).expired ++ (whole true f).reader.queue.events) (front event later waits))
+
+left : (n now limit : ℕ) (r : Reader) (a : AgesState) → length r.queue.events ≤ n → Left n now limit r a
+left zero now limit r a few = left_none now limit r a few
+left (suc n) now limit r a few = left_more n now limit r a (left n now limit (after_expiry r) (later_ages r a) (one_less n r few))
 
 pub old_events_leave : OldEventsAlwaysLeave
 old_events_leave later s =

@@ -15,7 +15,6 @@ use Rattle.osdp_line_calls.specs.ReaderLines.{IsAnswered}
 use Rattle.osdp_line_calls.specs.ReaderSessions.{Called, Session, does}
 use Rattle.osdp_line_calls.specs.ReaderTexts.{waiting_line}
 use Rattle.osdp_line_laws.proofs.OfReaders.{call_steps}
-use Rattle.osdp_line_laws.specs.ReaderLines.{after_steps, ordered}
 use Rattle.osdp_line_laws.specs.ReaderRuns.{RunsAreCalls, after_all_said, after_said, all_said_text, line_after, moment_after, said_text, with_bytes}
 
 -- ---- the whole device after a call
