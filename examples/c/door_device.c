@@ -1,7 +1,8 @@
-/* A device with two outputs: `door_device PORT RATE`, at address 5. A line `card 12345640` says that a card was read. Each output that is switched on is
- * printed, and so is a card that was too old: `withdrawn`, or `in doubt` where the panel may have it. */
+/* A device with two outputs: `door_device [--keep FILE] PORT RATE`, at address 5, or where the file has it after a COMSET. A line `card 12345640` says that a
+ * card was read. Each output that is switched on is printed, and so is a card that was too old: `withdrawn`, or `in doubt` where the panel may have it. */
 #include <string.h>
 
+#include "kept.h"
 #include "port.h"
 #include "words.h"
 
@@ -23,6 +24,8 @@ int main(void)
 
 static osdp_device device;
 static int port;
+static uint32_t rate;    /* of the port */
+static const char *kept; /* the file that keeps address and rate, if one is named */
 
 /* An OUT that may not be done is refused before it is answered; one that was confirmed is done. All else is answered as it was set. */
 static void take_out(const struct osdp_message *out, uint32_t order)
@@ -40,8 +43,12 @@ static void take_out(const struct osdp_message *out, uint32_t order)
 /* The device does what it is to do, and then what it says goes out: so an order that is answered was done, also where power is lost in between. */
 static void take_answer(const struct osdp_answer *answer)
 {
+    if (answer->moved) { /* kept before the panel is told, so that it isn't lost with the power */
+        keep(kept, answer->address, has_rate(answer->baud_rate) ? answer->baud_rate : rate);
+    }
     take_out(&answer->command, answer->order);
     write_all(port, &answer->burst);
+    rate = answer->moved && set_rate(port, answer->baud_rate) ? answer->baud_rate : rate;
 }
 
 /* Hands bytes to the device, until nothing is said to them. */
@@ -82,15 +89,17 @@ int main(int count, char **words)
 {
     static struct lines lines;
     static struct osdp_answer answer;
-    const struct osdp_device_config config = { .address = 5, .capacity = 64, .gap = 20, .serial = 1, .product.vendor = { 'S', 'I', 'M' } };
+    struct osdp_device_config config = { .address = 5, .capacity = 64, .gap = 20, .serial = 1, .product.vendor = { 'S', 'I', 'M' } };
     const uint8_t outputs[2] = { 0, 0 };
     uint8_t bytes[4096];
-    words = take_words(&count, words, 2, "door_device PORT RATE\n", NULL);
+    words = take_words(&count, words, 2, "door_device [--keep FILE] PORT RATE\n", &kept);
+    rate = number(words[1], "rate");
+    (void)read_kept(kept, &config.address, &rate);
     osdp_status status = osdp_device_new(&device, &config, outputs, 0);
     if (status != OSDP_OK || osdp_device_set_outputs(&device, outputs, 2) != OSDP_OK) {
         stop(OUT_OF_MEMORY, "%s", osdp_status_text(status));
     }
-    port = open_port(words[0], number(words[1], "rate"));
+    port = open_port(words[0], rate);
     for (;;) {
         size_t length = read_port(port, &lines, 10, bytes, sizeof bytes);
         uint64_t now = moment(); /* after the read: not before it */

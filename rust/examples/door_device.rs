@@ -1,5 +1,5 @@
-//! A device with two outputs: `door_device PORT RATE`, at address 5. A line `card 12345640` is a card. Each output that is switched on is printed, and so is a
-//! card that was too old.
+//! A device with two outputs: `door_device [--keep FILE] PORT RATE`, at address 5, or where the file has it after a COMSET. A line `card 12345640` is a card.
+//! Each output that is switched on is printed, and so is a card that was too old.
 mod port;
 
 use osdp::{
@@ -47,7 +47,7 @@ fn obey(answer: Answer<'_>, port: &mut Port) -> std::io::Result<Option<DeviceAns
         let opens = |record: &Output| record.control == output::ON_FOR_A_TIME;
         command.outputs().filter(opens).for_each(switch);
     }
-    match answer.send(|burst| port.write(burst))? {
+    match port.send(answer)? {
         Some(Order::Pending(command)) => Ok(decide(&command)),
         _ => Ok(None),
     }
@@ -78,7 +78,7 @@ fn let_go(device: &mut Device, now: Moment) -> Done {
 }
 
 fn run(mut port: Port) -> Done {
-    let mut device = Device::new(&DeviceConfig::new(5))?;
+    let mut device = Device::new(&DeviceConfig::new(port.address(5)?))?;
     device.set_outputs(&[0, 0])?;
     loop {
         let came = port.wait(port.now() + TURN)?;

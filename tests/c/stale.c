@@ -45,6 +45,12 @@ bool has_rate(uint32_t rate)
     return rate != 0;
 }
 
+bool set_rate(int port, uint32_t rate)
+{
+    (void)port;
+    return has_rate(rate);
+}
+
 void open_trace(const char *path)
 {
     (void)path;

@@ -54,7 +54,7 @@ fn text_of(id: &PdId) -> String {
 }
 
 /// Puts a text in the place of a file, on the disk, so that a loss of power leaves the one or the other.
-fn keep_text(path: &str, text: &str) -> io::Result<()> {
+pub fn keep_text(path: &str, text: &str) -> io::Result<()> {
     let new = format!("{path}.new");
     let mut file = File::create(&new)?;
     file.write_all(text.as_bytes())?;

@@ -1,10 +1,10 @@
 //! A serial port, a clock, and lines of standard input, by `std` and two calls of the system: `stty` sets the port, and a thread reads it.
 pub mod door;
 
-use osdp::Moment;
+use osdp::{Answer, Moment, Order};
 use std::error::Error;
 use std::ffi::{c_int, c_ulong};
-use std::fs::{File, OpenOptions, TryLockError};
+use std::fs::{self, File, OpenOptions, TryLockError};
 use std::io::{self, BufRead, Read, Write};
 use std::os::fd::AsRawFd;
 use std::os::unix::fs::{MetadataExt, OpenOptionsExt};
@@ -147,6 +147,36 @@ fn taken(path: &str) -> io::Error {
     });
     let owner = owner.unwrap_or_default();
     io::Error::other(format!("another program has the port {path}{owner}"))
+}
+
+/// What a device needs beside it, and a panel doesn't.
+#[allow(dead_code)]
+impl Port {
+    /// The address of a device that keeps its place: the one in the file, to whose rate the port is set, or its first one where nothing was kept yet.
+    pub fn address(&mut self, first: u8) -> Result<u8, Box<dyn Error>> {
+        let text = match self.kept.as_ref().map(fs::read_to_string) {
+            Some(Err(error)) if error.kind() == io::ErrorKind::NotFound => return Ok(first),
+            Some(text) => text?,
+            None => return Ok(first),
+        };
+        let words: Vec<&str> = text.split_whitespace().collect();
+        let [address, rate] = words[..] else {
+            return Err("the kept place can't be read".into());
+        };
+        self.set_rate(rate.parse()?)?;
+        Ok(address.parse()?)
+    }
+
+    /// Sends the answer of a device. Where it has moved, its place is kept before the panel is told, and the port goes to its rate after that.
+    pub fn send(&mut self, answer: Answer<'_>) -> io::Result<Option<Order>> {
+        let moved = answer.moved;
+        if let (Some(to), Some(path)) = (moved, &self.kept) {
+            door::keep_text(path, &format!("{} {}\n", to.address, to.baud_rate))?;
+        }
+        let order = answer.send(|burst| self.write(burst))?;
+        moved.map_or(Ok(()), |to| self.set_rate(to.baud_rate))?;
+        Ok(order)
+    }
 }
 
 /// A device's two numbers, as /proc/locks has them.
