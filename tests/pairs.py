@@ -3,15 +3,18 @@
 
 The programs are those of examples/ and of crates/: a panel that opens a door for two cards, and a device with two outputs, in C, in Rust and in Rattle. Those in
 C and Rust run on a terminal. Those in Rattle are called by lines, as a program on a port calls them. In each pair a card that is unknown opens nothing,
-and each of the two that are known opens the door once."""
+and each of the two that are known opens the door once. Before that each device in C and Rust keeps
+its place over a COMSET, before the panel is told, and starts there again."""
 import os
 import select
 import subprocess
 import sys
+import tempfile
+import termios
 import time
 from pathlib import Path
 
-from terminals import Script, Terminal
+from terminals import Script, Terminal, packet
 
 UNKNOWN, FIRST, SECOND = "11111140", "12345640", "65432180"
 SECONDS = 20  # how long a pair may take at most
@@ -103,6 +106,35 @@ def run(panel, device):
     return f"after {said} cards: {device.take()[1]}"
 
 
+def asked(terminal, *words):
+    """The code of the reply to a packet; none where none comes in time."""
+    os.write(terminal.end, packet(*words))
+    return terminal.next_burst()[5:6] if select.select([terminal.end], [], [], 2)[0] else b""
+
+
+def keeps_place(program):
+    """What is wrong with the place that a device keeps, if anything is."""
+    with tempfile.TemporaryDirectory() as folder:
+        kept = Path(folder) / "place"
+        terminal = Terminal()
+        first = Script(program, "--keep", kept, terminal.path, 9600)
+        answers = [asked(terminal, 5, 0, 0x61, b"\0"), kept.exists(), asked(terminal, 5, 1, 0x6E, bytes([7]) + (19200).to_bytes(4, "little")),
+                   kept.read_text() if kept.exists() else None]
+        first.process.kill()
+        terminal.close()
+        terminal = Terminal()
+        again = Script(program, "--keep", kept, terminal.path, 9600)
+        answers += [asked(terminal, 7, 0, 0x61, b"\0"), asked(terminal, 5, 0, 0x61, b"\0")]
+        terminal.note_rate()
+        again.process.kill()
+        kept.write_text("7\n")
+        ended = subprocess.run([program, "--keep", kept, terminal.path, "9600"], capture_output=True, text=True, timeout=30)
+        terminal.close()
+    if answers != [b"\x45", False, b"\x54", "7 19200\n", b"\x45", b""] or terminal.rate != termios.B19200:
+        return f"it answers {answers}, at rate {terminal.rate}"
+    return None if ended.returncode and "the kept place can't be read" in ended.stderr else f"of a file that keeps something else it says {ended.stderr!r}"
+
+
 def main():
     c, rust, crates = (Path(word) for word in sys.argv[1:])
     ends = {}
@@ -114,6 +146,11 @@ def main():
         program = crates / f"osdp_example_{role}/out/osdp_example_{role}"
         ends[role]["Rattle"] = lambda program=program: ByLines(program)
     faults = 0
+    for name, folder in (("C", c), ("Rust", rust)):
+        why = keeps_place(folder / "door_device")
+        if why:
+            faults += 1
+            print(f"the device in {name} doesn't keep its place: {why}")
     for one, new_panel in ends["panel"].items():
         for other, new_device in ends["device"].items():
             panel, device = new_panel(), new_device()
