@@ -361,22 +361,24 @@ abbrev with_queue : ReaderState DeviceStatus → Received → Held DeviceStatus
 with_queue r l = record { reader = r; line = l }
 
 -- what leaves of so many events at most is taken back by calls
-abbrev AreCalls : ℕ → Received → ReaderState DeviceStatus → LetGo → Type 0
-AreCalls k l r g = AllByRecursion IsWithdrawn g.expired
-    → with_queue g.reader l ≡ device_after_each status_answer status_after (leaving_calls k g.expired) (with_queue r l)
+abbrev IsByCalls : ℕ → Received → ReaderState DeviceStatus → LetGo → Type 0
+IsByCalls k l r g = with_queue g.reader l ≡ device_after_each status_answer status_after (leaving_calls k g.expired) (with_queue r l)
 
 abbrev later_ages : ReaderState DeviceStatus → AgesState → AgesState
 later_ages r a = after_removal false (length r.queue.events) a
 
 left_more : (n k now limit : ℕ) (r : ReaderState DeviceStatus) (l : Received) (a : AgesState)
-    → AreCalls k l (after_expiry r) (lets_some_go n now limit (after_expiry r) (later_ages r a)) → AreCalls k l r (lets_some_go (suc n) now limit r a)
-left_more n k now limit r l a more = by_test (expires now limit (length r.queue.events) a) refl
+    → (AllByRecursion IsWithdrawn (lets_some_go n now limit (after_expiry r) (later_ages r a)).expired
+    → IsByCalls k l (after_expiry r) (lets_some_go n now limit (after_expiry r) (later_ages r a)))
+    → AllByRecursion IsWithdrawn (lets_some_go (suc n) now limit r a).expired
+    → IsByCalls k l r (lets_some_go (suc n) now limit r a)
+left_more n k now limit r l a more none = by_test (expires now limit (length r.queue.events) a) refl none
   where
     rest : LetGo
     rest = lets_some_go n now limit (after_expiry r) (later_ages r a)
 
     by_front : (front : Option Expired) → expired_front r.queue ≡ front → expires now limit (length r.queue.events) a ≡ true
-        → AreCalls k l r (goes_first front rest)
+        → AllByRecursion IsWithdrawn (goes_first front rest).expired → IsByCalls k l r (goes_first front rest)
     by_front None is test known =
         absurd (let stays : expires now limit (length r.queue.events) a ≡ false = none_left now limit r a
         (sym is ∙ ap (λ t. cond t (expired_front r.queue) None) (sym test)) in
@@ -387,13 +389,16 @@ left_more n k now limit r l a more = by_test (expires now limit (length r.queue.
         ∙ ap (λ (q : ReaderState DeviceStatus). device_after_each status_answer status_after (leaving_calls k rest.expired) (with_queue q l)) (withdrawn_is r e is)
 
     by_test : (test : Bool) → expires now limit (length r.queue.events) a ≡ test
-        → AreCalls k l r (cond test (goes_first (expired_front r.queue) rest) (keeps_all r a))
+        → AllByRecursion IsWithdrawn (cond test (goes_first (expired_front r.queue) rest) (keeps_all r a)).expired
+        → IsByCalls k l r (cond test (goes_first (expired_front r.queue) rest) (keeps_all r a))
     by_test true is known = by_front (expired_front r.queue) refl is known
     by_test false is known = refl
 
-left_so : (n k now limit : ℕ) (r : ReaderState DeviceStatus) (l : Received) (a : AgesState) → AreCalls k l r (lets_some_go n now limit r a)
-left_so zero k now limit r l a known = refl
-left_so (suc n) k now limit r l a known = left_more n k now limit r l a (left_so n k now limit (after_expiry r) l (later_ages r a)) known
+left_so : (n k now limit : ℕ) (r : ReaderState DeviceStatus) (l : Received) (a : AgesState)
+    → AllByRecursion IsWithdrawn (lets_some_go n now limit r a).expired → IsByCalls k l r (lets_some_go n now limit r a)
+left_so zero k now limit r l a none = refl
+left_so (suc n) k now limit r l a none =
+    left_more n k now limit r l a (λ known. left_so n k now limit (after_expiry r) l (later_ages r a) known) none
 
 leaving_own : (k : ℕ) (gone : List Expired) → Each (IsOfDevice k) (leaving_calls k gone)
 leaving_own k [] = tt
