@@ -1,5 +1,5 @@
 -- A link whose device lets an event lapse, beside the same link without the lapse.
-use Rattle.std.proofs.Common.{◌≡◌, ◌≢◌, ◌<◌, ℕ, suc, Bool, true, false, List, [], ◌∷◌, ◌++◌, length, Option, Some, None, Ok, Err, refl, sym, subst, ap, inl, inr, arith}
+use Rattle.std.proofs.Common.{◌≡◌, ◌≢◌, ◌<◌, ◌⊎◌, ℕ, suc, Bool, true, false, List, [], ◌∷◌, ◌++◌, length, Option, Some, None, Ok, Err, refl, sym, subst, ap, inl, inr, arith}
 use Rattle.std.specs.Prelude.{◌==◌}
 use Rattle.osdp_frame.specs.Packet.{Packet}
 use Rattle.osdp_msg.specs.declared.command.Command.{Command}
@@ -57,27 +57,31 @@ module _ {H : Type 0} where
     };
   }
 
+  -- a link with the lapse, and one without, in which this event is offered yet
+  abbrev pub DifferFor : Event → Link H → Link H → Type 0
+  DifferFor event lapsed l = (lapsed ≡ l) ⊎ ((rest : List Event) × Offers event rest l × (lapsed ≡ lapses l))
+
   module _ (event : Event) where
     -- what is without the lapse offers the event yet
-    yet : (rest : List Event) (room : ℕ) (l : Link H) → DifferByLapse (lapses (off event rest room l)) (off event rest room l)
-    yet rest room l = inr (event, rest, offers_it event rest room l, refl)
+    yet : (rest : List Event) (room : ℕ) (l : Link H) → DifferFor event (lapses (off event rest room l)) (off event rest room l)
+    yet rest room l = inr (rest, offers_it event rest room l, refl)
 
     module _ (answer_of : H → Command → Answer) (after : H → Command → H) where
       abbrev With : Move H → Link H → Type 0
-      With move l = DifferByLapse (after_move answer_of after move (lapses l)) (after_move answer_of after move l)
+      With move l = DifferFor event (after_move answer_of after move (lapses l)) (after_move answer_of after move l)
 
       submits_so : (refusal : Option ControllerFault) (c : Command) (rest : List Event) (room : ℕ) (l : Link H)
-          → DifferByLapse (link.submits refusal c (lapses (off event rest room l))) (link.submits refusal c (off event rest room l))
+          → DifferFor event (link.submits refusal c (lapses (off event rest room l))) (link.submits refusal c (off event rest room l))
       submits_so (Some fault) c rest room l = yet rest room l
       submits_so None c rest room l = yet rest room (link.submits None c l)
 
       retargets_so : (refusal : Option ControllerFault) (address : ℕ) (rest : List Event) (room : ℕ) (l : Link H)
-          → DifferByLapse (link.retargets refusal address (lapses (off event rest room l))) (link.retargets refusal address (off event rest room l))
+          → DifferFor event (link.retargets refusal address (lapses (off event rest room l))) (link.retargets refusal address (off event rest room l))
       retargets_so (Some fault) address rest room l = yet rest room l
       retargets_so None address rest room l = yet rest room (link.retargets None address l)
 
       queues_so : (one two : Bool) (e : Event) (rest : List Event) (room : ℕ) (l : Link H) → one ≡ false → two ≡ false
-          → DifferByLapse (link.queues two e (lapses (off event rest room l))) (link.queues one e (off event rest room l))
+          → DifferFor event (link.queues two e (lapses (off event rest room l))) (link.queues one e (off event rest room l))
       queues_so false false e rest room l a b = yet (rest ++ e ∷ []) room (record l {
         account = record l.account {
           queued = l.account.queued ++ e ∷ [];
@@ -119,7 +123,7 @@ module _ {H : Type 0} where
           by_command (Err fault) = refl
 
       gets_so : (kind : Kind) (p : Packet) (rest : List Event) (room : ℕ) (l : Link H) → kind ≢ Zero
-          → DifferByLapse (gets_by kind p (lapses (off event rest room l))) (gets_by kind p (off event rest room l))
+          → DifferFor event (gets_by kind p (lapses (off event rest room l))) (gets_by kind p (off event rest room l))
       gets_so Silent p rest room l differs = yet rest room (gets_by Silent p l)
       gets_so Secured p rest room l differs = yet rest room (gets_by Secured p l)
       gets_so Zero p rest room l differs = absurd (differs refl)
@@ -130,14 +134,14 @@ module _ {H : Type 0} where
 
       to_reader_so : (how : Delivery) (ps : List Packet) (rest : List Event) (room : ℕ) (l : Link H)
           → IsNotZeroIf how ps (off event rest room l).reader
-          → DifferByLapse (link.to_reader answer_of after ps how (lapses (off event rest room l))) (link.to_reader answer_of after ps how (off event rest room l))
+          → DifferFor event (link.to_reader answer_of after ps how (lapses (off event rest room l))) (link.to_reader answer_of after ps how (off event rest room l))
       to_reader_so how [] rest room l differs = yet rest room l
       to_reader_so Delivered (p ∷ ps) rest room l differs = gets_so (kind_of l.reader p) p rest room (record l { to_reader = ps }) differs
       to_reader_so Lost (p ∷ ps) rest room l differs = yet rest room (record l { to_reader = ps })
       to_reader_so Repeated (p ∷ ps) rest room l differs = gets_so (kind_of l.reader p) p rest room l differs
 
       to_controller_so : (how : Delivery) (now : ℕ) (ps : List Packet) (rest : List Event) (room : ℕ) (l : Link H)
-          → DifferByLapse (link.to_controller ps how now (lapses (off event rest room l))) (link.to_controller ps how now (off event rest room l))
+          → DifferFor event (link.to_controller ps how now (lapses (off event rest room l))) (link.to_controller ps how now (off event rest room l))
       to_controller_so how now [] rest room l = yet rest room l
       to_controller_so Delivered now (p ∷ ps) rest room l = yet rest room (link.controller_gets p now (record l { to_controller = ps }))
       to_controller_so Lost now (p ∷ ps) rest room l = yet rest room (record l { to_controller = ps })
@@ -164,12 +168,21 @@ module _ {H : Type 0} where
       moves_so (LoseToController place) rest room l stays = yet rest room (after_move answer_of after (LoseToController place) l)
 
   module _ (answer_of : H → Command → Answer) (after : H → Command → H) where
-    pub move_so : (move : Move H) (l : Link H) (event : Event) (rest : List Event) → Offers event rest l → StaysInSession move l
+    pub move_for : (move : Move H) (l : Link H) (event : Event) (rest : List Event) → Offers event rest l → StaysInSession move l
+        → DifferFor event (after_move answer_of after move (lapses l)) (after_move answer_of after move l)
+    move_for move l event rest is stays =
+        let same = is_off event rest l is in
+        subst (λ (m : Link H). DifferFor event (after_move answer_of after move (lapses m)) (after_move answer_of after move m)) same
+        (moves_so event answer_of after move rest l.reader.queue.capacity l (subst (StaysInSession move) (sym same) stays))
+
+    differ_so : (event : Event) (m l : Link H) → DifferFor event m l → DifferByLapse m l
+    differ_so event m l (inl same) = inl same
+    differ_so event m l (inr (rest, offers, lapsed)) = inr (event, rest, offers, lapsed)
+
+    move_so : (move : Move H) (l : Link H) (event : Event) (rest : List Event) → Offers event rest l → StaysInSession move l
         → DifferByLapse (after_move answer_of after move (lapses l)) (after_move answer_of after move l)
     move_so move l event rest is stays =
-        let same = is_off event rest l is in
-        subst (λ (m : Link H). DifferByLapse (after_move answer_of after move (lapses m)) (after_move answer_of after move m)) same
-        (moves_so event answer_of after move rest l.reader.queue.capacity l (subst (StaysInSession move) (sym same) stays))
+        differ_so event (after_move answer_of after move (lapses l)) (after_move answer_of after move l) (move_for move l event rest is stays)
 
     all_so : (moves : List (Move H)) (l : Link H) (event : Event) (rest : List Event) → Offers event rest l → StayInSession answer_of after moves l
         → DifferByLapse (run answer_of after moves (lapses l)) (run answer_of after moves l)

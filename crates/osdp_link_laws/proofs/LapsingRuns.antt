@@ -1,7 +1,7 @@
 -- Lists of moves with lapses: beside each link stands the one in which the event that has lapsed is offered yet, and what holds of a session holds of that.
-use Rattle.std.proofs.Common.{◌≡◌, ◌≢◌, ◌<◌, ◌⊎◌, ℕ, suc, false, cond, List, [], ◌∷◌, length, Option, Some, None, Result, Ok, Err, refl, sym, subst, ap, ◌∙◌, inl, inr, arith}
+use Rattle.std.proofs.Common.{◌≡◌, ◌≢◌, ◌<◌, ◌⊎◌, ℕ, suc, false, cond, List, [], ◌∷◌, ◌++◌, length, Option, Some, None, Result, Ok, Err, refl, sym, subst, ap, ◌∙◌, inl, inr, arith}
 use Rattle.std.proofs.lemmas.List.{append-nil}
-use Rattle.std.specs.Prelude.{IfSome}
+use Rattle.std.specs.Prelude.{IfSome, option_to_list}
 use Rattle.osdp_frame.specs.Packet.{Packet}
 use Rattle.osdp_msg.specs.ReplyTable.{ReplyFits}
 use Rattle.osdp_msg.specs.declared.command.Command.{Command}
@@ -10,6 +10,7 @@ use Rattle.osdp_controller.specs.Machine as controllers
 use Rattle.osdp_controller.specs.declared.config.ControllerConfig.{ControllerConfig}
 use Rattle.osdp_controller.specs.declared.fault.ControllerFault.{ControllerFault}
 use Rattle.osdp_controller_laws.proofs.Closed.{was_closed}
+use Rattle.osdp_reader.specs.Queue.{in_doubt}
 use Rattle.osdp_reader.specs.Table as table
 use Rattle.osdp_reader.specs.Table.{command_in, kind_of, outcome}
 use Rattle.osdp_reader.specs.declared.config.ReaderConfig.{ReaderConfig}
@@ -17,8 +18,8 @@ use Rattle.osdp_reader.specs.declared.handler.Answer.{Answer}
 use Rattle.osdp_reader.specs.declared.kind.Kind.{Kind}
 use Rattle.osdp_reader.specs.declared.kind.Kind.TheVariants.{Silent, Secured, Zero, Repeat, Taken, Busy, Wrong}
 use Rattle.osdp_link_laws.specs.Headline.{EachIsOnce, MaySubmit, MoveFits, SaysWhatFitsIf}
-use Rattle.osdp_link_laws.specs.Lapses.{DifferByLapse, Offers, StaysInSession, lapses}
-use Rattle.osdp_link_laws.specs.LapsingRuns.{AllFit, AreInARowButLapsed, Lapse, LapsingFits, LapsingHoldsOnce, LapsingMove, LeavesRoom, Moves, after_lapsing, run_lapsing}
+use Rattle.osdp_link_laws.specs.Lapses.{Offers, StaysInSession, lapses}
+use Rattle.osdp_link_laws.specs.LapsingRuns.{AllFit, AreInARowButLapsed, Doubtful, Lapse, LapsingFits, LapsingHoldsOnce, LapsingMove, LeavesRoom, Moves, after_lapsing, after_reopen, run_lapsing}
 use Rattle.osdp_link_laws.specs.Link as link
 use Rattle.osdp_link_laws.specs.Link.{Account, Delivered, Delivery, Link, LoseToController, LoseToReader, Lost, Move, Queue as QueueEvent, Reopen, Repeated, RestartController, RestartReader, Retarget, SetBusy, SetHandler, Submit, Tick, ToController, ToReader, Withdraw, WithdrawEvent, after_move, new_account}
 use Rattle.osdp_link_laws.specs.Peers.{ReadEachOther}
@@ -26,7 +27,7 @@ use Rattle.osdp_link_laws.specs.Sessions.{Leaves, queued, submitted}
 use Rattle.osdp_link_laws.proofs.Devices.{IsDevice, move_there}
 use Rattle.osdp_link_laws.proofs.Growing.{GoesOn, Grows, goes_on}
 use Rattle.osdp_link_laws.proofs.InARow.{Assumed, StaysApart, apart_on, assumed_of, begins as begins_so, begins_apart, begins_more, begins_on, begun_again, stays_whole}
-use Rattle.osdp_link_laws.proofs.Lapsing.{is_off, move_so, not_zero_if, off}
+use Rattle.osdp_link_laws.proofs.Lapsing.{DifferFor, is_off, move_for, not_zero_if, off}
 use Rattle.osdp_link_laws.proofs.Lines.{each_rest}
 use Rattle.osdp_link_laws.proofs.Once.{Goes, fresh, is_once, moving}
 use Rattle.osdp_link_laws.proofs.PastOpening.{IsNoReopen, IsNumbered, NoneOfferedOrPast, OpeningIsPast, numbered_goes_on, one_past, past_on}
@@ -36,12 +37,13 @@ use Rattle.osdp_link_laws.proofs.Stages.{Each}
 
 -- ---- sessions in a row
 
-row_on : (t u : Account) (cs : List Command) (es : List Event) (earlier : List Account) → Grows cs es t u → AreInARowButLapsed t earlier
-    → AreInARowButLapsed u earlier
-row_on t u cs es [] grows row = tt
-row_on t u cs es (before ∷ earlier) grows (inl follows, row) = (inl (begins_on (Leaves before) t u cs es grows follows), row)
-row_on t u cs es (before ∷ earlier) grows (inr (waiting, event, rest, left, commands, waits), row) = (
-  inr (waiting, event, rest, left, begins_more waiting t.issued u.issued cs commands grows.issued, begins_more rest t.queued u.queued es waits grows.queued),
+row_on : (t u : Account) (cs : List Command) (es : List Event) (earlier : List Account) (lapsed : List (List Event)) → Grows cs es t u
+    → AreInARowButLapsed t earlier lapsed → AreInARowButLapsed u earlier lapsed
+row_on t u cs es [] lapsed grows row = tt
+row_on t u cs es (before ∷ earlier) [] grows row = absurd row
+row_on t u cs es (before ∷ earlier) (events ∷ lapsed) grows (inl follows, row) = (inl (begins_on (Leaves before) t u cs es grows follows), row)
+row_on t u cs es (before ∷ earlier) (events ∷ lapsed) grows (inr (waiting, event, rest, left, commands, waits, told, tells), row) = (
+  inr (waiting, event, rest, left, begins_more waiting t.issued u.issued cs commands grows.issued, begins_more rest t.queued u.queued es waits grows.queued, told, tells),
   row,
 )
 
@@ -112,7 +114,7 @@ module _ {H : Type 0} (answer_of : H → Command → Answer) (after : H → Comm
   module _ (settings : ReaderConfig) where
     -- ---- the session of a link in which nothing has lapsed yet
 
-    record Lasts (v : Link H) : Type 0 where
+    record Lasts (v : Link H) (lapsed : List (List Event)) : Type 0 where
       fixed : ControllerConfig
       device : fixed.address < 127
       current : IsDevice answer_of after v
@@ -120,20 +122,26 @@ module _ {H : Type 0} (answer_of : H → Command → Answer) (after : H → Comm
       apart : StaysApart v
       past : NoneOfferedOrPast v
       once : EachIsOnce v.earlier
-      row : AreInARowButLapsed v.account v.earlier
+      row : AreInARowButLapsed v.account v.earlier lapsed
 
-    -- with a lapse that nobody has heard of yet, or without
-    abbrev StandsFor : Link H → Link H → Type 0
-    StandsFor v l = (l ≡ v) ⊎ ((event : Event) × (rest : List Event) × Offers event rest v × OpeningIsPast v × (l ≡ lapses v))
+    -- with a lapse that nobody has heard of yet, which was told last, or without
+    abbrev StandsFor : Link H → Link H → List Event → Type 0
+    StandsFor v l lapsed =
+        (l ≡ v)
+        ⊎ ((event : Event) × (rest : List Event) × Offers event rest v × OpeningIsPast v × (l ≡ lapses v)
+        × (told : List Event) × (lapsed ≡ told ++ event ∷ []))
 
-    record Held (l : Link H) : Type 0 where
+    record HeldWith (l : Link H) (lapsed : List Event) (before : List (List Event)) : Type 0 where
       without : Link H
-      lasts : Lasts without
-      stands_for : StandsFor without l
+      lasts : Lasts without before
+      stands_for : StandsFor without l lapsed
 
-    lasts_on : Assumed answer_of after settings → (move : Move H) (v : Link H) → GoesOn move → MoveFits answer_of after move v → Lasts v
-        → Lasts (after_move answer_of after move v)
-    lasts_on given move v on fits h =
+    abbrev Held : Doubtful H → Type 0
+    Held d = HeldWith d.link d.lapsed d.lapsed_before
+
+    lasts_on : Assumed answer_of after settings → (move : Move H) (v : Link H) (lapsed : List (List Event)) → GoesOn move → MoveFits answer_of after move v → Lasts v lapsed
+        → Lasts (after_move answer_of after move v) lapsed
+    lasts_on given move v lapsed on fits h =
         let new = after_move answer_of after move v in
         let grows = goes_on answer_of after move v on in
         record {
@@ -144,57 +152,62 @@ module _ {H : Type 0} (answer_of : H → Command → Answer) (after : H → Comm
           apart = apart_on answer_of after settings move v on h.apart;
           past = one_past answer_of after settings move v (h.fixed, h.goes) h.past;
           once = subst EachIsOnce (sym grows.1) h.once;
-          row = subst (AreInARowButLapsed new.account) (sym grows.1) (row_on v.account new.account (submitted move v) (queued move v) v.earlier grows.0 h.row);
+          row = subst (λ earlier. AreInARowButLapsed new.account earlier lapsed) (sym grows.1)
+              (row_on v.account new.account (submitted move v) (queued move v) v.earlier lapsed grows.0 h.row);
         }
 
     -- ---- a session begins again
 
-    reopens_so : (refusal : Option ControllerFault) (ps qs : List Packet) (now : ℕ) (v : Link H) → controllers.begin_refusal v.controller ≡ refusal
-        → v.to_reader ≡ ps → v.to_controller ≡ qs → Lasts v → Lasts (link.reopens refusal ps qs now v)
-    reopens_so (Some fault) ps qs now v may here there h = h
-    reopens_so None (p ∷ ps) qs now v may here there h = h
-    reopens_so None [] (q ∷ qs) now v may here there h = h
-    reopens_so None [] [] now v may here there h = record {
-      fixed = v.controller.session.config;
-      device = h.current;
-      current = h.current;
-      goes = begun_again answer_of after settings h.fixed now v h.goes here there;
-      apart = begins_apart v.reader.queue;
-      past = inl refl;
-      once = (is_once h.fixed answer_of after settings v (stays_whole v h.apart) h.goes, h.once);
-      row = (
-        inl (
-          v.controller.waiting,
-          v.reader.queue.events,
-          leaves h.fixed answer_of after settings v h.goes (was_closed v.controller.session.state may),
-          ([], sym (append-nil v.controller.waiting)),
-          ([], sym (append-nil v.reader.queue.events)),
-        ),
-        h.row,
-      );
+    reopens_so : (refusal : Option ControllerFault) (ps qs : List Packet) (now : ℕ) (v : Link H) (d : Doubtful H) → controllers.begin_refusal v.controller ≡ refusal
+        → v.to_reader ≡ ps → v.to_controller ≡ qs → Lasts v d.lapsed_before → Held (after_reopen answer_of after refusal ps qs (link.reopens refusal ps qs now v) d)
+    reopens_so (Some fault) ps qs now v d may here there h = record { without = v; lasts = h; stands_for = inl refl }
+    reopens_so None (p ∷ ps) qs now v d may here there h = record { without = v; lasts = h; stands_for = inl refl }
+    reopens_so None [] (q ∷ qs) now v d may here there h = record { without = v; lasts = h; stands_for = inl refl }
+    reopens_so None [] [] now v d may here there h = record {
+      without = link.reopens None [] [] now v;
+      lasts = record {
+        fixed = v.controller.session.config;
+        device = h.current;
+        current = h.current;
+        goes = begun_again answer_of after settings h.fixed now v h.goes here there;
+        apart = begins_apart v.reader.queue;
+        past = inl refl;
+        once = (is_once h.fixed answer_of after settings v (stays_whole v h.apart) h.goes, h.once);
+        row = (
+          inl (
+            v.controller.waiting,
+            v.reader.queue.events,
+            leaves h.fixed answer_of after settings v h.goes (was_closed v.controller.session.state may),
+            ([], sym (append-nil v.controller.waiting)),
+            ([], sym (append-nil v.reader.queue.events)),
+          ),
+          h.row,
+        );
+      };
+      stands_for = inl refl;
     }
 
     -- .. after a lapse: without the event
-    reopens_lapsed : (refusal : Option ControllerFault) (ps qs : List Packet) (now : ℕ) (event : Event) (rest : List Event) (room : ℕ) (v : Link H)
+    reopens_lapsed : (refusal : Option ControllerFault) (ps qs : List Packet) (now : ℕ) (event : Event) (rest : List Event) (room : ℕ) (v : Link H) (d : Doubtful H)
         → controllers.begin_refusal v.controller ≡ refusal → v.to_reader ≡ ps → v.to_controller ≡ qs
-        → OpeningIsPast (off event rest room v) → Lasts (off event rest room v)
-        → Held (link.reopens refusal ps qs now (lapses (off event rest room v)))
-    reopens_lapsed (Some fault) ps qs now event rest room v may here there past h = record {
+        → OpeningIsPast (off event rest room v) → Lasts (off event rest room v) d.lapsed_before → (told : List Event) → d.lapsed ≡ told ++ event ∷ []
+        → Held (after_reopen answer_of after refusal ps qs (link.reopens refusal ps qs now (lapses (off event rest room v))) d)
+    reopens_lapsed (Some fault) ps qs now event rest room v d may here there past h told tells = record {
       without = off event rest room v;
       lasts = h;
-      stands_for = inr (event, rest, record { events = refl; offered = refl; ever_offered = refl }, past, refl);
+      stands_for = inr (event, rest, record { events = refl; offered = refl; ever_offered = refl }, past, refl, told, tells);
     }
-    reopens_lapsed None (p ∷ ps) qs now event rest room v may here there past h = record {
+    reopens_lapsed None (p ∷ ps) qs now event rest room v d may here there past h told tells = record {
       without = off event rest room v;
       lasts = h;
-      stands_for = inr (event, rest, record { events = refl; offered = refl; ever_offered = refl }, past, refl);
+      stands_for = inr (event, rest, record { events = refl; offered = refl; ever_offered = refl }, past, refl, told, tells);
     }
-    reopens_lapsed None [] (q ∷ qs) now event rest room v may here there past h = record {
+    reopens_lapsed None [] (q ∷ qs) now event rest room v d may here there past h told tells = record {
       without = off event rest room v;
       lasts = h;
-      stands_for = inr (event, rest, record { events = refl; offered = refl; ever_offered = refl }, past, refl);
+      stands_for = inr (event, rest, record { events = refl; offered = refl; ever_offered = refl }, past, refl, told, tells);
     }
-    reopens_lapsed None [] [] now event rest room v may here there past h =
+    reopens_lapsed None [] [] now event rest room v d may here there past h told tells =
         let u = off event rest room v in
         let next = link.reopens None [] [] now (lapses u) in
         record {
@@ -222,6 +235,8 @@ module _ {H : Type 0} (answer_of : H → Command → Answer) (after : H → Comm
                 leaves h.fixed answer_of after settings u h.goes (was_closed v.controller.session.state may),
                 ([], sym (append-nil v.controller.waiting)),
                 ([], sym (append-nil rest)),
+                told,
+                tells,
               ),
               h.row,
             );
@@ -229,57 +244,56 @@ module _ {H : Type 0} (answer_of : H → Command → Answer) (after : H → Comm
           stands_for = inl refl;
         }
 
-    reopens_held : (now : ℕ) (l : Link H) → Held l → Held (after_move answer_of after (Reopen now) l)
-    reopens_held now l h = by_rel h.stands_for
+    reopens_held : (now : ℕ) (d : Doubtful H) → Held d → Held (after_lapsing answer_of after (Moves (Reopen now)) d)
+    reopens_held now d h = by_rel h.stands_for
       where
-        by_rel : StandsFor h.without l → Held (after_move answer_of after (Reopen now) l)
+        by_rel : StandsFor h.without d.link d.lapsed → Held (after_lapsing answer_of after (Moves (Reopen now)) d)
         by_rel (inl same) =
             let v = h.without in
-            subst (λ (m : Link H). Held (after_move answer_of after (Reopen now) m)) (sym same) (record {
-              without = after_move answer_of after (Reopen now) v;
-              lasts = reopens_so (controllers.begin_refusal v.controller) v.to_reader v.to_controller now v refl refl refl h.lasts;
-              stands_for = inl refl;
-            })
-        by_rel (inr (event, rest, offers, past, same)) =
+            subst (λ (m : Link H). Held (after_lapsing answer_of after (Moves (Reopen now)) (record d { link = m }))) (sym same)
+            (reopens_so (controllers.begin_refusal v.controller) v.to_reader v.to_controller now v (record d { link = v }) refl refl refl h.lasts)
+        by_rel (inr (event, rest, offers, past, same, told, tells)) =
             let v = h.without in
             let room = v.reader.queue.capacity in
             let is = is_off event rest v offers in
-            subst (λ (m : Link H). Held (after_move answer_of after (Reopen now) m)) (sym same)
-            (subst (λ (m : Link H). Held (after_move answer_of after (Reopen now) (lapses m))) is
-            (reopens_lapsed (controllers.begin_refusal v.controller) v.to_reader v.to_controller now event rest room v refl refl refl
-            (subst OpeningIsPast (sym is) past) (subst Lasts (sym is) h.lasts)))
+            subst (λ (m : Link H). Held (after_lapsing answer_of after (Moves (Reopen now)) (record d { link = m }))) (sym same)
+            (subst (λ (m : Link H). Held (after_lapsing answer_of after (Moves (Reopen now)) (record d { link = lapses m }))) is
+            (reopens_lapsed (controllers.begin_refusal v.controller) v.to_reader v.to_controller now event rest room v
+            (record d { link = lapses (off event rest room v) }) refl refl refl
+            (subst OpeningIsPast (sym is) past) (subst (λ (m : Link H). Lasts m d.lapsed_before) (sym is) h.lasts) told tells))
 
     -- ---- a move within the session
 
-    moves_held : Assumed answer_of after settings → (move : Move H) (l : Link H) → GoesOn move → IsNoReopen move → MoveFits answer_of after move l
-        → LeavesRoom answer_of after move l → Held l → Held (after_move answer_of after move l)
-    moves_held given move l on same_session fits leaves_room h = by_rel h.stands_for
+    moves_held : Assumed answer_of after settings → (move : Move H) (l : Link H) (lapsed : List Event) (before : List (List Event)) → GoesOn move → IsNoReopen move
+        → MoveFits answer_of after move l → LeavesRoom answer_of after move l → HeldWith l lapsed before
+        → HeldWith (after_move answer_of after move l) lapsed before
+    moves_held given move l lapsed before on same_session fits leaves_room h = by_rel h.stands_for
       where
-        by_rel : StandsFor h.without l → Held (after_move answer_of after move l)
+        by_step : (next m : Link H) → OpeningIsPast next → (told : List Event) (event : Event) → lapsed ≡ told ++ event ∷ [] → DifferFor event m next
+            → StandsFor next m lapsed
+        by_step next m later told event tells (inl equal) = inl equal
+        by_step next m later told event tells (inr (rest, offers_on, equal)) = inr (event, rest, offers_on, later, equal, told, tells)
+
+        by_rel : StandsFor h.without l lapsed → HeldWith (after_move answer_of after move l) lapsed before
         by_rel (inl same) =
             let v = h.without in
-            subst (λ (m : Link H). Held (after_move answer_of after move m)) (sym same) (record {
+            subst (λ (m : Link H). HeldWith (after_move answer_of after move m) lapsed before) (sym same) (record {
               without = after_move answer_of after move v;
-              lasts = lasts_on given move v on (subst (MoveFits answer_of after move) same fits) h.lasts;
+              lasts = lasts_on given move v before on (subst (MoveFits answer_of after move) same fits) h.lasts;
               stands_for = inl refl;
             })
-        by_rel (inr (event, rest, offers, past, same)) =
+        by_rel (inr (event, rest, offers, past, same, told, tells)) =
             let v = h.without in
             let asked = asked_without move event rest v offers past.frames same_session (subst (MoveFits answer_of after move) same fits)
             (subst (LeavesRoom answer_of after move) same leaves_room) in
             let next = after_move answer_of after move v in
             let later = past_on answer_of after move v same_session past in
-            let differs = move_so answer_of after move v event rest offers asked.1 in
-            subst (λ (m : Link H). Held (after_move answer_of after move m)) (sym same) (record {
+            subst (λ (m : Link H). HeldWith (after_move answer_of after move m) lapsed before) (sym same) (record {
               without = next;
-              lasts = lasts_on given move v on asked.0 h.lasts;
-              stands_for = by_step next later differs;
+              lasts = lasts_on given move v before on asked.0 h.lasts;
+              stands_for = by_step next (after_move answer_of after move (lapses v)) later told event tells
+                  (move_for answer_of after move v event rest offers asked.1);
             })
-          where
-            by_step : (next : Link H) → OpeningIsPast next → DifferByLapse (after_move answer_of after move (lapses h.without)) next
-                → StandsFor next (after_move answer_of after move (lapses h.without))
-            by_step next later (inl equal) = inl equal
-            by_step next later (inr (e, more, offers_on, equal)) = inr (e, more, offers_on, later, equal)
 
     -- ---- a lapse
 
@@ -296,66 +310,87 @@ module _ {H : Type 0} (answer_of : H → Command → Answer) (after : H → Comm
           };
         }) never
 
-    lapses_twice : (event : Event) (rest : List Event) (v : Link H) → Offers event rest v → lapses (lapses v) ≡ lapses v
-    lapses_twice event rest v offers = subst (λ (m : Link H). lapses (lapses m) ≡ lapses m) (is_off event rest v offers) refl
+    lapses_twice : (event : Event) (rest : List Event) (v : Link H) → Offers event rest v
+        → (lapses (lapses v) ≡ lapses v) × (option_to_list (in_doubt (lapses v).reader.queue) ≡ []) × (option_to_list (in_doubt v.reader.queue) ≡ event ∷ [])
+    lapses_twice event rest v offers =
+        subst (λ (m : Link H). (lapses (lapses m) ≡ lapses m) × (option_to_list (in_doubt (lapses m).reader.queue) ≡ [])
+        × (option_to_list (in_doubt m.reader.queue) ≡ event ∷ [])) (is_off event rest v offers) (refl, refl, refl)
 
-    lapse_held : (l : Link H) → LapsingFits answer_of after Lapse l → Held l → Held (lapses l)
-    lapse_held l fits h = by_rel h.stands_for
+    lapse_held : (d : Doubtful H) → LapsingFits answer_of after Lapse d.link → Held d → Held (after_lapsing answer_of after Lapse d)
+    lapse_held d fits h = by_rel h.stands_for
       where
-        by_past : (event : Event) (rest : List Event) → Offers event rest h.without → h.without.account.offered ≢ [] → NoneOfferedOrPast h.without
-            → StandsFor h.without (lapses h.without)
-        by_past event rest offers some (inl none) = absurd (some none)
-        by_past event rest offers some (inr past) = inr (event, rest, offers, past, refl)
+        v : Link H
+        v = h.without
 
-        by_fits : LapsingFits answer_of after Lapse h.without → StandsFor h.without (lapses h.without)
-        by_fits (inl never) = inl (nothing_lapses h.without never)
+        by_past : (event : Event) (rest : List Event) → Offers event rest v → v.account.offered ≢ [] → NoneOfferedOrPast v
+            → StandsFor v (lapses v) (d.lapsed ++ option_to_list (in_doubt v.reader.queue))
+        by_past event rest offers some (inl none) = absurd (some none)
+        by_past event rest offers some (inr past) =
+            inr (event, rest, offers, past, refl, d.lapsed, ap (λ es. d.lapsed ++ es) (lapses_twice event rest v offers).2)
+
+        by_fits : LapsingFits answer_of after Lapse v → StandsFor v (lapses v) (d.lapsed ++ option_to_list (in_doubt v.reader.queue))
+        by_fits (inl never) = inl (nothing_lapses v never)
         by_fits (inr (event, rest, offers, some)) = by_past event rest offers some h.lasts.past
 
-        by_rel : StandsFor h.without l → Held (lapses l)
-        by_rel (inl same) = subst (λ (m : Link H). Held (lapses m)) (sym same) (record {
-          without = h.without;
-          lasts = h.lasts;
-          stands_for = by_fits (subst (LapsingFits answer_of after Lapse) same fits);
-        })
-        by_rel (inr (event, rest, offers, past, same)) = record {
-          without = h.without;
-          lasts = h.lasts;
-          stands_for = inr (event, rest, offers, past, ap lapses same ∙ lapses_twice event rest h.without offers);
-        }
+        by_rel : StandsFor v d.link d.lapsed → HeldWith (lapses d.link) (d.lapsed ++ option_to_list (in_doubt d.link.reader.queue)) d.lapsed_before
+        by_rel (inl same) =
+            subst (λ (m : Link H). HeldWith (lapses m) (d.lapsed ++ option_to_list (in_doubt m.reader.queue)) d.lapsed_before) (sym same) (record {
+              without = v;
+              lasts = h.lasts;
+              stands_for = by_fits (subst (LapsingFits answer_of after Lapse) same fits);
+            })
+        by_rel (inr (event, rest, offers, past, same, told, tells)) =
+            let twice = lapses_twice event rest v offers in
+            record {
+              without = v;
+              lasts = h.lasts;
+              stands_for = inr (
+                event,
+                rest,
+                offers,
+                past,
+                ap lapses same ∙ twice.0,
+                told,
+                ap (λ (m : Link H). d.lapsed ++ option_to_list (in_doubt m.reader.queue)) same ∙ ap (λ es. d.lapsed ++ es) twice.1 ∙ append-nil d.lapsed ∙ tells,
+              );
+            }
 
     -- ---- all moves
 
-    one_held : Assumed answer_of after settings → (move : LapsingMove H) (l : Link H) → LapsingFits answer_of after move l → Held l
-        → Held (after_lapsing answer_of after move l)
-    one_held given Lapse l fits h = lapse_held l fits h
-    one_held given (Moves (Reopen now)) l fits h = reopens_held now l h
-    one_held given (Moves move) l fits h = moves_held given move l tt tt fits.0 fits.1 h
+    one_held : Assumed answer_of after settings → (move : LapsingMove H) (d : Doubtful H) → LapsingFits answer_of after move d.link → Held d
+        → Held (after_lapsing answer_of after move d)
+    one_held given Lapse d fits h = lapse_held d fits h
+    one_held given (Moves (Reopen now)) d fits h = reopens_held now d h
+    one_held given (Moves move) d fits h = moves_held given move d.link d.lapsed d.lapsed_before tt tt fits.0 fits.1 h
 
-    all_held : Assumed answer_of after settings → (moves : List (LapsingMove H)) (l : Link H) → AllFit answer_of after moves l → Held l
-        → Held (run_lapsing answer_of after moves l)
-    all_held given [] l fits h = h
-    all_held given (move ∷ moves) l fits h =
-        all_held given moves (after_lapsing answer_of after move l) fits.1 (one_held given move l fits.0 h)
+    all_held : Assumed answer_of after settings → (moves : List (LapsingMove H)) (d : Doubtful H) → AllFit answer_of after moves d → Held d
+        → Held (run_lapsing answer_of after moves d)
+    all_held given [] d fits h = h
+    all_held given (move ∷ moves) d fits h =
+        all_held given moves (after_lapsing answer_of after move d) fits.1 (one_held given move d fits.0 h)
 
-    is_held : (l : Link H) → Held l → EachIsOnce (l.account ∷ l.earlier) × AreInARowButLapsed l.account l.earlier
-    is_held l h = by_rel h.stands_for
+    is_held : (d : Doubtful H) → Held d → EachIsOnce (d.link.account ∷ d.link.earlier) × AreInARowButLapsed d.link.account d.link.earlier d.lapsed_before
+    is_held d h = by_rel h.stands_for
       where
-        holds : EachIsOnce (h.without.account ∷ h.without.earlier) × AreInARowButLapsed h.without.account h.without.earlier
+        holds : EachIsOnce (h.without.account ∷ h.without.earlier) × AreInARowButLapsed h.without.account h.without.earlier d.lapsed_before
         holds = (
           (is_once h.lasts.fixed answer_of after settings h.without (stays_whole h.without h.lasts.apart) h.lasts.goes, h.lasts.once),
           h.lasts.row,
         )
 
-        by_rel : StandsFor h.without l → EachIsOnce (l.account ∷ l.earlier) × AreInARowButLapsed l.account l.earlier
-        by_rel (inl same) = subst (λ (m : Link H). EachIsOnce (m.account ∷ m.earlier) × AreInARowButLapsed m.account m.earlier) (sym same) holds
-        by_rel (inr (event, rest, offers, past, same)) =
-            subst (λ (m : Link H). EachIsOnce (m.account ∷ m.earlier) × AreInARowButLapsed m.account m.earlier) (sym same) holds
+        by_rel : StandsFor h.without d.link d.lapsed
+            → EachIsOnce (d.link.account ∷ d.link.earlier) × AreInARowButLapsed d.link.account d.link.earlier d.lapsed_before
+        by_rel (inl same) =
+            subst (λ (m : Link H). EachIsOnce (m.account ∷ m.earlier) × AreInARowButLapsed m.account m.earlier d.lapsed_before) (sym same) holds
+        by_rel (inr (event, rest, offers, past, same, told, tells)) =
+            subst (λ (m : Link H). EachIsOnce (m.account ∷ m.earlier) × AreInARowButLapsed m.account m.earlier d.lapsed_before) (sym same) holds
 
   pub lapsing_holds_once : ReadEachOther answer_of after → LapsingHoldsOnce answer_of after
   lapsing_holds_once peers first moves begin fits =
       let s = begins_so answer_of after first begin in
       let settings = first.reader.config in
-      is_held settings (run_lapsing answer_of after moves first) (all_held settings (assumed_of answer_of after peers first) moves first fits (record {
+      let start : Doubtful H = record { link = first; lapsed = []; lapsed_before = [] } in
+      is_held settings (run_lapsing answer_of after moves start) (all_held settings (assumed_of answer_of after peers first) moves start fits (record {
         without = first;
         lasts = record {
           fixed = s.fixed;
@@ -365,7 +400,7 @@ module _ {H : Type 0} (answer_of : H → Command → Answer) (after : H → Comm
           apart = s.apart;
           past = inl (ap (λ (t : Account). t.offered) begin.account);
           once = s.once;
-          row = subst (AreInARowButLapsed first.account) (sym begin.earlier) tt;
+          row = subst (λ earlier. AreInARowButLapsed first.account earlier []) (sym begin.earlier) tt;
         };
         stands_for = inl refl;
       }))

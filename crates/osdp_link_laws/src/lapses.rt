@@ -23,8 +23,9 @@ pub fn nobody_hears_a_lapse<H: Handler>()
 }
 
 /// A link whose device lets events lapse that it has offered in their session, any number of them: in each session commands are taken once and in
-/// order and events are reported once and in order, as without lapses. A session begins with what the one before it leaves, or with all of that but
-/// the event in front, which has lapsed. So an event that has lapsed is reported once in its session at most, and in no session after it.
+/// order and events are reported once and in order, as without lapses. Each lapse tells its event as in doubt. A session begins with what the one before
+/// it leaves, or with all of that but the event in front, which has lapsed last in that one. So an event that has lapsed is told once as in doubt, is
+/// reported once in its session at most, and is in no session after it; and no event is left out that has not lapsed.
 ///
 /// Asked is that each event that is queued leaves room for one more, and that no event lapses that was offered in an earlier session alone.
 pub fn holds_once_with_lapses<H: Handler>()
