@@ -14,4 +14,5 @@ pub mod Remembering
 pub mod Missing
 pub mod Telling
 pub mod Naming
+pub mod Noticing
 pub mod FittingReplies

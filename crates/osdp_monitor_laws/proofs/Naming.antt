@@ -131,14 +131,15 @@ done a q line r above from says number known is =
     (subst (λ s. IsDone q (after_reply_of s k q r)) (sym says) (done_own k q r above known number))))
 
 -- the packet after it
-record IsFresh (n : ℕ) (q : Packet) (k : Known) : Type 0 where
-  last : k.last ≡ Some q
-  replied : k.replied ≡ false
-  answered : k.answered ≡ false
-  taken : (k.taken ≡ Some n) ⊎ ((q.sequence ≡ 0) × (k.taken ≡ None))
-  earlier : k.earlier ≡ None
-  owing : k.owing ≡ false
-  settled : k.settled ≡ true
+pub record IsFresh (n : ℕ) (q : Packet) (k : Known) : Type 0 where
+  pub last : k.last ≡ Some q
+  pub replied : k.replied ≡ false
+  pub answered : k.answered ≡ false
+  pub taken : (k.taken ≡ Some n) ⊎ ((q.sequence ≡ 0) × (k.taken ≡ None))
+  pub earlier : k.earlier ≡ None
+  pub owing : k.owing ≡ false
+  pub settled : k.settled ≡ true
+  pub missed : k.missed ≡ false
 
 fresh_taken : (p : Packet) (k : Known) (q : Packet) (n : ℕ) → k.replied ≡ true → k.taken ≡ Some n
     → (cond (keeps_number p k q) k.taken None ≡ Some n) ⊎ ((q.sequence ≡ 0) × (cond (keeps_number p k q) k.taken None ≡ None))
@@ -171,6 +172,7 @@ fresh_sent k p q (Some old) last other done asks silent =
       earlier = left;
       owing = ap (λ o. is_number o q.sequence) left;
       settled = refl;
+      missed = not_from_true k.replied done.replied;
     })
 
 fresh : (a : ℕ) (p : Packet) (line : Knowledge) (q : Packet) → IsTo a q → q.sequence ≢ p.sequence → IsDone p (line.devices a)
@@ -204,7 +206,7 @@ module _ (line : Knowledge) (a : ℕ) (e : Exchange) (is : Happens a line e) whe
   line6 : Knowledge
   line6 = after_packet line5 e.last
 
-  line7 : Knowledge
+  pub line7 : Knowledge
   line7 = after_items line6 e.since
 
   to_last_items : List RunItem
@@ -216,7 +218,7 @@ module _ (line : Knowledge) (a : ℕ) (e : Exchange) (is : Happens a line e) whe
   to_second_items : List RunItem
   to_second_items = PacketItem e.second ∷ (e.to_reply ++ PacketItem e.reply ∷ (e.to_last ++ PacketItem e.last ∷ e.since))
 
-  whole : after_items line (items_of e) ≡ line7
+  pub whole : after_items line (items_of e) ≡ line7
   unfolding line0 line1 line2 line3 line4 line5 line6 line7 to_last_items to_reply_items to_second_items
   whole =
       after_one line (PacketItem e.first) (e.to_second ++ to_second_items)
@@ -226,7 +228,7 @@ module _ (line : Knowledge) (a : ℕ) (e : Exchange) (is : Happens a line e) whe
       ∙ after_one line3 (PacketItem e.reply) (e.to_last ++ to_last_items)
       ∙ after_append line4 e.to_last to_last_items ∙ after_one line5 (PacketItem e.last) e.since
 
-  is_fresh : IsFresh e.second.sequence e.last (line7.devices a)
+  pub is_fresh : IsFresh e.second.sequence e.last (line7.devices a)
   unfolding line0 line1 line2 line3 line4 line5 line6 line7 to_last_items to_reply_items to_second_items
   is_fresh =
       let rest1 = forgotten_append a line0 e.to_second to_second_items is.nothing.1 in
@@ -248,10 +250,10 @@ module _ (n : ℕ) (q : Packet) (k : Known) (known : IsFresh n q k) (r : Packet)
       and_right (tells_number (said r) r.sequence) (not k.settled || is_number k.earlier r.sequence)
       (or_from (not k.settled) (is_number k.earlier r.sequence) (not_from_true k.settled known.settled) (ap (λ o. is_number o r.sequence) known.earlier))
 
-  in_time : is_late k q r ≡ false
+  pub in_time : is_late k q r ≡ false
   in_time = and_left (has_earlier_number k r) (not (eqb r.sequence q.sequence)) none_earlier
 
-  heard : is_unheard k q r ≡ false
+  pub heard : is_unheard k q r ≡ false
   heard =
       and_left (is_answer (said r) && k.answered) (eqb r.sequence (next_sequence q.sequence)) (and_right (is_answer (said r)) k.answered known.answered)
 

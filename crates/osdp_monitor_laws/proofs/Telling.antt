@@ -172,7 +172,7 @@ late_told k q r None none late settled =
     cond-true (is_late k q r) (Some (late_notice k)) _ late ∙ ap Some (cond-true k.settled Late Unsure settled)
 
 -- what is found in a reply from the address
-reply_found : (P : Found → Type 0) (line : Knowledge) (a : ℕ) (q r : Packet) → IsFrom a r → a ≢ 127 → is_foreign r ≡ false → (line.devices a).last ≡ Some q
+pub reply_found : (P : Found → Type 0) (line : Knowledge) (a : ℕ) (q r : Packet) → IsFrom a r → a ≢ 127 → is_foreign r ≡ false → (line.devices a).last ≡ Some q
     → P (found_in_reply (Some q) (line.devices a) r) → P (found_in line r)
 reply_found P line a q r from device plain last holds =
     let k = line.devices r.address in

@@ -5,3 +5,4 @@ pub use Rattle.osdp_monitor_laws.specs.Late.{TellsLateAnswers}
 pub use Rattle.osdp_monitor_laws.specs.Names.{MissesNoPacketOutOfTurn, NamesReaders, NamesSecondReplies}
 pub use Rattle.osdp_monitor_laws.specs.PanelLine.{AccusesNoPanel}
 pub use Rattle.osdp_monitor_laws.specs.ReaderLine.{AccusesNoReader}
+pub use Rattle.osdp_monitor_laws.specs.Notices.{TellsOpenings, TellsRestarts, TellsUnanswered}

@@ -4,4 +4,5 @@ pub mod PanelLine
 pub mod Misses
 pub mod Late
 pub mod Names
+pub mod Notices
 pub mod Laws

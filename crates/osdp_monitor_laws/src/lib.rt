@@ -2,7 +2,7 @@
 //! their contracts are laws.
 #![tactic(auto)]
 
-ghost use Rattle.osdp_monitor_laws.specs.Laws.{AccusesNoPanel, AccusesNoReader, AccusesNoReaderByTheRules, MissesNoOtherPacket, MissesNoOtherReply, MissesNoPacketOutOfTurn, MissesNoUnanswered, NamesReaders, NamesSecondReplies, TellsLateAnswers};
+ghost use Rattle.osdp_monitor_laws.specs.Laws.{AccusesNoPanel, AccusesNoReader, AccusesNoReaderByTheRules, MissesNoOtherPacket, MissesNoOtherReply, MissesNoPacketOutOfTurn, MissesNoUnanswered, NamesReaders, NamesSecondReplies, TellsLateAnswers, TellsOpenings, TellsRestarts, TellsUnanswered};
 
 use osdp_reader::Handler;
 
@@ -60,4 +60,19 @@ pub fn names_readers()
 /// Where nothing was forgotten since, one more reply to a packet after one that was answered is accused as a second reply.
 pub fn names_second_replies()
     ensures { NamesSecondReplies }
+{}
+
+/// Where nothing was forgotten since, NAK 4 to a packet after one that was answered is told as a restart.
+pub fn tells_restarts()
+    ensures { TellsRestarts }
+{}
+
+/// Where nothing was forgotten since, an answer to number 0 after a packet that was answered is told as the opening of a session.
+pub fn tells_openings()
+    ensures { TellsOpenings }
+{}
+
+/// Where nothing was forgotten since, a packet without a reply after one that was answered is told as unanswered, at the next packet to the device.
+pub fn tells_unanswered()
+    ensures { TellsUnanswered }
 {}
