@@ -81,11 +81,17 @@ bytes | refuse_each 'show, raw' 3 show --raw
 capture | refuse_each 'check' 3 check
 capture | refuse_each 'check, both options' 3 check --raw --join
 { capture; echo 5; } | refuse_each 'show, a bad line' 3 show
+objects() { capture | sed '/^#/d; s/.*/{"timeSec":"1","timeNano":"2","io":"input","data":"&"}/'; }
+objects | refuse_each 'show, objects' 10 show --osdpcap
+{ objects; echo '{"data":"5"}'; } | refuse_each 'check, objects, a bad line' 10 check --osdpcap
+objects | refuse_each 'monitor, objects' 10 monitor --osdpcap
+{ printf '00000000: '; capture | sed '/^#/d' | head -n 1; } | refuse_each 'show, a dump' 5 show --xxd
+capture | sed '/^#/d; s/^/1 RX /' | refuse_each 'show, stamped' 5 show --stamped
 # A listener takes a block for each address, and lines or text that grow.
 listened() { cat "$(dirname "$0")/../examples/two_readers.hex"; echo 53070700006040; }
-listened | refuse_each 'monitor' 5 monitor --hex
+listened | refuse_each 'monitor' 5 monitor
 listened | refuse_each 'monitor, with packets' 5 monitor --packets --hex
-bytes | refuse_each 'monitor, bytes' 5 monitor --packets
+bytes | refuse_each 'monitor, bytes' 5 monitor --packets --raw
 { listened; echo 5; } | refuse_each 'monitor, a bad line' 5 monitor --hex
 refuse_each 'monitor, bad words' 1 monitor --gap 0 </dev/null
 refuse_each 'make' 3 make 5 1 crc OUT 0:2:0 </dev/null

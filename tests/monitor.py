@@ -34,7 +34,7 @@ class Listener:
     """The command, with its input open."""
 
     def __init__(self, *words, stdin=subprocess.PIPE):
-        self.process = subprocess.Popen([PROGRAM, "monitor", *words], stdin=stdin, stdout=subprocess.PIPE)
+        self.process = subprocess.Popen([PROGRAM, "monitor", "--raw", *words], stdin=stdin, stdout=subprocess.PIPE)
         self.text = b""
 
     def hear(self, data):

@@ -28,13 +28,13 @@ expect 'comments and blank lines' 0 $'1:0 cmd 0 seq 0 sum POLL\n' '' show < <(pr
 
 bad=$'osdp: bad words\n'
 expect 'no words' 0 "$("$program" help </dev/null)"$'\n' '' </dev/null
-expect 'unknown word' 2 '' "$bad" shows </dev/null
+expect 'unknown word' 2 '' "$bad"$'osdp: no command: shows; try: osdp help\n' shows </dev/null
 expect 'unknown option' 2 '' "$bad" show --all </dev/null
-expect 'an option twice' 2 '' "$bad" show --raw --raw </dev/null
+expect 'a file that is none' 2 '' "$bad" show --raw '' </dev/null
 expect 'a word that is no text' 2 '' "$bad" show $'\xff' </dev/null
 expect 'the version' 0 $'osdp 0.1.0\n' '' --version </dev/null
 expect 'the version and more' 2 '' "$bad" --version show </dev/null
-expect 'help of a word that is no command' 2 '' "$bad" help nothing </dev/null
+expect 'help of a word that is no command' 2 '' "$bad"$'osdp: no command: nothing; try: osdp help\n' help nothing </dev/null
 expect 'help of two commands' 2 '' "$bad" help show check </dev/null
 expect 'help and more' 2 '' "$bad" --help show </dev/null
 expect 'help after a command' 0 "$("$program" help show </dev/null)"$'\n' '' show --help </dev/null

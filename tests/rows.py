@@ -10,11 +10,14 @@ row. Then, in any order:
     <- TEXT     without a line's end   ! TEXT   a line of standard error
     <x FF 53    bytes of input         = 1      the status, where it is not 0
 
-{1432*FF} stands for FF 1,432 times; in input \\t, \\r and \\x00 are the bytes. Lines that begin with # are comments."""
+Files are named from the top of the repository. {1432*FF} stands for FF 1,432 times; in input \\t, \\r and \\x00 are the bytes. Lines that begin with # are comments."""
 import re
 import shlex
 import subprocess
 import sys
+from pathlib import Path
+
+TOP = Path(__file__).resolve().parent.parent
 
 
 class Row:
@@ -71,7 +74,7 @@ def rows_of(path):
 
 
 def is_right(program, row, words):
-    done = subprocess.run([program, *words], input=row.input, capture_output=True)
+    done = subprocess.run([program, *words], input=row.input, capture_output=True, cwd=TOP)
     got = (done.stdout, done.stderr, done.returncode)
     wanted = (row.output, row.errors, row.status)
     if got == wanted:
@@ -96,4 +99,4 @@ def main(program, paths):
 
 
 if __name__ == "__main__":
-    sys.exit(main(sys.argv[1], sys.argv[2:]))
+    sys.exit(main(Path(sys.argv[1]).resolve(), sys.argv[2:]))

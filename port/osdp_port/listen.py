@@ -42,7 +42,7 @@ class Monitor(Stream):
     def __init__(self, words, console, osdp):
         self.address = words.get("--address")
         options = ["--every", str(words.get("--every"))] if words.get("--every") else []
-        super().__init__(osdp, ["monitor", *options, *(["--packets"] if words.get("--all") else [])], console)
+        super().__init__(osdp, ["monitor", "--raw", *options, *(["--packets"] if words.get("--all") else [])], console)
 
     def prints(self, line):
         """Prints a line; one of another device is left out."""

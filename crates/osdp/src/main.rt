@@ -1,17 +1,22 @@
 //! The program `osdp`: packets are read, made and listened to, and scripts, panels and readers are run.
 #![tactic(auto)]
 
+mod clock;
+mod hinted;
+mod inputs;
+
+use crate::inputs::{Reads, do_all, read_words};
 use osdp_line_calls::{
     LineCommand, LineDevice, LinePanel, LineRun, WrongSetting, panel_settings, reader_settings,
     run_lines,
 };
-use osdp_tool::{Choice, Job, VERSION, arguments, choose, help_text, job, lent, make};
-use osdp_tool_monitor::{Moments, monitor, monitor_mode};
-use osdp_tool_show::{Detail, show};
+use osdp_tool::{
+    Choice, Job, VERSION, arguments, choose, format_of, help_text, job, lent, make,
+    unknown_command, without_formats,
+};
 use osdp_tool_sim::sim;
 use osdp_tool_streams::{ToolFault, Watched, flush_out, write_out};
 use std::process::ExitCode;
-use std::time::Instant;
 
 /// Prints a text.
 fn print(rt: &HostRuntime, text: &str) -> Result<(), ToolFault> {
@@ -36,75 +41,41 @@ fn run_machine<P: LineCommand>(rt: &HostRuntime, words: &[&str]) -> Result<(), T
     run_lines::<P, _, _>(&mut run)
 }
 
-/// The moments of the runtime's clock, from when it was made on. Where the clock can't be read, the moment is the one before.
-#[derive(Drop)]
-struct Clock<'a> {
-    rt: &'a HostRuntime,
-    start: Option<Instant>,
-    last: u64,
-}
-
-impl Moments for Clock<'_> {
-    ghost tells = { λ old moment new. Unit {0} };
-
-    fn now(&mut self) -> u64 {
-        let Some(start) = self.start else {
-            self.start = Instant::now(self.rt).ok();
-            return self.last;
-        };
-        if let Ok(passed) = start.elapsed(self.rt) {
-            self.last = u64::try_from(passed.as_millis()).unwrap_or(u64::MAX);
-        }
-        self.last
+/// Reads captures, as the words after the command's name ask. The status.
+fn run_captures(rt: &HostRuntime, reads: Reads, words: &[&str]) -> Result<u8, ToolFault> {
+    let words = after_name(words);
+    let format = format_of(words);
+    let left = without_formats(rt.alloc(), words)?;
+    match read_words(reads, format, left.as_slice()) {
+        Some(asked) => do_all(rt, &asked),
+        None => Err(ToolFault::BadWords),
     }
 }
 
-/// Listens to standard input, as the words after the command's name ask. True where somebody was accused, or something refused.
-fn run_monitor(rt: &HostRuntime, words: &[&str]) -> Result<bool, ToolFault> {
-    let Some(mode) = monitor_mode(words.get(1..).unwrap_or(&[])) else {
-        return Err(ToolFault::BadWords);
-    };
-    let mut clock = Clock {
-        rt,
-        start: None,
-        last: 0,
-    };
-    let mut input = Watched::new(rt.stdin());
+/// Does the job that the words choose.
+fn run_job(rt: &HostRuntime, words: &[&str]) -> Result<(), ToolFault> {
     let mut output = Watched::new(rt.stdout());
-    monitor(rt.alloc(), mode, &mut clock, &mut input, &mut output)
-}
-
-/// Does the job that the words choose. True where a refusal was met.
-fn run_job(rt: &HostRuntime, words: &[&str]) -> Result<bool, ToolFault> {
-    let mut input = Watched::new(rt.stdin());
-    let mut output = Watched::new(rt.stdout());
-    match job(rt.alloc(), words)? {
-        Job::Show(mode) => show(rt.alloc(), Detail::Full, mode, &mut input, &mut output),
-        Job::Check(mode) => show(rt.alloc(), Detail::Refusals, mode, &mut input, &mut output),
-        Job::Make => {
-            make(rt.alloc(), after_name(words), &mut output)?;
-            Ok(false)
-        }
-        Job::Sim => {
-            sim(rt.alloc(), &mut input, &mut output)?;
-            Ok(false)
-        }
+    match job(words)? {
+        Job::Make => make(rt.alloc(), after_name(words), &mut output),
+        Job::Sim => sim(rt.alloc(), &mut Watched::new(rt.stdin()), &mut output),
     }
 }
 
-/// Does what the words ask for. True where a refusal was met.
-fn run(rt: &HostRuntime) -> Result<bool, ToolFault> {
+/// Does what the words ask for. The status, which is 1 where a refusal was met.
+fn run(rt: &HostRuntime) -> Result<u8, ToolFault> {
     let arguments = arguments(rt)?;
     let words = lent(rt.alloc(), &arguments)?;
     match choose(&words) {
         Choice::Help(topic) => print(rt, help_text(topic))?,
         Choice::Version => print(rt, VERSION)?,
-        Choice::Monitor => return run_monitor(rt, &words),
+        Choice::Show => return run_captures(rt, Reads::Show, &words),
+        Choice::Check => return run_captures(rt, Reads::Check, &words),
+        Choice::Monitor => return run_captures(rt, Reads::Monitor, &words),
         Choice::Panel => run_machine::<LinePanel>(rt, &words)?,
         Choice::Reader => run_machine::<LineDevice>(rt, &words)?,
-        Choice::Job => return run_job(rt, &words),
+        Choice::Job => run_job(rt, &words)?,
     }
-    Ok(false)
+    Ok(0)
 }
 
 /// What is wrong with the settings of a panel or a reader.
@@ -112,12 +83,20 @@ fn wrong_setting<'a>(words: &'a [&'a str]) -> Option<WrongSetting<'a>> {
     match choose(words) {
         Choice::Panel => panel_settings(after_name(words)).err(),
         Choice::Reader => reader_settings(after_name(words)).err(),
-        Choice::Help(_) | Choice::Version | Choice::Monitor | Choice::Job => None,
+        Choice::Help(_)
+        | Choice::Version
+        | Choice::Show
+        | Choice::Check
+        | Choice::Monitor
+        | Choice::Job => None,
     }
 }
 
-/// Says which words are no settings, where some aren't.
+/// Says which word names no command, and which words are no settings, where some aren't.
 fn tell_wrong(rt: &HostRuntime, words: &[&str]) {
+    if let Some(word) = unknown_command(words) {
+        let _ = eprintln!(rt; "osdp: no command: {word}; try: osdp help");
+    }
     if let Some(wrong) = wrong_setting(words) {
         let _ = eprintln!(rt; "{wrong}");
     }
@@ -133,7 +112,7 @@ fn explain(rt: &HostRuntime) -> Result<(), ToolFault> {
 
 fn main(rt: HostRuntime) -> ExitCode {
     match run(&rt) {
-        Ok(refused) => ExitCode::from(u8::from(refused)),
+        Ok(status) => ExitCode::from(status),
         Err(fault) => {
             let _ = eprintln!(rt; "{fault}");
             if fault == ToolFault::BadWords {

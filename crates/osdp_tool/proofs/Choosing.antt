@@ -5,7 +5,7 @@ use Rattle.std.proofs.lemmas.Slice.Eq.{bytes_eq-Decides}
 use Rattle.osdp_tool.specs.Job.{Words, job_of, wants_help}
 use Rattle.osdp_tool_streams.specs.declared.fault.ToolFault.TheVariants.{BadWords}
 use Rattle.osdp_tool.specs.declared.choice.Choice.{Choice}
-use Rattle.osdp_tool.specs.declared.choice.Choice.TheVariants.{Help, Version, Monitor, Panel, Reader, Job}
+use Rattle.osdp_tool.specs.declared.choice.Choice.TheVariants.{Help, Version, Show, Check, Monitor, Panel, Reader, Job}
 use Rattle.osdp_tool.specs.declared.choice.Topic.{Topic}
 use Rattle.osdp_tool.specs.declared.choice.Topic.TheVariants as topic
 use Rattle.osdp_tool.specs.Choice.{AskForHelp, AskOf, ChoosesByWords, IsWordsOf, choice_of, topic_named}
@@ -39,6 +39,8 @@ help_chooses topic.Reader words are = asks_choose (codes "reader") topic.Reader 
 words_choose : (choice : Choice) (words : Words) → IsWordsOf choice words → choice_of words ≡ choice
 words_choose (Help asked) words are = help_chooses asked words are
 words_choose Version words is = rw is
+words_choose Show words (rest, is, plain) = rw (is, plain)
+words_choose Check words (rest, is, plain) = rw (is, plain)
 words_choose Monitor words (rest, is, plain) = rw (is, plain)
 words_choose Panel words (rest, is, plain) = rw (is, plain)
 words_choose Reader words (rest, is, plain) = rw (is, plain)
@@ -118,20 +120,22 @@ after_version (word ∷ rest) plain = inr (rw plain)
 
 -- any words after the first but a flag that asks for help alone
 by_name : (first : List ℕ) (rest : Words) → wants_help rest ≡ false → Chooses (first ∷ rest)
-by_name first rest plain = go (bytes_eq first (codes "help")) (bytes_eq first (codes "monitor")) (bytes_eq first (codes "panel")) (bytes_eq first (codes "reader")) (bytes_eq first (codes "--help")) (bytes_eq first (codes "-h")) (bytes_eq first (codes "--version")) refl refl refl refl refl refl refl
+by_name first rest plain = go (bytes_eq first (codes "help")) (bytes_eq first (codes "show")) (bytes_eq first (codes "check")) (bytes_eq first (codes "monitor")) (bytes_eq first (codes "panel")) (bytes_eq first (codes "reader")) (bytes_eq first (codes "--help")) (bytes_eq first (codes "-h")) (bytes_eq first (codes "--version")) refl refl refl refl refl refl refl refl refl
   where
     by : (word : List ℕ) → bytes_eq first word ≡ true → Chooses (word ∷ rest) → Chooses (first ∷ rest)
     by word is chooses = subst (λ w. Chooses (w ∷ rest)) (sym (is_word first word is)) chooses
 
-    go : (help monitor panel reader long short version : Bool) → bytes_eq first (codes "help") ≡ help → bytes_eq first (codes "monitor") ≡ monitor → bytes_eq first (codes "panel") ≡ panel → bytes_eq first (codes "reader") ≡ reader → bytes_eq first (codes "--help") ≡ long → bytes_eq first (codes "-h") ≡ short → bytes_eq first (codes "--version") ≡ version → Chooses (first ∷ rest)
-    go true monitor panel reader long short version a b c d e f g = by (codes "help") a (after_help rest plain)
-    go false true panel reader long short version a b c d e f g = by (codes "monitor") b (inl (Monitor, rw plain, (rest, refl, plain), refl))
-    go false false true reader long short version a b c d e f g = by (codes "panel") c (inl (Panel, rw plain, (rest, refl, plain), refl))
-    go false false false true long short version a b c d e f g = by (codes "reader") d (inl (Reader, rw plain, (rest, refl, plain), refl))
-    go false false false false true short version a b c d e f g = by (codes "--help") e (after_long_help rest plain)
-    go false false false false false true version a b c d e f g = by (codes "-h") f (after_short_help rest plain)
-    go false false false false false false true a b c d e f g = by (codes "--version") g (after_version rest plain)
-    go false false false false false false false a b c d e f g = inr (rw (plain, a, b, c, d, e, f, g))
+    go : (help show check monitor panel reader long short version : Bool) → bytes_eq first (codes "help") ≡ help → bytes_eq first (codes "show") ≡ show → bytes_eq first (codes "check") ≡ check → bytes_eq first (codes "monitor") ≡ monitor → bytes_eq first (codes "panel") ≡ panel → bytes_eq first (codes "reader") ≡ reader → bytes_eq first (codes "--help") ≡ long → bytes_eq first (codes "-h") ≡ short → bytes_eq first (codes "--version") ≡ version → Chooses (first ∷ rest)
+    go true show check monitor panel reader long short version a b c d e f g h i = by (codes "help") a (after_help rest plain)
+    go false true check monitor panel reader long short version a b c d e f g h i = by (codes "show") b (inl (Show, rw plain, (rest, refl, plain), refl))
+    go false false true monitor panel reader long short version a b c d e f g h i = by (codes "check") c (inl (Check, rw plain, (rest, refl, plain), refl))
+    go false false false true panel reader long short version a b c d e f g h i = by (codes "monitor") d (inl (Monitor, rw plain, (rest, refl, plain), refl))
+    go false false false false true reader long short version a b c d e f g h i = by (codes "panel") e (inl (Panel, rw plain, (rest, refl, plain), refl))
+    go false false false false false true long short version a b c d e f g h i = by (codes "reader") f (inl (Reader, rw plain, (rest, refl, plain), refl))
+    go false false false false false false true short version a b c d e f g h i = by (codes "--help") g (after_long_help rest plain)
+    go false false false false false false false true version a b c d e f g h i = by (codes "-h") h (after_short_help rest plain)
+    go false false false false false false false false true a b c d e f g h i = by (codes "--version") i (after_version rest plain)
+    go false false false false false false false false false a b c d e f g h i = inr (rw (plain, a, b, c, d, e, f, g, h, i))
 
 choose : (words : Words) → Chooses words
 choose [] = inl (Help topic.Program, refl, inl refl, refl)
@@ -160,6 +164,8 @@ all_choose words = record {
         is_none : (c : Choice) → IsWordsOf c words → c ≡ Job → ⊥
         is_none (Help asked) of is = cc
         is_none Version of is = cc
+        is_none Show of is = cc
+        is_none Check of is = cc
         is_none Monitor of is = cc
         is_none Panel of is = cc
         is_none Reader of is = cc

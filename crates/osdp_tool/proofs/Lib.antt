@@ -1,6 +1,5 @@
-pub mod OptionLemmas
-pub mod JobLemmas
-pub mod ClapLemmas
+mod JobLemmas
+mod CaptureWords
 mod Choosing
 pub mod Names
 pub mod Orders

@@ -1,10 +1,11 @@
 -- What the words after the program's name choose, before `job` is asked.
-use Rattle.std.specs.Prelude.{◌≡◌, ◌⊎◌, ◌↔◌, ℕ, List, [], ◌∷◌, codes, Err, if◌then◌else◌, false}
+use Rattle.std.specs.Prelude.{◌≡◌, ◌⊎◌, ◌↔◌, ℕ, Bool, List, [], ◌∷◌, codes, Err, Option, Some, None, if◌then◌else◌, false}
+use Rattle.std.specs.List.{list_any}
 use Rattle.std.specs.Str.{bytes_eq}
 use Rattle.osdp_tool.specs.Job.{Words, job_of, wants_help}
 use Rattle.osdp_tool_streams.specs.declared.fault.ToolFault.TheVariants.{BadWords}
 use Rattle.osdp_tool.specs.declared.choice.Choice.{Choice}
-use Rattle.osdp_tool.specs.declared.choice.Choice.TheVariants.{Help, Version, Monitor, Panel, Reader, Job}
+use Rattle.osdp_tool.specs.declared.choice.Choice.TheVariants.{Help, Version, Show, Check, Monitor, Panel, Reader, Job}
 use Rattle.osdp_tool.specs.declared.choice.Topic.{Topic}
 use Rattle.osdp_tool.specs.declared.choice.Topic.TheVariants as topic
 
@@ -34,17 +35,35 @@ alone choice (word ∷ rest) = Job
 abbrev pub by_first : List ℕ → Words → Choice
 by_first first rest =
     if bytes_eq first (codes "help") then help_of rest
+    else (if bytes_eq first (codes "show") then Show
+    else (if bytes_eq first (codes "check") then Check
     else (if bytes_eq first (codes "monitor") then Monitor
     else (if bytes_eq first (codes "panel") then Panel
     else (if bytes_eq first (codes "reader") then Reader
     else (if bytes_eq first (codes "--help") then alone (Help topic.Program) rest
     else (if bytes_eq first (codes "-h") then alone (Help topic.Program) rest
-    else (if bytes_eq first (codes "--version") then alone Version rest else Job))))))
+    else (if bytes_eq first (codes "--version") then alone Version rest else Job))))))))
 
 -- what the words choose: a flag that asks for help, alone after the name of a command, and else the first word
 abbrev pub choice_of : Words → Choice
 choice_of [] = Help topic.Program
 choice_of (first ∷ rest) = if wants_help rest then topic_named first else by_first first rest
+
+-- a word that may stand first
+abbrev pub is_known : List ℕ → Bool
+is_known word = list_any (λ known. bytes_eq word known)
+    (codes "show" ∷ codes "monitor" ∷ codes "check" ∷ codes "make" ∷ codes "sim" ∷ codes "panel" ∷ codes "reader"
+    ∷ codes "help" ∷ codes "--help" ∷ codes "-h" ∷ codes "--version" ∷ [])
+
+abbrev pub unless_known : List ℕ → Option (List ℕ)
+unless_known word = if is_known word then None else Some word
+
+-- the word that stands where a command is named, and names none: the one after `help` alone, or else the first
+abbrev pub unknown_of : Words → Option (List ℕ)
+unknown_of [] = None
+unknown_of (first ∷ []) = unless_known first
+unknown_of (first ∷ name ∷ []) = unless_known (if bytes_eq first (codes "help") then name else first)
+unknown_of (first ∷ name ∷ more ∷ rest) = unless_known first
 
 -- ---- the same, word for word
 
@@ -69,6 +88,8 @@ AskForHelp topic.Reader words = AskOf (codes "reader") words
 abbrev pub IsWordsOf : Choice → Words → Type 0
 IsWordsOf (Help asked) words = AskForHelp asked words
 IsWordsOf Version words = words ≡ codes "--version" ∷ []
+IsWordsOf Show words = (rest : Words) × (words ≡ codes "show" ∷ rest) × (wants_help rest ≡ false)
+IsWordsOf Check words = (rest : Words) × (words ≡ codes "check" ∷ rest) × (wants_help rest ≡ false)
 IsWordsOf Monitor words = (rest : Words) × (words ≡ codes "monitor" ∷ rest) × (wants_help rest ≡ false)
 IsWordsOf Panel words = (rest : Words) × (words ≡ codes "panel" ∷ rest) × (wants_help rest ≡ false)
 IsWordsOf Reader words = (rest : Words) × (words ≡ codes "reader" ∷ rest) × (wants_help rest ≡ false)

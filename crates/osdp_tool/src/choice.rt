@@ -1,8 +1,8 @@
 //! What the words after the program's name choose, before `job` is asked.
 
-ghost use Rattle.std.specs.Prelude.{◌≡◌};
+ghost use Rattle.std.specs.Prelude.{◌≡◌, option_map};
 ghost use Rattle.osdp_tool.specs.Job.{texts_of};
-ghost use Rattle.osdp_tool.specs.Choice.{by_first, choice_of, help_of, topic_named};
+ghost use Rattle.osdp_tool.specs.Choice.{by_first, choice_of, help_of, is_known, topic_named, unknown_of, unless_known};
 
 use crate::words::wants_help;
 
@@ -34,7 +34,11 @@ pub enum Choice {
     Help(Topic),
     /// The product's version is printed.
     Version,
-    /// A line is listened to; the words after the first are options.
+    /// Captures are printed item by item; the words after the first are options and files.
+    Show,
+    /// The refusals of captures are printed and counted; the words after the first are options and files.
+    Check,
+    /// A line is listened to; the words after the first are options and files.
     Monitor,
     /// A panel by lines of text runs; the words after the first are its settings.
     Panel,
@@ -77,6 +81,8 @@ fn by_first(first: &str, rest: &[&str]) -> Choice
 {
     match first {
         "help" => help_of(rest),
+        "show" => Choice::Show,
+        "check" => Choice::Check,
         "monitor" => Choice::Monitor,
         "panel" => Choice::Panel,
         "reader" => Choice::Reader,
@@ -89,7 +95,9 @@ fn by_first(first: &str, rest: &[&str]) -> Choice
 /// What the words after the program's name choose.
 ///
 /// No words, `help` alone, `--help` and `-h` ask for the help of the program, `help` and the name of a command, or the name and one of
-/// these flags alone, for the help of that. `--version` stands alone. After `monitor`, `panel` and `reader` any other words may stand, which are read as options and settings. All other words are for `job`.
+/// these flags alone, for the help of that. `--version` stands alone.
+/// After `show`, `check`, `monitor`, `panel` and `reader` any other words may stand, which are read as options, files and settings. All other words
+/// are for `job`.
 pub fn choose(words: &[&str]) -> Choice
     ensures { result ≡ choice_of (texts_of words.now) }
 {
@@ -100,4 +108,34 @@ pub fn choose(words: &[&str]) -> Choice
         return topic_named(first);
     }
     by_first(first, rest)
+}
+
+/// Whether the word may stand first: the name of a command, `help`, or a flag of the program.
+fn is_known(word: &str) -> bool
+    ensures { result ≡ is_known word.now }
+{
+    match word {
+        "show" | "monitor" | "check" | "make" | "sim" | "panel" | "reader" => true,
+        "help" | "--help" | "-h" | "--version" => true,
+        _ => false,
+    }
+}
+
+/// The word, where it may not stand first.
+fn unless_known<'a>(word: &'a str) -> Option<&'a str>
+    ensures { option_map (λ text. text.now) result ≡ unless_known word.now }
+{
+    if is_known(word) { None } else { Some(word) }
+}
+
+/// The word that stands where a command is named, and names none: the first, or the one after `help` alone.
+pub fn unknown_command<'a>(words: &'a [&'a str]) -> Option<&'a str>
+    ensures { option_map (λ text. text.now) result ≡ unknown_of (texts_of words.now) }
+{
+    match words {
+        [] => None,
+        [first] => unless_known(first),
+        [first, name] => unless_known(if *first == "help" { name } else { first }),
+        [first, ..] => unless_known(first),
+    }
 }

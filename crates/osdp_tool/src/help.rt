@@ -24,22 +24,29 @@ usage: osdp COMMAND [WORD]...
   -h, --help  print this
   --version   print the version
 
-Each command reads standard input and writes standard output. Secure Channel is not read or spoken.
-The status is 0, or 1 where show, check or monitor met a refusal, or monitor accused an end. It is 2 at bad
-words or bad input, 3 where a read or a write failed, and 4 without memory. The manual: man osdp, man
-osdp-monitor, man osdp-panel, man osdp-reader.
+Each command reads standard input, or the files that are named, and writes standard output. Secure Channel is
+not read or spoken. The status is 0, or 1 where show, check or monitor met a refusal, or monitor accused an
+end. It is 2 at bad words or bad input, 3 where a read or a write failed, and 4 without memory. Of several
+files it is the greatest. The manual: man osdp, man osdp-monitor, man osdp-panel, man osdp-reader.
 ";
 
 const SHOW: &str =
     "osdp show: prints a line for each packet, each skipped byte and each refused byte of a capture
 
-usage: osdp show [--raw] [--join]
+usage: osdp show [FORM] [--join] [--no-polls] [--address A] [FILE]...
 
-  --raw   the input is bytes, as they come from a port
-  --join  all lines of digits are one run
+  --raw        the input is bytes, as they come from a port
+  --osdpcap    the input is .osdpcap: an object of JSON a line
+  --xxd        the input is what xxd wrote of bytes, and one run
+  --stamped    the input is lines of a stamp, TX or RX, and digits
+  --join       all lines of digits are one run
+  --no-polls   leave out each POLL and each ACK
+  --address A  leave out the packets of all addresses but this, 0 to 127
 
-Input: lines of hexadecimal digits. Each line is a run, that is, bytes between two silences. Spaces and
-tabs are passed over, and a line that begins with # is a comment. A live line is shown as it comes.
+Input: standard input, or each FILE, of which - is standard input. It is lines of hexadecimal digits, where
+no FORM is given, which is one of the first four options. Each line is a run, that is, bytes between two
+silences. Spaces and tabs are passed over, and a line that begins with # is a comment. A live line is shown
+as it comes. Where several files are given, a comment with the name stands above the lines of each.
 
 Examples:
 
@@ -61,40 +68,43 @@ A line of the output is the run and the place in it, then one of these:
 Recipes, from other texts to lines of digits:
 
   of hexdump -C        sed 's/|.*//; s/^[0-9a-f]*//' FILE | osdp show --join
-  of xxd               sed 's/^[^:]*://; s/  .*//' FILE | osdp show --join
+  of xxd               osdp show --xxd FILE
   of 0x53, 0x00        sed 's/0[xX]//g; s/[,;{}]//g' FILE | osdp show
   of 53:00:07          sed 's/[:-]//g' FILE | osdp show
-  of 10:02:33 TX: 53   sed 's/.*[RT]X: *//' FILE | osdp show
+  of 10:02:33 TX: 53   osdp show --stamped FILE
 
-Where --raw prints skip lines alone, thousands of them, the input may be text: 30 to 39 and 41 to 46 are
-the characters of digits, and 20 is a space. Then leave --raw out, or take a recipe. If it is no text,
-look at the rate and the wires: docs/INSTALLING.md, \"A device that doesn't answer\".
+Where the input plainly is in another form than the one it is read in, standard error has one line that says
+so. Where skip lines alone are printed, thousands of them, look at the rate and the wires:
+docs/INSTALLING.md, \"A device that doesn't answer\".
 ";
 
 const MONITOR: &str = "osdp monitor: tells what happens on a line, and which end breaks its rules
 
-usage: osdp monitor [--hex] [--packets] [--standard] [--recorded] [--gap N] [--every N]
+usage: osdp monitor [FORM] [--packets] [--standard] [--recorded] [--gap N] [--every N] [FILE]...
 
-  --hex      the input is lines of digits, as show reads them: each line is a run
+  --raw      the input is bytes, as they come from a port
+  --osdpcap  the input is .osdpcap: an object of JSON a line
+  --xxd      the input is what xxd wrote of bytes, and one run
+  --stamped  the input is lines of a stamp, TX or RX, and digits
   --packets  print each packet, skipped byte and refused byte too, as show does
   --standard leave out accusations by the profile alone, where other makers may do otherwise
   --recorded the bytes were recorded before: no silence ends a run, as in a file
   --gap N    a run of bytes is over N milliseconds after its last ones, 1 to 3600000; else 20
   --every N  print the table again N seconds after the last one, 1 to 3600000, as bytes come
 
-Input: bytes, as they come from a port, or lines of digits. The table comes where the input ends: end the
-program that gives the bytes. Ctrl-C ends this one, and no table is printed. man osdp-monitor says what each
-accusation means.
+Input: that of show: lines of digits, each of which is a run, or what one of the first four options says. The
+table comes where the input ends: end the program that gives the bytes. Ctrl-C ends this one, and no table is
+printed. The bytes of a FILE were recorded before. man osdp-monitor says what each accusation means.
 
 Examples:
 
-  $ echo 53050700006041 | osdp monitor --hex
+  $ echo 53050700006041 | osdp monitor
   device  asked  polls repeats  answered  busy  nak  events  opened  moved  judged  forgot  accused
   5           1      1       0         0     0    0       0       0      0       0       0        0
   runs 1 packets 1 skipped 0 refused 0 judged 0 accused 0
   nothing was judged
 
-  $ printf '53050700016040\\n5305070003603E\\n' | osdp monitor --hex
+  $ printf '53050700016040\\n5305070003603E\\n' | osdp monitor
   2:0 device 5: unanswered
   2:0 panel to 5: a number out of turn (standard)
   device  asked  polls repeats  answered  busy  nak  events  opened  moved  judged  forgot  accused
@@ -104,10 +114,13 @@ Examples:
 
 const CHECK: &str = "osdp check: prints the refusals of a capture, and then counts
 
-usage: osdp check [--raw] [--join]
+usage: osdp check [FORM] [--join] [FILE]...
 
-  --raw   the input is bytes, as they come from a port
-  --join  all lines of digits are one run
+  --raw        the input is bytes, as they come from a port
+  --osdpcap    the input is .osdpcap: an object of JSON a line
+  --xxd        the input is what xxd wrote of bytes, and one run
+  --stamped    the input is lines of a stamp, TX or RX, and digits
+  --join       all lines of digits are one run
 
 Input: that of show. The last line counts the runs, the packets, the skipped bytes and the refusals.
 

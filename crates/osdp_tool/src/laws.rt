@@ -5,13 +5,13 @@ ghost use Rattle.osdp_tool.specs.Job.{Words, ChoosesJobByWords};
 ghost use Rattle.osdp_tool.specs.Choice.{ChoosesByWords};
 ghost use Rattle.osdp_tool.specs.Laws.{HasOneOrder, ReadsBack};
 
-/// Words choose a job exactly where they are its words: `show` or `check`, and the options of its
-/// mode in any order, or `make` and any words but a lone flag for help, or `sim` alone. They are bad exactly where they are no job's.
+/// Words choose a job exactly where they are its words: `make` and any words but a lone flag for help, or `sim` alone. They are bad exactly where
+/// they are no job's.
 pub fn words_choose_jobs()
     ensures { (words : Words) → ChoosesJobByWords words }
 {}
 
-/// Words choose a help, the version, a panel or a reader exactly where they are its words. They are left to `job` exactly where they are
+/// Words choose a help, the version, or a command with words of its own exactly where they are its words. They are left to `job` exactly where they are
 /// the words of none of these, and `job` answers bad words to all that are not left to it.
 pub fn words_choose()
     ensures { (words : Words) → ChoosesByWords words }

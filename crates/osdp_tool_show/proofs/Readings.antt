@@ -21,7 +21,7 @@ use Rattle.osdp_tool_streams.specs.Runs.{good_front, with_bytes, runs_of, ended_
 use Rattle.osdp_tool_streams.proofs.CutLemmas.{ended_lines-cut}
 use Rattle.osdp_tool_streams.proofs.Bytes.{is_cut, good_front-bytes}
 use Rattle.osdp_tool_show.specs.declared.detail.Detail.{Detail}
-use Rattle.osdp_tool_show.specs.declared.detail.Detail.TheVariants.{Full, Refusals}
+use Rattle.osdp_tool_show.specs.declared.detail.Detail.TheVariants.{Full, Refusals, Filtered}
 use Rattle.osdp_tool_show.specs.declared.tally.Tally.{Tally}
 use Rattle.osdp_tool_show.specs.ItemText.{is_refusal, counts_line}
 use Rattle.osdp_tool_show.specs.Tally.{no_tally, one_if, tally_after, tally_after_all, after_run}
@@ -231,6 +231,7 @@ have_readings (run ∷ runs) h =
 
 end_is : (detail : Detail) (readings : List (List RunItem)) (tally : Tally) → CountedRuns no_tally tally readings → end_line detail tally ≡ end_text detail readings
 end_is Full readings tally c = refl
+end_is (Filtered filter) readings tally c = refl
 end_is Refusals readings tally c =
     ap (λ n. counts_line n tally.packets tally.skipped tally.refused) (c.runs ∙ zero-add (length readings))
     ∙ ap (λ n. counts_line (length readings) n tally.skipped tally.refused) (c.packets ∙ zero-add (count_items is_packet readings))

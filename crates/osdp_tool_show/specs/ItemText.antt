@@ -1,5 +1,5 @@
 -- What an item of a run prints as.
-use Rattle.std.specs.Prelude.{ℕ, ◌==◌, Bool, true, false, if◌then◌else◌, List, [], ◌∷◌, ◌++◌, codes, drop, slice_index, Option, Some, Result, Ok, Err}
+use Rattle.std.specs.Prelude.{ℕ, ◌==◌, ◌&&◌, not, Bool, true, false, if◌then◌else◌, List, [], ◌∷◌, ◌++◌, codes, drop, length, slice_index, Option, Some, None, Result, Ok, Err}
 use Rattle.std.specs.Fmt.{decimal}
 use Rattle.hex.specs.Hex.{encode_upper}
 use Rattle.osdp_frame.specs.Check.{check_name}
@@ -14,7 +14,8 @@ use Rattle.osdp_msg.specs.CommandText.{command_text}
 use Rattle.osdp_msg.specs.ReplyTable.{reply_of}
 use Rattle.osdp_msg.specs.ReplyText.{reply_text}
 use Rattle.osdp_tool_show.specs.declared.detail.Detail.{Detail}
-use Rattle.osdp_tool_show.specs.declared.detail.Detail.TheVariants.{Full, Refusals}
+use Rattle.osdp_tool_show.specs.declared.detail.Detail.TheVariants.{Full, Refusals, Filtered}
+use Rattle.osdp_tool_show.specs.declared.detail.Filter.{Filter}
 
 -- ---- messages
 
@@ -100,10 +101,36 @@ is_refusal (PacketItem p) =
 is_refusal (SkippedItem b) = false
 is_refusal (RefusedItem fault) = true
 
--- each item has a line, and not refusals alone
+-- a POLL or an ACK, without data and without a security block
+abbrev pub is_poll_or_ack : Packet → Bool
+is_poll_or_ack p = not p.block && (slice_index p.body 0 == (if p.reply then 64 else 96) && length (drop 1 p.body) == 0)
+
+-- the address is the one that is asked for, where one is
+abbrev pub fits_address : Option ℕ → ℕ → Bool
+fits_address None address = true
+fits_address (Some wanted) address = wanted == address
+
+-- a filter keeps a packet of its address, and no POLL or ACK where these are left out
+abbrev pub keeps : Filter → Packet → Bool
+keeps filter p = fits_address filter.address p.address && not (filter.no_polls && is_poll_or_ack p)
+
+-- .. and each byte that is skipped or refused
+abbrev pub keeps_item : Filter → RunItem → Bool
+keeps_item filter (PacketItem p) = keeps filter p
+keeps_item filter (SkippedItem b) = true
+keeps_item filter (RefusedItem fault) = true
+
+-- each skipped byte has a line
 abbrev pub is_full : Detail → Bool
 is_full Full = true
 is_full Refusals = false
+is_full (Filtered filter) = true
+
+-- an item has a line: each, refusals alone, or what a filter keeps
+abbrev pub has_line : Detail → RunItem → Bool
+has_line Full part = true
+has_line Refusals part = is_refusal part
+has_line (Filtered filter) part = keeps_item filter part
 
 -- the line of an item: the number of its run, from 1, its place in the run, its text
 abbrev pub item_line : ℕ → ℕ → RunItem → List ℕ

@@ -1,5 +1,5 @@
 -- The text of show and check in the words of captures: lines, runs, readings, items.
-use Rattle.std.specs.Prelude.{◌≡◌, ◌↔◌, ℕ, ◌+◌, ◌<◌, ◌^◌, ◌||◌, Bool, true, false, nat_lt, if◌then◌else◌, List, [], ◌∷◌, ◌++◌, length, flat_map, count_by, Some, None}
+use Rattle.std.specs.Prelude.{◌≡◌, ◌↔◌, ℕ, ◌+◌, ◌<◌, ◌^◌, Bool, true, false, nat_lt, if◌then◌else◌, List, [], ◌∷◌, ◌++◌, length, flat_map, count_by, Some, None}
 use Rattle.std.specs.List.{concat}
 use Rattle.osdp_frame.specs.Bytes.{AreBytes}
 use Rattle.osdp_frame.specs.Reading.{RunItem, PacketItem, SkippedItem, RefusedItem, item_size, IsReading}
@@ -10,8 +10,8 @@ use Rattle.osdp_tool_streams.specs.Cut.{IsCut, last_line}
 use Rattle.osdp_tool_streams.specs.Line.{line_bytes}
 use Rattle.osdp_tool_streams.specs.Runs.{with_bytes}
 use Rattle.osdp_tool_show.specs.declared.detail.Detail.{Detail}
-use Rattle.osdp_tool_show.specs.declared.detail.Detail.TheVariants.{Full, Refusals}
-use Rattle.osdp_tool_show.specs.ItemText.{counts_line, is_full, is_refusal, item_line}
+use Rattle.osdp_tool_show.specs.declared.detail.Detail.TheVariants.{Full, Refusals, Filtered}
+use Rattle.osdp_tool_show.specs.ItemText.{counts_line, has_line, is_refusal, item_line}
 use Rattle.osdp_tool_show.specs.Shown.{shown, shown_so_far, is_refused_input}
 
 -- ---- the runs of an input
@@ -62,7 +62,7 @@ AreReadings (run ∷ runs) (parts ∷ readings) = IsReading run parts × AreRead
 abbrev pub items_text : Detail → ℕ → ℕ → List RunItem → List ℕ
 items_text detail run place [] = []
 items_text detail run place (part ∷ parts) =
-    (if is_full detail || is_refusal part then item_line run place part else []) ++ items_text detail run (place + item_size part) parts
+    (if has_line detail part then item_line run place part else []) ++ items_text detail run (place + item_size part) parts
 
 -- the items of run after run, of which the first has this number
 abbrev pub readings_text : Detail → ℕ → List (List RunItem) → List ℕ
@@ -91,6 +91,7 @@ counts_text readings =
 -- .. which stand after the lines of refusals
 abbrev pub end_text : Detail → List (List RunItem) → List ℕ
 end_text Full readings = []
+end_text (Filtered filter) readings = []
 end_text Refusals readings = counts_text readings
 
 -- Every input has its runs and every run its reading, and the text is that of these readings: line by line in

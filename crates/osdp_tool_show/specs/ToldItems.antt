@@ -1,16 +1,16 @@
 -- The text of items.
-use Rattle.std.specs.Prelude.{ℕ, ◌+◌, false, ◌||◌, if◌then◌else◌, List, [], ◌∷◌, ◌++◌}
+use Rattle.std.specs.Prelude.{ℕ, ◌+◌, false, if◌then◌else◌, List, [], ◌∷◌, ◌++◌}
 use Rattle.osdp_frame.specs.Reading.{RunItem}
 use Rattle.osdp_frame.specs.Items.{items, reading}
 use Rattle.osdp_tool_show.specs.declared.detail.Detail.{Detail}
-use Rattle.osdp_tool_show.specs.declared.detail.Detail.TheVariants.{Full, Refusals}
+use Rattle.osdp_tool_show.specs.declared.detail.Detail.TheVariants.{Full, Refusals, Filtered}
 use Rattle.osdp_tool_show.specs.declared.tally.Tally.{Tally}
-use Rattle.osdp_tool_show.specs.ItemText.{counts_line, is_full, is_refusal, item_line}
+use Rattle.osdp_tool_show.specs.ItemText.{counts_line, has_line, item_line}
 use Rattle.osdp_tool_show.specs.Tally.{no_tally, tally_after, tally_after_all, after_run}
 
 -- the line of an item that stands after what was counted, where it has one
 abbrev pub shown_line : Detail → Tally → RunItem → List ℕ
-shown_line detail tally part = if is_full detail || is_refusal part then item_line (tally.runs + 1) tally.place part else []
+shown_line detail tally part = if has_line detail part then item_line (tally.runs + 1) tally.place part else []
 
 -- the lines of items, one after the other
 unfoldable pub shown_lines : Detail → Tally → List RunItem → List ℕ
@@ -20,6 +20,7 @@ shown_lines detail tally (part ∷ parts) = shown_line detail tally part ++ show
 -- the line of counts, where it is wanted
 abbrev pub end_line : Detail → Tally → List ℕ
 end_line Full tally = []
+end_line (Filtered filter) tally = []
 end_line Refusals tally = counts_line tally.runs tally.packets tally.skipped tally.refused
 
 -- after whole runs, one after the other

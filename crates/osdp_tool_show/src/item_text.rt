@@ -117,8 +117,8 @@ fn push_read_packet<M: Told>(
     let bytes = view.payload();
     let read = M::read_message(code, bytes);
     let refused = is_refused(&read);
-    if !detail.is_full() && !refused {
-        return Ok(false);
+    if !detail.has_packet(view, refused) {
+        return Ok(refused);
     }
     push_front(text, tally, view)?;
     push_message(text, &read, code, bytes)?;
@@ -139,13 +139,13 @@ pub(crate) fn push_packet(
     ensures line { OnOk result (string_bytes text.new ≡ string_bytes text.old ++ shown_line detail tally.now (PacketItem view.now)) }
 {
     if view.has_block() {
-        if detail.is_full() {
+        if detail.has_packet(view, false) {
             push_unread_packet(text, tally, view)?;
         }
         return Ok(false);
     }
     if let Some(name) = bare_name(view) {
-        if detail.is_full() {
+        if detail.has_packet(view, false) {
             push_named_packet(text, tally, view, name)?;
         }
         return Ok(false);
@@ -223,7 +223,7 @@ pub fn push_end(text: &mut String, detail: Detail, tally: &Tally) -> Result<(), 
     ensures { OnOk result (string_bytes text.new ≡ string_bytes text.old ++ end_line detail tally.now) }
 {
     match detail {
-        Detail::Full => Ok(()),
+        Detail::Full | Detail::Filtered(_) => Ok(()),
         Detail::Refusals => push_counts(text, tally, "\n"),
     }
 }

@@ -19,7 +19,7 @@ mod tally;
 mod telling;
 
 pub use commands::{command, show};
-pub use detail::Detail;
+pub use detail::{Detail, Filter};
 pub use item_text::{push_counts, push_end};
 pub use tally::Tally;
 pub use telling::tell;

@@ -59,6 +59,7 @@ fn pass_skipped(report: &mut Report, bytes: &[u8]) -> usize
             report.tally.pass(&bytes[..count]);
             count
         }
+        Detail::Filtered(_) => 0,
     }
 }
 

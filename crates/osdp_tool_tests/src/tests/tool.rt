@@ -1,7 +1,6 @@
 mod failures;
 mod streams;
 
-use osdp_tool::Job;
 use osdp_tool_show::{Detail, show};
 use osdp_tool_streams::{Mode, ToolFault, Watched};
 use std::alloc::Global;
@@ -22,6 +21,13 @@ const RAW: Mode = Mode {
     raw: true,
     join: false,
 };
+
+/// A command that reads a capture.
+#[derive(Clone, Copy)]
+enum Job {
+    Show(Mode),
+    Check(Mode),
+}
 
 const SHOW_LINES: Job = Job::Show(LINES);
 
@@ -46,7 +52,6 @@ fn told_from<R: Read>(alloc: Global, job: Job, input: &mut R) -> Shown {
     let answer = match job {
         Job::Show(mode) => show(alloc, Detail::Full, mode, &mut input, &mut output),
         Job::Check(mode) => show(alloc, Detail::Refusals, mode, &mut input, &mut output),
-        Job::Make | Job::Sim => Err(ToolFault::BadWords),
     };
     (answer, printed)
 }

@@ -10,6 +10,9 @@ use Rattle.osdp_tool_show.proofs.runs.pass_skipped.Goals as goal
 pub returns-in-Full-clause-took : goal.returns-in-Full-clause-took
 returns-in-Full-clause-took c = λ contents. took_start new_run c.args.report.now (written_or_held contents c.args.report.now) settled_new
 
+pub returns-in-Filtered-clause-took : goal.returns-in-Filtered-clause-took
+returns-in-Filtered-clause-took c = λ contents. took_start new_run c.args.report.now (written_or_held contents c.args.report.now) settled_new
+
 pub returns-in-Refusals-clause-took : goal.returns-in-Refusals-clause-took
 returns-in-Refusals-clause-took c = λ contents.
     let passed : Report = record { detail = c.args.report.now.detail; tally = c.pass.new.self; text = c.args.report.now.text } in

@@ -1,0 +1,244 @@
+//! The inputs of the commands that read captures: standard input, or files by their names.
+
+ghost use Rattle.std.specs.Prelude.{◌≡◌, ◌<◌, ◌^◌, false};
+ghost use Rattle.osdp_tool_streams.specs.Watched.{has_failed};
+
+use crate::clock::Clock;
+use crate::hinted::Hinted;
+use osdp_tool::{CaptureMode, are_files, capture_mode};
+use osdp_tool_captures::{BadLine, Format, Tool, read_whole, translate};
+use osdp_tool_monitor::{MonitorMode, monitor, monitor_mode};
+use osdp_tool_show::{Detail, Filter, command};
+use osdp_tool_streams::{Form, LIMIT, ToolFault, Watched, flush_out, write_out};
+use std::fs;
+use std::io::Read;
+
+/// The lines of digits that another tool's capture says may be longer than itself, and have so many bytes at most.
+const LONGEST: usize = 1 << 32;
+
+/// A command that reads captures.
+#[derive(Clone, Copy, Debug, PartialEq, Eq)]
+pub enum Reads {
+    /// `show`
+    Show,
+    /// `check`
+    Check,
+    /// `monitor`
+    Monitor,
+}
+
+/// What is done with an input.
+#[derive(Clone, Copy)]
+enum Task {
+    /// Its items are printed in this detail; all lines of digits are one run, or each is.
+    Print(Detail, bool),
+    /// It is listened to.
+    Listen(MonitorMode),
+}
+
+/// What the words after the name of a command ask for.
+#[derive(Clone, Copy)]
+pub struct Asked<'a> {
+    task: Task,
+    format: Format,
+    files: &'a [&'a str],
+}
+
+/// What came of an input.
+#[derive(Clone, Copy)]
+enum Told {
+    /// Whether a refusal was met, or an end accused.
+    Refused(bool),
+    /// A line of another tool is bad.
+    Bad(BadLine),
+    /// The input is bad, or has failed.
+    Failed(ToolFault),
+}
+
+/// How much is printed of the items.
+fn detail_of(mode: CaptureMode) -> Detail {
+    let address = mode.address;
+    let no_polls = mode.no_polls;
+    if address.is_none() && !no_polls {
+        return Detail::Full;
+    }
+    Detail::Filtered(Filter { address, no_polls })
+}
+
+/// What the options of a command ask for; None where they are none of its options.
+fn task_of(reads: Reads, format: Format, options: &[&str]) -> Option<Task> {
+    match reads {
+        Reads::Show => {
+            let mode = capture_mode(options)?;
+            Some(Task::Print(detail_of(mode), mode.join))
+        }
+        Reads::Check => {
+            let mode = capture_mode(options)?;
+            match detail_of(mode) {
+                Detail::Full => Some(Task::Print(Detail::Refusals, mode.join)),
+                Detail::Refusals | Detail::Filtered(_) => None,
+            }
+        }
+        Reads::Monitor => {
+            let mut mode = monitor_mode(options)?;
+            mode.hex = format != Format::Bytes;
+            Some(Task::Listen(mode))
+        }
+    }
+}
+
+/// What the words after the name of a command ask for: options, and then files. None where they are none.
+pub fn read_words<'a>(reads: Reads, format: Format, words: &'a [&'a str]) -> Option<Asked<'a>> {
+    'fronts: for count in 0..=words.len() {
+        let (options, files) = words.split_at(words.len() - count);
+        if !are_files(files) {
+            return None;
+        }
+        if let Some(task) = task_of(reads, format, options) {
+            return Some(Asked {
+                task,
+                format,
+                files,
+            });
+        }
+    }
+    None
+}
+
+/// How lines of digits stand in runs, of a capture in this form.
+fn form_of(format: Format, join: bool) -> Form {
+    match format {
+        Format::Bytes => Form::Raw,
+        Format::Of(Tool::Xxd) => Form::Joined,
+        Format::Digits | Format::Of(Tool::Osdpcap | Tool::Stamped) => {
+            if join { Form::Joined } else { Form::Apart }
+        }
+    }
+}
+
+/// Does what is asked with a stream of digits or bytes. True where a refusal was met, or an end accused.
+fn do_task<R: Read>(
+    rt: &HostRuntime,
+    asked: &Asked<'_>,
+    limit: usize,
+    input: &mut Watched<R>,
+) -> Result<bool, ToolFault>
+    requires limit { limit < 2 ^ 40 }
+    requires input { has_failed input.old ≡ false }
+{
+    let mut output = Watched::new(rt.stdout());
+    match asked.task {
+        Task::Print(detail, join) => {
+            let form = form_of(asked.format, join);
+            command(rt.alloc(), detail, form, limit, input, &mut output)
+        }
+        Task::Listen(mode) => monitor(rt.alloc(), mode, &mut Clock::new(rt), input, &mut output),
+    }
+}
+
+/// Does what is asked with a capture of another tool, once all of it was read. A fault of the input is told after what stands before it.
+fn do_translated<R: Read>(
+    rt: &HostRuntime,
+    asked: &Asked<'_>,
+    tool: Tool,
+    input: &mut Watched<R>,
+) -> Result<Told, ToolFault> {
+    let whole = read_whole(rt.alloc(), LIMIT, input)?;
+    let translated = translate(rt.alloc(), tool, whole.bytes.as_slice())?;
+    let mut lines = Watched::new(translated.text.as_slice());
+    let refused = do_task(rt, asked, LONGEST, &mut lines)?;
+    if let Some(fault) = whole.fault {
+        return Ok(Told::Failed(fault));
+    }
+    if let Some(bad) = translated.bad {
+        return Ok(Told::Bad(bad));
+    }
+    Ok(Told::Refused(refused))
+}
+
+/// Does what is asked with an input. Where the output or memory fails, nothing more is done.
+fn do_input<R: Read + Drop>(
+    rt: &HostRuntime,
+    asked: &Asked<'_>,
+    stream: R,
+) -> Result<Told, ToolFault> {
+    let mut hinted = Hinted::new(rt, asked.format, stream);
+    let mut input = Watched::new(&mut hinted);
+    let told = match asked.format {
+        Format::Of(tool) => do_translated(rt, asked, tool, &mut input),
+        Format::Digits | Format::Bytes => match do_task(rt, asked, LIMIT, &mut input) {
+            Ok(refused) => Ok(Told::Refused(refused)),
+            Err(ToolFault::WriteFailed) => Err(ToolFault::WriteFailed),
+            Err(ToolFault::NoMemory) => Err(ToolFault::NoMemory),
+            Err(fault) => Ok(Told::Failed(fault)),
+        },
+    };
+    hinted.tell();
+    told
+}
+
+/// Prints a text.
+fn print_all(rt: &HostRuntime, texts: &[&str]) -> Result<(), ToolFault> {
+    let mut output = Watched::new(rt.stdout());
+    'texts: for text in texts {
+        write_out(&mut output, text.as_bytes())?;
+    }
+    flush_out(&mut output)
+}
+
+/// Says what is wrong with an input, and gives the status for it.
+fn status_of(rt: &HostRuntime, told: Told, name: &str) -> u8 {
+    match told {
+        Told::Refused(refused) => u8::from(refused),
+        Told::Bad(bad) => {
+            let _ = eprintln!(rt; "osdp: {bad}{name}");
+            2
+        }
+        Told::Failed(fault) => {
+            let _ = eprintln!(rt; "{fault}{name}");
+            fault.status()
+        }
+    }
+}
+
+/// Does what is asked with the file of a name, or with standard input where that is a hyphen, and gives the status.
+fn do_file(rt: &HostRuntime, asked: &Asked<'_>, name: &str) -> Result<u8, ToolFault> {
+    if name == "-" {
+        let told = do_input(rt, asked, rt.stdin())?;
+        return Ok(status_of(rt, told, ": -"));
+    }
+    let mut asked = *asked;
+    if let Task::Listen(mode) = &mut asked.task {
+        mode.recorded = true;
+    }
+    match fs::open(rt, name) {
+        Ok(file) => {
+            let told = do_input(rt, &asked, file)?;
+            let Ok(suffix) = format!(in rt.alloc(); ": {name}") else {
+                return Err(ToolFault::NoMemory);
+            };
+            Ok(status_of(rt, told, suffix.as_str()))
+        }
+        Err(error) => {
+            let _ = eprintln!(rt; "osdp: {name}: {error}");
+            Ok(ToolFault::ReadFailed.status())
+        }
+    }
+}
+
+/// Does what is asked with each input, one after the other, and gives the greatest status. Where there are several, a comment with its name
+/// stands above what is printed of each.
+pub fn do_all(rt: &HostRuntime, asked: &Asked<'_>) -> Result<u8, ToolFault> {
+    if asked.files.is_empty() {
+        let told = do_input(rt, asked, rt.stdin())?;
+        return Ok(status_of(rt, told, ""));
+    }
+    let mut worst = 0;
+    'files: for name in asked.files {
+        if asked.files.len() > 1 {
+            print_all(rt, &["# ", name, "\n"])?;
+        }
+        worst = worst.max(do_file(rt, asked, name)?);
+    }
+    Ok(worst)
+}

@@ -1,0 +1,8 @@
+use Rattle.std.proofs.Common.{◌≡◌, ◌++◌, drop, filter, not, is_some}
+use Rattle.osdp_tool.specs.Job.{texts_of}
+use Rattle.osdp_tool.specs.InputWords.{are_files, format_named, format_of, last_format}
+use Rattle.osdp_tool.proofs.input_words.format_of.Given as goal
+
+-- the words so far, and those that are left
+abbrev pub invariant-loop-word : goal.invariant-loop-word
+invariant-loop-word l = last_format l.format (texts_of (drop l.word-index l.words)) ≡ format_of (texts_of l.words)

@@ -1,0 +1,2 @@
+mod Cutting
+pub mod Zeros

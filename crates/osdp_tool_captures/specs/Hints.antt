@@ -1,0 +1,43 @@
+-- Inputs that plainly are in another form than the one that they are read in.
+use Rattle.std.specs.Prelude.{ℕ, ◌==◌, ◌&&◌, ◌||◌, not, nat_le, nat_lt, Bool, false, List, [], ◌∷◌, length, slice_index, Option, Some, None, is_some, if◌then◌else◌}
+use Rattle.std.specs.List.{list_all}
+use Rattle.hex.specs.Hex.{is_hex_digit}
+use Rattle.osdp_tool_captures.specs.declared.format.Format.{Format}
+use Rattle.osdp_tool_captures.specs.declared.format.Format.TheVariants.{Digits, Bytes, Of}
+use Rattle.osdp_tool_captures.specs.declared.hint.Hint.{Hint}
+use Rattle.osdp_tool_captures.specs.declared.hint.Hint.TheVariants as hint
+
+-- a tab, or a character of a line's end
+abbrev pub is_spread : ℕ → Bool
+is_spread b = b == 9 || (b == 10 || b == 13)
+
+-- a character of text
+abbrev pub is_text : ℕ → Bool
+is_text b = (nat_le 32 b && nat_le b 126) || is_spread b
+
+-- a digit, a blank, or a character of a line's end
+abbrev pub is_digit : ℕ → Bool
+is_digit b = is_hex_digit b || (b == 32 || is_spread b)
+
+abbrev pub are_text : List ℕ → Bool
+are_text front = list_all is_text front
+
+abbrev pub are_digits : List ℕ → Bool
+are_digits front = list_all is_digit front
+
+-- an offset of eight digits, and a colon
+abbrev pub begins_dump : List ℕ → Bool
+begins_dump (a ∷ b ∷ c ∷ d ∷ e ∷ f ∷ g ∷ h ∷ i ∷ rest) = i == 58 && are_digits (a ∷ b ∷ c ∷ d ∷ e ∷ f ∷ g ∷ h ∷ [])
+begins_dump front = false
+
+-- what a text is by its first characters
+abbrev pub of_text : List ℕ → Option Hint → Option Hint
+of_text front other = if slice_index front 0 == 123 then Some hint.Osdpcap else (if begins_dump front then Some hint.Xxd else other)
+
+-- Read as digits: bytes where one is no character, and else by the text. Read as bytes: text where all are characters, and eight or more.
+abbrev pub hint_of : Format → List ℕ → Option Hint
+hint_of Digits front = if are_text front then of_text front None else Some hint.Bytes
+hint_of Bytes front =
+    if nat_lt (length front) 8 || not (are_text front) then None
+    else (if are_digits front || slice_index front 0 == 35 then Some hint.Digits else of_text front (Some hint.Text))
+hint_of (Of tool) front = None

@@ -1,0 +1,5 @@
+pub mod Digits
+pub mod Lines
+pub mod Captures
+pub mod Hints
+pub mod Whole

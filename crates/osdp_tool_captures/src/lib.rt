@@ -1,0 +1,17 @@
+//! Captures of other tools: their lines, as lines of digits that `show`, `check` and `monitor` read.
+#![tactic(auto)]
+
+mod digits;
+mod entry;
+mod fault;
+mod format;
+mod hint;
+mod line;
+mod translation;
+mod whole;
+
+pub use fault::{BadLine, LineFault};
+pub use format::{Format, Tool};
+pub use hint::{FRONT, Hint, looks_like};
+pub use translation::{Translated, translate};
+pub use whole::{Whole, read_whole};
