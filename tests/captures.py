@@ -7,6 +7,7 @@ burst comes out byte by byte, as skipped bytes or as packets whose texts tell th
 bursts, and both are read alike; from its `.osdpcap` the moments, ways and bytes are read back here."""
 import json
 import random
+import re
 import subprocess
 import sys
 import tempfile
@@ -125,6 +126,13 @@ def judge_traces():
     for command in ("show", "check", "monitor"):
         if run([command, "--osdpcap"], objects) != run([command], lines):
             tell(f"osdp-port: {command}", run([command], lines), run([command, "--osdpcap"], objects))
+    # the moment and the way of each line are those of its run
+    stamps = [re.match("# (.*)", digits(*each))[1] for each in found]
+    moments = [f"{int(since * 10**6) // 10**6}.{int(since * 10**6) % 10**6:06}000 {way}" for since, way, _ in found]
+    for form, text, expected in (([], lines, stamps), (["--osdpcap"], objects, moments)):
+        wanted = "".join(f"{expected[int(line.split(':')[0]) - 1]} {line}\n" for line in run(["show"], lines)[0].splitlines())
+        if run(["show", "--times", *form], text)[0] != wanted:
+            tell(f"osdp-port: show --times {form}", wanted, run(["show", "--times", *form], text)[0])
     for (since, way, data), line in zip(found, objects.splitlines()):
         object = json.loads(line)
         back = (object["timeSec"], object["timeNano"][:6], {"input": "in", "output": "out", "trace": "trace"}[object["io"]], bytes.fromhex(object["data"].replace("-", "")))

@@ -1,11 +1,6 @@
 //! The program `osdp`: packets are read, made and listened to, and scripts, panels and readers are run.
 #![tactic(auto)]
 
-mod clock;
-mod hinted;
-mod inputs;
-
-use crate::inputs::{Reads, do_all, read_words};
 use osdp_line_calls::{
     LineCommand, LineDevice, LinePanel, LineRun, WrongSetting, panel_settings, reader_settings,
     run_lines,
@@ -14,6 +9,7 @@ use osdp_tool::{
     Choice, Job, VERSION, arguments, choose, format_of, help_text, job, lent, make,
     unknown_command, without_formats,
 };
+use osdp_tool_inputs::{Reads, do_all, read_words};
 use osdp_tool_sim::sim;
 use osdp_tool_streams::{ToolFault, Watched, flush_out, write_out};
 use std::process::ExitCode;

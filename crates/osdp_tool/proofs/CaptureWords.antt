@@ -5,7 +5,7 @@ use Rattle.std.specs.Fmt.{decimal}
 use Rattle.osdp_tool.specs.Job.{Words}
 use Rattle.osdp_tool.specs.declared.capture_options.CaptureMode.{CaptureMode}
 use Rattle.osdp_tool.specs.declared.capture_options.CaptureOption.{CaptureOption}
-use Rattle.osdp_tool.specs.declared.capture_options.CaptureOption.TheVariants.{Join, NoPolls, Address}
+use Rattle.osdp_tool.specs.declared.capture_options.CaptureOption.TheVariants.{Join, Times, NoPolls, Address}
 use Rattle.osdp_tool.specs.declared.capture_options.OptionName.{OptionName}
 use Rattle.osdp_tool.specs.declared.capture_options.OptionName.TheVariants as name
 use Rattle.osdp_tool.specs.CaptureOptions.{AreOptions, IsAddress, OptionFits, ReadsCaptureMode, TakesAddress, TakesOption, default_mode, name_text, addressed, option_words, with_option, with_options}
@@ -32,6 +32,7 @@ left_done given left mode none so_far = record {
 
     no_words : (o : CaptureOption) (rest : List CaptureOption) → [] ≡ option_words o ++ flat_map option_words rest → ⊥
     no_words Join rest e = cc
+    no_words Times rest e = cc
     no_words NoPolls rest e = cc
     no_words (Address n) rest e = cc
 
@@ -42,6 +43,7 @@ left_done given left mode none so_far = record {
 
 name_of : CaptureOption → OptionName
 name_of Join = name.Join
+name_of Times = name.Times
 name_of NoPolls = name.NoPolls
 name_of (Address n) = name.Address
 
@@ -50,6 +52,7 @@ first_name : (word : List ℕ) (left : Words) (o : CaptureOption) (rest : List C
     → word ≡ name_text (name_of o)
 unfolding name_of
 first_name word left Join rest e = cc
+first_name word left Times rest e = cc
 first_name word left NoPolls rest e = cc
 first_name word left (Address n) rest e = cc
 
@@ -125,6 +128,7 @@ module _ (word : List ℕ) (left : Words) (found : Option OptionName) (is : (n :
     with_it : (m : OptionName) (o : CaptureOption) (rest : List CaptureOption) → n ≡ m → TakesOption m left next (Some o) → AreOptions next rest
         → AreOptions (word ∷ left) (o ∷ rest)
     with_it name.Join o rest e (took, same) g = with_name Join name.Join refl tt o rest e took same g
+    with_it name.Times o rest e (took, same) g = with_name Times name.Times refl tt o rest e took same g
     with_it name.NoPolls o rest e (took, same) g = with_name NoPolls name.NoPolls refl tt o rest e took same g
     with_it name.Address o rest e (t, takes, took) g = with_number Address name.Address (λ k. refl) (λ k fits. fits) o rest e t takes took g
 
@@ -135,14 +139,23 @@ module _ (word : List ℕ) (left : Words) (found : Option OptionName) (is : (n :
     after_it name.Join o Join others e (took, same) h fit clash =
         let rest : left ≡ flat_map option_words others = cc in
         (cc, same ∙ rest)
+    after_it name.Join o Times others e took h fit clash = absurd cc
     after_it name.Join o NoPolls others e took h fit clash = absurd cc
     after_it name.Join o (Address k) others e took h fit clash = absurd cc
+    after_it name.Times o Join others e took h fit clash = absurd cc
+    after_it name.Times o Times others e (took, same) h fit clash =
+        let rest : left ≡ flat_map option_words others = cc in
+        (cc, same ∙ rest)
+    after_it name.Times o NoPolls others e took h fit clash = absurd cc
+    after_it name.Times o (Address k) others e took h fit clash = absurd cc
     after_it name.NoPolls o Join others e took h fit clash = absurd cc
+    after_it name.NoPolls o Times others e took h fit clash = absurd cc
     after_it name.NoPolls o NoPolls others e (took, same) h fit clash =
         let rest : left ≡ flat_map option_words others = cc in
         (cc, same ∙ rest)
     after_it name.NoPolls o (Address k) others e took h fit clash = absurd cc
     after_it name.Address o Join others e took h fit clash = absurd cc
+    after_it name.Address o Times others e took h fit clash = absurd cc
     after_it name.Address o NoPolls others e took h fit clash = absurd cc
     after_it name.Address o (Address k) others e (t, takes, took) h fit clash = after_number Address o k _ t takes took fit (number_stands k _ _ h)
 
@@ -150,12 +163,19 @@ module _ (word : List ℕ) (left : Words) (found : Option OptionName) (is : (n :
         → OptionFits p → m ≡ name_of p → ⊥
     unfolding name_of
     none_after name.Join Join others (took, same) h fit clash = cc
+    none_after name.Join Times others took h fit clash = cc
     none_after name.Join NoPolls others took h fit clash = cc
     none_after name.Join (Address k) others took h fit clash = cc
+    none_after name.Times Join others took h fit clash = cc
+    none_after name.Times Times others (took, same) h fit clash = cc
+    none_after name.Times NoPolls others took h fit clash = cc
+    none_after name.Times (Address k) others took h fit clash = cc
     none_after name.NoPolls Join others took h fit clash = cc
+    none_after name.NoPolls Times others took h fit clash = cc
     none_after name.NoPolls NoPolls others (took, same) h fit clash = cc
     none_after name.NoPolls (Address k) others took h fit clash = cc
     none_after name.Address Join others took h fit clash = cc
+    none_after name.Address Times others took h fit clash = cc
     none_after name.Address NoPolls others took h fit clash = cc
     none_after name.Address (Address k) others (t, takes, took) h fit clash = without_number Address k _ t takes took fit (number_stands k _ _ h)
 

@@ -12,6 +12,8 @@ use osdp_words::{Fields, number_u8};
 pub struct CaptureMode {
     /// All lines of digits are one run.
     pub join: bool,
+    /// Whether the moment and the way of its run stand before each line.
+    pub times: bool,
     /// Whether POLL and ACK are left out.
     pub no_polls: bool,
     /// The address whose packets alone are printed, 0 to 127, where one is given.
@@ -23,6 +25,8 @@ pub struct CaptureMode {
 pub enum CaptureOption {
     /// `--join`
     Join,
+    /// `--times`
+    Times,
     /// `--no-polls`
     NoPolls,
     /// `--address` and the address.
@@ -33,6 +37,7 @@ pub enum CaptureOption {
 #[derive(Clone, Copy, Debug, PartialEq, Eq)]
 pub(crate) enum OptionName {
     Join,
+    Times,
     NoPolls,
     Address,
 }
@@ -43,6 +48,7 @@ fn option_name(word: &str) -> Option<OptionName>
 {
     match word {
         "--join" => Some(OptionName::Join),
+        "--times" => Some(OptionName::Times),
         "--no-polls" => Some(OptionName::NoPolls),
         "--address" => Some(OptionName::Address),
         _ => None,
@@ -74,6 +80,7 @@ impl CaptureOption {
     {
         match name {
             OptionName::Join => Some(CaptureOption::Join),
+            OptionName::Times => Some(CaptureOption::Times),
             OptionName::NoPolls => Some(CaptureOption::NoPolls),
             OptionName::Address => Some(CaptureOption::Address(take_address(words)?)),
         }
@@ -85,6 +92,7 @@ impl CaptureOption {
     {
         match self {
             CaptureOption::Join => mode.join = true,
+            CaptureOption::Times => mode.times = true,
             CaptureOption::NoPolls => mode.no_polls = true,
             CaptureOption::Address(address) => mode.address = Some(address),
         }
@@ -98,6 +106,7 @@ pub fn capture_mode(words: &[&str]) -> Option<CaptureMode>
 {
     let mut mode = CaptureMode {
         join: false,
+        times: false,
         no_polls: false,
         address: None,
     };

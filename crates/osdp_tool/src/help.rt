@@ -33,13 +33,14 @@ files it is the greatest. The manual: man osdp, man osdp-monitor, man osdp-panel
 const SHOW: &str =
     "osdp show: prints a line for each packet, each skipped byte and each refused byte of a capture
 
-usage: osdp show [FORM] [--join] [--no-polls] [--address A] [FILE]...
+usage: osdp show [FORM] [--join] [--times] [--no-polls] [--address A] [FILE]...
 
   --raw        the input is bytes, as they come from a port
   --osdpcap    the input is .osdpcap: an object of JSON a line
   --xxd        the input is what xxd wrote of bytes, and one run
   --stamped    the input is lines of a stamp, TX or RX, and digits
   --join       all lines of digits are one run
+  --times      begin each line with the moment and the way of its run
   --no-polls   leave out each POLL and each ACK
   --address A  leave out the packets of all addresses but this, 0 to 127
 

@@ -19,6 +19,7 @@ fn words_choose_jobs(rt: HostRuntime) {
 fn options_of_a_capture(rt: HostRuntime) {
     let mode = CaptureMode {
         join: true,
+        times: false,
         no_polls: false,
         address: Some(6),
     };

@@ -8,21 +8,43 @@ use osdp_tool_captures::{FRONT, Format, looks_like};
 use std::io;
 use std::io::Read;
 
-/// An input, and the bytes at its front.
+/// The bytes at the front of an input.
+#[derive(Drop)]
+struct Front {
+    bytes: [u8; FRONT],
+    count: usize,
+}
+
+impl Front {
+    /// These bytes have come.
+    fn note(&mut self, bytes: &[u8]) {
+        for byte in bytes {
+            if let Some(place) = self.bytes.get_mut(self.count) {
+                *place = *byte;
+                self.count += 1;
+            }
+        }
+    }
+
+    /// Those that have come.
+    fn come(&self) -> &[u8] {
+        self.bytes.get(..self.count).unwrap_or(&[])
+    }
+}
+
+/// An input that is looked at.
 #[derive(Drop)]
 pub struct Hinted<'a, R> {
     /// Where a hint is printed.
-    pub rt: &'a HostRuntime,
+    rt: &'a HostRuntime,
     /// The form that it is read in.
-    pub format: Format,
-    /// So many bytes of the front have come.
-    pub count: usize,
+    format: Format,
     /// Whether it was looked at.
-    pub is_told: bool,
+    is_told: bool,
     /// The bytes at its front.
-    pub front: [u8; 1000],
+    front: Front,
     /// The input itself.
-    pub inner: R,
+    inner: R,
 }
 
 impl<'a, R> Hinted<'a, R> {
@@ -31,9 +53,11 @@ impl<'a, R> Hinted<'a, R> {
         Hinted {
             rt,
             format,
-            count: 0,
             is_told: false,
-            front: [0u8; FRONT],
+            front: Front {
+                bytes: [0u8; FRONT],
+                count: 0,
+            },
             inner,
         }
     }
@@ -46,8 +70,7 @@ impl<'a, R> Hinted<'a, R> {
             return;
         }
         self.is_told = true;
-        let front = self.front.get(..self.count).unwrap_or(&[]);
-        if let Some(hint) = looks_like(self.format, front) {
+        if let Some(hint) = looks_like(self.format, self.front.come()) {
             let _ = eprintln!(self.rt; "osdp: {hint}");
         }
     }
@@ -56,13 +79,12 @@ impl<'a, R> Hinted<'a, R> {
     fn look(&mut self, bytes: &[u8])
         ensures { self.new.inner ≡ self.old.inner }
     {
-        'bytes: for byte in bytes {
-            if let Some(place) = self.front.get_mut(self.count) {
-                *place = *byte;
-                self.count += 1;
-            }
+        if self.is_told {
+            return;
         }
-        if bytes.is_empty() || self.count >= FRONT {
+        self.front.note(bytes);
+        let is_enough = bytes.is_empty() || self.front.count >= FRONT;
+        if is_enough {
             self.tell();
         }
     }

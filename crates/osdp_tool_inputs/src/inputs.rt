@@ -5,8 +5,9 @@ ghost use Rattle.osdp_tool_streams.specs.Watched.{has_failed};
 
 use crate::clock::Clock;
 use crate::hinted::Hinted;
+use crate::times::timed;
 use osdp_tool::{CaptureMode, are_files, capture_mode};
-use osdp_tool_captures::{BadLine, Format, Tool, read_whole, translate};
+use osdp_tool_captures::{BadLine, Format, Tool, Translated, Whole, read_whole, translate};
 use osdp_tool_monitor::{MonitorMode, monitor, monitor_mode};
 use osdp_tool_show::{Detail, Filter, command};
 use osdp_tool_streams::{Form, LIMIT, ToolFault, Watched, flush_out, write_out};
@@ -32,6 +33,8 @@ pub enum Reads {
 enum Task {
     /// Its items are printed in this detail; all lines of digits are one run, or each is.
     Print(Detail, bool),
+    /// The same, each line after the moment and the way of its run.
+    Time(Detail, bool),
     /// It is listened to.
     Listen(MonitorMode),
 }
@@ -70,13 +73,17 @@ fn task_of(reads: Reads, format: Format, options: &[&str]) -> Option<Task> {
     match reads {
         Reads::Show => {
             let mode = capture_mode(options)?;
-            Some(Task::Print(detail_of(mode), mode.join))
+            let detail = detail_of(mode);
+            if mode.times {
+                return Some(Task::Time(detail, mode.join));
+            }
+            Some(Task::Print(detail, mode.join))
         }
         Reads::Check => {
             let mode = capture_mode(options)?;
             match detail_of(mode) {
-                Detail::Full => Some(Task::Print(Detail::Refusals, mode.join)),
-                Detail::Refusals | Detail::Filtered(_) => None,
+                Detail::Full if !mode.times => Some(Task::Print(Detail::Refusals, mode.join)),
+                Detail::Full | Detail::Refusals | Detail::Filtered(_) => None,
             }
         }
         Reads::Monitor => {
@@ -116,11 +123,33 @@ fn form_of(format: Format, join: bool) -> Form {
     }
 }
 
-/// Does what is asked with a stream of digits or bytes. True where a refusal was met, or an end accused.
+/// Prints the items of a stream, each line after the moment and the way of its run, which stand in this text. True where a refusal was met.
+fn print_timed<R: Read>(
+    rt: &HostRuntime,
+    detail: Detail,
+    form: Form,
+    text: &[u8],
+    input: &mut Watched<R>,
+) -> Result<bool, ToolFault> {
+    let mut shown = Vec::new(rt.alloc());
+    let mut memory = Watched::new(&mut shown);
+    let answer = command(rt.alloc(), detail, form, LONGEST, input, &mut memory);
+    if answer == Err(ToolFault::WriteFailed) {
+        return Err(ToolFault::NoMemory);
+    }
+    let lines = timed(rt.alloc(), text, shown.as_slice())?;
+    let mut output = Watched::new(rt.stdout());
+    write_out(&mut output, lines.as_slice())?;
+    flush_out(&mut output)?;
+    answer
+}
+
+/// Does what is asked with a stream of digits or bytes, of which this text has the comments. True where a refusal was met, or an end accused.
 fn do_task<R: Read>(
     rt: &HostRuntime,
     asked: &Asked<'_>,
     limit: usize,
+    text: &[u8],
     input: &mut Watched<R>,
 ) -> Result<bool, ToolFault>
     requires limit { limit < 2 ^ 40 }
@@ -132,28 +161,60 @@ fn do_task<R: Read>(
             let form = form_of(asked.format, join);
             command(rt.alloc(), detail, form, limit, input, &mut output)
         }
+        Task::Time(detail, join) => {
+            print_timed(rt, detail, form_of(asked.format, join), text, input)
+        }
         Task::Listen(mode) => monitor(rt.alloc(), mode, &mut Clock::new(rt), input, &mut output),
     }
 }
 
-/// Does what is asked with a capture of another tool, once all of it was read. A fault of the input is told after what stands before it.
-fn do_translated<R: Read>(
+/// What came of an answer. Where the output or memory fails, nothing more is done.
+fn told_of(answer: Result<bool, ToolFault>) -> Result<Told, ToolFault> {
+    match answer {
+        Ok(refused) => Ok(Told::Refused(refused)),
+        Err(ToolFault::WriteFailed) => Err(ToolFault::WriteFailed),
+        Err(ToolFault::NoMemory) => Err(ToolFault::NoMemory),
+        Err(fault) => Ok(Told::Failed(fault)),
+    }
+}
+
+/// An input as lines of digits or as bytes, and the first bad line where another tool wrote it.
+fn translated(rt: &HostRuntime, format: Format, bytes: Vec<u8>) -> Result<Translated, ToolFault> {
+    match format {
+        Format::Of(tool) => translate(rt.alloc(), tool, bytes.as_slice()),
+        Format::Digits | Format::Bytes => Ok(Translated {
+            text: bytes,
+            bad: None,
+        }),
+    }
+}
+
+/// Does what is asked with an input once all of it was read. A fault of the input is told after what stands before it.
+fn do_whole<R: Read>(
     rt: &HostRuntime,
     asked: &Asked<'_>,
-    tool: Tool,
     input: &mut Watched<R>,
 ) -> Result<Told, ToolFault> {
-    let whole = read_whole(rt.alloc(), LIMIT, input)?;
-    let translated = translate(rt.alloc(), tool, whole.bytes.as_slice())?;
-    let mut lines = Watched::new(translated.text.as_slice());
-    let refused = do_task(rt, asked, LONGEST, &mut lines)?;
-    if let Some(fault) = whole.fault {
+    let Whole { bytes, fault } = read_whole(rt.alloc(), LIMIT, input)?;
+    let Translated { text, bad } = translated(rt, asked.format, bytes)?;
+    let mut lines = Watched::new(text.as_slice());
+    let told = told_of(do_task(rt, asked, LONGEST, text.as_slice(), &mut lines))?;
+    if let Some(fault) = fault {
         return Ok(Told::Failed(fault));
     }
-    if let Some(bad) = translated.bad {
-        return Ok(Told::Bad(bad));
+    match bad {
+        Some(bad) => Ok(Told::Bad(bad)),
+        None => Ok(told),
     }
-    Ok(Told::Refused(refused))
+}
+
+/// Whether an input is read whole before anything is told of it.
+fn is_whole(asked: &Asked<'_>) -> bool {
+    match (asked.format, asked.task) {
+        (Format::Of(_), _) => true,
+        (_, Task::Time(..)) => true,
+        (Format::Digits | Format::Bytes, Task::Print(..) | Task::Listen(_)) => false,
+    }
 }
 
 /// Does what is asked with an input. Where the output or memory fails, nothing more is done.
@@ -164,14 +225,10 @@ fn do_input<R: Read + Drop>(
 ) -> Result<Told, ToolFault> {
     let mut hinted = Hinted::new(rt, asked.format, stream);
     let mut input = Watched::new(&mut hinted);
-    let told = match asked.format {
-        Format::Of(tool) => do_translated(rt, asked, tool, &mut input),
-        Format::Digits | Format::Bytes => match do_task(rt, asked, LIMIT, &mut input) {
-            Ok(refused) => Ok(Told::Refused(refused)),
-            Err(ToolFault::WriteFailed) => Err(ToolFault::WriteFailed),
-            Err(ToolFault::NoMemory) => Err(ToolFault::NoMemory),
-            Err(fault) => Ok(Told::Failed(fault)),
-        },
+    let told = if is_whole(asked) {
+        do_whole(rt, asked, &mut input)
+    } else {
+        told_of(do_task(rt, asked, LIMIT, &[], &mut input))
     };
     hinted.tell();
     told
