@@ -20,7 +20,7 @@ PROGRAM = Path(sys.argv[1]).resolve()
 ENVIRONMENT = {**os.environ, "PATH": f"{PROGRAM.parent}:{os.environ['PATH']}"}
 TOPICS = ("show", "monitor", "check", "make", "sim", "panel", "reader")
 # which part of a page has the rows of a help's part: the part of the help is what stands before its rows
-PARTS = {"show": [("OPTIONS", "usage")], "monitor": [("OPTIONS", "usage")], "check": [("OPTIONS", "usage")],
+PARTS = {"show": [("OPTIONS, OPTIONS OF SHOW", "usage")], "monitor": [("OPTIONS", "usage")], "check": [("OPTIONS", "usage")],
          "sim": [("SCRIPTS", "Input")],
          "panel": [("SETTINGS", "usage"), ("CALLS", "Input"), ("COMMANDS", "Commands"), ("ANSWERS", "Answers")],
          "reader": [("SETTINGS", "usage"), ("CALLS", "Input"), ("EVENTS", "Events"), ("ANSWERS", "Answers")]}
@@ -98,7 +98,7 @@ def part_of(help_text, begins):
 def judge_rows(topic, help_text, name):
     """The rows of a help are entries of the page, with their numbers, and there are no others."""
     for heading, begins in PARTS.get(topic, []):
-        known = entries(name, heading)
+        known = [entry for each in heading.split(", ") for entry in entries(name, each)]
         told = rows(part_of(help_text, begins))
         for row, what in told:
             word = re.split(r"[ ,]", row)[0]
