@@ -36,7 +36,8 @@ fn words_of_a_form(rt: HostRuntime) {
     let words = ["--raw", "door.xxd", "--xxd"];
     assert_eq!(rt; format_of(&words), Format::Of(Tool::Xxd));
     let left = without_formats(rt.alloc(), &words).expect(&rt, "memory");
-    assert_eq!(rt; left.as_slice(), &["door.xxd"]);
+    assert_eq!(rt; left.len(), 1);
+    assert_eq!(rt; left[0], "door.xxd");
     assert!(rt; are_files(&["-", "a"]));
     assert!(rt; !are_files(&["a", "--b"]));
 }
