@@ -41,15 +41,15 @@ enum {
 /* What became of `osdp_site_wants`. A refused call has changed nothing. */
 typedef enum osdp_site_status {
     OSDP_SITE_OK = 0,
-    /* S2: there is no such entry. */
+    /* P2: there is no such entry. */
     OSDP_SITE_NO_ENTRY = 2,
-    /* S3: as many states are wanted of the device as there is room for. */
+    /* P3: as many states are wanted of the device as there is room for. */
     OSDP_SITE_FULL = 3,
-    /* S4: several outputs or LEDs in one command: each is wanted by itself. */
+    /* P4: several outputs or LEDs in one command: each is wanted by itself. */
     OSDP_SITE_SEVERAL = 4,
-    /* S5: it lasts for a time, so it is an order and no state. */
+    /* P5: it lasts for a time, so it is an order and no state. */
     OSDP_SITE_TIMED = 5,
-    /* S6: the command says nothing that holds from then on. */
+    /* P6: the command says nothing that holds from then on. */
     OSDP_SITE_NO_STATE = 6
 } osdp_site_status;
 

@@ -18,7 +18,7 @@
 //! ```
 //!
 //! A state is what holds until something else is said: it may be said again. What lasts for a time is an order: an OUT that opens a door for five seconds would
-//! open it again after each session that was lost. So an output or an LED for a time, a counted sound and a text for a time are refused (S5), and so is all
+//! open it again after each session that was lost. So an output or an LED for a time, a counted sound and a text for a time are refused (P5), and so is all
 //! else that puts nothing.
 #![tactic(auto)]
 

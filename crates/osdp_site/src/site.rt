@@ -64,7 +64,7 @@ impl Site {
     /// A site for so many entries, those of the panel: all are offline since this moment, and their sessions are due. It takes the memory for all the states
     /// that may be wanted, and no other call takes any.
     ///
-    /// NoMemory (S1) where there is none.
+    /// NoMemory (P1) where there is none.
     pub fn new(
         alloc: Global,
         entries: usize,
@@ -89,9 +89,9 @@ impl Site {
     /// From now on a device is to be as the command says: an OUT or LED of one record, a BUZ or a TEXT. It stands in place of what was wanted of the same output,
     /// LED, buzzer or text before. Where the device is online, the next `act` submits it; and once again after each opening of its session.
     ///
-    /// NoEntry (S2); else Several (S4) for several outputs or LEDs; Timed (S5) for what lasts for a time: an output with control 5 or 6, an LED with a temporary
-    /// state, a sound that is counted, a text with command 3 or 4; NoState (S6) for a command that says no state: an output with control 0 or above 6, an LED whose
-    /// permanent control isn't 1, tone 0, a text with another command, and each other kind of command; else Full (S3) where as many states are wanted as there is
+    /// NoEntry (P2); else Several (P4) for several outputs or LEDs; Timed (P5) for what lasts for a time: an output with control 5 or 6, an LED with a temporary
+    /// state, a sound that is counted, a text with command 3 or 4; NoState (P6) for a command that says no state: an output with control 0 or above 6, an LED whose
+    /// permanent control isn't 1, tone 0, a text with another command, and each other kind of command; else Full (P3) where as many states are wanted as there is
     /// room for. Nothing has changed then.
     pub fn wants(&mut self, entry: Entry, command: Command) -> Result<(), SiteFault>
         ensures result { result ≡ unless_refused (wants_refusal_at entry command self.old) }
