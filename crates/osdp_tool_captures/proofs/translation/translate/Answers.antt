@@ -1,4 +1,4 @@
-use Rattle.std.proofs.Common.{◌≡◌, ◌+◌, ◌-◌, length, take, drop, subst}
+use Rattle.std.proofs.Common.{◌+◌, ◌-◌, take, drop, subst}
 use Rattle.osdp_tool_captures.specs.Lines.{line_text}
 use Rattle.osdp_tool_captures.specs.Captures.{AddsLine}
 use Rattle.osdp_tool_captures.proofs.Cutting.{step_on, step_bad, step_last}
