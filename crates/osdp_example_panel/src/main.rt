@@ -9,6 +9,7 @@ mod kept;
 
 use door::{DOOR, Door, FIRST};
 use osdp_example_lines::{Line, read_line, send, tell_due};
+use osdp_names::named::output;
 use osdp_panel::{
     Address, BusConfig, CheckKind, Command, Event, OutputRecord, Outputs, Panel, Raw, Report, Turn,
 };
@@ -18,7 +19,7 @@ use std::io;
 /// The door's strike, output 0, is on for three seconds.
 const STRIKE: OutputRecord = OutputRecord {
     output: 0,
-    control: 5,
+    control: output::ON_FOR_A_TIME,
     timer: 30,
 };
 

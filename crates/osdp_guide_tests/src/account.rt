@@ -2,6 +2,7 @@
 
 use osdp_controller::Report;
 use osdp_msg::{Command, Event, Nak, NakReason, OutputRecord, Outputs, Raw, Reply};
+use osdp_names::named::output;
 use std::process::Abort;
 
 /// How many orders, and how many events, a device is given at most.
@@ -49,7 +50,7 @@ pub struct Account {
 pub fn order(rt: &impl Abort, number: usize) -> Command {
     let record = OutputRecord {
         output: u8::from(number % 2 == 1),
-        control: 5,
+        control: output::ON_FOR_A_TIME,
         timer: u16::try_from(number).ok().expect(rt, "a timer"),
     };
     Command::Output(Outputs::new(&[record]).expect(rt, "an order"))

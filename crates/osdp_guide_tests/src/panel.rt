@@ -1,5 +1,6 @@
 //! A panel's own part: what it does with each report.
 
+use osdp_names::named::output;
 use osdp_panel::{
     Address, BusConfig, BusFault, CheckKind, Command, Entry, Event, OutputRecord, Outputs, Panel,
     Raw, Report, Turn, Unsent,
@@ -26,7 +27,7 @@ fn may_enter(card: &Raw) -> bool {
 fn open(panel: &mut Panel, door: Entry) {
     let strike = OutputRecord {
         output: 0,
-        control: 5,
+        control: output::ON_FOR_A_TIME,
         timer: 30,
     };
     if let Some(outputs) = Outputs::new(&[strike]) {
