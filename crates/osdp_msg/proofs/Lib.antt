@@ -1,4 +1,3 @@
-pub mod Keeping
 pub mod Bytes
 pub mod RecordLists
 pub mod Table

@@ -1,3 +1,4 @@
 pub mod Storing
+pub mod Polling
+pub mod Reading
 pub mod Answering
-pub mod Waiting

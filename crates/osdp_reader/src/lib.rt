@@ -14,6 +14,7 @@ mod heard;
 mod kind;
 mod reader;
 mod reply;
+mod response;
 mod stored;
 
 pub use config::ReaderConfig;
@@ -21,4 +22,5 @@ pub use fault::ReaderFault;
 pub use handler::{Answer, Handler};
 pub use heard::Heard;
 pub use kind::Kind;
-pub use reader::Reader;
+pub use reader::{Reader, read_command};
+pub use response::Response;
