@@ -28,7 +28,7 @@ pub fn read_whole<R: Read>(
     ensures fault { IfErr result (λ fault. fault ≡ ToolFault.NoMemory) }
 {
     let mut bytes = Vec::new(alloc);
-    let mut piece = [0u8; 65536];
+    let mut piece = [0u8; 4096];
     let mut left = limit;
     'reads: loop {
         match read_piece(input, &mut piece, left) {
