@@ -123,7 +123,38 @@ fn form_of(format: Format, join: bool) -> Form {
     }
 }
 
+/// Prints the items of a stream. True where a refusal was met.
+// It stands by itself, as the two below do: so the stack has the places of one of them at a time.
+#[inline(never)]
+fn print_items<R: Read>(
+    rt: &HostRuntime,
+    detail: Detail,
+    form: Form,
+    limit: usize,
+    input: &mut Watched<R>,
+) -> Result<bool, ToolFault>
+    requires limit { limit < 2 ^ 40 }
+    requires input { has_failed input.old ≡ false }
+{
+    let mut output = Watched::new(rt.stdout());
+    command(rt.alloc(), detail, form, limit, input, &mut output)
+}
+
+/// Listens to a stream, and tells what it finds. True where an end was accused.
+#[inline(never)]
+fn listen<R: Read>(
+    rt: &HostRuntime,
+    mode: MonitorMode,
+    input: &mut Watched<R>,
+) -> Result<bool, ToolFault>
+    requires { has_failed input.old ≡ false }
+{
+    let mut output = Watched::new(rt.stdout());
+    monitor(rt.alloc(), mode, &mut Clock::new(rt), input, &mut output)
+}
+
 /// Prints the items of a stream, each line after the moment and the way of its run, which stand in this text. True where a refusal was met.
+#[inline(never)]
 fn print_timed<R: Read>(
     rt: &HostRuntime,
     detail: Detail,
@@ -155,16 +186,14 @@ fn do_task<R: Read>(
     requires limit { limit < 2 ^ 40 }
     requires input { has_failed input.old ≡ false }
 {
-    let mut output = Watched::new(rt.stdout());
     match asked.task {
         Task::Print(detail, join) => {
-            let form = form_of(asked.format, join);
-            command(rt.alloc(), detail, form, limit, input, &mut output)
+            print_items(rt, detail, form_of(asked.format, join), limit, input)
         }
         Task::Time(detail, join) => {
             print_timed(rt, detail, form_of(asked.format, join), text, input)
         }
-        Task::Listen(mode) => monitor(rt.alloc(), mode, &mut Clock::new(rt), input, &mut output),
+        Task::Listen(mode) => listen(rt, mode, input),
     }
 }
 
