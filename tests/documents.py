@@ -27,7 +27,7 @@ import textwrap
 from pathlib import Path
 
 TOP = Path(__file__).resolve().parent.parent
-PAGES = ["README.md", "bench/README.md", "c/README.md", "examples/README.md", "rust/README.md", *sorted(f"docs/{file.name}" for file in (TOP / "docs").glob("*.md"))]
+PAGES = ["README.md", "bench/README.md", "c/README.md", "examples/README.md", "python/README.md", "rust/README.md", *sorted(f"docs/{file.name}" for file in (TOP / "docs").glob("*.md"))]
 LAW = re.compile(r"^pub fn (\w+)(.*?)(?=^    (?:ensures|requires)|^{)", re.M | re.S)
 NAMED = re.compile(r"(laws?|clauses?)?\s*`([^`]+)`")
 WORD = re.compile(r"\w+")
@@ -328,7 +328,7 @@ def judge_page(page, all_crates):
     for name in sorted(set(re.findall(r"`(osdp_[a-z_]+)`", text))):
         if name not in all_crates and name not in exports:
             faults.append(f"{page}: there is no crate {name}")
-    for name in sorted(set(re.findall(r"`((?:bench|c|crates/osdp\w+|docs|examples|include|man|port|rust|tests|tools)/[\w./-]*)", text))):
+    for name in sorted(set(re.findall(r"`((?:bench|c|crates/osdp\w+|demo|docs|examples|include|man|port|python|release|rust|tests|tools)/[\w./-]*)", text))):
         if not (TOP / name).exists() and not ((TOP / page).parent / name).exists():
             faults.append(f"{page}: there is no {name}")
     for number, line in enumerate(text.splitlines(), 1):
@@ -357,7 +357,7 @@ def judge_messages():
 
 def plain_texts():
     """What is written for people: pages, manual pages and scripts."""
-    for folder in ("", "docs", "man", "tests", "tests/c", "tests/rows", "tools", "bench", "c", "examples", "examples/c", "include", "port", "port/osdp_port", "rust", "rust/src", "rust/examples"):
+    for folder in ("", "docs", "man", "tests", "tests/c", "tests/rows", "tools", "bench", "c", "examples", "examples/c", "include", "port", "port/osdp_port", "python", "python/osdp", "python/examples", "release", "rust", "rust/src", "rust/examples"):
         for file in sorted((TOP / folder).iterdir()):
             if file.is_file() and file != Path(__file__).resolve():
                 yield file, file.read_text(errors="replace")

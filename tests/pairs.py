@@ -1,9 +1,9 @@
 #!/usr/bin/env python3
-"""Each small panel with each small device, over a line of two terminals: `pairs.py PROGRAMS_IN_C PROGRAMS_IN_RUST CRATES`, three folders.
+"""Each small panel with each small device, over a line of two terminals: `pairs.py PROGRAMS_IN_C PROGRAMS_IN_RUST CRATES PROGRAMS_IN_PYTHON`, four folders.
 
-The programs are those of examples/ and of crates/: a panel that opens a door for two cards, and a device with two outputs, in C, in Rust and in Rattle. Those in
-C and Rust run on a terminal. Those in Rattle are called by lines, as a program on a port calls them. In each pair a card that is unknown opens nothing,
-and each of the two that are known opens the door once. Before that each device in C and Rust keeps
+The programs are those of examples/, of crates/ and of python/: a panel that opens a door for two cards, and a device with two outputs, in C, in Rust, in Rattle and
+in Python. Those in C, Rust and Python run on a terminal. Those in Rattle are called by lines, as a program on a port calls them. In each pair a card that is unknown opens nothing,
+and each of the two that are known opens the door once. Before that each device in C, Rust and Python keeps
 its place over a COMSET, before the panel is told, and starts there again."""
 import os
 import select
@@ -136,18 +136,19 @@ def keeps_place(program):
 
 
 def main():
-    c, rust, crates = (Path(word) for word in sys.argv[1:])
+    c, rust, crates, python = (Path(word) for word in sys.argv[1:])
     ends = {}
     for role in ("panel", "device"):
         ends[role] = {
             "C": lambda role=role: OnPort(c / f"door_{role}"),
             "Rust": lambda role=role: OnPort(rust / f"door_{role}"),
+            "Python": lambda role=role: OnPort(python / f"door_{role}.py"),
         }
         program = crates / f"osdp_example_{role}/out/osdp_example_{role}"
         ends[role]["Rattle"] = lambda program=program: ByLines(program)
     faults = 0
-    for name, folder in (("C", c), ("Rust", rust)):
-        why = keeps_place(folder / "door_device")
+    for name, program in (("C", c / "door_device"), ("Rust", rust / "door_device"), ("Python", python / "door_device.py")):
+        why = keeps_place(program)
         if why:
             faults += 1
             print(f"the device in {name} doesn't keep its place: {why}")

@@ -1,5 +1,5 @@
 #!/usr/bin/env bash
-# Each small panel of the guide with each small device (`pairs.py`), nine pairs. Before that, the decision of each program in C by its
+# Each small panel of the guide with each small device (`pairs.py`), sixteen pairs. Before that, the decision of each program in C by its
 # own unit test; those of the others are tested by `c.sh` and with their crates. Takes the path of the program, beside which the crates stand. The archive is the one
 # that `c.sh` has built.
 set -u
@@ -22,5 +22,7 @@ for name in door_panel door_device; do
   said=$("$work/target/debug/examples/$name" 2>&1)
   [ $? -eq 2 ] && [ "$said" = "usage: $name [--keep FILE] PORT RATE" ] || { echo "pairs.sh: $name in Rust says of no words: $said"; failed=1; }
 done
-timeout 200 python3 tests/pairs.py "$work" "$work/target/debug/examples" "$crates" || failed=1
+python3 -c "import runpy; from pathlib import Path; runpy.run_path('install')['compiled'](Path('$work'))" || exit 1
+export OSDP_LIBRARY=$work/libosdp.so.0
+timeout 300 python3 tests/pairs.py "$work" "$work/target/debug/examples" "$crates" python/examples || failed=1
 exit "$failed"

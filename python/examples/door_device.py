@@ -1,0 +1,84 @@
+#!/usr/bin/env python3
+"""A device with two outputs: door_device.py [--keep FILE] PORT RATE, at address 5, or where the file has it after a COMSET. A line `card 12345640` says that
+a card was read. Each output that is switched on is printed, and so is a card that was too old.
+
+It stands beside the folder `examples`, of which it takes the port. It needs the package osdp on PYTHONPATH, or the folder above this one."""
+import sys
+from pathlib import Path
+
+HERE = Path(__file__).resolve().parent
+sys.path[:0] = [str(HERE.parent), str(HERE.parent.parent / "examples")]
+
+import osdp  # noqa: E402
+from kept import Kept  # noqa: E402
+from lines import Lines, moment, number, take_words, tell  # noqa: E402
+from port import Port  # noqa: E402
+
+OUT = 0x68
+OFF, ON_FOR_A_TIME = 1, 5
+NOT_PROCESSED = 9  # the reason of a NAK
+TOO_OLD = 30000  # how long a card may wait while no panel is there, in milliseconds
+
+
+def records(command):
+    """The output and the control of each record of an OUT; none of another command."""
+    return [(command.data[at], command.data[at + 1]) for at in range(0, len(command.data), 4)] if command and command.code == OUT else []
+
+
+def may_be_done(output, control):
+    """Whether an output may be switched so: for a time, or off. A door may not stand open for good."""
+    return output < 2 and control in (OFF, ON_FOR_A_TIME)
+
+
+class Door:
+    """The device at its port."""
+
+    def __init__(self, path, rate, kept):
+        (address, self.rate), self.kept = kept.read() or (5, rate) if kept.path else (5, rate), kept
+        self.port, self.device = Port(path, self.rate), osdp.Device(address, vendor=b"SIM", serial=1)
+        self.device.set_outputs(bytes(2))
+
+    def take(self, answers):
+        """Does what the device is to do, and then writes what it says: so an order that is answered was done, also where power is lost in between."""
+        for answer in answers:
+            if answer.order is osdp.Order.PENDING and not all(may_be_done(*each) for each in records(answer.command)):
+                self.device.answer_refused(NOT_PROCESSED)
+            if answer.moved:  # kept before the panel is told
+                self.kept.keep(*answer.moved, self.rate)
+            if answer.order is osdp.Order.ONCE:
+                for output, control in records(answer.command):
+                    if control == ON_FOR_A_TIME:
+                        tell(f"on {output}")
+            self.port.write(answer.data)
+            if answer.moved and self.port.set_rate(answer.moved[1]):
+                self.rate = answer.moved[1]
+
+    def take_line(self, line):
+        """A card of 26 bits was read, where a line says so: it is told to the next POLL."""
+        try:
+            self.device.event(f"RAW 0 0 26 {line.removeprefix('card ')}")
+        except osdp.OsdpError as error:
+            tell(f"refused line: {error}")
+
+    def run(self):
+        lines = Lines()
+        while True:
+            read, typed = self.port.wait(lines, 0.01)
+            typed, now = list(typed), moment()  # after the read: not before it
+            for how, event in self.device.expire_events(now, TOO_OLD):
+                tell(f"{how.name.lower().replace('_', ' ')} {event}")
+            self.take(self.device.hear(read, now))
+            for line in typed:
+                self.take_line(line)
+            self.take(self.device.tick(now))
+
+
+def main():
+    words = take_words(__doc__, 2, "--keep")
+    kept = Kept(words[1]) if words[0] == "--keep" else Kept(None)
+    path, rate = words[-2:]
+    Door(path, number(rate, "rate"), kept).run()
+
+
+if __name__ == "__main__":
+    main()

@@ -1,0 +1,64 @@
+#!/usr/bin/env python3
+"""A panel that opens a door for two cards: door_panel.py PORT RATE. The door is the device at address 5. What it reports is printed.
+
+It stands beside the folder `examples`, of which it takes the port. It needs the package osdp on PYTHONPATH, or the folder above this one."""
+import sys
+from pathlib import Path
+
+HERE = Path(__file__).resolve().parent
+sys.path[:0] = [str(HERE.parent), str(HERE.parent.parent / "examples")]
+
+import osdp  # noqa: E402
+from lines import Lines, moment, number, take_words, tell  # noqa: E402
+from port import Port  # noqa: E402
+
+CARDS = (bytes.fromhex("12345640"), bytes.fromhex("65432180"))
+STRIKE = "OUT 0:5:30"  # output 0, on for three seconds
+PAUSE = 1000  # from a session that was lost to the next one, in milliseconds
+
+
+def may_enter(card):
+    """Whether a card opens the door: two cards of 26 bits do."""
+    return card.bits == 26 and card.data in CARDS
+
+
+def take_reports(panel, door, now):
+    """Takes what the panel reports. The moment at which the next session begins, where one has ended."""
+    begins = None
+    for report in panel.reports():
+        tell(f"{report.kind.name.lower()} {report.command or ''} {report.reply or ''}".strip())
+        if report.kind in (osdp.Kind.LOST, osdp.Kind.MOVED):
+            begins = now + PAUSE
+        card = report.reply.card() if report.kind is osdp.Kind.EVENT else None
+        if card and may_enter(card) and not report.maybe_again:  # one that may have been told before makes no second order
+            try:
+                panel.submit(door, STRIKE)
+            except osdp.OsdpError as error:
+                tell(f"the door stays closed: {error}")  # as many orders wait as may
+    return begins
+
+
+def main():
+    path, rate = take_words(__doc__, 2)
+    port, lines, panel = Port(path, number(rate, "rate")), Lines(), osdp.Panel()
+    door, begins = panel.add(5), 0
+    while True:
+        if begins is not None and begins <= moment():
+            while panel.withdraw(door):  # orders of long ago open no door
+                pass
+            panel.begin(door, moment())
+            begins = None
+        until = [each for each in (panel.next_deadline(), begins) if each is not None]
+        read, typed = port.wait(lines, max(min(until) - moment(), 0) / 1000 if until else None)
+        for _ in typed:
+            tell("refused line")
+        now = moment()  # after the read: not before it
+        panel.hear(read, now)
+        ended = take_reports(panel, door, now)
+        port.write(panel.tick(now))
+        ended = take_reports(panel, door, now) or ended
+        begins = begins if ended is None else ended
+
+
+if __name__ == "__main__":
+    main()

@@ -1,0 +1,22 @@
+"""Panel and device of an OSDP line, over the machines that are proved in Rattle, for test benches.
+
+What is proved is the shared library; this package is ordinary Python over it, by ctypes. Nothing here reads, writes, sleeps or keeps a clock: the program
+reads its port, hands in bytes and the moment, and writes what it is given. Moments and times are whole milliseconds, of any clock that doesn't go backwards.
+docs/GUIDE.md says what a panel and a device do, and what each report asks for.
+
+    panel = osdp.Panel()
+    door = panel.add(5)
+    panel.begin(door, now)
+    panel.submit(door, "OUT 0:5:30")
+    panel.hear(port.read(), now)
+    for report in panel.reports():
+        print(report.kind.name, report.command, report.reply)
+    port.write(panel.tick(now))
+"""
+from ._library import OsdpError, Status, library_version
+from .device import Answer, Device, Expired, Order, Said
+from .message import Card, Message
+from .panel import Cause, Kind, Panel, Report
+
+__all__ = ["Answer", "Card", "Cause", "Device", "Expired", "Kind", "Message", "Order", "OsdpError", "Panel", "Report", "Said", "Status", "library_version"]
+__version__ = "0.1.0"

@@ -1,0 +1,56 @@
+"""Messages: a code and data, and their text."""
+from __future__ import annotations
+
+import ctypes
+from dataclasses import dataclass
+from typing import Optional
+
+from ._library import MessageStruct, RawStruct, call
+
+MOST_TEXT = 5729
+RAW = 0x50
+
+
+@dataclass(frozen=True)
+class Card:
+    """A card's bits: which reader of the device, how they are to be understood, how many there are, and the bytes that they stand in, the first bit highest."""
+
+    reader: int
+    format: int
+    bits: int
+    data: bytes
+
+
+@dataclass(frozen=True)
+class Message:
+    """A command of a panel, or a reply of a device: its code and its data. `str` gives its text, as docs/PROTOCOL.md has it: `OUT 0:5:30`."""
+
+    code: int
+    data: bytes
+    is_reply: bool
+
+    def __str__(self) -> str:
+        room, length = ctypes.create_string_buffer(MOST_TEXT + 1), ctypes.c_size_t()
+        kind = "reply" if self.is_reply else "command"
+        call(f"osdp_{kind}_text_nonnull", self.code, self.data, len(self.data), room, len(room), ctypes.byref(length))
+        return room.raw[: length.value].decode("ascii")
+
+    def card(self) -> Optional[Card]:
+        """The card that a reply RAW tells; None of any other message."""
+        if not self.is_reply or self.code != RAW:
+            return None
+        raw = RawStruct()
+        call("osdp_raw_of", ctypes.byref(as_struct(self)), ctypes.byref(raw))
+        return Card(raw.reader, raw.format, raw.bits, bytes(raw.bytes[: raw.length]))
+
+
+def as_struct(message: Message) -> MessageStruct:
+    """The message as the library reads it."""
+    struct = MessageStruct(length=len(message.data), present=1, code=message.code)
+    struct.data[: len(message.data)] = message.data
+    return struct
+
+
+def read(struct: MessageStruct, is_reply: bool) -> Optional[Message]:
+    """The message that the library has written, if there is one."""
+    return Message(struct.code, bytes(struct.data[: struct.length]), is_reply) if struct.present else None

@@ -1,0 +1,218 @@
+#!/usr/bin/env python3
+"""Tests the package for Python, over the library that OSDP_LIBRARY names.
+
+- Its structs, functions and numbers are those of include/osdp.h.
+- Each public name has a docstring, and each public call types.
+- A session between both ends: an order is done once, an event is told once, where answers are lost too; a device keeps what it is told, and lets old events go.
+- Each refusal comes as an OsdpError with its status, and changes nothing; what ctypes would cut is no number for it.
+- The example prints what docs/GUIDE.md promises of such a session."""
+import ctypes
+import inspect
+import re
+import subprocess
+import sys
+from pathlib import Path
+
+TOP = Path(__file__).resolve().parent.parent
+sys.path.insert(0, str(TOP / "python"))
+sys.dont_write_bytecode = True
+
+import osdp  # noqa: E402
+from osdp import _library as library  # noqa: E402
+from osdp import message as messages  # noqa: E402
+
+faults = []
+PLAIN = {"uint8_t": "c_uint8", "uint16_t": "c_uint16", "uint32_t": "c_uint32", "uint64_t": "c_uint64", "size_t": "c_size_t", "char": "c_char", "void": "c_void_p"}
+SAME = {"c_ubyte": "c_uint8", "c_ushort": "c_uint16", "c_uint": "c_uint32", "c_ulong": "c_uint64", "c_size_t": "c_uint64"}
+
+
+def tell(what, wanted, got):
+    if wanted != got:
+        faults.append(f"{what}: {got!r}, and not {wanted!r}")
+
+
+def header():
+    """The header without comments."""
+    return re.sub(r"/\*.*?\*/", "", (TOP / "include/osdp.h").read_text(), flags=re.S).replace("OSDP_CHECKED ", "")
+
+
+def same(name):
+    return SAME.get(name, name)
+
+
+def field_of_c(text):
+    """A field's name and its kind, as ctypes names it."""
+    kind, name, count = re.fullmatch(r"(?:struct )?(\w+) \*?(\w+)(?:\[(\d+)\])?", text.strip()).groups()
+    kind = "c_void_p" if "*" in text else PLAIN.get(kind) or library.STRUCTS[kind].__name__
+    return name, f"{same(kind)}_Array_{count}" if count else same(kind)
+
+
+def field_of_python(name, kind):
+    array = re.fullmatch(r"(\w+?)_Array_(\d+)", kind.__name__)
+    return name, f"{same(array[1])}_Array_{array[2]}" if array else same(kind.__name__)
+
+
+def judge_structs(text):
+    for name, struct in library.STRUCTS.items():
+        body = re.search(rf"^(?:typedef )?struct {name} \{{(.*?)^\}}", text, re.M | re.S)[1]
+        wanted = [field_of_c(each) for each in body.split(";") if each.strip()]
+        tell(f"struct {name}", wanted, [field_of_python(*each) for each in struct._fields_])
+    for name, size in re.findall(r"(\d[\d,]*) bytes\. \*/\n(?:typedef )?struct (\w+)", (TOP / "include/osdp.h").read_text()):
+        if size in library.STRUCTS:
+            tell(f"sizeof {size}", int(name.replace(",", "")), ctypes.sizeof(library.STRUCTS[size]))
+
+
+def parameter(text):
+    """The kind of a parameter of C, as ctypes has it here: bytes and texts are char pointers."""
+    kind = re.sub(r"\bconst |\bstruct ", "", text).strip().rsplit(" ", 1)[0]
+    if "*" not in text:
+        return same(PLAIN[kind])
+    return "c_char_p" if kind in ("uint8_t", "char") else f"LP_{same(library.STRUCTS[kind].__name__ if kind in library.STRUCTS else PLAIN[kind])}"
+
+
+def judge_functions(text):
+    declared = dict(re.findall(r"^(?:osdp_status|void) (osdp_\w+)\(([^;{]*)\);", text, re.M | re.S))
+    for name, takes in library.TAKES.items():
+        wanted = [parameter(" ".join(each.split())) for each in declared[name].split(",")]
+        got = [re.sub(r"^LP_(\w+)$", lambda it: f"LP_{same(it[1])}", each.__name__) for each in takes]
+        tell(name, wanted, [each if each.startswith("LP_") else same(each) for each in got])
+    gives_none = set(re.findall(r"^void (osdp_\w+)\(", text, re.M)) & library.TAKES.keys()
+    tell("functions without a status", gives_none, library.NO_STATUS)
+
+
+def judge_numbers(text):
+    numbers = {name: int(value, 0) for name, value in re.findall(r"\bOSDP_(\w+) = (\w+)", text)}
+    plain = re.search(r"typedef enum osdp_status \{(.*?)\}", text, re.S)[1]
+    tell("statuses", {name: numbers[name] for name in re.findall(r"OSDP_(\w+) =", plain)}, {each.name: each.value for each in osdp.Status})
+    for kind, front, without in ((osdp.Kind, "REPORT_", "NONE"), (osdp.Cause, "LOST_", ""), (osdp.Said, "SAID_", ""), (osdp.Order, "ORDER_", ""), (osdp.Expired, "EXPIRED_", "NONE")):
+        wanted = {name[len(front):]: value for name, value in numbers.items() if name.startswith(front) and name != front + without}
+        tell(front, wanted, {each.name: each.value for each in kind})
+    tell("the longest text", numbers["MOST_TEXT"], messages.MOST_TEXT)
+    tell("RAW", numbers["RAW"], messages.RAW)
+
+
+def judge_docs():
+    for name in osdp.__all__:
+        thing = getattr(osdp, name)
+        calls = [(name, thing)] if inspect.isfunction(thing) else [(f"{name}.{each}", it) for each, it in vars(thing).items() if inspect.isfunction(it) and it.__module__.startswith("osdp")]
+        for each, it in [(name, thing), *calls]:
+            if not each.split(".")[-1].startswith("_") and not inspect.getdoc(it):
+                faults.append(f"{each} has no docstring")
+        for each, it in calls:
+            if "return" not in it.__annotations__ or len(it.__annotations__) <= len([one for one in inspect.signature(it).parameters if one not in ("self", "_")]):
+                if not each.endswith(("__repr__", "__eq__", "__hash__", "__replace__", "__setattr__", "__delattr__", "__init__")):
+                    faults.append(f"{each} has no types")
+    tell("version", library.library_version(), osdp.__version__)
+    tell("version of the header", re.search(r'OSDP_VERSION "(.*)"', (TOP / "include/osdp.h").read_text())[1], osdp.__version__)
+    tell("version of the package", re.search(r'^version = "(.*)"', (TOP / "python/pyproject.toml").read_text(), re.M)[1], osdp.__version__)
+
+
+def refused(what, status, call, *words):
+    """The call is refused with this status."""
+    try:
+        call(*words)
+    except osdp.OsdpError as error:
+        tell(what, status, error.status)
+    else:
+        faults.append(f"{what} isn't refused")
+
+
+def judge_session(loses):
+    """A panel and a device, between which the answers at these turns are lost: the order is done once, and the card told once."""
+    done, told = [], []
+    with osdp.Panel(check=0) as panel, osdp.Device(5, capacity=2) as device:
+        device.set_outputs(bytes(1))
+        door = panel.add(5)
+        panel.submit(door, "OUT 0:5:30")
+        panel.begin(door, 0)
+        device.event("RAW 0 1 26 12345640")
+        for turn, now in enumerate(range(0, 6000, 10)):
+            for answer in device.hear(panel.tick(now), now):
+                done += [str(answer.command)] if answer.order is osdp.Order.ONCE else []
+                lost = answer.data and loses and loses[0] <= turn
+                if lost:
+                    loses.pop(0)
+                panel.hear(b"" if lost else answer.data, now)
+            told += list(panel.reports())
+        tell("waiting", (0, 0), (panel.waiting(door), device.waiting()))
+        tell("closed", (False, False), (panel.is_closed(door), device.is_closed()))
+    tell("done", ["OUT 0:5:30"], done)
+    tell("told", ["OPENED", "SETTLED", "EVENT"], [each.kind.name for each in told])
+    tell("settled", ("OUT 0:5:30", "ACK"), (str(told[1].command), str(told[1].reply)))
+    tell("the card", osdp.Card(0, 1, 26, bytes.fromhex("12345640")), told[2].reply.card())
+    tell("a card of an ACK", None, told[1].reply.card())
+
+
+def judge_refusals():
+    panel, device = osdp.Panel(capacity=1), osdp.Device(7, capacity=1)
+    entry = panel.add(7)
+    refused("an address twice", osdp.Status.ADDRESS_TAKEN, panel.add, 7)
+    refused("address 127", osdp.Status.PANEL_OUT_OF_RANGE, panel.add, 127)
+    refused("no entry", osdp.Status.NO_ENTRY, panel.begin, 1, 0)
+    refused("a POLL", osdp.Status.POLL_SUBMITTED, panel.submit, entry, "POLL")
+    refused("no command", osdp.Status.BAD_TEXT, panel.submit, entry, "OPEN")
+    refused("no code", osdp.Status.UNKNOWN_CODE, panel.submit_message, entry, 0x00)
+    panel.submit_message(entry, 0x68, bytes.fromhex("00051E00"))
+    refused("one command too many", osdp.Status.COMMANDS_FULL, panel.submit, entry, "ID 0")
+    tell("withdrawn", "OUT 0:5:30", str(panel.withdraw(entry)))
+    tell("nothing to withdraw", None, panel.withdraw(entry))
+    panel.retarget(entry, 8)
+    tell("address", (8, 7), (panel.address(entry), device.address()))
+    tell("no deadline", None, panel.next_deadline())
+    panel.begin(entry, 100)
+    tell("deadline", 500, panel.next_deadline())
+    refused("too far", osdp.Status.MOMENT_TOO_FAR, panel.tick, 10**12)
+    panel.set_moment(10**12)
+    refused("no event", osdp.Status.NO_EVENT, device.event_message, 0x40, b"")
+    device.event("KEYPAD 0 31")
+    refused("one event too many", osdp.Status.EVENTS_FULL, device.event, "KEYPAD 0 32")
+    refused("not asked", osdp.Status.NOT_ASKED, device.answer_done)
+    list(device.hear(b"", 1))
+    tell("offline", True, device.is_offline(1))
+    tell("not too old", [], list(device.expire_events(2, 5)))
+    device.close(), device.close(), panel.close()
+    refused("a closed device", osdp.Status.NO_MACHINE, device.waiting)
+    refused("a closed panel", osdp.Status.NO_MACHINE, panel.tick, 0)
+    for what, call in (("a code of 256", lambda: osdp.Panel().submit_message(0, 256)), ("a moment below 0", lambda: osdp.Panel().tick(-1)),
+                       ("an address of 2**32", lambda: osdp.Device(2**32)), ("a vendor of two bytes", lambda: osdp.Device(5, vendor=b"SI"))):
+        try:
+            call()
+            faults.append(f"{what} is taken")
+        except ValueError:
+            pass
+
+
+def judge_device():
+    """What a device is told, and what its program says to a command."""
+    with osdp.Panel() as panel, osdp.Device(5, vendor=b"SIM", model=1, version=2, serial=3, firmware=(4, 5, 6), capabilities=bytes([2, 1, 4])) as device:
+        device.set_inputs(b"\1\0"), device.set_outputs(b"\0\1"), device.set_readers(b"\0"), device.set_local(True, False)
+        entry, replies = panel.add(5), []
+        for text in ("ID 0", "CAP 0", "LSTAT", "ISTAT", "OSTAT", "RSTAT", "OUT 2:5:1", "MFG 53494D 01", "BUZ 0 2 1 1 1"):
+            panel.submit(entry, text)
+        panel.begin(entry, 0)
+        for now in range(0, 4000, 50):
+            for answer in device.hear(panel.tick(now), now):
+                if answer.order is osdp.Order.PENDING and str(answer.command).startswith("MFG"):
+                    device.answer_maker(b"SIM", b"\2")
+                if answer.order is osdp.Order.PENDING and str(answer.command).startswith("BUZ"):
+                    device.answer_refused(3)
+                panel.hear(answer.data, now)
+            replies += [str(each.reply) for each in panel.reports() if each.kind is osdp.Kind.SETTLED]
+        device.event("KEYPAD 0 31")
+        tell("lapsed", [], list(device.expire_events(5000, 1)))
+        tell("withdrawn", [(osdp.Expired.WITHDRAWN, "KEYPAD 0 31")], [(how, str(event)) for how, event in device.expire_events(14000, 1)])
+    tell("replies", ["PDID 53494D 1 2 3 4 5 6", "PDCAP 2:1:4", "LSTATR 1 0", "ISTATR 0100", "OSTATR 0001", "RSTATR 00", "NAK 9", "MFGREP 53494D 02", "NAK 3"], replies)
+
+
+def judge_example():
+    done = subprocess.run([sys.executable, TOP / "python/examples/session.py"], capture_output=True, text=True)
+    tell("the example", "OPENED: None PDID 53494D 0 0 1 0 0 0\ndone: OUT 0:5:30\nSETTLED: OUT 0:5:30 ACK\nEVENT: None KEYPAD 0 31\n", done.stdout + done.stderr)
+
+
+if __name__ == "__main__":
+    judge_structs(header()), judge_functions(header()), judge_numbers(header()), judge_docs()
+    for lost in ([], [41], [46], [30, 61, 66]):
+        judge_session(lost)
+    judge_refusals(), judge_device(), judge_example()
+    print(f"python: {len(faults)} faults", *faults, sep="\n")
+    sys.exit(1 if faults else 0)

@@ -1,0 +1,125 @@
+#!/usr/bin/env python3
+"""What tests/release.sh looks at by Python: `release.py PROGRAM`.
+
+- The completions for bash and zsh offer, after each command, the options and settings of its help, and no others; and so of osdp-port.
+- `./install` proves crates side by side, each after all that it stands on; it says how far it is, and of one that isn't proved; no other is begun then.
+  `rt` is a stand-in for this."""
+import contextlib
+import io
+import re
+import runpy
+import subprocess
+import sys
+import time
+from pathlib import Path
+
+TOP = Path(__file__).resolve().parent.parent
+PROGRAM = sys.argv[1]
+COMMANDS = ("show", "monitor", "check", "make", "sim", "panel", "reader", "help")
+faults = []
+
+
+def tell(what, wanted, got):
+    if wanted != got:
+        faults.append(f"{what}: {got!r}, and not {wanted!r}")
+
+
+def help_of(command):
+    return subprocess.run([PROGRAM, "help", command], capture_output=True, text=True).stdout
+
+
+def wanted_after(command):
+    """The words that a command's help names."""
+    rows = help_of(command).split("\n\n")[2] if command != "help" else ""
+    if command in ("show", "monitor", "check"):
+        return {*re.findall(r"^  (--[\w-]+)", rows, re.M), "--hex"}  # which the manual page names
+    if command in ("panel", "reader"):
+        return set(re.findall(r"^  ([a-z-]+) ", rows, re.M))
+    return {"make": {"sum", "crc"}, "sim": set(), "help": set(COMMANDS) - {"help"}}[command]
+
+
+def bash(*words):
+    """What bash offers for the last of these words."""
+    quoted = " ".join(f"'{word}'" for word in words)
+    script = f"source {TOP}/release/osdp.bash; COMP_WORDS=({quoted}); COMP_CWORD=$((${{#COMP_WORDS[@]}} - 1)); {'_osdp_port' if words[0] == 'osdp-port' else '_osdp'}; printf '%s\\n' \"${{COMPREPLY[@]}}\""
+    return set(subprocess.run(["bash", "-c", script], capture_output=True, text=True, cwd="/proc/self/fdinfo").stdout.split())
+
+
+def judge_bash():
+    top = set(re.findall(r"^  ([a-z]+) ", help_of("")[:0] or subprocess.run([PROGRAM, "help"], capture_output=True, text=True).stdout, re.M))
+    tell("osdp", top | {"--help", "-h", "--version"}, bash("osdp", ""))
+    tell("osdp sh", {"show"}, bash("osdp", "sh"))
+    for command in COMMANDS:
+        beginning = "--" if command in ("show", "monitor", "check") else ""
+        tell(f"osdp {command}", wanted_after(command), {word for word in bash("osdp", command, beginning) if not word.isdigit()})
+    text = subprocess.run([TOP / "port/osdp-port", "--help"], capture_output=True, text=True).stdout
+    tell("osdp-port --", set(re.findall(r"(?:^  |, )(--[\w-]+)", text, re.M)), bash("osdp-port", "--"))
+    tell("osdp-port PORT RATE", set(re.findall(r"^  ([a-z]+) ", text, re.M)), bash("osdp-port", "/dev/ttyS9", "9600", ""))
+    tell("osdp-port PORT", {"9600", "19200", "38400", "57600", "115200", "230400"}, bash("osdp-port", "/dev/ttyS9", ""))
+
+
+def judge_zsh():
+    """The words of the completion for zsh are those of the one for bash, line by line."""
+    shell, other = ((TOP / f"release/{name}").read_text() for name in ("osdp.bash", "_osdp"))
+    forms = re.search(r"^_osdp_forms=\((.*)\)$", other, re.M)[1]
+    for command, words in re.findall(r"^    ([a-z]+)\) echo '(.*)' ;;$", shell, re.M):
+        line = re.search(rf"^    {command}\) compadd(?: --)? (.*?)(?:; _files)? ;;$", other, re.M)[1]
+        tell(f"zsh, {command}", words, line.replace("$_osdp_forms", forms))
+    for words in (re.search(r"'(show .*)' ;;", shell)[1], re.search(r"'(--all .*?)'", shell)[1], re.search(r"'(9600 .*?)'", shell)[1], re.search(r"'(monitor show .*?)'", shell)[1]):
+        if f" {words}\n" not in other:
+            faults.append(f"zsh has no line of {words}")
+
+
+def prove(crates, wrong=None, wait=0.0):
+    """What `./install` does with these crates, where one of them isn't proved: in which order it began and ended, and what it says."""
+    it, events = runpy.run_path(str(TOP / "install")), []
+    space = it["prove_side_by_side"].__globals__
+
+    def stands_in(crate):
+        events.append(("begins", crate))
+        time.sleep(wait)
+        if crate == wrong:
+            raise space["Failed"](f"{crate} is not proved")
+        events.append(("ends", crate))
+
+    space["prove"], space["TELLS"] = stands_in, 0.02
+    out, errors = io.StringIO(), io.StringIO()
+    with contextlib.redirect_stdout(out), contextlib.redirect_stderr(errors):
+        try:
+            it["prove_side_by_side"](set(crates), crates, 2, time.monotonic())
+            ended = None
+        except SystemExit as end:
+            ended = end.code
+    return events, ended, out.getvalue(), errors.getvalue()
+
+
+def judge_proving():
+    crates = {"low": [], "codec": ["low"], "machine": ["codec"], "tool": ["machine"], "library": ["machine"], "words": ["low"]}
+    events, ended, out, _ = prove(crates, wait=0.05)
+    tell("the end", None, ended)
+    tell("proved", set(crates), {crate for what, crate in events if what == "ends"})
+    for crate, used in crates.items():
+        for one in used:
+            if events.index(("ends", one)) > events.index(("begins", crate)):
+                faults.append(f"{crate} begins before {one} has ended")
+    both = [events.index((what, crate)) for what in ("begins", "ends") for crate in ("tool", "library")]
+    if max(both[:2]) > min(both[2:]):
+        faults.append(f"program and library are not proved side by side: {events}")
+    if not re.search(r"^\d of 6, at work: [a-z, ]+, 0 min$", out, re.M) or not re.search(r"^6 of 6 \w+ 0 min$", out, re.M):
+        faults.append(f"it does not say how far it is: {out}")
+    most = running = 0
+    for what, _ in events:
+        running += 1 if what == "begins" else -1
+        most = max(most, running)
+    tell("at a time", 2, most)
+    events, ended, out, errors = prove(crates, wrong="machine")
+    tell("the end, with one that isn't proved", 1, ended)
+    tell("begun after it", set(), {crate for _, crate in events} & {"tool", "library"})
+    if "machine is not proved" not in errors or "nothing was put in place" not in errors:
+        faults.append(f"it does not say what isn't proved: {errors}")
+
+
+if __name__ == "__main__":
+    judge_bash(), judge_zsh(), judge_proving()
+    print(f"release: {len(faults)} faults", *faults, sep="\n")
+    sys.exit(1 if faults else 0)

@@ -1,0 +1,101 @@
+#!/usr/bin/env bash
+# Makes the packages of a release, twice, and tries them: in an empty root of Debian's, where the program runs, programs in C are built by pkg-config and by CMake, the
+# package for Python is used, and nothing is left once all is removed; and in an empty folder, where the archive of files alone builds programs in C and Rust. Then
+# what `./install` says, DESTDIR, and the completions (`release.py`). Takes the path of the program; the archive is that which `c.sh` has built. Run as root, it
+# fetches the root by mmdebstrap, which it installs where it isn't there.
+set -u
+cd "$(dirname "$0")/.." || exit 1
+. tests/passes.bash
+top=$PWD
+root=$work/root
+trap '[ -z "${fetching:-}" ] || wait "$fetching"; rm -rf --one-file-system "$work"' EXIT
+
+# ---- an empty root, fetched while the packages are made
+
+fetch_root() {
+  command -v mmdebstrap >/dev/null || { apt-get update -qq && apt-get install -qqy --no-install-recommends mmdebstrap; } || return
+  mmdebstrap --quiet --variant=minbase --include=gcc,libc6-dev,cmake,make,pkgconf,python3-minimal,python3-serial bookworm "$root" http://deb.debian.org/debian
+}
+fetch_root >"$work/fetched" 2>&1 &
+fetching=$!
+
+# ---- the packages: made twice, by other words and in another place, the same bytes
+
+passes ./install --pack "$work/one" --trial
+(cd / && umask 077 && TZ=Asia/Tokyo passes "$top/install" --pack "$work/two" --trial) || failed=1
+diff -r "$work/one" "$work/two" || fail 'two runs give other bytes'
+(cd "$work/one" && passes sha256sum --quiet -c SHA256SUMS) || failed=1
+[ "$(ls "$work/one" | wc -l)" -eq 5 ] || fail "other packages: $(ls "$work/one")"
+grep -qxF "commit: $(git rev-parse HEAD)" "$work/one/RELEASE" || fail 'RELEASE names another commit'
+grep -q '^kit: rattle-kit-[^ ]* logic [0-9a-f]*$' "$work/one/RELEASE" || fail 'RELEASE names no kit'
+grep -q '^gate: .' "$work/one/RELEASE" || fail 'RELEASE has no line of a gate'
+grep -q '^scripts: a trial' "$work/one/RELEASE" || grep -qx 'scripts: passed' "$work/one/RELEASE" || fail 'RELEASE does not say what the scripts have come to'
+for package in "$work"/one/*.deb; do
+  passes dpkg-deb --info "$package"
+  dpkg-deb --contents "$package" | awk '$2 != "root/root" { print "other owner: " $0; bad = 1 } END { exit bad }' || fail "$package has files of another owner"
+done
+
+# without a passed gate of this commit there is nothing to pack
+git clone -q . "$work/clone" && mkdir -p "$work/clone/out"
+printf 'commit: %s\nproofs: 2 passed, 0 failed\nscripts: failed\n' "$(git rev-parse HEAD)" >"$work/clone/out/gate"
+cp install release/packing.py "$work/" && cp "$work/install" "$work/clone/install" && cp -r release "$work/clone/"
+(cd "$work/clone" && ./install --pack "$work/refused") >"$work/said" 2>&1
+{ [ $? -eq 1 ] && [ ! -e "$work/refused" ] && grep -qF 'no gate has passed on this commit' "$work/said"; } || { cat "$work/said"; fail 'packages are made where the scripts have failed'; }
+
+# ---- the archive of files, alone: moved, and with no repository beside it
+
+mkdir "$work/alone" && tar -xzf "$work/one/osdp-0.1.0-linux-x86_64.tar.gz" -C "$work/alone" && mv "$work/alone/osdp-0.1.0" "$work/alone/moved"
+there=$work/alone/moved
+[ "$(PATH=$there/bin:/usr/bin:/bin osdp --version)" = 'osdp 0.1.0' ] || fail 'the archive of files has no program'
+if PKG_CONFIG_PATH=$there/lib/pkgconfig passes "$CC" -std=c11 -o "$work/installed" tests/c/installed.c $(PKG_CONFIG_PATH=$there/lib/pkgconfig pkg-config --cflags --libs osdp); then
+  [ "$("$work/installed")" = '0.1.0 53050900046100C125' ] || fail 'the program in C of the archive of files prints something else'
+fi
+said=$(cd / && env -u OSDP_LIBRARY python3 "$there/share/osdp/python/examples/session.py")
+[ "$(head -n 2 <<<"$said" | tail -n 1)" = 'done: OUT 0:5:30' ] || fail "the package for Python of the archive of files says: $said"
+export CARGO_NET_OFFLINE=true CARGO_TARGET_DIR=$work/target
+crate=$there/share/osdp/rust
+(unset OSDP_C_LIB_DIR && cd "$crate" && passes cargo package --quiet --locked --allow-dirty && passes cargo build --quiet --locked --no-default-features) || fail 'the crate of the archive of files is not packed'
+tar -tzf "$work/target/package/osdp-0.1.0.crate" | grep -qx 'osdp-0.1.0/lib/libosdp_c.a' || fail 'the packed crate has no archive of the machines'
+mkdir "$work/crate" && tar -xzf "$work/target/package/osdp-0.1.0.crate" -C "$work/crate"
+(unset OSDP_C_LIB_DIR && cd "$work/crate/osdp-0.1.0" && passes cargo run --quiet --locked --example session) || fail 'the packed crate does not build alone'
+# without the archive in it the crate finds that of the system, by pkg-config
+rm -r "$work/crate/osdp-0.1.0/lib"
+(unset OSDP_C_LIB_DIR && cd "$work/crate/osdp-0.1.0" && export PKG_CONFIG_PATH=$there/lib/pkgconfig && passes cargo run --quiet --locked --example session) ||
+  fail 'the crate does not find the library by pkg-config'
+
+# ---- DESTDIR, and what `./install` says
+
+DESTDIR=$work/destination passes ./install --proved --prefix /usr
+[ -x "$work/destination/usr/bin/osdp" ] || fail 'with DESTDIR the program is not below it'
+grep -rlF "$work" "$work/destination" && fail 'a file that was put in place names the folder of the build'
+passes python3 tests/release.py "$1"
+
+# ---- the empty root
+
+wait "$fetching" || { cat "$work/fetched"; fail 'no empty root'; exit "$failed"; }
+fetching=
+everything() { (cd "$root" && find . -xdev \( -path ./proc -o -path ./sys -o -path ./dev -o -path ./tmp -o -path ./var/log -o -path ./var/lib/dpkg -o -path ./var/cache \) -prune -o -printf '%p %y %m %s %l\n' | grep -v '__pycache__\| d ' | sort); }
+inside() { passes chroot "$root" env -i PATH=/usr/sbin:/usr/bin:/sbin:/bin HOME=/tmp "$@"; }
+inside ldconfig
+everything >"$work/before"
+mkdir "$root/tmp/made" && cp "$work"/one/*.deb tests/c/installed.c "$root/tmp/made/"
+cat >"$root/tmp/made/CMakeLists.txt" <<'END'
+cmake_minimum_required(VERSION 3.13)
+project(installed C)
+find_package(osdp 0.1 REQUIRED)
+add_executable(installed installed.c)
+target_link_libraries(installed osdp::osdp)
+END
+inside sh -c 'dpkg -i /tmp/made/*.deb'
+inside sh -c '[ "$(osdp --version)" = "osdp 0.1.0" ] && [ "$(osdp-port --version)" = "osdp-port 0.1.0" ]'
+inside sh -c 'cd /tmp/made && cc -o plain installed.c $(pkg-config --cflags --libs osdp) && [ "$(./plain)" = "0.1.0 53050900046100C125" ]'
+inside sh -c 'cd /tmp/made && cmake -B build . && cmake --build build && [ "$(build/installed)" = "0.1.0 53050900046100C125" ]'
+inside sh -c 'python3 /usr/share/osdp/python/examples/session.py | grep -qx "done: OUT 0:5:30"'
+inside sh -c 'sed -i "s/osdp 0.1 /osdp 0.2 /" /tmp/made/CMakeLists.txt && ! cmake -B /tmp/other /tmp/made'
+cmp -s "$root/usr/share/doc/osdp/RELEASE" "$work/one/RELEASE" || fail 'the package has another RELEASE'
+inside dpkg --verify osdp osdp-dev
+inside dpkg --purge osdp-dev osdp
+everything >"$work/after"
+diff "$work/before" "$work/after" || fail 'something is left once the packages are removed'
+
+exit "$failed"
