@@ -338,8 +338,9 @@ static void events_again(void)
 
 static void reports(void)
 {
-    const uint8_t set[] = { 9, 0x00, 0x4B, 0, 0 };
-    const struct wanted comset = { 0x6E, set, 5 }, com = { 0x54, set, 5 }, busy_reply = { 0x79, out, 0 };
+    /* 19,200 is ordered, and 9,600 confirmed */
+    const uint8_t set[] = { 9, 0x00, 0x4B, 0, 0 }, confirmed[] = { 9, 0x80, 0x25, 0, 0 }, wrong[] = { 4 };
+    const struct wanted comset = { 0x6E, set, 5 }, com = { 0x54, confirmed, 5 }, nak = { 0x41, wrong, 1 }, busy_reply = { 0x79, out, 0 };
     struct osdp_panel_config config = panel_config();
     struct osdp_burst burst;
     size_t entry;
@@ -352,6 +353,8 @@ static void reports(void)
     opens();
     ordered(0, busy_reply, OSDP_REPORT_LOST, OSDP_LOST_TOO_BUSY, none);
     opens();
+    ordered(number % 3 + 1, nak, OSDP_REPORT_LOST, OSDP_LOST_NUMBER_REFUSED, none);
+    opens();
     orders();
     demand(osdp_panel_tick(&panel, now += 200, &burst) == OSDP_OK && burst.length == 0);
     is_told(OSDP_REPORT_LOST, OSDP_LOST_NO_REPLY, is_out, none);
@@ -359,9 +362,28 @@ static void reports(void)
     demand(osdp_panel_submit(&panel, 1, 0x6E, set, 5) == OSDP_OK);
     next_number();
     asks(0, 0x6E, set, 5);
-    answers(number, 0x54, set, 5);
+    answers(number, 0x54, confirmed, 5);
     is_told(OSDP_REPORT_MOVED, 0, comset, com);
     demand(osdp_panel_free(&panel) == OSDP_OK);
+}
+
+/* The longest answer of a maker's own is said as it was set. */
+static void longest_answer(void)
+{
+    static struct osdp_answer answer;
+    static uint8_t data[3 + 1429] = { 'S', 'I', 'M' };
+    const uint8_t mfg[] = { 0x53, 0x06, 0x0A, 0x00, 0x00, 0x80, 'S', 'I', 'M', 0x34 };
+    struct osdp_device told = { 0 };
+    struct osdp_device_config what = reader_config();
+    size_t taken = 0;
+    for (size_t i = 3; i < sizeof data; i++) {
+        data[i] = (uint8_t)(i % 251);
+    }
+    demand(osdp_device_new(&told, &what, NULL, 0) == OSDP_OK);
+    demand(osdp_device_step(&told, mfg, sizeof mfg, 0, &taken, &answer) == OSDP_OK && answer.kind == OSDP_SAID_PENDING);
+    demand(osdp_device_answer_maker(&told, data, data + 3, 1429) == OSDP_OK);
+    demand(osdp_device_step(&told, mfg, 0, 0, &taken, &answer) == OSDP_OK && answer.kind == OSDP_SAID_ZERO);
+    demand(is_burst(&answer.burst, 0x86, 0, 0x90, data, sizeof data) && osdp_device_free(&told) == OSDP_OK);
 }
 
 /* A pointer may be null where its length is 0: each call does what it does for no bytes. */
@@ -398,5 +420,6 @@ int main(void)
     busy();
     texts();
     reports();
+    longest_answer();
     return 0;
 }

@@ -7,6 +7,7 @@
 ghost use Rattle.std.specs.Prelude.{[], ◌∷◌, IfOk};
 ghost use Rattle.osdp_words.specs.Reading.{ReadsWords};
 ghost use Rattle.osdp_words.specs.Word.{texts, words_in};
+ghost use Rattle.osdp_example_lines.specs.Due.{IsFirstOf};
 ghost use Rattle.osdp_example_lines.specs.Lines.{IsCard, IsTold, IsTurn, card_words, turn_words};
 
 use arrayvec::ArrayVec;
@@ -83,9 +84,21 @@ pub fn send(rt: &HostRuntime, bytes: &[u8]) -> io::Result<()> {
     println!(rt; "send {}", ByteList(bytes))
 }
 
+/// The first of two moments, where there are some.
+pub fn first_of(one: Option<u64>, other: Option<u64>) -> Option<u64>
+    ensures { IsFirstOf one other result }
+{
+    let Some(moment) = one else { return other };
+    match other {
+        Some(later) if later < moment => other,
+        Some(_) | None => one,
+    }
+}
+
 /// Tells the moment of the next turn: the first of these.
 pub fn tell_due(rt: &HostRuntime, moments: [Option<u64>; 2]) -> io::Result<()> {
-    match moments.into_iter().flatten().min() {
+    let [one, other] = moments;
+    match first_of(one, other) {
         Some(due) => println!(rt; "due {due}"),
         None => println!(rt; "due none"),
     }

@@ -47,13 +47,10 @@ impl Door {
         println!(rt; "keep {}", self.stand)
     }
 
-    /// Begins a session whose moment has come, at each of its places in turn. The orders that waited are stale.
+    /// Begins a session whose moment has come, at each of its places in turn. The orders that waited are stale: the site takes them back.
     pub fn begin(&mut self, rt: &HostRuntime, panel: &mut Panel, now: u64) -> io::Result<()> {
         if self.site.is_due(DOOR, now) != Some(true) {
             return Ok(());
-        }
-        for _ in 0..panel.waiting(DOOR).unwrap_or(0) {
-            let _ = panel.withdraw(DOOR);
         }
         self.stand.take_turn();
         let Place { address, rate } = self.stand.place;

@@ -79,6 +79,17 @@ fn a_door_is_switched(rt: HostRuntime) {
     is_green_and_sounds(&rt, reader.handler());
 }
 
+/// BUZ with tone 1, which ends what tone 2 began.
+const ENDS_SOUND: &str = "53050C00026A000105012405 538507000240DF";
+
+#[test]
+fn a_sound_ends(rt: HostRuntime) {
+    let mut reader = new_door(&rt, rt.alloc());
+    meets_all(&rt, &mut reader, EXCHANGES);
+    meets_all(&rt, &mut reader, ENDS_SOUND);
+    assert!(rt; !reader.handler().sounds);
+}
+
 /// POLL with number 0, and then ISTAT with 1.
 const ASKS_INPUTS: &str = "\
 53050700006041 538507000040E1
