@@ -15,12 +15,14 @@ union unit {
         size_t units;
         bool used;
     } head;
-    long double aligned; /* on the targets of the archive it has 16 bytes, and stands at multiples of 16 */
     unsigned char bytes[16];
 };
 
 #define UNITS (OSDP_POOL / 16)
 
+#ifdef __GNUC__
+__attribute__((aligned(16)))
+#endif
 static union unit pool[UNITS];
 
 /* The units of the free block at this place, once it is joined with those right after it. */

@@ -61,7 +61,7 @@ static osdp_site_status judge_text(const struct osdp_message *command)
 static osdp_site_status judge(const struct osdp_message *command)
 {
     char text[1];
-    size_t length;
+    osdp_size length;
     osdp_status status = osdp_command_text(command->code, command->data, command->length, text, 0, &length);
     if (!command->present || (status != OSDP_OK && status != OSDP_TOO_SMALL)) {
         return OSDP_SITE_NO_STATE;
@@ -243,7 +243,7 @@ void osdp_site_turn(
 static osdp_status hear(osdp_device *device, const uint8_t *bytes, size_t length, uint64_t now, osdp_device_takes *takes)
 {
     static struct osdp_answer answer;
-    size_t at = 0, taken;
+    osdp_size at = 0, taken;
     for (;;) {
         osdp_status status = osdp_device_step(device, bytes + at, length - at, now, &taken, &answer);
         at += status == OSDP_OK ? taken : 0;

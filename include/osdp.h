@@ -23,7 +23,8 @@
  *             wait, in two. `osdp_device_new` takes 14,048 bytes, and 1,464 for each event that may wait, in three. `free`
  *             gives all back. No other call takes memory. Where there is none, a call says so, and nothing has changed.
  * Stack.      Each call takes at most 17 KiB of stack, and those of a panel's line 14, as measured and counted on 64-bit x86.
- * Targets.    64-bit x86 and ARM, where a `size_t` has 64 bits.
+ * Targets.    64-bit x86 and ARM. What is lowered from the proved module of 64-bit x86 by `tools/retarget` is tested, and not proved: 32-bit ARM, RISC-V, x86
+ *             and WebAssembly, and 64-bit ARM. There a count or a length is an `osdp_size`, of 64 bits.
  *
  * What the caller owes. No proof checks it. Each has what happens otherwise:
  *
@@ -77,6 +78,23 @@
 
 #ifdef __cplusplus
 extern "C" {
+#endif
+
+/* ---- Counts and lengths ---- */
+
+/*
+ * A count or a length in the calls and structs. It has 64 bits on each target, and stands at a multiple of 8: where a `size_t` has 64 bits it is one. A struct has
+ * the same size and the same bytes on each target, so a pointer of 32 bits in it is followed by four bytes that nobody reads.
+ */
+#if UINTPTR_MAX > 0xFFFFFFFFu
+typedef size_t osdp_size;
+#define OSDP_ALIGNED
+#elif defined __GNUC__
+typedef uint64_t osdp_size __attribute__((aligned(8)));
+#define OSDP_ALIGNED __attribute__((aligned(8)))
+#else
+typedef uint64_t osdp_size;
+#define OSDP_ALIGNED
 #endif
 
 /* ---- Statuses ---- */
@@ -245,10 +263,10 @@ struct osdp_burst {
  * OSDP_UNKNOWN_CODE (M1), OSDP_BAD_LENGTH (M2), OSDP_BAD_COUNT (M3): the code and data stand for no command.
  * OSDP_TOO_SMALL: the text is longer than the room; its length is written, and no text.
  */
-OSDP_CHECKED static inline osdp_status osdp_command_text(uint8_t code, const uint8_t *data, size_t length, char *text, size_t room, size_t *text_length);
+OSDP_CHECKED static inline osdp_status osdp_command_text(uint8_t code, const uint8_t *data, osdp_size length, char *text, osdp_size room, osdp_size *text_length);
 
 /* The same of a reply. An event's text is that of the reply that tells it, as in `KEYPAD 0 31`. */
-OSDP_CHECKED static inline osdp_status osdp_reply_text(uint8_t code, const uint8_t *data, size_t length, char *text, size_t room, size_t *text_length);
+OSDP_CHECKED static inline osdp_status osdp_reply_text(uint8_t code, const uint8_t *data, osdp_size length, char *text, osdp_size room, osdp_size *text_length);
 
 /* ---- The fields of a message ---- */
 
@@ -437,7 +455,7 @@ OSDP_CHECKED osdp_status osdp_maker_reply_of(const struct osdp_message *reply, s
  *
  * OSDP_OTHER_MESSAGE: it is another reply, or has no record there; nothing is written. Else as above.
  */
-OSDP_CHECKED osdp_status osdp_capability_of(const struct osdp_message *reply, size_t at, struct osdp_capability *capability);
+OSDP_CHECKED osdp_status osdp_capability_of(const struct osdp_message *reply, osdp_size at, struct osdp_capability *capability);
 
 /*
  * Each reads the fields of one command, such as that of an answer, and writes them. The commands without fields of a program's, from OSDP_POLL to
@@ -457,8 +475,8 @@ OSDP_CHECKED osdp_status osdp_maker_of(const struct osdp_message *command, struc
  * OSDP_OTHER_MESSAGE: it is another command, or has no record there; nothing is written. OSDP_UNKNOWN_CODE (M1), OSDP_BAD_LENGTH (M2),
  * OSDP_BAD_COUNT (M3): it is no command.
  */
-OSDP_CHECKED osdp_status osdp_output_of(const struct osdp_message *command, size_t at, struct osdp_output *output);
-OSDP_CHECKED osdp_status osdp_led_of(const struct osdp_message *command, size_t at, struct osdp_led *led);
+OSDP_CHECKED osdp_status osdp_output_of(const struct osdp_message *command, osdp_size at, struct osdp_output *output);
+OSDP_CHECKED osdp_status osdp_led_of(const struct osdp_message *command, osdp_size at, struct osdp_led *led);
 
 /*
  * Each writes a command: `osdp_panel_submit(&panel, entry, command.code, command.data, command.length)` orders it. ID and CAP carry one byte, which is 0:
@@ -470,8 +488,8 @@ OSDP_CHECKED osdp_status osdp_led_of(const struct osdp_message *command, size_t 
  */
 void osdp_id(struct osdp_message *command);
 void osdp_cap(struct osdp_message *command);
-OSDP_CHECKED static inline osdp_status osdp_out(const struct osdp_output *outputs, size_t count, struct osdp_message *command);
-OSDP_CHECKED static inline osdp_status osdp_led(const struct osdp_led *leds, size_t count, struct osdp_message *command);
+OSDP_CHECKED static inline osdp_status osdp_out(const struct osdp_output *outputs, osdp_size count, struct osdp_message *command);
+OSDP_CHECKED static inline osdp_status osdp_led(const struct osdp_led *leds, osdp_size count, struct osdp_message *command);
 void osdp_buzzer(const struct osdp_buzzer *buzzer, struct osdp_message *command);
 void osdp_text(const struct osdp_text *text, struct osdp_message *command);
 OSDP_CHECKED osdp_status osdp_comset(uint32_t address, uint32_t baud_rate, struct osdp_message *command);
@@ -642,7 +660,7 @@ enum {
 /* A panel. All zeros is none: `osdp_panel panel = {0};`. Its words are not read or written by the caller. 16 bytes. */
 typedef struct osdp_panel {
     void *panel;
-    size_t panel_live;
+    osdp_size panel_live;
 } osdp_panel;
 
 enum {
@@ -696,14 +714,14 @@ OSDP_CHECKED osdp_status osdp_panel_free(osdp_panel *panel);
  * OSDP_NO_MACHINE. OSDP_TOO_MANY (B2): sixteen are there. OSDP_PANEL_OUT_OF_RANGE (B5): the address is above 126. OSDP_ADDRESS_TAKEN (B3):
  * it is that of a device or reserved for one. OSDP_PANEL_NO_MEMORY (B1).
  */
-OSDP_CHECKED osdp_status osdp_panel_add(osdp_panel *panel, uint32_t address, size_t *entry);
+OSDP_CHECKED osdp_status osdp_panel_add(osdp_panel *panel, uint32_t address, osdp_size *entry);
 
 /*
  * Begins a session of a device: it is left quiet for `quiet_wait`, then the opening ID goes out in its turn.
  *
  * OSDP_NO_MACHINE. OSDP_MOMENT_TOO_FAR. OSDP_NO_ENTRY (B4). OSDP_NOT_CLOSED (C5): its session has begun.
  */
-OSDP_CHECKED osdp_status osdp_panel_begin(osdp_panel *panel, size_t entry, uint64_t now);
+OSDP_CHECKED osdp_status osdp_panel_begin(osdp_panel *panel, osdp_size entry, uint64_t now);
 
 /*
  * Puts a command after those that wait for a device, whether or not its session has begun. What becomes of it comes as a report.
@@ -713,14 +731,14 @@ OSDP_CHECKED osdp_status osdp_panel_begin(osdp_panel *panel, size_t entry, uint6
  * be out of reach. OSDP_ADDRESS_TAKEN (B3): a COMSET to an address of another device or reserved for one, or where one is reserved for this device
  * already. OSDP_COMMANDS_FULL (C3).
  */
-OSDP_CHECKED static inline osdp_status osdp_panel_submit(osdp_panel *panel, size_t entry, uint8_t code, const uint8_t *data, size_t length);
+OSDP_CHECKED static inline osdp_status osdp_panel_submit(osdp_panel *panel, osdp_size entry, uint8_t code, const uint8_t *data, osdp_size length);
 
 /*
  * The same of a command's text, such as `OUT 0:5:30`. Its words have one or more spaces between each two, and it ends after `length` bytes.
  *
  * OSDP_NO_MACHINE. OSDP_BAD_TEXT: it is the text of no command. The others are those of `osdp_panel_submit`.
  */
-OSDP_CHECKED static inline osdp_status osdp_panel_submit_text(osdp_panel *panel, size_t entry, const char *text, size_t length);
+OSDP_CHECKED static inline osdp_status osdp_panel_submit_text(osdp_panel *panel, osdp_size entry, const char *text, osdp_size length);
 
 /*
  * Takes back the command that has waited longest for a device: it won't be sent. None (`present` is 0) where none waits, or where its session
@@ -728,7 +746,7 @@ OSDP_CHECKED static inline osdp_status osdp_panel_submit_text(osdp_panel *panel,
  *
  * OSDP_NO_MACHINE. OSDP_NO_ENTRY (B4).
  */
-OSDP_CHECKED osdp_status osdp_panel_withdraw(osdp_panel *panel, size_t entry, struct osdp_message *command);
+OSDP_CHECKED osdp_status osdp_panel_withdraw(osdp_panel *panel, osdp_size entry, struct osdp_message *command);
 
 /*
  * Sets the address of a device, 0 to 126, and frees the one that is reserved for it.
@@ -736,7 +754,7 @@ OSDP_CHECKED osdp_status osdp_panel_withdraw(osdp_panel *panel, size_t entry, st
  * OSDP_NO_MACHINE. OSDP_NO_ENTRY (B4). OSDP_NOT_CLOSED (C5): its session has begun. OSDP_PANEL_OUT_OF_RANGE (B5): the address is above 126.
  * OSDP_ADDRESS_TAKEN (B3): it is that of another device or reserved for one, or a COMSET waits for this one.
  */
-OSDP_CHECKED osdp_status osdp_panel_retarget(osdp_panel *panel, size_t entry, uint32_t address);
+OSDP_CHECKED osdp_status osdp_panel_retarget(osdp_panel *panel, osdp_size entry, uint32_t address);
 
 /*
  * Bytes have come from the line, in any pieces. Each packet that they finish goes to the device of its address. A call with no bytes
@@ -744,7 +762,7 @@ OSDP_CHECKED osdp_status osdp_panel_retarget(osdp_panel *panel, size_t entry, ui
  *
  * OSDP_NO_MACHINE. OSDP_MOMENT_TOO_FAR.
  */
-OSDP_CHECKED static inline osdp_status osdp_panel_bytes(osdp_panel *panel, const uint8_t *bytes, size_t length, uint64_t now);
+OSDP_CHECKED static inline osdp_status osdp_panel_bytes(osdp_panel *panel, const uint8_t *bytes, osdp_size length, uint64_t now);
 
 /* The line was seen silent: the run of bytes is over, and what was begun is no packet. OSDP_NO_MACHINE. OSDP_MOMENT_TOO_FAR. */
 OSDP_CHECKED osdp_status osdp_panel_silence(osdp_panel *panel, uint64_t now);
@@ -764,7 +782,7 @@ struct osdp_moment {
     uint64_t moment;
     /* 1 where there is one, else 0; then `moment` is 0 too. */
     uint64_t present;
-};
+} OSDP_ALIGNED;
 
 /*
  * The moment at which `osdp_panel_tick` is to be called next, if no call comes before: from then on it gives a burst, leaves a report or ends
@@ -818,7 +836,7 @@ enum {
 /* A report. 2,888 bytes. */
 struct osdp_report {
     /* The device of which it tells. 0 where no report waits. */
-    size_t entry;
+    osdp_size entry;
     /* OSDP_REPORT_NONE to OSDP_REPORT_LOST. */
     uint32_t kind;
     /* As the kind says, else 0. Of an event OSDP_EVENT_MAYBE_AGAIN where it may have been reported before. */
@@ -829,16 +847,16 @@ struct osdp_report {
 };
 
 /* How many devices the panel has. OSDP_NO_MACHINE. */
-OSDP_CHECKED osdp_status osdp_panel_entries(osdp_panel *panel, size_t *count);
+OSDP_CHECKED osdp_status osdp_panel_entries(osdp_panel *panel, osdp_size *count);
 
 /* The address that a device has now. OSDP_NO_MACHINE. OSDP_NO_ENTRY (B4). */
-OSDP_CHECKED osdp_status osdp_panel_address(osdp_panel *panel, size_t entry, uint32_t *address);
+OSDP_CHECKED osdp_status osdp_panel_address(osdp_panel *panel, osdp_size entry, uint32_t *address);
 
 /* How many commands wait for a device; the one that is under way isn't counted. OSDP_NO_MACHINE. OSDP_NO_ENTRY (B4). */
-OSDP_CHECKED osdp_status osdp_panel_waiting(osdp_panel *panel, size_t entry, size_t *count);
+OSDP_CHECKED osdp_status osdp_panel_waiting(osdp_panel *panel, osdp_size entry, osdp_size *count);
 
 /* Whether the session of a device is closed: 1, else 0. OSDP_NO_MACHINE. OSDP_NO_ENTRY (B4). */
-OSDP_CHECKED osdp_status osdp_panel_is_closed(osdp_panel *panel, size_t entry, uint32_t *closed);
+OSDP_CHECKED osdp_status osdp_panel_is_closed(osdp_panel *panel, osdp_size entry, uint32_t *closed);
 
 /* Takes the report that waits. OSDP_NO_MACHINE. */
 OSDP_CHECKED osdp_status osdp_panel_next_report(osdp_panel *panel, struct osdp_report *report);
@@ -848,7 +866,7 @@ OSDP_CHECKED osdp_status osdp_panel_next_report(osdp_panel *panel, struct osdp_r
 /* A device. All zeros is none: `osdp_device device = {0};`. Its words are not read or written by the caller. 16 bytes. */
 typedef struct osdp_device {
     void *device;
-    size_t device_live;
+    osdp_size device_live;
 } osdp_device;
 
 /* What a reader is. 28 bytes. */
@@ -881,7 +899,7 @@ struct osdp_device_config {
  * multiple of three. OSDP_DEVICE_OUT_OF_RANGE (N3): the address, the capacity or the gap. OSDP_DEVICE_NO_MEMORY (N1).
  */
 OSDP_CHECKED static inline osdp_status osdp_device_new(
-    osdp_device *device, const struct osdp_device_config *config, const uint8_t *capabilities, size_t length);
+    osdp_device *device, const struct osdp_device_config *config, const uint8_t *capabilities, osdp_size length);
 
 /* Frees a reader and all that belongs to it; the handle is none after it. OSDP_NO_MACHINE. */
 OSDP_CHECKED osdp_status osdp_device_free(osdp_device *device);
@@ -892,9 +910,9 @@ OSDP_CHECKED osdp_status osdp_device_free(osdp_device *device);
  *
  * OSDP_NO_MACHINE. OSDP_BAD_LENGTH (M2): more than 1,432.
  */
-OSDP_CHECKED static inline osdp_status osdp_device_set_inputs(osdp_device *device, const uint8_t *states, size_t length);
-OSDP_CHECKED static inline osdp_status osdp_device_set_outputs(osdp_device *device, const uint8_t *states, size_t length);
-OSDP_CHECKED static inline osdp_status osdp_device_set_readers(osdp_device *device, const uint8_t *states, size_t length);
+OSDP_CHECKED static inline osdp_status osdp_device_set_inputs(osdp_device *device, const uint8_t *states, osdp_size length);
+OSDP_CHECKED static inline osdp_status osdp_device_set_outputs(osdp_device *device, const uint8_t *states, osdp_size length);
+OSDP_CHECKED static inline osdp_status osdp_device_set_readers(osdp_device *device, const uint8_t *states, osdp_size length);
 
 /* Sets what LSTAT is answered from now on: 1 where the device is tampered with, 1 where its power fails, else 0. OSDP_NO_MACHINE. */
 OSDP_CHECKED osdp_status osdp_device_set_local(osdp_device *device, uint8_t tamper, uint8_t power);
@@ -910,20 +928,20 @@ OSDP_CHECKED osdp_status osdp_device_set_busy(osdp_device *device, uint32_t busy
  * OSDP_NO_MACHINE. OSDP_UNKNOWN_CODE (M1), OSDP_BAD_LENGTH (M2), OSDP_BAD_COUNT (M3): the code and data stand for no reply. OSDP_NO_EVENT: for one that
  * tells no event. OSDP_EVENTS_FULL (N2).
  */
-OSDP_CHECKED static inline osdp_status osdp_device_event(osdp_device *device, uint8_t code, const uint8_t *data, size_t length);
+OSDP_CHECKED static inline osdp_status osdp_device_event(osdp_device *device, uint8_t code, const uint8_t *data, osdp_size length);
 
 /*
  * The same of an event's text, such as `KEYPAD 0 31`. Its words have one or more spaces between each two, and it ends after `length` bytes.
  *
  * OSDP_NO_MACHINE. OSDP_BAD_TEXT: it is the text of no event. OSDP_EVENTS_FULL (N2).
  */
-OSDP_CHECKED static inline osdp_status osdp_device_event_text(osdp_device *device, const char *text, size_t length);
+OSDP_CHECKED static inline osdp_status osdp_device_event_text(osdp_device *device, const char *text, osdp_size length);
 
 /* The address that the device has now. OSDP_NO_MACHINE. */
 OSDP_CHECKED osdp_status osdp_device_address(osdp_device *device, uint32_t *address);
 
 /* How many events wait, the one that is offered included. OSDP_NO_MACHINE. */
-OSDP_CHECKED osdp_status osdp_device_waiting(osdp_device *device, size_t *count);
+OSDP_CHECKED osdp_status osdp_device_waiting(osdp_device *device, osdp_size *count);
 
 /* Whether the session of a device is closed: 1 where it refuses each number but 0, as one that is new or has moved, else 0. OSDP_NO_MACHINE. */
 OSDP_CHECKED osdp_status osdp_device_is_closed(osdp_device *device, uint32_t *closed);
@@ -1050,7 +1068,7 @@ struct osdp_answer {
  * OSDP_NO_MACHINE. OSDP_MOMENT_TOO_FAR.
  */
 OSDP_CHECKED static inline osdp_status osdp_device_step(
-    osdp_device *device, const uint8_t *bytes, size_t length, uint64_t now, size_t *taken, struct osdp_answer *answer);
+    osdp_device *device, const uint8_t *bytes, osdp_size length, uint64_t now, osdp_size *taken, struct osdp_answer *answer);
 
 /*
  * No bytes have come up to a moment: a run after which the line was silent for the gap is over. What the reader says is written as by `osdp_device_step`;
@@ -1085,9 +1103,9 @@ OSDP_CHECKED osdp_status osdp_device_pending(osdp_device *device, struct osdp_me
  */
 OSDP_CHECKED osdp_status osdp_device_answer_done(osdp_device *device);
 OSDP_CHECKED osdp_status osdp_device_answer_local(osdp_device *device, uint8_t tamper, uint8_t power);
-OSDP_CHECKED static inline osdp_status osdp_device_answer_list(osdp_device *device, const uint8_t *states, size_t length);
+OSDP_CHECKED static inline osdp_status osdp_device_answer_list(osdp_device *device, const uint8_t *states, osdp_size length);
 OSDP_CHECKED osdp_status osdp_device_answer_refused(osdp_device *device, uint8_t reason);
-OSDP_CHECKED static inline osdp_status osdp_device_answer_maker(osdp_device *device, const uint8_t *vendor, const uint8_t *bytes, size_t length);
+OSDP_CHECKED static inline osdp_status osdp_device_answer_maker(osdp_device *device, const uint8_t *vendor, const uint8_t *bytes, osdp_size length);
 
 /* ---- What the archive needs from outside ---- */
 
@@ -1114,26 +1132,26 @@ void rattle_dealloc(void *block);
  * pointer becomes one to some byte where the length is 0, so that nothing of it is read or written. With another length the call is
  * refused with OSDP_BAD_LENGTH, and the archive is not called.
  */
-OSDP_CHECKED osdp_status osdp_command_text_nonnull(uint8_t code, const uint8_t *data, size_t length, char *text, size_t room, size_t *text_length);
-OSDP_CHECKED osdp_status osdp_reply_text_nonnull(uint8_t code, const uint8_t *data, size_t length, char *text, size_t room, size_t *text_length);
-OSDP_CHECKED osdp_status osdp_out_nonnull(const struct osdp_output *outputs, size_t count, struct osdp_message *command);
-OSDP_CHECKED osdp_status osdp_led_nonnull(const struct osdp_led *leds, size_t count, struct osdp_message *command);
-OSDP_CHECKED osdp_status osdp_panel_submit_nonnull(osdp_panel *panel, size_t entry, uint8_t code, const uint8_t *data, size_t length);
-OSDP_CHECKED osdp_status osdp_panel_submit_text_nonnull(osdp_panel *panel, size_t entry, const char *text, size_t length);
-OSDP_CHECKED osdp_status osdp_panel_bytes_nonnull(osdp_panel *panel, const uint8_t *bytes, size_t length, uint64_t now);
-OSDP_CHECKED osdp_status osdp_device_new_nonnull(osdp_device *device, const struct osdp_device_config *config, const uint8_t *capabilities, size_t length);
-OSDP_CHECKED osdp_status osdp_device_set_inputs_nonnull(osdp_device *device, const uint8_t *states, size_t length);
-OSDP_CHECKED osdp_status osdp_device_set_outputs_nonnull(osdp_device *device, const uint8_t *states, size_t length);
-OSDP_CHECKED osdp_status osdp_device_set_readers_nonnull(osdp_device *device, const uint8_t *states, size_t length);
-OSDP_CHECKED osdp_status osdp_device_event_nonnull(osdp_device *device, uint8_t code, const uint8_t *data, size_t length);
-OSDP_CHECKED osdp_status osdp_device_event_text_nonnull(osdp_device *device, const char *text, size_t length);
+OSDP_CHECKED osdp_status osdp_command_text_nonnull(uint8_t code, const uint8_t *data, osdp_size length, char *text, osdp_size room, osdp_size *text_length);
+OSDP_CHECKED osdp_status osdp_reply_text_nonnull(uint8_t code, const uint8_t *data, osdp_size length, char *text, osdp_size room, osdp_size *text_length);
+OSDP_CHECKED osdp_status osdp_out_nonnull(const struct osdp_output *outputs, osdp_size count, struct osdp_message *command);
+OSDP_CHECKED osdp_status osdp_led_nonnull(const struct osdp_led *leds, osdp_size count, struct osdp_message *command);
+OSDP_CHECKED osdp_status osdp_panel_submit_nonnull(osdp_panel *panel, osdp_size entry, uint8_t code, const uint8_t *data, osdp_size length);
+OSDP_CHECKED osdp_status osdp_panel_submit_text_nonnull(osdp_panel *panel, osdp_size entry, const char *text, osdp_size length);
+OSDP_CHECKED osdp_status osdp_panel_bytes_nonnull(osdp_panel *panel, const uint8_t *bytes, osdp_size length, uint64_t now);
+OSDP_CHECKED osdp_status osdp_device_new_nonnull(osdp_device *device, const struct osdp_device_config *config, const uint8_t *capabilities, osdp_size length);
+OSDP_CHECKED osdp_status osdp_device_set_inputs_nonnull(osdp_device *device, const uint8_t *states, osdp_size length);
+OSDP_CHECKED osdp_status osdp_device_set_outputs_nonnull(osdp_device *device, const uint8_t *states, osdp_size length);
+OSDP_CHECKED osdp_status osdp_device_set_readers_nonnull(osdp_device *device, const uint8_t *states, osdp_size length);
+OSDP_CHECKED osdp_status osdp_device_event_nonnull(osdp_device *device, uint8_t code, const uint8_t *data, osdp_size length);
+OSDP_CHECKED osdp_status osdp_device_event_text_nonnull(osdp_device *device, const char *text, osdp_size length);
 OSDP_CHECKED osdp_status osdp_device_step_nonnull(
-    osdp_device *device, const uint8_t *bytes, size_t length, uint64_t now, size_t *taken, struct osdp_answer *answer);
-OSDP_CHECKED osdp_status osdp_device_answer_list_nonnull(osdp_device *device, const uint8_t *states, size_t length);
-OSDP_CHECKED osdp_status osdp_device_answer_maker_nonnull(osdp_device *device, const uint8_t *vendor, const uint8_t *bytes, size_t length);
+    osdp_device *device, const uint8_t *bytes, osdp_size length, uint64_t now, osdp_size *taken, struct osdp_answer *answer);
+OSDP_CHECKED osdp_status osdp_device_answer_list_nonnull(osdp_device *device, const uint8_t *states, osdp_size length);
+OSDP_CHECKED osdp_status osdp_device_answer_maker_nonnull(osdp_device *device, const uint8_t *vendor, const uint8_t *bytes, osdp_size length);
 
 /* Whether there is nothing at a pointer, though so many bytes or records are to be there. */
-static inline int osdp_is_missing(const void *pointer, size_t length)
+static inline int osdp_is_missing(const void *pointer, osdp_size length)
 {
     return pointer == NULL && length != 0;
 }
@@ -1168,7 +1186,7 @@ static inline const struct osdp_led *osdp_some_leds(const struct osdp_led *leds)
     return leds != NULL ? leds : none;
 }
 
-static inline osdp_status osdp_command_text(uint8_t code, const uint8_t *data, size_t length, char *text, size_t room, size_t *text_length)
+static inline osdp_status osdp_command_text(uint8_t code, const uint8_t *data, osdp_size length, char *text, osdp_size room, osdp_size *text_length)
 {
     if (osdp_is_missing(data, length) || osdp_is_missing(text, room)) {
         return OSDP_BAD_LENGTH;
@@ -1176,7 +1194,7 @@ static inline osdp_status osdp_command_text(uint8_t code, const uint8_t *data, s
     return osdp_command_text_nonnull(code, osdp_some_bytes(data), length, osdp_some_room(text), room, text_length);
 }
 
-static inline osdp_status osdp_reply_text(uint8_t code, const uint8_t *data, size_t length, char *text, size_t room, size_t *text_length)
+static inline osdp_status osdp_reply_text(uint8_t code, const uint8_t *data, osdp_size length, char *text, osdp_size room, osdp_size *text_length)
 {
     if (osdp_is_missing(data, length) || osdp_is_missing(text, room)) {
         return OSDP_BAD_LENGTH;
@@ -1184,7 +1202,7 @@ static inline osdp_status osdp_reply_text(uint8_t code, const uint8_t *data, siz
     return osdp_reply_text_nonnull(code, osdp_some_bytes(data), length, osdp_some_room(text), room, text_length);
 }
 
-static inline osdp_status osdp_out(const struct osdp_output *outputs, size_t count, struct osdp_message *command)
+static inline osdp_status osdp_out(const struct osdp_output *outputs, osdp_size count, struct osdp_message *command)
 {
     if (osdp_is_missing(outputs, count)) {
         return OSDP_BAD_LENGTH;
@@ -1192,7 +1210,7 @@ static inline osdp_status osdp_out(const struct osdp_output *outputs, size_t cou
     return osdp_out_nonnull(osdp_some_outputs(outputs), count, command);
 }
 
-static inline osdp_status osdp_led(const struct osdp_led *leds, size_t count, struct osdp_message *command)
+static inline osdp_status osdp_led(const struct osdp_led *leds, osdp_size count, struct osdp_message *command)
 {
     if (osdp_is_missing(leds, count)) {
         return OSDP_BAD_LENGTH;
@@ -1200,7 +1218,7 @@ static inline osdp_status osdp_led(const struct osdp_led *leds, size_t count, st
     return osdp_led_nonnull(osdp_some_leds(leds), count, command);
 }
 
-static inline osdp_status osdp_panel_submit(osdp_panel *panel, size_t entry, uint8_t code, const uint8_t *data, size_t length)
+static inline osdp_status osdp_panel_submit(osdp_panel *panel, osdp_size entry, uint8_t code, const uint8_t *data, osdp_size length)
 {
     if (osdp_is_missing(data, length)) {
         return OSDP_BAD_LENGTH;
@@ -1208,7 +1226,7 @@ static inline osdp_status osdp_panel_submit(osdp_panel *panel, size_t entry, uin
     return osdp_panel_submit_nonnull(panel, entry, code, osdp_some_bytes(data), length);
 }
 
-static inline osdp_status osdp_panel_submit_text(osdp_panel *panel, size_t entry, const char *text, size_t length)
+static inline osdp_status osdp_panel_submit_text(osdp_panel *panel, osdp_size entry, const char *text, osdp_size length)
 {
     if (osdp_is_missing(text, length)) {
         return OSDP_BAD_LENGTH;
@@ -1216,7 +1234,7 @@ static inline osdp_status osdp_panel_submit_text(osdp_panel *panel, size_t entry
     return osdp_panel_submit_text_nonnull(panel, entry, osdp_some_text(text), length);
 }
 
-static inline osdp_status osdp_panel_bytes(osdp_panel *panel, const uint8_t *bytes, size_t length, uint64_t now)
+static inline osdp_status osdp_panel_bytes(osdp_panel *panel, const uint8_t *bytes, osdp_size length, uint64_t now)
 {
     if (osdp_is_missing(bytes, length)) {
         return OSDP_BAD_LENGTH;
@@ -1224,7 +1242,7 @@ static inline osdp_status osdp_panel_bytes(osdp_panel *panel, const uint8_t *byt
     return osdp_panel_bytes_nonnull(panel, osdp_some_bytes(bytes), length, now);
 }
 
-static inline osdp_status osdp_device_new(osdp_device *device, const struct osdp_device_config *config, const uint8_t *capabilities, size_t length)
+static inline osdp_status osdp_device_new(osdp_device *device, const struct osdp_device_config *config, const uint8_t *capabilities, osdp_size length)
 {
     if (osdp_is_missing(capabilities, length)) {
         return OSDP_BAD_LENGTH;
@@ -1232,7 +1250,7 @@ static inline osdp_status osdp_device_new(osdp_device *device, const struct osdp
     return osdp_device_new_nonnull(device, config, osdp_some_bytes(capabilities), length);
 }
 
-static inline osdp_status osdp_device_set_inputs(osdp_device *device, const uint8_t *states, size_t length)
+static inline osdp_status osdp_device_set_inputs(osdp_device *device, const uint8_t *states, osdp_size length)
 {
     if (osdp_is_missing(states, length)) {
         return OSDP_BAD_LENGTH;
@@ -1240,7 +1258,7 @@ static inline osdp_status osdp_device_set_inputs(osdp_device *device, const uint
     return osdp_device_set_inputs_nonnull(device, osdp_some_bytes(states), length);
 }
 
-static inline osdp_status osdp_device_set_outputs(osdp_device *device, const uint8_t *states, size_t length)
+static inline osdp_status osdp_device_set_outputs(osdp_device *device, const uint8_t *states, osdp_size length)
 {
     if (osdp_is_missing(states, length)) {
         return OSDP_BAD_LENGTH;
@@ -1248,7 +1266,7 @@ static inline osdp_status osdp_device_set_outputs(osdp_device *device, const uin
     return osdp_device_set_outputs_nonnull(device, osdp_some_bytes(states), length);
 }
 
-static inline osdp_status osdp_device_set_readers(osdp_device *device, const uint8_t *states, size_t length)
+static inline osdp_status osdp_device_set_readers(osdp_device *device, const uint8_t *states, osdp_size length)
 {
     if (osdp_is_missing(states, length)) {
         return OSDP_BAD_LENGTH;
@@ -1256,7 +1274,7 @@ static inline osdp_status osdp_device_set_readers(osdp_device *device, const uin
     return osdp_device_set_readers_nonnull(device, osdp_some_bytes(states), length);
 }
 
-static inline osdp_status osdp_device_event(osdp_device *device, uint8_t code, const uint8_t *data, size_t length)
+static inline osdp_status osdp_device_event(osdp_device *device, uint8_t code, const uint8_t *data, osdp_size length)
 {
     if (osdp_is_missing(data, length)) {
         return OSDP_BAD_LENGTH;
@@ -1264,7 +1282,7 @@ static inline osdp_status osdp_device_event(osdp_device *device, uint8_t code, c
     return osdp_device_event_nonnull(device, code, osdp_some_bytes(data), length);
 }
 
-static inline osdp_status osdp_device_event_text(osdp_device *device, const char *text, size_t length)
+static inline osdp_status osdp_device_event_text(osdp_device *device, const char *text, osdp_size length)
 {
     if (osdp_is_missing(text, length)) {
         return OSDP_BAD_LENGTH;
@@ -1273,7 +1291,7 @@ static inline osdp_status osdp_device_event_text(osdp_device *device, const char
 }
 
 static inline osdp_status osdp_device_step(
-    osdp_device *device, const uint8_t *bytes, size_t length, uint64_t now, size_t *taken, struct osdp_answer *answer)
+    osdp_device *device, const uint8_t *bytes, osdp_size length, uint64_t now, osdp_size *taken, struct osdp_answer *answer)
 {
     if (osdp_is_missing(bytes, length)) {
         return OSDP_BAD_LENGTH;
@@ -1281,7 +1299,7 @@ static inline osdp_status osdp_device_step(
     return osdp_device_step_nonnull(device, osdp_some_bytes(bytes), length, now, taken, answer);
 }
 
-static inline osdp_status osdp_device_answer_list(osdp_device *device, const uint8_t *states, size_t length)
+static inline osdp_status osdp_device_answer_list(osdp_device *device, const uint8_t *states, osdp_size length)
 {
     if (osdp_is_missing(states, length)) {
         return OSDP_BAD_LENGTH;
@@ -1289,7 +1307,7 @@ static inline osdp_status osdp_device_answer_list(osdp_device *device, const uin
     return osdp_device_answer_list_nonnull(device, osdp_some_bytes(states), length);
 }
 
-static inline osdp_status osdp_device_answer_maker(osdp_device *device, const uint8_t *vendor, const uint8_t *bytes, size_t length)
+static inline osdp_status osdp_device_answer_maker(osdp_device *device, const uint8_t *vendor, const uint8_t *bytes, osdp_size length)
 {
     if (osdp_is_missing(bytes, length)) {
         return OSDP_BAD_LENGTH;

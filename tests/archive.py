@@ -1,9 +1,10 @@
 #!/usr/bin/env python3
-"""Builds crates/osdp_c/out/libosdp_c.a, as `rt lib` does, over the libraries that `rt ci` has left in the out/ of the crates below.
+"""Builds crates/osdp_c/out/libosdp_c.a, as `rt lib` does, over the libraries that `rt ci` has left in the out/ of the crates below, and leaves the module that is
+compiled beside it, `module.bc`, for `tools/retarget`.
 
 `rt ci` keeps of a library what the crates above it need, and `rt lib` would prove each of these libraries once more, which takes half an hour of a processor.
 So this is the last of the commands that `rt lib` runs: it proves `osdp_c` and compiles it. Where a check or `rt lib` has left the libraries, or where one of them
-isn't there, `rt lib` itself is run: it is quick in the first case, and nothing else can be done in the second."""
+isn't there, `rt lib` itself is run before: it is quick in the first case, and nothing else can be done in the second."""
 import subprocess
 import sys
 from pathlib import Path
@@ -11,6 +12,8 @@ from pathlib import Path
 TOP = Path(__file__).resolve().parent.parent
 NAME = "osdp_c"
 FOLDER = TOP / "crates" / NAME
+sys.path.insert(0, str(TOP / "tools/retargeting"))
+import kept  # noqa: E402
 
 
 def uses():
@@ -36,15 +39,17 @@ def words(kit, named):
     for folder in [kit / "rlibs", *(library(one).parent for one in sorted(below(NAME, named)))]:
         found += ["-L", f"dependency={folder}"]
     found += ["--antt-project", kit / "rattle/logic/antt-project.json", "--logic-built", kit / "logic_built"]
-    return found + ["--incremental", "out/incremental", "--jobs", "2", "--toolchain", kit / "toolchain", "--backend", "llvm", "-o", "out/libosdp_c.a"]
+    return found + ["--incremental", "out/incremental", "--jobs", "2", "--toolchain", kept.toolchain(kit), "--backend", "llvm", "-o", "out/libosdp_c.a"]
 
 
 def main():
     named = uses()
     libraries = [library(one) for one in below(NAME, named)]
     if any((one.parent / "stamp").exists() for one in libraries) or not all(one.exists() for one in libraries):
-        return subprocess.run(["rt", "lib"], cwd=FOLDER).returncode
-    kit = Path(subprocess.run(["rt", "doc"], check=True, capture_output=True, text=True).stdout.strip()).parent
+        status = subprocess.run(["rt", "lib"], cwd=FOLDER).returncode
+        if status != 0:
+            return status
+    kit = kept.kit()
     (FOLDER / "out").mkdir(exist_ok=True)
     return subprocess.run([kit / "bin/rattle", "build", *words(kit, named)], cwd=FOLDER).returncode
 

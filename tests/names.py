@@ -18,7 +18,7 @@ HEAP = {"rattle_alloc", "rattle_dealloc"}
 BESIDE = {"osdp_version", "osdp_status_text"}
 OUTSIDE = HEAP | {"memcpy", "memmove", "memset"}
 TYPES = {
-    "uint8_t": "u8", "uint16_t": "u16", "uint32_t": "u32", "uint64_t": "u64", "size_t": "usize", "char": "c_char", "void": "c_void",
+    "uint8_t": "u8", "uint16_t": "u16", "uint32_t": "u32", "uint64_t": "u64", "size_t": "usize", "osdp_size": "usize", "char": "c_char", "void": "c_void",
 }
 SPECS = "crates/osdp_c_values/specs"
 # The lines that give a number, by their file: the name of what has it, the number, and how its constants begin
