@@ -22,9 +22,9 @@ EXPORT uint8_t *burst_bytes(void) { return burst.bytes; }
 EXPORT uint8_t *answer_bytes(void) { return answer.burst.bytes; }
 
 /* How long the text of a message is, which stands in `words` then; 0 where there is none. */
-static uint32_t text_of(uint8_t code, const uint8_t *data, size_t length, bool is_reply)
+static uint32_t text_of(uint8_t code, const uint8_t *data, osdp_size length, bool is_reply)
 {
-    size_t found = 0;
+    osdp_size found = 0;
     osdp_status status = is_reply ? osdp_reply_text(code, data, length, text, sizeof text, &found) : osdp_command_text(code, data, length, text, sizeof text, &found);
     return status == OSDP_OK ? (uint32_t)found : 0;
 }
@@ -46,7 +46,7 @@ EXPORT uint32_t stop_panel(void) { return osdp_panel_free(&panel); }
 EXPORT uint32_t start_panel(void)
 {
     struct osdp_panel_config config;
-    size_t entry;
+    osdp_size entry;
     osdp_panel_defaults(&config);
     config.check = OSDP_CHECK_SUM;
     osdp_status status = osdp_panel_new(&panel, &config);
@@ -89,7 +89,7 @@ EXPORT uint32_t report_reply(void) { return text_of_message(&report.reply, true)
 
 EXPORT uint32_t panel_waiting(uint32_t entry)
 {
-    size_t count = 0;
+    osdp_size count = 0;
     return osdp_panel_waiting(&panel, entry, &count) == OSDP_OK ? (uint32_t)count : 0;
 }
 
@@ -105,7 +105,7 @@ EXPORT uint32_t set_busy(uint32_t which, uint32_t busy) { return osdp_device_set
 /* Hands a device so many bytes of `room` from a place on: how many it has taken. What it says is told by the calls below. */
 EXPORT uint32_t device_step(uint32_t which, uint32_t at, uint32_t length, uint32_t now)
 {
-    size_t taken = 0;
+    osdp_size taken = 0;
     return osdp_device_step(&devices[which], bytes + at, length, now, &taken, &answer) == OSDP_OK ? (uint32_t)taken : length;
 }
 
@@ -116,7 +116,7 @@ EXPORT uint32_t answer_command(void) { return text_of_message(&answer.command, f
 
 EXPORT uint32_t device_waiting(uint32_t which)
 {
-    size_t count = 0;
+    osdp_size count = 0;
     return osdp_device_waiting(&devices[which], &count) == OSDP_OK ? (uint32_t)count : 0;
 }
 

@@ -52,6 +52,7 @@ class Line {
     this.toReaders = [];
     this.toPanel = [];
     this.said = [];
+    this.capture = []; // what has come through, as `osdp monitor` reads it
     this.schedule = ["check sum", "reader 5 16", "reader 6 16"];
     this.hasSchedule = true;
     this.panelOn = true;
@@ -106,8 +107,9 @@ class Line {
     }
   }
 
-  // So many milliseconds pass, and the panel is asked once what is due. It begins a session anew that has ended, once the line is quiet.
+  // So many milliseconds pass, and the panel is asked once what is due.
   wait(ms) {
+    this.reopenThoseDue();
     this.now += ms;
     this.step(`wait ${ms}`);
     if (!this.panelOn) {
@@ -118,8 +120,12 @@ class Line {
       this.toReaders.push(this.machines.bytes(this.calls.burst_bytes(), length));
     }
     this.takeReports();
+  }
+
+  // Sessions that have ended begin again after a pause, once the line is quiet.
+  reopenThoseDue() {
     this.readers.forEach((reader, which) => {
-      if (reader.begins !== null && reader.begins <= this.now && this.isQuiet()) {
+      if (this.panelOn && reader.begins !== null && reader.begins <= this.now && this.isQuiet()) {
         this.reopen(which);
       }
     });
@@ -152,6 +158,7 @@ class Line {
     if (what === "drop") {
       return;
     }
+    this.capture.push(hex(bytes));
     if (isToReaders) {
       this.readers.forEach((reader, which) => reader.on && this.readerHears(which, bytes));
     } else if (this.panelOn) {

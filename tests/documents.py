@@ -357,7 +357,7 @@ def judge_messages():
 
 def plain_texts():
     """What is written for people: pages, manual pages and scripts."""
-    for folder in ("", "docs", "man", "tests", "tests/c", "tests/rows", "tools", "bench", "c", "examples", "examples/c", "include", "port", "port/osdp_port", "python", "python/osdp", "python/examples", "release", "rust", "rust/src", "rust/examples"):
+    for folder in ("", "docs", "man", "tests", "tests/c", "tests/rows", "tools", "bench", "c", "demo", "examples", "examples/c", "include", "port", "port/osdp_port", "python", "python/osdp", "python/examples", "release", "rust", "rust/src", "rust/examples"):
         for file in sorted((TOP / folder).iterdir()):
             if file.is_file() and file != Path(__file__).resolve():
                 yield file, file.read_text(errors="replace")

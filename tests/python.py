@@ -22,7 +22,7 @@ from osdp import _library as library  # noqa: E402
 from osdp import message as messages  # noqa: E402
 
 faults = []
-PLAIN = {"uint8_t": "c_uint8", "uint16_t": "c_uint16", "uint32_t": "c_uint32", "uint64_t": "c_uint64", "size_t": "c_size_t", "char": "c_char", "void": "c_void_p"}
+PLAIN = {"uint8_t": "c_uint8", "uint16_t": "c_uint16", "uint32_t": "c_uint32", "uint64_t": "c_uint64", "size_t": "c_size_t", "osdp_size": "c_size_t", "char": "c_char", "void": "c_void_p"}
 SAME = {"c_ubyte": "c_uint8", "c_ushort": "c_uint16", "c_uint": "c_uint32", "c_ulong": "c_uint64", "c_size_t": "c_uint64"}
 
 
@@ -33,7 +33,7 @@ def tell(what, wanted, got):
 
 def header():
     """The header without comments."""
-    return re.sub(r"/\*.*?\*/", "", (TOP / "include/osdp.h").read_text(), flags=re.S).replace("OSDP_CHECKED ", "")
+    return re.sub(r"/\*.*?\*/", "", (TOP / "include/osdp.h").read_text(), flags=re.S).replace("OSDP_CHECKED ", "").replace("OSDP_ALIGNED", "")
 
 
 def same(name):
@@ -42,7 +42,7 @@ def same(name):
 
 def field_of_c(text):
     """A field's name and its kind, as ctypes names it."""
-    kind, name, count = re.fullmatch(r"(?:struct )?(\w+) \*?(\w+)(?:\[(\d+)\])?", text.strip()).groups()
+    kind, name, count = re.fullmatch(r"(?:struct )?(\w+) +\*? *(\w+)(?:\[(\d+)\])?", text.strip()).groups()
     kind = "c_void_p" if "*" in text else PLAIN.get(kind) or library.STRUCTS[kind].__name__
     return name, f"{same(kind)}_Array_{count}" if count else same(kind)
 
