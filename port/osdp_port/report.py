@@ -1,0 +1,146 @@
+"""A capture as one page: it is read by `osdp show --times` and judged by `osdp monitor`, both beside this program."""
+import json
+import re
+import subprocess
+import sys
+
+from . import VERSION
+from .faults import BAD_WORDS, FAILED, Stop
+from .figures import Figures, Packet, seconds
+from .program import PROGRAM_FAULTS, find_program
+from .report_page import page
+
+HELP = """osdp-report: one page of HTML of a capture, which fetches nothing
+
+usage: osdp-report [FORM] [--osdp PROGRAM] [FILE] > report.html
+
+  --hex       the capture is lines of digits, as osdp-port --trace writes them; so it is without a form
+  --osdpcap   it is .osdpcap: an object of JSON a line
+  --stamped   it is lines of a stamp, TX or RX, and digits
+  --raw       it is bytes; they have no moments
+  --osdp P    the path of the program osdp
+
+Without FILE it reads standard input. What an adapter hands back of a packet that was sent is left out, and told.
+The page has what is likely wrong in words, a table with answer times, a timeline for each device, and each
+accusation with its packets. It is 0 where the page is written, 2 at bad words, 3 where something can't be read.
+"""
+FORMS = ("--hex", "--osdpcap", "--stamped", "--raw")
+SHOWN = re.compile(r"^(?:-|(.+?) +(in|out|trace)) (\d+):(\d+) (cmd|reply|skip|refused)(.*)$")
+HEAD = re.compile(r"^ (\d+) seq (\d) (sum|crc)\S*(?: \S+=\S+)? (.*)$")
+
+
+def words_of(words):
+    """The form, the program's path and the file that the words ask for; the last two may be none."""
+    form, given, file = "--hex", None, None
+    rest = list(words)
+    while rest:
+        word = rest.pop(0)
+        if word in FORMS:
+            form = word
+        elif word == "--osdp" and rest:
+            given = rest.pop(0)
+        elif file is None and not word.startswith("--"):
+            file = word
+        else:
+            raise Stop(f"no such word: {word}; try: osdp-report --help", BAD_WORDS)
+    return form, given, file
+
+
+def read(file):
+    """The bytes of the capture."""
+    try:
+        if file in (None, "-"):
+            return sys.stdin.buffer.read()
+        with open(file, "rb") as opened:
+            return opened.read()
+    except OSError as error:
+        raise Stop(f"the capture can't be read: {file}: {error.strerror}", FAILED) from None
+
+
+def run(program, words, capture):
+    """What the program prints of a capture."""
+    done = subprocess.run([program, *words], input=capture, capture_output=True)
+    if done.returncode in PROGRAM_FAULTS or done.returncode < 0:
+        raise Stop(done.stderr.decode(errors="replace").strip() or "the program osdp has failed")
+    return done.stdout.decode()
+
+
+def shown(program, form, capture):
+    """The packets, skipped bytes and refused bytes of a capture, in their order."""
+    times = [] if form == "--raw" else ["--times"]
+    packets = []
+    for line in run(program, ["show", form, *times], capture).splitlines():
+        found = SHOWN.match(line if times else f"- {line}")
+        if found is None:
+            continue
+        stamp, way, number, place, kind, rest = found.groups()
+        head = HEAD.match(rest) if kind in ("cmd", "reply") else None
+        address, sequence, check, text = head.groups() if head else (None, None, None, rest.strip())
+        packets.append(Packet(seconds(stamp), stamp, way, int(number), int(place), kind, None if address is None else int(address), sequence, check, text))
+    return packets
+
+
+def burst_of(form, line):
+    """The digits of a line that is a run; none of a blank line or a comment."""
+    if form == "--osdpcap":
+        try:
+            return json.loads(line)["data"].replace("-", "").replace(" ", "").upper()
+        except (ValueError, KeyError, AttributeError, TypeError):
+            return None
+    text = line.decode(errors="replace").strip()
+    if form == "--stamped":
+        text = re.split(r"\b[TR]X:?", text, maxsplit=1)[-1]
+    elif text.startswith("#"):
+        return None
+    return "".join(text.split()).upper() or None
+
+
+def without_echo(form, capture, packets):
+    """The capture without each run that came in and is the one that went out just before, and how many these are."""
+    if form == "--raw":
+        return capture, 0
+    ways = {packet.run: packet.way for packet in packets}
+    kept, number, before, echoes = [], 0, None, 0
+    for line in capture.splitlines(keepends=True):
+        burst = burst_of(form, line)
+        if burst is None:
+            kept.append(line)
+            continue
+        number += 1
+        way = ways.get(number)
+        if way == "in" and before == burst:
+            echoes, before = echoes + 1, None
+        else:
+            kept.append(line)
+            before = burst if way == "out" else None
+    return b"".join(kept), echoes
+
+
+def report(program, form, capture):
+    """The page of a capture."""
+    packets = shown(program, form, capture)
+    capture, echoes = without_echo(form, capture, packets)
+    if echoes:
+        packets = shown(program, form, capture)
+    told = run(program, ["monitor", form, *(["--recorded"] if form == "--raw" else [])], capture)
+    return page(Figures(packets, told, echoes))
+
+
+def main(words):
+    if words[:1] in (["--help"], ["-h"], ["help"]):
+        print(HELP, end="")
+        return 0
+    if words[:1] == ["--version"]:
+        print(f"osdp-report {VERSION}")
+        return 0
+    try:
+        form, given, file = words_of(words)
+        sys.stdout.write(report(find_program(given), form, read(file)))
+        sys.stdout.flush()
+    except Stop as stop:
+        print(f"osdp-report: {stop.why}", file=sys.stderr)
+        return stop.status
+    except OSError as error:
+        print(f"osdp-report: the page can't be written: {error.strerror}", file=sys.stderr)
+        return FAILED
+    return 0

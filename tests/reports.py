@@ -1,0 +1,241 @@
+#!/usr/bin/env python3
+"""Pages that `osdp-report` makes of captures that are written here, with known moments: the answer times, late answers, echoes and devices that are gone
+come out as they were made, at losses of 0, 1 and 5 of a hundred answers. Takes the path of the program.
+
+The panel and the readers are a few lines of their own. What each page must say is worked out from what was put into the line."""
+import html
+import json
+import random
+import re
+import subprocess
+import sys
+from datetime import datetime, timedelta, timezone
+from html.parser import HTMLParser
+from pathlib import Path
+
+TOP = Path(__file__).resolve().parent.parent
+PROGRAM = str(Path(sys.argv[1]).resolve())
+START = datetime(2026, 3, 1, 23, 59, 50, tzinfo=timezone.utc)
+POLL, ACK, OUT, RAW = 0x60, 0x40, 0x68, 0x50
+faults = 0
+
+
+def tell(what, wanted, got):
+    global faults
+    faults += 1
+    print(f"reports: {what}\nwanted: {wanted!r}\nis: {got!r}")
+
+
+def packet(address, number, code, data=b"", reply=False):
+    body = bytes([0x53, address | (0x80 if reply else 0), 7 + len(data), 0, number, code]) + data
+    return body + bytes([-sum(body) & 255])
+
+
+def stamp(moment):
+    return (START + timedelta(milliseconds=moment)).strftime("%Y-%m-%dT%H:%M:%S.%f")[:-3] + "Z"
+
+
+class Line:
+    """Bursts with their moments, in milliseconds, and ways."""
+
+    def __init__(self):
+        self.bursts = []
+
+    def add(self, moment, way, burst):
+        self.bursts.append((moment, way, burst))
+
+    def digits(self):
+        return "".join(f"# {stamp(moment)} {way}\n{burst.hex().upper()}\n" for moment, way, burst in sorted(self.bursts, key=lambda each: each[0]))
+
+    def osdpcap(self):
+        lines = []
+        for moment, way, burst in sorted(self.bursts, key=lambda each: each[0]):
+            at = START + timedelta(milliseconds=moment)
+            lines.append(json.dumps({"timeSec": str(int(at.timestamp())), "timeNano": f"{at.microsecond * 1000:09}", "io": "output" if way == "out" else "input",
+                                     "data": burst.hex("-"), "osdpTraceVersion": "1", "osdpSource": "reports"}) + "\n")
+        return "".join(lines)
+
+
+def following(number):
+    return number % 3 + 1
+
+
+def calm(source, loss, echo=False):
+    """A panel that polls 5 and 6, of which 6 is gone after a while. The line, and what was put into it."""
+    line, put = Line(), {"times": [], "cards": 0, "orders": 0, "echoes": 0, "repeats": 0, "gone": None}
+    numbers, moment = {5: 0, 6: 0}, 0
+    for turn in range(120):
+        for address in (5, 6):
+            moment += 300
+            order = address == 5 and turn % 20 == 19
+            code, data = (OUT, bytes([0, 2, 0, 0])) if order else (POLL, b"")
+            sent = packet(address, numbers[address], code, data)
+            is_gone = address == 6 and turn >= 80
+            lost = turn > 0 and not is_gone and source.random() * 100 < loss
+            copies = [moment, moment + 200] if lost else [moment]
+            for copy in copies:
+                line.add(copy, "out", sent)
+                if echo:
+                    line.add(copy + 1, "in", sent)
+                    put["echoes"] += 1
+            moment = copies[-1]
+            put["orders"] += order
+            put["repeats"] += address == 5 and lost
+            if is_gone:
+                continue
+            delay = source.randrange(5, 150)
+            card = address == 5 and not order and turn % 10 == 5
+            reply = packet(address, numbers[address], RAW if card else ACK, bytes([0, 0, 8, 0, 0xA5]) if card else b"", True)
+            line.add(moment + delay, "in", reply)
+            if address == 5:
+                put["cards"] += card
+                if not lost:
+                    put["times"].append(delay)
+            else:
+                put["gone"] = moment + delay
+            numbers[address] = following(numbers[address])
+    return line, put
+
+
+def late(source, loss):
+    """A reader that answers each copy after 310 ms, and a panel that waits 200. Of the answers to second copies some are lost."""
+    line, number, moment, delay = Line(), 0, 0, 310
+    for _ in range(60):
+        line.add(moment, "out", packet(5, number, POLL))
+        line.add(moment + 200, "out", packet(5, number, POLL))
+        for copy in (moment, moment + 200):
+            if copy == moment or source.random() * 100 >= loss:
+                line.add(copy + delay, "in", packet(5, number, ACK, b"", True))
+        if number == 0:
+            moment += 900
+        else:
+            moment += 330
+            while any(abs(moment - other) < 5 for other, _, _ in line.bursts):
+                moment += 7
+        number = following(number)
+    return line
+
+
+def report(text, *words):
+    done = subprocess.run([TOP / "port/osdp-report", "--osdp", PROGRAM, *words], input=text.encode(), capture_output=True)
+    if done.returncode or done.stderr:
+        tell("the page isn't made", 0, (done.returncode, done.stderr.decode()))
+    return done.stdout.decode()
+
+
+class Tags(HTMLParser):
+    """Whether each tag is closed, and what the page would fetch."""
+
+    def __init__(self, text):
+        super().__init__()
+        self.open, self.fetched, self.rects = [], [], 0
+        self.feed(text)
+
+    def handle_starttag(self, tag, attributes):
+        self.rects += tag == "rect"
+        self.fetched += [value for name, value in attributes if name in ("src", "href", "srcset", "data", "action")] + ([tag] if tag in ("script", "link", "iframe") else [])
+        if tag not in ("meta",):
+            self.open.append(tag)
+
+    def handle_endtag(self, tag):
+        if not self.open or self.open.pop() != tag:
+            self.fetched.append(f"a wrong </{tag}>")
+
+
+def is_whole(what, page):
+    tags = Tags(page)
+    if tags.open or tags.fetched or "url(" in page or "@import" in page:
+        tell(f"{what}: tags that are open, or what is fetched", [], (tags.open, tags.fetched[:5]))
+    return tags
+
+
+def row(page, address):
+    """The cells of a device's row."""
+    found = re.search(rf"<tr><td>{address}</td>(.*?)</tr>", page)
+    return re.findall(r"<td[^>]*>(.*?)</td>", found[1]) if found else []
+
+
+def sentences(page):
+    return [html.unescape(each) for each in re.findall(r"<li>(.*?)</li>", page)]
+
+
+def says(what, page, wanted, unwanted=()):
+    told = "\n".join(sentences(page))
+    for each in wanted:
+        if not re.search(each, told):
+            tell(f"{what}: a sentence is missing", each, told)
+    for each in unwanted:
+        if re.search(each, told):
+            tell(f"{what}: said falsely", each, told)
+
+
+def nearest(times, hundredth):
+    """The least time that at least as many of a hundred are not above."""
+    return next(time for time in sorted(times) if 100 * sum(other <= time for other in times) >= hundredth * len(times))
+
+
+def looks_at_calm(seed, loss):
+    source = random.Random(seed)
+    line, put = calm(source, loss, seed % 2 == 1)
+    what = f"calm {seed} {loss}"
+    page = report(line.digits())
+    is_whole(what, page)
+    times = put["times"]
+    wanted = [str(each) for each in (min(times), nearest(times, 50), nearest(times, 95), max(times), put["cards"], put["orders"])]
+    cells = row(page, 5)
+    if cells[4:10] != wanted:
+        tell(f"{what}: times, cards and orders", wanted, cells[4:10])
+    share = 100 * put["repeats"] // (120 + put["repeats"])
+    if cells[2] != f"{share}%":
+        tell(f"{what}: repeats", share, cells[2])
+    gone = re.escape(stamp(put["gone"]))
+    says(what, page, [rf"Device 6 is offline: its last answer came at {gone}, and 40 packets", "Nobody broke a rule", *([f": {put['echoes']} runs that came in"] if seed % 2 else [])],
+         ["broke a rule [0-9]", "answers late", "Device 5 is offline", *([] if seed % 2 else ["hands back"])])
+    again = report(line.osdpcap(), "--osdpcap")
+    if row(again, 5)[:10] != cells[:10]:
+        tell(f"{what}: .osdpcap has another row", cells, row(again, 5))
+
+
+def looks_at_late(loss):
+    page = report(late(random.Random(loss), loss).digits())
+    is_whole(f"late {loss}", page)
+    told = re.search(r"Reader 5 answers late, (\d+) times: after (\d+) to (\d+) ms, and the panel waits 200 ms", "\n".join(sentences(page)))
+    if told is None or int(told[1]) < 20 or told[3] != "310" or loss == 0 and told[2] != "310":
+        tell(f"late {loss}", "310 ms and 200 ms", sentences(page))
+    says(f"late {loss}", page, ["Nobody broke a rule"])
+
+
+def looks_at_accused():
+    """A repeat that is answered by something else, and texts that would be tags."""
+    line, card = Line(), bytes([0, 0, 8, 0])
+    for at, (way, burst) in enumerate((("out", packet(5, 0, POLL)), ("in", packet(5, 0, ACK, b"", True)), ("out", packet(5, 1, POLL)), ("in", packet(5, 1, RAW, card + b"\xA5", True)),
+                                       ("out", packet(5, 1, POLL)), ("in", packet(5, 1, RAW, card + b"\xA6", True)))):
+        line.add(at * 100, way, burst)
+    page = report(line.digits())
+    is_whole("accused", page)
+    says("accused", page, ["Somebody broke a rule 1 time: "])
+    for each in ("Run 6: reader 5: a repeat is answered by something else (standard)", "expected 53850C000150000008", "<td class=text>RAW 0 0 8 A6</td>", "accused</text>"):
+        if each not in page:
+            tell("accused: the page lacks", each, page[-1500:])
+    stamped = "".join(f"<i>{at} {'TX' if way == 'out' else 'RX'}: {burst.hex(' ')}\n" for at, (_, way, burst) in enumerate(line.bursts))
+    page = report(stamped, "--stamped")
+    if "<i>" in page or "&lt;i&gt;" not in page:
+        tell("a stamp isn't escaped", "&lt;i&gt;", page[:800])
+    is_whole("stamped", page)
+    for words, status in ((("--x",), 2), (("a", "b"), 2), (("/nowhere/file",), 3)):
+        done = subprocess.run([TOP / "port/osdp-report", "--osdp", PROGRAM, *words], capture_output=True)
+        if done.returncode != status or done.stdout or not done.stderr.startswith(b"osdp-report: "):
+            tell(f"words {words}", status, (done.returncode, done.stderr))
+    raw = subprocess.run([TOP / "port/osdp-report", "--osdp", PROGRAM, "--raw"], input=b"".join(burst for _, _, burst in line.bursts), capture_output=True).stdout.decode()
+    if row(raw, 5)[:2] != ["3", "3"]:
+        tell("bytes", ["3", "3"], row(raw, 5)[:2])
+    is_whole("empty", report(""))
+
+
+for loss in (0, 1, 5):
+    for seed in range(4):
+        looks_at_calm(seed, loss)
+    looks_at_late(loss)
+looks_at_accused()
+print(f"reports: {faults} faults")
+sys.exit(1 if faults else 0)

@@ -1,0 +1,4 @@
+#!/usr/bin/env bash
+# Pages that `osdp-report` makes of lines with known moments: their words, answer times, timelines and accusations. Takes the path of the program.
+set -u
+exec timeout 300 /usr/bin/python3 "$(dirname "$0")/reports.py" "$1"
