@@ -1,0 +1,224 @@
+-- Each bound is reached.
+use Rattle.std.proofs.Common.{◌≡◌, subst, ℕ, ◌≤◌, true, false, List, [], ◌∷◌, refl, arith}
+use Rattle.std.specs.Prelude.{max, nat_le}
+use Rattle.std.proofs.lemmas.Bool.{leb-true}
+use Rattle.std.proofs.lemmas.List.Elements.{All-cons, All-nil}
+use Rattle.osdp_frame.specs.Packet.{next_sequence}
+use Rattle.osdp_msg.specs.declared.command.Command.{Command}
+use Rattle.osdp_msg.specs.ReplyTable as replies
+use Rattle.osdp_controller.specs.declared.exchange.Exchange.TheVariants.{Opening, Polling}
+use Rattle.osdp_controller.specs.declared.session.Session.{Session}
+use Rattle.osdp_controller.specs.declared.state.State.{State}
+use Rattle.osdp_controller.specs.declared.state.State.TheVariants.{Closed, Quiet, Idle, Waiting, Pausing}
+use Rattle.osdp_controller.specs.Machine.{IsMachine, IsState, IsSubmitted, Machine, OpensAtZero, acts}
+use Rattle.osdp_controller.specs.Sessions.{seen}
+use Rattle.osdp_controller.specs.Settings.{IsConfig}
+use Rattle.osdp_controller.specs.Ticking.{Ticked, begins, sends_frame, stays, ticks_in, tries_again}
+use Rattle.osdp_controller.proofs.Choices.{either_way}
+use Rattle.osdp_controller_laws.specs.Runs.{Begin, Call, Hear, Tick, after_call}
+use Rattle.osdp_time_laws.specs.Clock.{IsOwed}
+use Rattle.osdp_time_laws.specs.Instances.{BoundsAreReached, ack, busy, dead_calls, machine_in, opening_calls, outstanding_poll, short_waits, silent_calls, slow_calls}
+use Rattle.osdp_time_laws.specs.Laws.{FallsSilent, GoesOn, IsNotBusy, IsOpening, IsSilent}
+use Rattle.osdp_time_laws.proofs.Duties.{until_of}
+
+-- where no command waits a tick does something only once the moment is reached
+abbrev Acts : ℕ → Session → Ticked → Type 0
+Acts until s t = acts t.step ≡ true → until ≤ s.greatest
+
+reached_in : (state : State) (s : Session) → Acts (until_of state) s (ticks_in state s [])
+reached_in Closed s = λ h. cc
+reached_in (Quiet until) s =
+    either_way (Acts until s) (nat_le until s.greatest) (begins Opening 0 s []) (stays s []) (λ b h. leb-true until s.greatest b) (λ b h. cc)
+reached_in (Idle due) s =
+    either_way (Acts due s) (nat_le due s.greatest) (begins Polling (next_sequence s.number) s []) (stays s []) (λ b h. leb-true due s.greatest b) (λ b h. cc)
+reached_in (Waiting until sends o) s =
+    either_way (Acts until s) (nat_le until s.greatest) (tries_again sends o s []) (stays s []) (λ b h. leb-true until s.greatest b) (λ b h. cc)
+reached_in (Pausing until o) s =
+    either_way (Acts until s) (nat_le until s.greatest) (sends_frame 1 o s []) (stays s []) (λ b h. leb-true until s.greatest b) (λ b h. cc)
+
+-- a tick that is owed, by the moment that the state waits for
+owed_in : (state : State) (s : Session) (at : ℕ) → acts (ticks_in state (seen at s) []).step ≡ true → s.greatest ≤ at → until_of state ≤ at
+owed_in state s at due on = let now : until_of state ≤ max s.greatest at = reached_in state (seen at s) due in omega arith
+
+owed_at : (call : Call) (k : Machine) (at : ℕ) → k.waiting ≡ [] → IsOwed at call k → until_of k.session.state ≤ at
+owed_at call k at none owed =
+    owed_in k.session.state k.session at (subst (λ (w : List Command). acts (ticks_in k.session.state (seen at k.session) w).step ≡ true) none owed.due)
+    owed.not_before
+
+no_other : {A : Type 0} → true ≡ false → A
+no_other h = cc
+
+short_config : IsConfig short_waits
+short_config = record {
+  address = omega arith;
+  reply_wait = (omega arith, omega arith);
+  poll_interval = (omega arith, omega arith);
+  busy_wait = (omega arith, omega arith);
+  quiet_wait = (omega arith, omega arith);
+  sends = (omega arith, omega arith);
+  busy_limit = omega arith;
+}
+
+is_machine : (state : State) (number : ℕ) → IsState short_waits state → OpensAtZero state number → IsMachine (machine_in state number)
+is_machine state number is opening = record {
+  session = record { config = short_config; state = is; opening = opening };
+  capacity = (omega arith, omega arith);
+  waiting = All-nil IsSubmitted;
+  room = omega arith;
+}
+
+-- ---- the runs, call by call
+
+abbrev slow_0 : Machine
+slow_0 = after_call (Tick 0) (machine_in (Idle 0) 0)
+
+abbrev slow_1 : Machine
+slow_1 = after_call (Tick 4) slow_0
+
+abbrev slow_2 : Machine
+slow_2 = after_call (Hear busy 8) slow_1
+
+abbrev slow_3 : Machine
+slow_3 = after_call (Tick 8) slow_2
+
+abbrev slow_4 : Machine
+slow_4 = after_call (Tick 11) slow_3
+
+abbrev slow_5 : Machine
+slow_5 = after_call (Tick 15) slow_4
+
+slow : GoesOn 1 0 slow_calls (machine_in (Idle 0) 0)
+unfolding replies.reply_of replies.reply_fault replies.reply_at
+slow = record {
+  machine = is_machine (Idle 0) 0 tt tt;
+  begins = refl;
+  lasts = (refl, (refl, (refl, (refl, (refl, (refl, tt))))));
+  in_time = (
+    λ at owed. let reached : 3 ≤ at = owed_at (Tick 4) slow_0 at refl owed in (omega arith, no_other),
+    (
+      λ at owed. let reached : 7 ≤ at = owed_at (Hear busy 8) slow_1 at refl owed in (omega arith, λ other. (omega arith, no_other)),
+      (
+        λ at owed. let reached : 10 ≤ at = owed_at (Tick 8) slow_2 at refl owed in (omega arith, no_other),
+        (
+          λ at owed. let reached : 10 ≤ at = owed_at (Tick 11) slow_3 at refl owed in (omega arith, no_other),
+          (
+            λ at owed. let reached : 14 ≤ at = owed_at (Tick 15) slow_4 at refl owed in (omega arith, no_other),
+            (
+              λ at owed. let reached : 18 ≤ at = owed_at (Tick 19) slow_5 at refl owed in (omega arith, no_other),
+              tt,
+            ),
+          ),
+        ),
+      ),
+    ),
+  );
+}
+
+dead : GoesOn 1 0 dead_calls (machine_in (Idle 0) 0)
+dead = record {
+  machine = is_machine (Idle 0) 0 tt tt;
+  begins = refl;
+  lasts = (refl, (refl, tt));
+  in_time = (
+    λ at owed. let reached : 3 ≤ at = owed_at (Tick 4) slow_0 at refl owed in (omega arith, no_other),
+    (
+      λ at owed. let reached : 7 ≤ at = owed_at (Tick 8) slow_1 at refl owed in (omega arith, no_other),
+      tt,
+    ),
+  );
+}
+
+abbrev opening_0 : Machine
+opening_0 = after_call (Begin 0) (machine_in Closed 0)
+
+abbrev opening_1 : Machine
+opening_1 = after_call (Tick 5) opening_0
+
+abbrev opening_2 : Machine
+opening_2 = after_call (Tick 9) opening_1
+
+abbrev opening_3 : Machine
+opening_3 = after_call (Hear busy 13) opening_2
+
+abbrev opening_4 : Machine
+opening_4 = after_call (Tick 13) opening_3
+
+abbrev opening_5 : Machine
+opening_5 = after_call (Tick 16) opening_4
+
+abbrev opening_6 : Machine
+opening_6 = after_call (Tick 20) opening_5
+
+begins_slow : IsOpening 1 0 opening_calls (machine_in Closed 0)
+unfolding replies.reply_of replies.reply_fault replies.reply_at
+begins_slow = record {
+  machine = is_machine Closed 0 tt tt;
+  begins = refl;
+  lasts = (refl, (refl, (refl, (refl, (refl, (refl, (refl, tt)))))));
+  in_time = (
+    λ at owed. let reached : 4 ≤ at = owed_at (Tick 5) opening_0 at refl owed in (omega arith, no_other),
+    (
+      λ at owed. let reached : 8 ≤ at = owed_at (Tick 9) opening_1 at refl owed in (omega arith, no_other),
+      (
+        λ at owed. let reached : 12 ≤ at = owed_at (Hear busy 13) opening_2 at refl owed in (omega arith, λ other. (omega arith, no_other)),
+        (
+          λ at owed. let reached : 15 ≤ at = owed_at (Tick 13) opening_3 at refl owed in (omega arith, no_other),
+          (
+            λ at owed. let reached : 15 ≤ at = owed_at (Tick 16) opening_4 at refl owed in (omega arith, no_other),
+            (
+              λ at owed. let reached : 19 ≤ at = owed_at (Tick 20) opening_5 at refl owed in (omega arith, no_other),
+              (
+                λ at owed. let reached : 23 ≤ at = owed_at (Tick 24) opening_6 at refl owed in (omega arith, no_other),
+                tt,
+              ),
+            ),
+          ),
+        ),
+      ),
+    ),
+  );
+}
+
+abbrev silent_0 : Machine
+silent_0 = after_call (Hear ack 0) (machine_in outstanding_poll 1)
+
+abbrev silent_1 : Machine
+silent_1 = after_call (Tick 6) silent_0
+
+abbrev silent_2 : Machine
+silent_2 = after_call (Tick 10) silent_1
+
+falls : FallsSilent 1 ack 0 silent_calls (machine_in outstanding_poll 1)
+unfolding replies.reply_of replies.reply_fault replies.reply_at
+falls = record {
+  machine = is_machine outstanding_poll 1
+      ((omega arith), (omega arith), record { command = tt; busies = omega arith; some = omega arith; sent = omega arith }) (λ same. absurd cc);
+  outstanding = refl;
+  answered = refl;
+  silent = All-cons IsSilent (Tick 6) (Tick 10 ∷ Tick 14 ∷ []) tt (All-cons IsSilent (Tick 10) (Tick 14 ∷ []) tt (All-cons IsSilent (Tick 14) [] tt (All-nil IsSilent)));
+  lasts = (refl, (refl, (refl, tt)));
+  in_time = (
+    λ at owed. let reached : 5 ≤ at = owed_at (Tick 6) silent_0 at refl owed in (omega arith, no_other),
+    (
+      λ at owed. let reached : 9 ≤ at = owed_at (Tick 10) silent_1 at refl owed in (omega arith, no_other),
+      (
+        λ at owed. let reached : 13 ≤ at = owed_at (Tick 14) silent_2 at refl owed in (omega arith, no_other),
+        tt,
+      ),
+    ),
+  );
+}
+
+pub bounds_reached : BoundsAreReached
+unfolding replies.reply_of replies.reply_fault replies.reply_at
+bounds_reached = record {
+  slow = slow;
+  exchange = refl;
+  dead = dead;
+  not_busy = All-cons IsNotBusy (Tick 4) (Tick 8 ∷ []) tt (All-cons IsNotBusy (Tick 8) [] tt (All-nil IsNotBusy));
+  round = refl;
+  begins = begins_slow;
+  opening = refl;
+  falls = falls;
+  silence = refl;
+}

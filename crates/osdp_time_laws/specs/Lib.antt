@@ -1,0 +1,4 @@
+pub mod Bounds
+pub mod Clock
+pub mod Instances
+pub mod Laws

@@ -1,0 +1,30 @@
+//! How many milliseconds a controller takes, whatever the line does, where its program makes each tick in time. The functions do nothing:
+//! their contracts are laws.
+#![tactic(auto)]
+
+ghost use Rattle.std.specs.Prelude.{ℕ, List};
+ghost use Rattle.osdp_controller.specs.Machine.{Machine};
+ghost use Rattle.osdp_controller_laws.specs.Runs.{Call};
+ghost use Rattle.osdp_time_laws.specs.Instances.{BoundsAreReached};
+ghost use Rattle.osdp_time_laws.specs.Laws.{ExchangesEnd, OpeningsEnd, SilenceIsTold};
+
+/// However its answers come, an exchange lasts at most a round of sends and, for each BUSY that is allowed, a pause and another round.
+/// Where no BUSY is read it lasts a round of sends at most.
+pub fn exchanges_end()
+    ensures { (late now : ℕ) (calls : List Call) (m : Machine) → ExchangesEnd late now calls m }
+{}
+
+/// From its beginning a session sends the opening ID once the quiet wait is over, and is open or told lost within the longest exchange more.
+pub fn openings_end()
+    ensures { (late now : ℕ) (calls : List Call) (m : Machine) → OpeningsEnd late now calls m }
+{}
+
+/// A device that falls silent after an answer that ended an exchange is told lost within the poll interval and a round of sends.
+pub fn silence_is_told()
+    ensures { SilenceIsTold }
+{}
+
+/// Each of these bounds is reached: runs of a controller with short waits, whose ticks come a millisecond late, take exactly so long.
+pub fn bounds_are_reached()
+    ensures { BoundsAreReached }
+{}
