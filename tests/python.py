@@ -143,6 +143,37 @@ def judge_session(loses):
     tell("a card of an ACK", None, told[1].reply.card())
 
 
+def judge_again():
+    """The panel has a card whose answer the device takes for lost, since nothing comes any more: in the next session the card may have been told before."""
+    told = []
+    with osdp.Panel() as panel, osdp.Device(5) as device:
+        door = panel.add(5)
+        device.event("RAW 0 0 26 12345640")
+        device.event("KEYPAD 0 31")
+        panel.begin(door, 0)
+        for now in range(0, 4000, 10):
+            burst = panel.tick(now)
+            is_cut = told and told[-1][0] == "EVENT" and len(told) == 2
+            for answer in device.hear(b"" if is_cut else burst, now):
+                panel.hear(answer.data, now)
+            for report in panel.reports():
+                told.append((report.kind.name, report.maybe_again, report.cause))
+                if report.kind is osdp.Kind.LOST:
+                    panel.begin(door, now)
+    lost = ("LOST", False, osdp.Cause.NO_REPLY)
+    tell("told again", [("OPENED", False, None), ("EVENT", False, None), lost, ("OPENED", False, None), ("EVENT", True, None), ("EVENT", False, None)], told)
+
+
+def judge_pieces():
+    """Two packets at once are answered twice, and so is one after more noise than a device has room for."""
+    identify = bytes.fromhex("530508000061003F")  # an ID with number 0 to address 5
+    with osdp.Device(5) as device:
+        tell("two packets", 2, len(list(device.hear(identify * 2, 0))))
+        tell("after noise", 1, len(list(device.hear(bytes(9000) + identify, 1))))
+        tell("half a packet", 0, len(list(device.hear(identify[:4], 2))))
+        tell("its other half", 1, len(list(device.hear(identify[4:], 3))))
+
+
 def judge_refusals():
     panel, device = osdp.Panel(capacity=1), osdp.Device(7, capacity=1)
     entry = panel.add(7)
@@ -213,6 +244,6 @@ if __name__ == "__main__":
     judge_structs(header()), judge_functions(header()), judge_numbers(header()), judge_docs()
     for lost in ([], [41], [46], [30, 61, 66]):
         judge_session(lost)
-    judge_refusals(), judge_device(), judge_example()
+    judge_again(), judge_pieces(), judge_refusals(), judge_device(), judge_example()
     print(f"python: {len(faults)} faults", *faults, sep="\n")
     sys.exit(1 if faults else 0)
