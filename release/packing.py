@@ -12,6 +12,7 @@ import tarfile
 MAINTAINER = "Vuthrelaw maintainers <maintainers@users.noreply.vuthrelaw.example>"
 # what the package for programs in C, Rust and Python has; all else is in that of the program
 FOR_MAKERS = ("include/", "lib/", "share/osdp/c/", "share/osdp/rust/", "share/osdp/python/", "share/osdp/examples/c/")
+MAY_BE_DONE = "No licence has been chosen yet: read it and try it, and ask its makers before you do anything else with it.\n"
 PROGRAM_TEXT = """tools for an OSDP line: access control readers and panels
  osdp shows, checks and makes packets of OSDP (Open Supervised Device Protocol),
  listens to a line, and is a panel or a reader; osdp-port runs it at a port.
@@ -126,6 +127,7 @@ def split(folder, version, says):
     makers = {name: what for name, what in every.items() if is_for_makers(name)}
     for package, files in (("osdp", program), ("osdp-dev", makers)):
         files[f"share/doc/{package}/RELEASE"] = (says.encode(), 0o644)
+        files[f"share/doc/{package}/copyright"] = (MAY_BE_DONE.encode(), 0o644)
     return program, makers
 
 

@@ -35,12 +35,23 @@ for package in "$work"/one/*.deb; do
   dpkg-deb --contents "$package" | awk '$2 != "root/root" { print "other owner: " $0; bad = 1 } END { exit bad }' || fail "$package has files of another owner"
 done
 
-# without a passed gate of this commit there is nothing to pack
-git clone -q . "$work/clone" && mkdir -p "$work/clone/out"
-printf 'commit: %s\nproofs: 2 passed, 0 failed\nscripts: failed\n' "$(git rev-parse HEAD)" >"$work/clone/out/gate"
-cp install release/packing.py "$work/" && cp "$work/install" "$work/clone/install" && cp -r release "$work/clone/"
-(cd "$work/clone" && ./install --pack "$work/refused") >"$work/said" 2>&1
-{ [ $? -eq 1 ] && [ ! -e "$work/refused" ] && grep -qF 'no gate has passed on this commit' "$work/said"; } || { cat "$work/said"; fail 'packages are made where the scripts have failed'; }
+# of a commit that a gate has passed there are packages; of one that has not, that is another or has changed since, there are none
+clone=$work/clone
+git clone -q . "$clone" && mkdir -p "$clone/out" "$clone/crates/osdp/out" "$clone/crates/osdp_c/out"
+cp -r install release "$clone/" && cp "$1" "$clone/crates/osdp/out/osdp" && cp crates/osdp_c/out/libosdp_c.a "$clone/crates/osdp_c/out/"
+git -C "$clone" -c user.name=tests -c user.email=tests@localhost commit -qam 'the tree as it stands' --allow-empty
+commit=$(git -C "$clone" rev-parse HEAD)
+packs() { (cd "$clone" && printf "commit: $1\nproofs: 2 passed, 0 failed\n$2" >out/gate && ./install --pack "$work/$3") >"$work/said" 2>&1; }
+refuses() {
+  packs "$1" "$2" refused
+  { [ $? -eq 1 ] && [ ! -e "$work/refused" ] && grep -qF 'no gate has passed on this commit' "$work/said"; } || { cat "$work/said"; fail "packages are made $3"; }
+}
+packs "$commit" 'scripts: passed\n' passed || { cat "$work/said"; fail 'no packages are made of what has passed'; }
+grep -qx 'gate: 2 passed, 0 failed' "$work/passed/RELEASE" && grep -qx 'scripts: passed' "$work/passed/RELEASE" || fail 'RELEASE of what has passed says something else'
+refuses "$commit" '' 'where the scripts have failed'
+refuses 0000 'scripts: passed\n' 'of another commit'
+echo >>"$clone/README.md"
+refuses "$commit" 'scripts: passed\n' 'where something has changed since'
 
 # ---- the archive of files, alone: moved, and with no repository beside it
 
@@ -93,6 +104,7 @@ inside sh -c 'cd /tmp/made && cmake -B build . && cmake --build build && [ "$(bu
 inside sh -c 'python3 /usr/share/osdp/python/examples/session.py | grep -qx "done: OUT 0:5:30"'
 inside sh -c 'sed -i "s/osdp 0.1 /osdp 0.2 /" /tmp/made/CMakeLists.txt && ! cmake -B /tmp/other /tmp/made'
 cmp -s "$root/usr/share/doc/osdp/RELEASE" "$work/one/RELEASE" || fail 'the package has another RELEASE'
+grep -q 'No licence has been chosen yet' "$root/usr/share/doc/osdp/copyright" || fail 'the package does not say what may be done with it'
 inside dpkg --verify osdp osdp-dev
 inside dpkg --purge osdp-dev osdp
 everything >"$work/after"
