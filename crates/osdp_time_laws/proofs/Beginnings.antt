@@ -36,11 +36,11 @@ round_is late more c many =
     ap (λ (n : ℕ). n * (c.reply_wait + late)) next ∙ suc-mul more (c.reply_wait + late) ∙ add_comm (more * (c.reply_wait + late)) (c.reply_wait + late)
 
 -- the longest exchange, likewise
-abbrev whole : ℕ → ℕ → ℕ → ControllerConfig → ℕ
+abbrev pub whole : ℕ → ℕ → ℕ → ControllerConfig → ℕ
 whole late more q c =
     (c.reply_wait + late) + more * (c.reply_wait + late) + q * ((c.busy_wait + late) + ((c.reply_wait + late) + more * (c.reply_wait + late)))
 
-whole_is : (late more q : ℕ) (c : ControllerConfig) → c.sends ≡ more + 1 → whole late more q c ≡ exchange_time c late q
+pub whole_is : (late more q : ℕ) (c : ControllerConfig) → c.sends ≡ more + 1 → whole late more q c ≡ exchange_time c late q
 whole_is late more q c many = ap (λ (r : ℕ). r + q * ((c.busy_wait + late) + r)) (sym (round_is late more c many))
 
 pub no_busy : (n p : ℕ) → n + 0 * p ≡ n
@@ -57,19 +57,19 @@ quiet_fits : (g wait late w : ℕ) → (g + wait) + late + w ≤ g + (wait + lat
 quiet_fits g wait late w = omega arith
 
 -- so many BUSY answers are allowed, or none is read
-abbrev Few : ControllerConfig → ℕ → List Call → Type 0
+abbrev pub Few : ControllerConfig → ℕ → List Call → Type 0
 Few c q calls = (0 + q ≡ c.busy_limit) ⊎ All IsNotBusy calls
 
 -- ---- an exchange
 
-abbrev Begins : Ticked → Type 0
+abbrev pub Begins : Ticked → Type 0
 Begins t = (is_some t.step.frame && sent_in t.session.state == 1) ≡ true
 
-abbrev Begun : ℕ → ℕ → ℕ → List Call → Session → Ticked → Type 0
+abbrev pub Begun : ℕ → ℕ → ℕ → List Call → Session → Ticked → Type 0
 Begun late more q calls s t =
     Begins t → Holds late (s.greatest + whole late more q s.config) s.config more (Unit {0}) is_outstanding refl calls t.session
 
-first_sent : (late more q until : ℕ) (calls : List Call) (s : Session) → Few s.config q calls → until ≤ s.greatest + s.config.reply_wait
+pub first_sent : (late more q until : ℕ) (calls : List Call) (s : Session) → Few s.config q calls → until ≤ s.greatest + s.config.reply_wait
     → Sent late (s.greatest + whole late more q s.config) s.config more (Unit {0}) until 1 0 s.greatest calls
 first_sent late more q until calls s few before = record {
   by_moment = s.greatest + s.config.reply_wait;
@@ -82,7 +82,7 @@ first_sent late more q until calls s few before = record {
       (q * ((s.config.busy_wait + late) + ((s.config.reply_wait + late) + more * (s.config.reply_wait + late))));
 }
 
-begun_new : (late more q : ℕ) (calls : List Call) (x : Exchange) (number : ℕ) (s : Session) (w : List Command) → Few s.config q calls
+pub begun_new : (late more q : ℕ) (calls : List Call) (x : Exchange) (number : ℕ) (s : Session) (w : List Command) → Few s.config q calls
     → Begun late more q calls s (begins x number s w)
 begun_new late more q calls x number s w few =
     λ begins_so. (
@@ -93,7 +93,7 @@ begun_new late more q calls x number s w few =
 not_first : {A : Type 0} (sent : ℕ) → 1 ≤ sent → (true && (sent + 1 == 1)) ≡ true → A
 not_first sent some h = absurd (let same : sent + 1 ≡ 1 = eqb-true (sent + 1) 1 h in omega arith)
 
-begun_tick : (late more q : ℕ) (calls : List Call) (state : State) (s : Session) (w : List Command) → Few s.config q calls → IsState s.config state
+pub begun_tick : (late more q : ℕ) (calls : List Call) (state : State) (s : Session) (w : List Command) → Few s.config q calls → IsState s.config state
     → Begun late more q calls s (ticks_in state s w)
 begun_tick late more q calls Closed s w few is = λ h. cc
 begun_tick late more q calls (Quiet until) s w few is =

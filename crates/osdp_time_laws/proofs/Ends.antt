@@ -19,14 +19,14 @@ use Rattle.osdp_time_laws.proofs.Duties.{due_at, due_seen, until_of}
 use Rattle.osdp_time_laws.proofs.Phases.{Holds, Phase, frame_holds, holds_passed, phase_near, phase_seen, still, tick_holds}
 
 -- while there is a session none begins, and its address stays
-begun_not : (state : State) (m new : Machine) → is_closed state ≡ false → changed_unless (refused_unless_closed state) m new ≡ m
+pub begun_not : (state : State) (m new : Machine) → is_closed state ≡ false → changed_unless (refused_unless_closed state) m new ≡ m
 begun_not Closed m new lives = cc
 begun_not (Quiet until) m new lives = refl
 begun_not (Idle due) m new lives = refl
 begun_not (Waiting until sends o) m new lives = refl
 begun_not (Pausing until o) m new lives = refl
 
-moved_not : (state : State) (address : ℕ) (m new : Machine) → is_closed state ≡ false
+pub moved_not : (state : State) (address : ℕ) (m new : Machine) → is_closed state ≡ false
     → changed_unless (or_no_device (refused_unless_closed state) address) m new ≡ m
 moved_not Closed address m new lives = cc
 moved_not (Quiet until) address m new lives = refl
@@ -49,11 +49,11 @@ lives_by test (Pausing until o) not_closed so = refl
 
 module _ (late end : ℕ) (c : ControllerConfig) (more : ℕ) (Counts : Type 0) (test : State → Bool) (not_closed : test Closed ≡ false)
     (counts : (until sends : ℕ) (o : Outstanding) → test (Waiting until sends o) ≡ true → Counts) (many : c.sends ≡ more + 1) where
-  abbrev Now : List Call → Session → Type 0
+  abbrev pub Now : List Call → Session → Type 0
   Now calls s = Holds late end c more Counts test not_closed calls s
 
   -- a duty at a moment that the call reaches
-  duty_at : (call : Call) (calls : List Call) (m : Machine) → is_closed m.session.state ≡ false
+  pub duty_at : (call : Call) (calls : List Call) (m : Machine) → is_closed m.session.state ≡ false
       → ((at : ℕ) → IsOwed at call m → TicksBy (at + late) (call ∷ calls))
       → (at : ℕ) → m.session.greatest ≤ at → at ≤ (after_call call m).session.greatest → until_of m.session.state ≤ at → TicksBy (at + late) (call ∷ calls)
   duty_at call calls m lives owed at not_before not_after reached =
@@ -64,7 +64,7 @@ module _ (late end : ℕ) (c : ControllerConfig) (more : ℕ) (Counts : Type 0) 
       })
 
   -- the phase at the moment of a call that moves it
-  phase_then : (call : Call) (calls : List Call) (m : Machine) (now : ℕ) → (after_call call m).session.greatest ≡ max m.session.greatest now
+  pub phase_then : (call : Call) (calls : List Call) (m : Machine) (now : ℕ) → (after_call call m).session.greatest ≡ max m.session.greatest now
       → ((limit : ℕ) → IsBy limit call → now ≤ limit) → is_closed m.session.state ≡ false
       → ((at : ℕ) → IsOwed at call m → TicksBy (at + late) (call ∷ calls))
       → Phase late end c more Counts (call ∷ calls) m.session.state m.session.greatest
@@ -77,10 +77,10 @@ module _ (late end : ℕ) (c : ControllerConfig) (more : ℕ) (Counts : Type 0) 
       phase
 
   -- one call
-  abbrev Reads : List Call → Type 0
+  abbrev pub Reads : List Call → Type 0
   Reads calls = ((due : ℕ) → test (Idle due) ≡ false) ⊎ All IsSilent calls
 
-  step : (call : Call) (calls : List Call) (m : Machine) → Reads (call ∷ calls) → test m.session.state ≡ true
+  pub step : (call : Call) (calls : List Call) (m : Machine) → Reads (call ∷ calls) → test m.session.state ≡ true
       → ((at : ℕ) → IsOwed at call m → TicksBy (at + late) (call ∷ calls)) → Now (call ∷ calls) m.session → Now calls (after_call call m).session
   step (Submit command) calls m reads so owed holds =
       subst (Now calls) (sym (submit_session (submit_refusal command m) command m))

@@ -4,3 +4,4 @@ pub mod Ends
 pub mod Beginnings
 pub mod Silence
 pub mod Instances
+pub mod Orders

@@ -33,7 +33,7 @@ use Rattle.osdp_time_laws.proofs.Ends.{ends}
 use Rattle.osdp_time_laws.proofs.Phases.{Phase, Ready, is_near, later_within}
 
 -- an exchange ends: the next POLL is due after the interval
-abbrev Rests : ControllerConfig → Heard → Type 0
+abbrev pub Rests : ControllerConfig → Heard → Type 0
 Rests c h = is_idle h.session.state ≡ true → (h.session.config ≡ c) × (until_of h.session.state ≤ h.session.greatest + c.poll_interval)
 
 not_idle : (state : State) → is_outstanding state ≡ true → is_idle state ≡ true → ⊥
@@ -88,7 +88,7 @@ numbered_rests (Idle due) a s out = λ idle. absurd (not_idle s.state out idle)
 numbered_rests (Waiting until sends o) a s out = waiting_rests a sends o s out
 numbered_rests (Pausing until o) a s out = pausing_rests a o s out
 
-frame_rests : (p : Packet) (now : ℕ) (s : Session) → is_outstanding s.state ≡ true → Rests s.config (hears p now s)
+pub frame_rests : (p : Packet) (now : ℕ) (s : Session) → is_outstanding s.state ≡ true → Rests s.config (hears p now s)
 frame_rests p now s out =
     either_frame (Rests s.config) p now s (λ from number. numbered_rests s.state (meaning_of p) (seen now s) out)
     (λ idle. absurd (not_idle s.state out idle))

@@ -2,3 +2,4 @@ pub mod Bounds
 pub mod Clock
 pub mod Instances
 pub mod Laws
+pub mod Orders

@@ -7,6 +7,7 @@ ghost use Rattle.osdp_controller.specs.Machine.{Machine};
 ghost use Rattle.osdp_controller_laws.specs.Runs.{Call};
 ghost use Rattle.osdp_time_laws.specs.Instances.{BoundsAreReached};
 ghost use Rattle.osdp_time_laws.specs.Laws.{ExchangesEnd, OpeningsEnd, SilenceIsTold};
+ghost use Rattle.osdp_time_laws.specs.Orders.{OrdersGoOut};
 
 /// However its answers come, an exchange lasts at most a round of sends and, for each BUSY that is allowed, a pause and another round.
 /// Where no BUSY is read it lasts a round of sends at most.
@@ -27,4 +28,10 @@ pub fn silence_is_told()
 /// Each of these bounds is reached: runs of a controller with short waits, whose ticks come a millisecond late, take exactly so long.
 pub fn bounds_are_reached()
     ensures { BoundsAreReached }
+{}
+
+/// While a session goes on, an order that waits when an exchange begins has its first frame handed out within the longest exchange and a late
+/// tick, once for that exchange and once for each command before it.
+pub fn orders_go_out()
+    ensures { OrdersGoOut }
 {}

@@ -1,0 +1,373 @@
+-- An order in time: one exchange after the other.
+use Rattle.std.proofs.Common.{◌≡◌, ◌∙◌, ap, sym, subst, inl, ℕ, zero, suc, ◌+◌, ◌-◌, ◌*◌, ◌≤◌, ◌<◌, Bool, true, false, List, [], ◌∷◌, length, Option, Some, None, refl, arith}
+use Rattle.std.specs.Prelude.{drop, if◌then◌else◌, max, nat_le, nat_lt}
+use Rattle.std.proofs.Math.Nat.{suc-mul}
+use Rattle.std.proofs.lemmas.List.{length-append}
+use Rattle.osdp_frame.specs.Packet.{next_sequence}
+use Rattle.osdp_msg.specs.declared.command.Command.{Command}
+use Rattle.osdp_controller.specs.declared.config.ControllerConfig.{ControllerConfig}
+use Rattle.osdp_controller.specs.declared.exchange.Exchange.TheVariants.{Opening, Polling, Asking}
+use Rattle.osdp_controller.specs.declared.fault.ControllerFault.{ControllerFault}
+use Rattle.osdp_controller.specs.declared.session.Session.{Session}
+use Rattle.osdp_controller.specs.declared.state.State.{State}
+use Rattle.osdp_controller.specs.declared.state.State.TheVariants.{Closed, Quiet, Idle, Waiting, Pausing}
+use Rattle.osdp_controller.specs.Hearing.{Heard}
+use Rattle.osdp_controller.specs.Machine.{Machine, acts, after_begin, after_retarget, after_submit, changed_unless, is_outstanding, submit_refusal}
+use Rattle.osdp_controller.specs.Sessions.{seen}
+use Rattle.osdp_controller.specs.States.{is_closed, is_idle}
+use Rattle.osdp_controller.specs.Ticking.{Ticked, begins, gives_up, sends_frame, stays, ticks_in, tries_again}
+use Rattle.osdp_controller.proofs.Choices.{either_way}
+use Rattle.osdp_controller_laws.specs.Runs.{Call, Submit, Begin, Retarget, Withdraw, Tick, Hear, after_call, after_calls}
+use Rattle.osdp_controller_laws.proofs.Kept.{hears_at_moment}
+use Rattle.osdp_controller_laws.proofs.Lasting.{submit_session}
+use Rattle.osdp_controller_laws.proofs.Stepwise.{frames_in_steps}
+use Rattle.osdp_controller_laws.proofs.Ticks.{takes_front}
+use Rattle.osdp_time_laws.specs.Clock.{IsBy, IsOwed, KeepsTime, TicksBy, is_tick}
+use Rattle.osdp_time_laws.specs.Orders.{order_time, OrdersGoOut, Waits, is_under_way, left_after}
+use Rattle.osdp_time_laws.proofs.Beginnings.{begun_new, begun_tick, one_less, whole, whole_is}
+use Rattle.osdp_time_laws.proofs.Duties.{Due, due_kept, due_seen}
+use Rattle.osdp_time_laws.proofs.Ends.{begun_not, moved_not, step, tick_at_moment}
+use Rattle.osdp_time_laws.proofs.Phases.{Holds}
+use Rattle.osdp_time_laws.proofs.Silence.{frame_rests}
+
+lives : (state : State) → is_under_way state ≡ true → is_closed state ≡ false
+lives Closed so = cc
+lives (Quiet until) so = refl
+lives (Idle due) so = refl
+lives (Waiting until sends o) so = refl
+lives (Pausing until o) so = refl
+
+-- what one more exchange costs
+next_fits : (e late x j g end : ℕ) → g ≤ e + late → e + late + (j + (x + late)) ≤ end → (g + x) + late + j ≤ end
+next_fits e late x j g end within fits = omega arith
+
+not_idle : (state : State) → is_outstanding state ≡ true → is_idle state ≡ false
+not_idle Closed out = cc
+not_idle (Quiet until) out = cc
+not_idle (Idle due) out = cc
+not_idle (Waiting until sends o) out = refl
+not_idle (Pausing until o) out = refl
+
+at_rest : (state : State) → is_under_way state ≡ true → is_outstanding state ≡ false → is_idle state ≡ true
+at_rest Closed so none = cc
+at_rest (Quiet until) so none = cc
+at_rest (Idle due) so none = refl
+at_rest (Waiting until sends o) so none = cc
+at_rest (Pausing until o) so none = cc
+
+stands_out : (state : State) → is_outstanding state ≡ true → is_closed state ≡ false
+stands_out Closed out = cc
+stands_out (Quiet until) out = cc
+stands_out (Idle due) out = cc
+stands_out (Waiting until sends o) out = refl
+stands_out (Pausing until o) out = refl
+
+-- a call while an exchange is outstanding, and one that is no tick, leaves the place of an order
+left_same : (call : Call) (m : Machine) (left : ℕ) → is_idle m.session.state ≡ false → left_after call m left ≡ left
+left_same (Submit command) m left none = refl
+left_same (Begin now) m left none = refl
+left_same (Retarget address) m left none = refl
+left_same Withdraw m left none = refl
+left_same (Tick now) m left none = ap (λ (b : Bool). if b then left - 1 else left) none
+left_same (Hear p now) m left none = refl
+
+-- no command leaves but by a tick
+submit_waits : (f : Option ControllerFault) (command : Command) (m : Machine) (n : ℕ) → n ≤ length m.waiting
+    → n ≤ length (changed_unless f m (after_submit command m)).waiting
+submit_waits None command m n some = let both = length-append m.waiting (command ∷ []) in omega arith
+submit_waits (Some fault) command m n some = some
+
+kept_waits : (b : Bool) (w : List Command) (n : ℕ) → b ≡ false → n ≤ length w → n ≤ length (if b then drop 1 w else w)
+kept_waits true w n none some = cc
+kept_waits false w n none some = some
+
+waits_on : (call : Call) (m : Machine) (n : ℕ) → is_closed m.session.state ≡ false → (is_tick call ≡ true → is_idle m.session.state ≡ false)
+    → n ≤ length m.waiting → n ≤ length (after_call call m).waiting
+waits_on (Submit command) m n stands busy some = submit_waits (submit_refusal command m) command m n some
+waits_on (Begin now) m n stands busy some =
+    subst (λ (k : Machine). n ≤ length k.waiting) (sym (begun_not m.session.state m (after_begin now m) stands)) some
+waits_on (Retarget address) m n stands busy some =
+    subst (λ (k : Machine). n ≤ length k.waiting) (sym (moved_not m.session.state address m (after_retarget address m) stands)) some
+waits_on Withdraw m n stands busy some = kept_waits (is_closed m.session.state) m.waiting n stands some
+waits_on (Tick now) m n stands busy some =
+    subst (λ (w : List Command). n ≤ length w) (sym ((takes_front now m.session m.waiting).stay (busy refl))) some
+waits_on (Hear p now) m n stands busy some = some
+
+-- the settings stay while the session goes on
+abbrev SameConfig : Session → Ticked → Type 0
+SameConfig s t = t.session.config ≡ s.config
+
+tick_config : (state : State) (s : Session) (w : List Command) → SameConfig s (ticks_in state s w)
+tick_config Closed s w = refl
+tick_config (Quiet until) s w =
+    either_way (SameConfig s) (nat_le until s.greatest) (begins Opening 0 s w) (stays s w) (λ b. refl) (λ b. refl)
+tick_config (Idle due) s (command ∷ w) = refl
+tick_config (Idle due) s [] =
+    either_way (SameConfig s) (nat_le due s.greatest) (begins Polling (next_sequence s.number) s []) (stays s []) (λ b. refl) (λ b. refl)
+tick_config (Waiting until sends o) s w =
+    either_way (SameConfig s) (nat_le until s.greatest) (tries_again sends o s w) (stays s w)
+    (λ b. either_way (SameConfig s) (nat_lt sends s.config.sends) (sends_frame (sends + 1) o s w) (gives_up o s w) (λ f. refl) (λ f. refl)) (λ b. refl)
+tick_config (Pausing until o) s w =
+    either_way (SameConfig s) (nat_le until s.greatest) (sends_frame 1 o s w) (stays s w) (λ b. refl) (λ b. refl)
+
+-- an exchange ends: the settings are the same where the session goes on
+rests_config : (call : Call) (m : Machine) → is_outstanding m.session.state ≡ true → is_idle (after_call call m).session.state ≡ true
+    → (after_call call m).session.config ≡ m.session.config
+rests_config (Submit command) m out idle = ap (λ (s : Session). s.config) (submit_session (submit_refusal command m) command m)
+rests_config (Begin now) m out idle =
+    ap (λ (k : Machine). k.session.config) (begun_not m.session.state m (after_begin now m) (stands_out m.session.state out))
+rests_config (Retarget address) m out idle =
+    ap (λ (k : Machine). k.session.config) (moved_not m.session.state address m (after_retarget address m) (stands_out m.session.state out))
+rests_config Withdraw m out idle = refl
+rests_config (Tick now) m out idle = tick_config m.session.state (seen now m.session) m.waiting
+rests_config (Hear p now) m out idle = (frame_rests p now m.session out idle).0
+
+-- where nothing is outstanding and a command waits a tick does something at any moment
+due_idle : (state : State) (s : Session) (w : List Command) → is_idle state ≡ true → 1 ≤ length w → acts (ticks_in state s w).step ≡ true
+due_idle Closed s w idle some = cc
+due_idle (Quiet until) s w idle some = cc
+due_idle (Idle due) s (command ∷ w) idle some = refl
+due_idle (Idle due) s [] idle some = absurd (omega arith)
+due_idle (Waiting until sends o) s w idle some = cc
+due_idle (Pausing until o) s w idle some = cc
+
+left_one : (j : ℕ) (b : Bool) → b ≡ true → (if b then suc j - 1 else suc j) ≡ j
+left_one j true same = omega arith
+left_one j false same = cc
+
+one_before : (before j : ℕ) → before + 1 ≡ suc j → before ≡ j
+one_before before j same = omega arith
+
+as_next : (n : ℕ) → n + 1 ≡ suc n
+as_next n = omega arith
+
+next_product : (n p : ℕ) → (n + 1) * p ≡ n * p + p
+next_product n p = ap (λ (k : ℕ). k * p) (as_next n) ∙ suc-mul n p
+
+module _ (late end : ℕ) (c : ControllerConfig) (more : ℕ) (many : c.sends ≡ more + 1) where
+  -- the longest exchange, and what comes before the next
+  abbrev x : ℕ
+  x = whole late more c.busy_limit c
+
+  -- the outstanding exchange ends by `e`; where none is, the next begins by `e` and so late
+  abbrev Stage : ℕ → List Call → Session → Type 0
+  Stage e calls s =
+      (is_outstanding s.state ≡ true → Holds late e c more (Unit {0}) is_outstanding refl calls s)
+      × (is_outstanding s.state ≡ false → Due late e 0 s.greatest calls)
+
+  -- so many commands wait up to the order, with it
+  pub record Under (j : ℕ) (calls : List Call) (m : Machine) : Type 0 where
+    pub config : m.session.config ≡ c
+    pub wait : j + 1 ≤ length m.waiting
+    pub by_end : ℕ
+    pub fits : by_end + late + j * (x + late) ≤ end
+    pub stage : Stage by_end calls m.session
+
+  abbrev Order : ℕ → List Call → Machine → Type 0
+  Order left calls m =
+      (m.session.greatest ≤ end) × (is_under_way m.session.state ≡ true → (j : ℕ) → left ≡ suc j → Under j calls m)
+
+  within_end : (e rest g : ℕ) → g ≤ e → e + late + rest ≤ end → g ≤ end
+  within_end e rest g near fits = omega arith
+
+  due_in_end : (e rest g : ℕ) → g ≤ e + late → e + late + rest ≤ end → g ≤ end
+  due_in_end e rest g near fits = omega arith
+
+  one_place : (j k : ℕ) → suc j ≡ suc k → j ≡ k
+  one_place j k same = omega arith
+
+  -- while an exchange is outstanding
+  module _ (e : ℕ) where
+    abbrev Out : List Call → Session → Type 0
+    Out calls s = Holds late e c more (Unit {0}) is_outstanding refl calls s
+
+    config_by : (b : Bool) (call : Call) (calls : List Call) (m : Machine) → is_outstanding (after_call call m).session.state ≡ b
+        → is_outstanding m.session.state ≡ true → m.session.config ≡ c → Out calls (after_call call m).session
+        → is_under_way (after_call call m).session.state ≡ true → (after_call call m).session.config ≡ c
+    config_by true call calls m is out config holds so = (holds.1 is).0
+    config_by false call calls m is out config holds so = rests_config call m out (at_rest (after_call call m).session.state so is) ∙ config
+
+    out_step : (j : ℕ) (call : Call) (calls : List Call) (m : Machine) → is_outstanding m.session.state ≡ true → m.session.config ≡ c
+        → j + 1 ≤ length m.waiting → e + late + j * (x + late) ≤ end
+        → ((at : ℕ) → IsOwed at call m → TicksBy (at + late) (call ∷ calls)) → Out (call ∷ calls) m.session
+        → Order (left_after call m (suc j)) calls (after_call call m)
+    out_step j call calls m out config wait fits owed holds =
+        let after = step late e c more (Unit {0}) is_outstanding refl (λ until n o so. tt) many call calls m (inl (λ due. refl)) out owed holds in
+        let same = left_same call m (suc j) (not_idle m.session.state out) in (
+          within_end e (j * (x + late)) (after_call call m).session.greatest after.0 fits,
+          λ so k left. record {
+            config = config_by (is_outstanding (after_call call m).session.state) call calls m refl out config after so;
+            wait = waits_on call m (k + 1) (stands_out m.session.state out) (λ tick. not_idle m.session.state out)
+                (let place : j ≡ k = one_place j k (sym same ∙ left) in omega arith);
+            by_end = e;
+            fits = let place : j ≡ k = one_place j k (sym same ∙ left) in subst (λ (n : ℕ). e + late + n * (x + late) ≤ end) place fits;
+            stage = (λ on. after, λ none. (omega (arith, after.0), inl (omega arith, after.0)));
+          },
+        )
+
+    -- while none is
+    due_then : (call : Call) (calls : List Call) (m : Machine) (next : ℕ) → is_closed m.session.state ≡ false → m.session.greatest ≤ next
+        → ((limit : ℕ) → m.session.greatest ≤ limit → IsBy limit call → next ≤ limit)
+        → ((at : ℕ) → m.session.greatest ≤ at → at ≤ next → TicksBy (at + late) (call ∷ calls))
+        → Due late e 0 m.session.greatest (call ∷ calls) → Due late e 0 next (call ∷ calls)
+    due_then call calls m next stands on by_limit duty due =
+        due_seen late e 0 m.session.greatest next call calls on by_limit (λ at not_before not_after zero_so. duty at not_before not_after) due
+
+    idle_others : (j : ℕ) (call : Call) (calls : List Call) (m : Machine) → is_tick call ≡ false → is_outstanding (after_call call m).session.state ≡ false
+        → (after_call call m).session.config ≡ c → j + 1 ≤ length (after_call call m).waiting → e + late + j * (x + late) ≤ end
+        → Due late e 0 (after_call call m).session.greatest (call ∷ calls) → (left_after call m (suc j) ≡ suc j)
+        → Order (left_after call m (suc j)) calls (after_call call m)
+    idle_others j call calls m other still config wait fits due same = (
+      due_in_end e (j * (x + late)) (after_call call m).session.greatest due.0 fits,
+      λ so k left. record {
+        config = config;
+        wait = let place : j ≡ k = one_place j k (sym same ∙ left) in omega arith;
+        by_end = e;
+        fits = let place : j ≡ k = one_place j k (sym same ∙ left) in subst (λ (n : ℕ). e + late + n * (x + late) ≤ end) place fits;
+        stage = (
+          λ on. absurd (let none : is_outstanding (after_call call m).session.state ≡ false = still in cc),
+          λ none. due_kept late e 0 (after_call call m).session.greatest call calls other due,
+        );
+      },
+    )
+
+    idle_same : (j : ℕ) (call : Call) (calls : List Call) (m : Machine) → is_tick call ≡ false → (after_call call m).session ≡ m.session
+        → is_outstanding m.session.state ≡ false → is_idle m.session.state ≡ true → m.session.config ≡ c → is_closed m.session.state ≡ false
+        → j + 1 ≤ length (after_call call m).waiting → e + late + j * (x + late) ≤ end → Due late e 0 m.session.greatest (call ∷ calls)
+        → (left_after call m (suc j) ≡ suc j) → Order (left_after call m (suc j)) calls (after_call call m)
+    idle_same j call calls m other same still idle config stands wait fits due left =
+        idle_others j call calls m other (subst (λ (s : Session). is_outstanding s.state ≡ false) (sym same) still)
+        (subst (λ (s : Session). s.config ≡ c) (sym same) config) wait fits
+        (subst (λ (s : Session). Due late e 0 s.greatest (call ∷ calls)) (sym same) due) left
+
+    -- the front command is asked
+    abbrev Asked : ℕ → List Call → ℕ → Ticked → Type 0
+    Asked j calls greatest t =
+        (t.session.config ≡ c) × (j ≤ length t.waiting) × Holds late (greatest + x) c more (Unit {0}) is_outstanding refl calls t.session
+
+    idle_asks : (j : ℕ) (calls : List Call) (state : State) (s : Session) (w : List Command) → is_idle state ≡ true → s.config ≡ c → j + 1 ≤ length w
+        → Asked j calls s.greatest (ticks_in state s w)
+    idle_asks j calls Closed s w idle config wait = cc
+    idle_asks j calls (Quiet until) s w idle config wait = cc
+    idle_asks j calls (Idle due) s [] idle config wait = absurd (omega arith)
+    idle_asks j calls (Idle due) s (command ∷ w) idle config wait =
+        let allowed : c.busy_limit ≡ s.config.busy_limit = ap (λ (k : ControllerConfig). k.busy_limit) (sym config) in
+        let limit : 0 + c.busy_limit ≡ s.config.busy_limit = omega arith in (
+          config,
+          omega arith,
+          subst (λ (k : ControllerConfig). Holds late (s.greatest + whole late more c.busy_limit k) k more (Unit {0}) is_outstanding refl calls
+              (begins (Asking command) (next_sequence s.number) s w).session) config
+              (begun_new late more c.busy_limit calls (Asking command) (next_sequence s.number) s w (inl limit) refl),
+        )
+    idle_asks j calls (Waiting until sends o) s w idle config wait = cc
+    idle_asks j calls (Pausing until o) s w idle config wait = cc
+
+    idle_tick : (j now : ℕ) (calls : List Call) (m : Machine) → is_idle m.session.state ≡ true → m.session.config ≡ c
+        → j + 1 ≤ length m.waiting → e + late + j * (x + late) ≤ end → max m.session.greatest now ≤ e + late
+        → Order (left_after (Tick now) m (suc j)) calls (after_call (Tick now) m)
+    idle_tick j now calls m idle config wait fits within =
+        let s = seen now m.session in
+        let asked = idle_asks j calls m.session.state s m.waiting idle config wait in
+        let moment = tick_at_moment now m in
+        let left_j : left_after (Tick now) m (suc j) ≡ j = left_one j (is_idle m.session.state) idle in (
+          subst (λ (g : ℕ). g ≤ end) (sym moment) (due_in_end e (j * (x + late)) s.greatest within fits),
+          λ so k left. let place : j ≡ suc k = sym left_j ∙ left in record {
+            config = asked.0;
+            wait = let some : j ≤ length (after_call (Tick now) m).waiting = asked.1 in omega arith;
+            by_end = s.greatest + x;
+            fits = next_fits e late x (k * (x + late)) s.greatest end within
+                (subst (λ (n : ℕ). e + late + n ≤ end) (suc-mul k (x + late)) (subst (λ (n : ℕ). e + late + n * (x + late) ≤ end) place fits));
+            stage = (λ on. asked.2, λ none. let near : (after_call (Tick now) m).session.greatest ≤ s.greatest + x = asked.2.0 in (omega arith, inl (omega arith, near)));
+          },
+        )
+
+    duty_idle : (call : Call) (calls : List Call) (m : Machine) → is_idle m.session.state ≡ true → 1 ≤ length m.waiting
+        → ((at : ℕ) → IsOwed at call m → TicksBy (at + late) (call ∷ calls))
+        → (at : ℕ) → m.session.greatest ≤ at → at ≤ (after_call call m).session.greatest → TicksBy (at + late) (call ∷ calls)
+    duty_idle call calls m idle some owed at not_before not_after =
+        owed at (record { not_before = not_before; not_after = not_after; due = due_idle m.session.state (seen at m.session) m.waiting idle some })
+
+    moved_due : (call : Call) (calls : List Call) (m : Machine) (now : ℕ) → (after_call call m).session.greatest ≡ max m.session.greatest now
+        → ((limit : ℕ) → IsBy limit call → now ≤ limit) → is_idle m.session.state ≡ true → is_closed m.session.state ≡ false → 1 ≤ length m.waiting
+        → ((at : ℕ) → IsOwed at call m → TicksBy (at + late) (call ∷ calls)) → Due late e 0 m.session.greatest (call ∷ calls)
+        → Due late e 0 (max m.session.greatest now) (call ∷ calls)
+    moved_due call calls m now moment by_now idle stands some owed due =
+        due_then call calls m (max m.session.greatest now) stands (omega arith)
+        (λ limit within by_limit. let now_by : now ≤ limit = by_now limit by_limit in omega arith)
+        (λ at not_before not_after. duty_idle call calls m idle some owed at not_before (subst (λ (g : ℕ). at ≤ g) (sym moment) not_after)) due
+
+    idle_step : (j : ℕ) (call : Call) (calls : List Call) (m : Machine) → is_under_way m.session.state ≡ true → is_outstanding m.session.state ≡ false
+        → m.session.config ≡ c → j + 1 ≤ length m.waiting → e + late + j * (x + late) ≤ end
+        → ((at : ℕ) → IsOwed at call m → TicksBy (at + late) (call ∷ calls)) → Due late e 0 m.session.greatest (call ∷ calls)
+        → Order (left_after call m (suc j)) calls (after_call call m)
+    idle_step j (Submit command) calls m so still config wait fits owed due =
+        idle_same j (Submit command) calls m refl (submit_session (submit_refusal command m) command m) still (at_rest m.session.state so still) config
+        (lives m.session.state so) (waits_on (Submit command) m (j + 1) (lives m.session.state so) (λ tick. cc) wait) fits due refl
+    idle_step j (Begin now) calls m so still config wait fits owed due =
+        let same = begun_not m.session.state m (after_begin now m) (lives m.session.state so) in
+        idle_same j (Begin now) calls m refl (ap (λ (k : Machine). k.session) same) still (at_rest m.session.state so still) config
+        (lives m.session.state so) (waits_on (Begin now) m (j + 1) (lives m.session.state so) (λ tick. cc) wait) fits due refl
+    idle_step j (Retarget address) calls m so still config wait fits owed due =
+        let same = moved_not m.session.state address m (after_retarget address m) (lives m.session.state so) in
+        idle_same j (Retarget address) calls m refl (ap (λ (k : Machine). k.session) same) still (at_rest m.session.state so still) config
+        (lives m.session.state so) (waits_on (Retarget address) m (j + 1) (lives m.session.state so) (λ tick. cc) wait) fits due refl
+    idle_step j Withdraw calls m so still config wait fits owed due =
+        idle_same j Withdraw calls m refl refl still (at_rest m.session.state so still) config
+        (lives m.session.state so) (waits_on Withdraw m (j + 1) (lives m.session.state so) (λ tick. cc) wait) fits due refl
+    idle_step j (Tick now) calls m so still config wait fits owed due =
+        let idle = at_rest m.session.state so still in
+        idle_tick j now calls m idle config wait fits
+        (moved_due (Tick now) calls m now (tick_at_moment now m) (λ limit is. is) idle (lives m.session.state so) (omega arith) owed due).0
+    idle_step j (Hear p now) calls m so still config wait fits owed due =
+        let idle = at_rest m.session.state so still in
+        let same : (after_call (Hear p now) m).session ≡ seen now m.session = ap (λ (h : Heard). h.session) ((frames_in_steps p now m.session).not_outstanding still) in
+        idle_others j (Hear p now) calls m refl (subst (λ (s : Session). is_outstanding s.state ≡ false) (sym same) still)
+        (subst (λ (s : Session). s.config ≡ c) (sym same) config) wait fits
+        (subst (λ (s : Session). Due late e 0 s.greatest (Hear p now ∷ calls)) (sym same)
+        (moved_due (Hear p now) calls m now (hears_at_moment p now m.session) (λ limit is. is) idle (lives m.session.state so) (omega arith) owed due)) refl
+
+  -- one call, and all of them
+  order_by : (b : Bool) (j : ℕ) (call : Call) (calls : List Call) (m : Machine) → is_outstanding m.session.state ≡ b → is_under_way m.session.state ≡ true
+      → ((at : ℕ) → IsOwed at call m → TicksBy (at + late) (call ∷ calls)) → Under j (call ∷ calls) m
+      → Order (left_after call m (suc j)) calls (after_call call m)
+  order_by true j call calls m is so owed u = out_step u.by_end j call calls m is u.config u.wait u.fits owed (u.stage.0 is)
+  order_by false j call calls m is so owed u = idle_step u.by_end j call calls m so is u.config u.wait u.fits owed (u.stage.1 is)
+
+  orders : (left : ℕ) (calls : List Call) (m : Machine) → Waits left calls m → KeepsTime late calls m → Order left calls m
+      → (after_calls calls m).session.greatest ≤ end
+  orders left [] m waits in_time order = order.0
+  orders zero (call ∷ calls) m waits in_time order = absurd (let some : 1 ≤ 0 = waits.0 in omega arith)
+  orders (suc j) (call ∷ calls) m waits in_time order =
+      orders (left_after call m (suc j)) calls (after_call call m) waits.2 in_time.1
+      (order_by (is_outstanding m.session.state) j call calls m refl waits.1 in_time.0 (order.1 waits.1 j refl))
+
+first_fits_order : (g w late j : ℕ) → (g + w) + late + j ≤ g + (j + (w + late))
+first_fits_order g w late j = omega arith
+
+begins_within : (g n : ℕ) (late j w : ℕ) → n ≤ g + w → n ≤ g + (j + (w + late))
+begins_within g n late j w near = omega arith
+
+pub orders_go_out : OrdersGoOut
+orders_go_out late now before calls m o =
+    let s = seen now m.session in
+    let c = m.session.config in
+    let k = after_call (Tick now) m in
+    let sends = one_less c.sends o.machine.session.config.sends.0 in
+    let w = whole late sends.0 c.busy_limit c in
+    let end = s.greatest + (before * (w + late) + (w + late)) in
+    let first = begun_tick late sends.0 c.busy_limit calls m.session.state s m.waiting (inl (omega arith)) o.machine.session.state o.begins in
+    let near : k.session.greatest ≤ s.greatest + w = first.0 in
+    let last : (after_calls calls k).session.greatest ≤ end =
+    orders late end c sends.0 sends.1 (before + 1) calls k o.lasts o.in_time (
+      begins_within s.greatest k.session.greatest late (before * (w + late)) w near,
+      λ so j left. let place : before ≡ j = one_before before j left in record {
+        config = tick_config m.session.state s m.waiting;
+        wait = let some : before < length k.waiting = o.place in omega arith;
+        by_end = s.greatest + w;
+        fits = subst (λ (n : ℕ). s.greatest + w + late + n * (w + late) ≤ end) place (first_fits_order s.greatest w late (before * (w + late)));
+        stage = (λ on. first, λ none. (omega arith, inl (omega arith, near)));
+      },
+    ) in
+    subst (λ (g : ℕ). (after_calls calls k).session.greatest ≤ g + order_time c late before) (sym (tick_at_moment now m))
+    (subst (λ (n : ℕ). (after_calls calls k).session.greatest ≤ s.greatest + (before + 1) * (n + late)) (whole_is late sends.0 c.busy_limit c sends.1)
+    (subst (λ (n : ℕ). (after_calls calls k).session.greatest ≤ s.greatest + n) (sym (next_product before (w + late))) last))
