@@ -22,6 +22,10 @@ MAKERS_TEXT = """panel and reader of an OSDP line, for C, Rust and Python
  by, the crate for Rust and the package for Python."""
 
 
+# Python may leave compiled modules in the package's folder
+REMOVES = "#!/bin/sh\nset -e\nrm -rf /usr/lib/python3/dist-packages/osdp/__pycache__\n"
+
+
 class Refused(Exception):
     """There is nothing that packages may be made of; why."""
 
@@ -104,25 +108,28 @@ def write_ar(members, moment):
     return out
 
 
-def debian(name, text, depends, files, version, moment):
-    """The bytes of a Debian package."""
+def debian(name, text, depends, files, version, moment, scripts=()):
+    """The bytes of a Debian package. `scripts` are pairs of a name and a text: what runs when it is installed or removed."""
     placed = {f"./usr/{each}": what for each, what in files.items()}
     size = sum((len(data) + 1023) // 1024 for data, _ in placed.values())
     control = (f"Package: {name}\nVersion: {version}\nArchitecture: amd64\nMaintainer: {MAINTAINER}\nInstalled-Size: {size}\n"
                f"{depends}Section: electronics\nPriority: optional\nDescription: {text}\n")
     sums = "".join(f"{hashlib.md5(data).hexdigest()}  {each[2:]}\n" for each, (data, _) in sorted(placed.items()))
-    head = write_tar({"./control": (control.encode(), 0o644), "./md5sums": (sums.encode(), 0o644)}, moment, folders=False)
+    told = {"./control": (control.encode(), 0o644), "./md5sums": (sums.encode(), 0o644)} | {f"./{each}": (said.encode(), 0o755) for each, said in scripts}
+    head = write_tar(told, moment, folders=False)
     return write_ar([("debian-binary", b"2.0\n"), ("control.tar.gz", head), ("data.tar.gz", write_tar(placed, moment))], moment)
 
 
 def split(folder, version, says):
-    """The files of the two Debian packages: manual pages are packed, as Debian has them, and each package says of what it is made."""
+    """The files of the two Debian packages, at Debian's places: manual pages are packed, and Python finds the package. Each says of what it is made."""
     every = read_all(folder, files_below(folder))
     for name in [name for name in every if name.startswith("share/man/")]:
         data, mode = every.pop(name)
         every[f"{name}.gz"] = (gzip.compress(data, 9, mtime=0), mode)
-    zsh = "share/zsh/site-functions/_osdp"
-    every["share/zsh/vendor-completions/_osdp"] = every.pop(zsh)
+    every["share/zsh/vendor-completions/_osdp"] = every.pop("share/zsh/site-functions/_osdp")
+    every.pop("share/osdp/python/osdp/libosdp.so.0")  # the package for Python asks for that of the system
+    for name in [name for name in every if name.startswith("share/osdp/python/osdp/")]:
+        every[f"lib/python3/dist-packages/osdp/{name.rpartition('/')[2]}"] = every.pop(name)
     program = {name: what for name, what in every.items() if not is_for_makers(name)}
     makers = {name: what for name, what in every.items() if is_for_makers(name)}
     for package, files in (("osdp", program), ("osdp-dev", makers)):
@@ -141,7 +148,7 @@ def pack(work, folder, version, says):
     every = read_all(work / "all", files_below(work / "all")) | {"RELEASE": (says.encode(), 0o644)}
     made = {
         f"osdp_{version}_amd64.deb": debian("osdp", PROGRAM_TEXT, depends, program, version, moment),
-        f"osdp-dev_{version}_amd64.deb": debian("osdp-dev", MAKERS_TEXT, f"Depends: libc6 (>= {libc})\nRecommends: osdp\n", makers, version, moment),
+        f"osdp-dev_{version}_amd64.deb": debian("osdp-dev", MAKERS_TEXT, f"Depends: libc6 (>= {libc})\nRecommends: osdp\n", makers, version, moment, [("prerm", REMOVES)]),
         f"{root}-linux-x86_64.tar.gz": write_tar({f"{root}/{name}": what for name, what in every.items()}, moment),
         "RELEASE": says.encode(),
     }

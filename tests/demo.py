@@ -4,6 +4,7 @@
 - Of each schedule here each step is clicked. The page then has written down the same schedule, and its lists are the account that `osdp sim` gives of it.
 - Some hundred clicks by chance, on whatever may be clicked: the lists are the account of the schedule that the page has written down.
 - Of what has come through on the line `osdp monitor` accuses nobody, where nothing is lost alone on its way to one end.
+- It runs by itself, and stops.
 - Power is pulled: what the page tells is what the rules say, and no order is done twice.
 - The page fetches nothing, and no script of it has failed.
 
@@ -154,6 +155,12 @@ def clicked_opening():
     return ["wait 50"] * 13
 
 
+def judge_run(folder, page):
+    """The page runs by itself once that is clicked, and stops where it is clicked again."""
+    tell("it runs", True, "panel: reader 1 is there" in Clicked(folder, page, ["#run"]).said)
+    tell("it stops", "", Clicked(folder, page, ["#run", "#run"]).said)
+
+
 def judge_heard(program, folder, page):
     """A quiet line with orders, cards and a busy reader: the monitor counts them, and accuses nobody."""
     begun = "issue 1 OUT 0:2:0\nissue 2 OUT 0:2:0\nqueue 1 RAW 0 0 26 12345640\nbusy 2 on\n"
@@ -178,6 +185,7 @@ def main():
         judge_chance(program, folder, page)
         judge_power(folder, page)
         judge_heard(program, folder, page)
+        judge_run(folder, page)
         if len(sys.argv) > 3:
             steps = clicks(SCHEDULES["a card, whose answer is damaged, and a key"] + "issue 2 OUT 0:2:0\n")
             lost = clicks("issue 1 OUT 0:2:0\nwait 50\nto-reader deliver\nto-controller drop\n")

@@ -85,9 +85,10 @@ passes python3 tests/release.py "$1"
 
 wait "$fetching" || { cat "$work/fetched"; fail 'no empty root'; exit "$failed"; }
 fetching=
-everything() { (cd "$root" && find . -xdev \( -path ./proc -o -path ./sys -o -path ./dev -o -path ./tmp -o -path ./var/log -o -path ./var/lib/dpkg -o -path ./var/cache \) -prune -o -printf '%p %y %m %s %l\n' | grep -v '__pycache__\| d ' | sort); }
+everything() { (cd "$root" && find . -xdev \( -path ./proc -o -path ./sys -o -path ./dev -o -path ./tmp -o -path ./var/log -o -path ./var/lib/dpkg -o -path ./var/cache \) -prune -o -type d -printf '%p/\n' -o -printf '%p %m %s %l\n' | sort); }
 inside() { passes chroot "$root" env -i PATH=/usr/sbin:/usr/bin:/sbin:/bin HOME=/tmp "$@"; }
 inside ldconfig
+inside python3 -c 'import ctypes, dataclasses, enum, pathlib, typing' # so that what Python compiles of its own is there before
 everything >"$work/before"
 mkdir "$root/tmp/made" && cp "$work"/one/*.deb tests/c/installed.c "$root/tmp/made/"
 cat >"$root/tmp/made/CMakeLists.txt" <<'END'
@@ -102,6 +103,7 @@ inside sh -c '[ "$(osdp --version)" = "osdp 0.1.0" ] && [ "$(osdp-port --version
 inside sh -c 'cd /tmp/made && cc -o plain installed.c $(pkg-config --cflags --libs osdp) && [ "$(./plain)" = "0.1.0 53050900046100C125" ]'
 inside sh -c 'cd /tmp/made && cmake -B build . && cmake --build build && [ "$(build/installed)" = "0.1.0 53050900046100C125" ]'
 inside sh -c 'python3 /usr/share/osdp/python/examples/session.py | grep -qx "done: OUT 0:5:30"'
+inside sh -c 'cd / && python3 -c "import osdp; print(osdp.library_version())" | grep -qx 0.1.0'
 inside sh -c 'sed -i "s/osdp 0.1 /osdp 0.2 /" /tmp/made/CMakeLists.txt && ! cmake -B /tmp/other /tmp/made'
 cmp -s "$root/usr/share/doc/osdp/RELEASE" "$work/one/RELEASE" || fail 'the package has another RELEASE'
 grep -q 'No licence has been chosen yet' "$root/usr/share/doc/osdp/copyright" || fail 'the package does not say what may be done with it'
