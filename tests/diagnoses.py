@@ -128,7 +128,11 @@ def cases():
         at = f"losses {loss:.0%}"
         lost = {0: (), 0.01: (LOSES,), 0.05: (LOSES, REPEATED)}[loss]
         yield f"a good line, {at}", bursts(Line, f"good {loss}", loss), (), lost
-        yield f"two good devices, {at}", both(bursts(Line, f"one {loss}", loss), bursts(Line, f"two {loss}", loss, 6)), (), (*lost, ALIKE)
+        for seed in ("", "b ", "e ", "g ", "h "):
+            devices = both(bursts(Line, f"{seed}one {loss}", loss), bursts(Line, f"{seed}two {loss}", loss, 6))
+            yield f"two good devices, {seed}{at}", devices, (), (*lost, ALIKE)
+        if not loss:
+            yield f"damage at one of two, {at}", both(bursts(Line, f"worn {loss}", 0.2), bursts(Line, f"sound {loss}", loss, 6)), (DAMAGED,), (LOSES, REPEATED)
         yield f"a reader that never answers, {at}", bursts(Answering, f"mute {loss}", loss, reader=Mute), ("5 never answered",), ()
         yield f"a reader that loses 8%, {at}", bursts(Answering, f"eight {loss}", loss, reader=Forgetful), (r"5 loses ([5-9]|1\d|2[0-5])% of answers",), lost[1:]
         alone = both(bursts(Answering, f"eight of two {loss}", loss, reader=Forgetful), bursts(Line, f"other {loss}", 0, 6))

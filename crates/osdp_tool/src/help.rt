@@ -81,13 +81,14 @@ docs/INSTALLING.md, \"A device that doesn't answer\".
 
 const MONITOR: &str = "osdp monitor: tells what happens on a line, and which end breaks its rules
 
-usage: osdp monitor [FORM] [--packets] [--standard] [--recorded] [--gap N] [--every N] [FILE]...
+usage: osdp monitor [FORM] [--packets] [--talk] [--standard] [--recorded] [--gap N] [--every N] [FILE]...
 
   --raw      the input is bytes, as they come from a port
   --osdpcap  the input is .osdpcap: an object of JSON a line
   --xxd      the input is what xxd wrote of bytes, and one run
   --stamped  the input is lines of a stamp, TX or RX, and digits
   --packets  print each packet, skipped byte and refused byte too, as show does
+  --talk     the same, but no POLL, and no ACK that answers a POLL
   --standard leave out accusations by the profile alone, where other makers may do otherwise
   --recorded the bytes were recorded before: no silence ends a run, as in a file
   --gap N    a run of bytes is over N milliseconds after its last ones, 1 to 3600000; else 20

@@ -10,6 +10,7 @@ use Rattle.osdp_monitor.specs.Accused.{basis}
 use Rattle.osdp_monitor.specs.Line.{after_items, expected_in, found_in}
 use Rattle.osdp_tool_show.specs.ToldItems.{shown_line}
 use Rattle.osdp_tool_monitor.specs.Laws.{PrintsAccusations, both_packets, culprit, naming_line}
+use Rattle.osdp_tool_monitor.specs.Trail.{detail_after}
 use Rattle.osdp_tool_monitor.specs.Listening.{Listening, heard_item, item_report, items_report, told_in}
 use Rattle.osdp_tool_monitor.specs.Text.{accusation_line, accused_text, expected_bytes, expected_lines, is_left_out, is_profile, notice_line}
 use Rattle.osdp_tool_monitor.specs.InTurn.{after_all, report_of_all}
@@ -57,7 +58,7 @@ prints_lem detail l [] rest p accusation accused counts =
     let is : (told_in l p).accusation ≡ Some accusation = is_told l p accusation accused counts in
     let run = l.tally.runs + 1 in
     let found = told_in l p in
-    let shown = shown_line detail l.tally (PacketItem p) in
+    let shown = shown_line (detail_after l.trail detail) l.tally (PacketItem p) in
     let notice = notice_line run l.tally.place p.address found.notice in
     let expected = expected_lines (expected_bytes (expected_in l.knowledge p)) p in
     let others = items_report detail (heard_item l (PacketItem p)) rest in

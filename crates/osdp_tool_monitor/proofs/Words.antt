@@ -5,7 +5,7 @@ use Rattle.std.specs.Fmt.{decimal}
 use Rattle.osdp_frame.specs.Times.{IsTime}
 use Rattle.osdp_tool_monitor.specs.declared.mode.MonitorMode.{MonitorMode}
 use Rattle.osdp_tool_monitor.specs.declared.mode.MonitorOption.{MonitorOption}
-use Rattle.osdp_tool_monitor.specs.declared.mode.MonitorOption.TheVariants.{Hex, Packets, Gap, Every, Standard, Recorded}
+use Rattle.osdp_tool_monitor.specs.declared.mode.MonitorOption.TheVariants.{Hex, Packets, Talk, Gap, Every, Standard, Recorded}
 use Rattle.osdp_tool_monitor.specs.declared.mode.OptionName.{OptionName}
 use Rattle.osdp_tool_monitor.specs.declared.mode.OptionName.TheVariants as name
 use Rattle.osdp_tool_monitor.specs.Options.{AreOptions, OptionFits, ReadsMode, TakesNumber, TakesOption, Words, default_mode, name_text, numbered, option_words, with_option, with_options}
@@ -33,6 +33,7 @@ left_done given left mode none so_far = record {
     no_words : (o : MonitorOption) (rest : List MonitorOption) → [] ≡ option_words o ++ flat_map option_words rest → ⊥
     no_words Hex rest e = cc
     no_words Packets rest e = cc
+    no_words Talk rest e = cc
     no_words (Gap n) rest e = cc
     no_words (Every n) rest e = cc
     no_words Standard rest e = cc
@@ -46,6 +47,7 @@ left_done given left mode none so_far = record {
 name_of : MonitorOption → OptionName
 name_of Hex = name.Hex
 name_of Packets = name.Packets
+name_of Talk = name.Talk
 name_of (Gap n) = name.Gap
 name_of (Every n) = name.Every
 name_of Standard = name.Standard
@@ -57,6 +59,7 @@ first_name : (word : List ℕ) (left : Words) (o : MonitorOption) (rest : List M
 unfolding name_of
 first_name word left Hex rest e = cc
 first_name word left Packets rest e = cc
+first_name word left Talk rest e = cc
 first_name word left (Gap n) rest e = cc
 first_name word left (Every n) rest e = cc
 first_name word left Standard rest e = cc
@@ -135,6 +138,7 @@ module _ (word : List ℕ) (left : Words) (found : Option OptionName) (is : (n :
         → AreOptions (word ∷ left) (o ∷ rest)
     with_it name.Hex o rest e (took, same) g = with_name Hex name.Hex refl tt o rest e took same g
     with_it name.Packets o rest e (took, same) g = with_name Packets name.Packets refl tt o rest e took same g
+    with_it name.Talk o rest e (took, same) g = with_name Talk name.Talk refl tt o rest e took same g
     with_it name.Gap o rest e (t, takes, took) g = with_number Gap name.Gap (λ k. refl) (λ k fits. fits) o rest e t takes took g
     with_it name.Every o rest e (t, takes, took) g = with_number Every name.Every (λ k. refl) (λ k fits. fits) o rest e t takes took g
     with_it name.Standard o rest e (took, same) g = with_name Standard name.Standard refl tt o rest e took same g
@@ -148,6 +152,7 @@ module _ (word : List ℕ) (left : Words) (found : Option OptionName) (is : (n :
         let rest : left ≡ flat_map option_words others = cc in
         (cc, same ∙ rest)
     after_it name.Hex o Packets others e took h fit clash = absurd cc
+    after_it name.Hex o Talk others e took h fit clash = absurd cc
     after_it name.Hex o (Gap k) others e took h fit clash = absurd cc
     after_it name.Hex o (Every k) others e took h fit clash = absurd cc
     after_it name.Hex o Standard others e took h fit clash = absurd cc
@@ -156,24 +161,37 @@ module _ (word : List ℕ) (left : Words) (found : Option OptionName) (is : (n :
     after_it name.Packets o Packets others e (took, same) h fit clash =
         let rest : left ≡ flat_map option_words others = cc in
         (cc, same ∙ rest)
+    after_it name.Packets o Talk others e took h fit clash = absurd cc
     after_it name.Packets o (Gap k) others e took h fit clash = absurd cc
     after_it name.Packets o (Every k) others e took h fit clash = absurd cc
     after_it name.Packets o Standard others e took h fit clash = absurd cc
     after_it name.Packets o Recorded others e took h fit clash = absurd cc
+    after_it name.Talk o Hex others e took h fit clash = absurd cc
+    after_it name.Talk o Packets others e took h fit clash = absurd cc
+    after_it name.Talk o Talk others e (took, same) h fit clash =
+        let rest : left ≡ flat_map option_words others = cc in
+        (cc, same ∙ rest)
+    after_it name.Talk o (Gap k) others e took h fit clash = absurd cc
+    after_it name.Talk o (Every k) others e took h fit clash = absurd cc
+    after_it name.Talk o Standard others e took h fit clash = absurd cc
+    after_it name.Talk o Recorded others e took h fit clash = absurd cc
     after_it name.Gap o Hex others e took h fit clash = absurd cc
     after_it name.Gap o Packets others e took h fit clash = absurd cc
+    after_it name.Gap o Talk others e took h fit clash = absurd cc
     after_it name.Gap o (Gap k) others e (t, takes, took) h fit clash = after_number Gap o k _ t takes took fit (number_stands k _ _ h)
     after_it name.Gap o (Every k) others e took h fit clash = absurd cc
     after_it name.Gap o Standard others e took h fit clash = absurd cc
     after_it name.Gap o Recorded others e took h fit clash = absurd cc
     after_it name.Every o Hex others e took h fit clash = absurd cc
     after_it name.Every o Packets others e took h fit clash = absurd cc
+    after_it name.Every o Talk others e took h fit clash = absurd cc
     after_it name.Every o (Gap k) others e took h fit clash = absurd cc
     after_it name.Every o (Every k) others e (t, takes, took) h fit clash = after_number Every o k _ t takes took fit (number_stands k _ _ h)
     after_it name.Every o Standard others e took h fit clash = absurd cc
     after_it name.Every o Recorded others e took h fit clash = absurd cc
     after_it name.Standard o Hex others e took h fit clash = absurd cc
     after_it name.Standard o Packets others e took h fit clash = absurd cc
+    after_it name.Standard o Talk others e took h fit clash = absurd cc
     after_it name.Standard o (Gap k) others e took h fit clash = absurd cc
     after_it name.Standard o (Every k) others e took h fit clash = absurd cc
     after_it name.Standard o Standard others e (took, same) h fit clash =
@@ -182,6 +200,7 @@ module _ (word : List ℕ) (left : Words) (found : Option OptionName) (is : (n :
     after_it name.Standard o Recorded others e took h fit clash = absurd cc
     after_it name.Recorded o Hex others e took h fit clash = absurd cc
     after_it name.Recorded o Packets others e took h fit clash = absurd cc
+    after_it name.Recorded o Talk others e took h fit clash = absurd cc
     after_it name.Recorded o (Gap k) others e took h fit clash = absurd cc
     after_it name.Recorded o (Every k) others e took h fit clash = absurd cc
     after_it name.Recorded o Standard others e took h fit clash = absurd cc
@@ -194,36 +213,49 @@ module _ (word : List ℕ) (left : Words) (found : Option OptionName) (is : (n :
     unfolding name_of
     none_after name.Hex Hex others (took, same) h fit clash = cc
     none_after name.Hex Packets others (took, same) h fit clash = cc
+    none_after name.Hex Talk others (took, same) h fit clash = cc
     none_after name.Hex (Gap k) others (took, same) h fit clash = cc
     none_after name.Hex (Every k) others (took, same) h fit clash = cc
     none_after name.Hex Standard others (took, same) h fit clash = cc
     none_after name.Hex Recorded others (took, same) h fit clash = cc
     none_after name.Packets Hex others (took, same) h fit clash = cc
     none_after name.Packets Packets others (took, same) h fit clash = cc
+    none_after name.Packets Talk others (took, same) h fit clash = cc
     none_after name.Packets (Gap k) others (took, same) h fit clash = cc
     none_after name.Packets (Every k) others (took, same) h fit clash = cc
     none_after name.Packets Standard others (took, same) h fit clash = cc
     none_after name.Packets Recorded others (took, same) h fit clash = cc
+    none_after name.Talk Hex others (took, same) h fit clash = cc
+    none_after name.Talk Packets others (took, same) h fit clash = cc
+    none_after name.Talk Talk others (took, same) h fit clash = cc
+    none_after name.Talk (Gap k) others (took, same) h fit clash = cc
+    none_after name.Talk (Every k) others (took, same) h fit clash = cc
+    none_after name.Talk Standard others (took, same) h fit clash = cc
+    none_after name.Talk Recorded others (took, same) h fit clash = cc
     none_after name.Gap Hex others took h fit clash = cc
     none_after name.Gap Packets others took h fit clash = cc
+    none_after name.Gap Talk others took h fit clash = cc
     none_after name.Gap (Gap k) others (t, takes, took) h fit clash = without_number Gap k _ t takes took fit (number_stands k _ _ h)
     none_after name.Gap (Every k) others took h fit clash = cc
     none_after name.Gap Standard others took h fit clash = cc
     none_after name.Gap Recorded others took h fit clash = cc
     none_after name.Every Hex others took h fit clash = cc
     none_after name.Every Packets others took h fit clash = cc
+    none_after name.Every Talk others took h fit clash = cc
     none_after name.Every (Gap k) others took h fit clash = cc
     none_after name.Every (Every k) others (t, takes, took) h fit clash = without_number Every k _ t takes took fit (number_stands k _ _ h)
     none_after name.Every Standard others took h fit clash = cc
     none_after name.Every Recorded others took h fit clash = cc
     none_after name.Standard Hex others (took, same) h fit clash = cc
     none_after name.Standard Packets others (took, same) h fit clash = cc
+    none_after name.Standard Talk others (took, same) h fit clash = cc
     none_after name.Standard (Gap k) others (took, same) h fit clash = cc
     none_after name.Standard (Every k) others (took, same) h fit clash = cc
     none_after name.Standard Standard others (took, same) h fit clash = cc
     none_after name.Standard Recorded others (took, same) h fit clash = cc
     none_after name.Recorded Hex others (took, same) h fit clash = cc
     none_after name.Recorded Packets others (took, same) h fit clash = cc
+    none_after name.Recorded Talk others (took, same) h fit clash = cc
     none_after name.Recorded (Gap k) others (took, same) h fit clash = cc
     none_after name.Recorded (Every k) others (took, same) h fit clash = cc
     none_after name.Recorded Standard others (took, same) h fit clash = cc

@@ -49,20 +49,25 @@ told_share c = if loses c then lost_share c else 0
 abbrev pub has_damage : Counts → Bool
 has_damage c = is_measured c && is_common c.damaged c.asked
 
+-- damage came, and at least once in sixty
+abbrev pub is_touched : Counts → Bool
+is_touched c = is_measured c && (nat_le 1 c.damaged && nat_le (c.asked / 60) c.damaged)
+
 -- Damage comes after half of the packets to a device, or more: two devices answer at once. Or one after the other: second replies.
 abbrev pub is_shared : Counts → Bool
 is_shared c = nat_le 3 c.seconds || (nat_le 3 c.damaged && nat_le (c.asked / 2) c.damaged)
 
--- how many devices are measured, how many of them lose answers, or never answered, and after the packets to how many of them damage comes
+-- how many devices are measured, how many of them lose answers, or never answered, and after the packets to how many of them damage is common, and came at all
 abbrev pub add : Survey → Counts → Survey
 add s c = record {
   measured = more_if (is_measured c) s.measured;
   losing = more_if (is_measured c && (loses c || is_mute c)) s.losing;
   damaged = more_if (has_damage c) s.damaged;
+  touched = more_if (is_touched c) s.touched;
 }
 
 abbrev pub survey_of : List Counts → Survey
-survey_of counts = after_all add (record { measured = 0; losing = 0; damaged = 0 }) counts
+survey_of counts = after_all add (record { measured = 0; losing = 0; damaged = 0; touched = 0 }) counts
 
 -- it is one of several, and the only one so
 abbrev pub is_alone : Survey → ℕ → Bool
@@ -109,10 +114,14 @@ repeat_lines alone address c =
     told_at alone (codes "damage on ") address (codes " alone")
     ++ told_at (is_common c.needless c.asked) (codes "packets to ") address (codes " are repeated although answered")
 
+-- damage is common there, but not so that two devices may answer, and comes to no other measured device
+unfoldable pub is_worn : Survey → Counts → Bool
+is_worn s c = has_damage c && not (is_shared c) && is_alone s s.touched
+
 abbrev pub damage_lines : Survey → ℕ → Counts → List ℕ
 damage_lines s address c =
     told_at (is_shared c) (codes "two devices may answer at ") address (codes "")
-    ++ repeat_lines (has_damage c && not (is_shared c) && is_alone s s.damaged) address c
+    ++ repeat_lines (is_worn s c) address c
 
 abbrev pub secure_lines : ℕ → Counts → List ℕ
 secure_lines address c =

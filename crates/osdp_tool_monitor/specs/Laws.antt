@@ -12,6 +12,7 @@ use Rattle.osdp_monitor.specs.Line.{after_items, expected_in, found_in}
 use Rattle.osdp_tool_show.specs.ToldItems.{shown_line}
 use Rattle.osdp_tool_show.specs.declared.detail.Detail.{Detail}
 use Rattle.osdp_tool_monitor.specs.Listening.{Listening, heard_item, heard_items, items_report}
+use Rattle.osdp_tool_monitor.specs.Trail.{detail_after}
 use Rattle.osdp_tool_monitor.specs.Text.{accusation_text, basis_text, notice_line}
 
 -- who broke a rule: the reader of a reply, and else the panel
@@ -38,7 +39,7 @@ PrintsAccusations = (detail : Detail) (l : Listening) (front rest : List RunItem
     → let now = heard_items l front in
     items_report detail l (front ++ PacketItem p ∷ rest)
     ≡ items_report detail l front
-    ++ (shown_line detail now.tally (PacketItem p)
+    ++ (shown_line (detail_after now.trail detail) now.tally (PacketItem p)
     ++ (notice_line (now.tally.runs + 1) now.tally.place p.address (found_in now.knowledge p).notice
     ++ (naming_line now.tally.runs now.tally.place p accusation
     ++ (both_packets (expected_in now.knowledge p) p

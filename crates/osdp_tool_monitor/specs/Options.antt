@@ -3,10 +3,10 @@ use Rattle.std.specs.Prelude.{◌≡◌, ℕ, true, false, List, [], ◌∷◌, 
 use Rattle.std.specs.Fmt.{decimal}
 use Rattle.std.specs.List.{AllByRecursion}
 use Rattle.osdp_frame.specs.Times.{IsTime}
-use Rattle.osdp_tool_show.specs.declared.detail.Detail.TheVariants.{Full, Refusals}
+use Rattle.osdp_tool_show.specs.declared.detail.Detail.TheVariants.{Filtered, Full, Refusals}
 use Rattle.osdp_tool_monitor.specs.declared.mode.MonitorMode.{MonitorMode}
 use Rattle.osdp_tool_monitor.specs.declared.mode.MonitorOption.{MonitorOption}
-use Rattle.osdp_tool_monitor.specs.declared.mode.MonitorOption.TheVariants.{Hex, Packets, Gap, Every, Standard, Recorded}
+use Rattle.osdp_tool_monitor.specs.declared.mode.MonitorOption.TheVariants.{Hex, Packets, Talk, Gap, Every, Standard, Recorded}
 use Rattle.osdp_tool_monitor.specs.declared.mode.OptionName.{OptionName}
 use Rattle.osdp_tool_monitor.specs.declared.mode.OptionName.TheVariants as name
 
@@ -16,6 +16,7 @@ Words = List (List ℕ)
 abbrev pub name_text : OptionName → List ℕ
 name_text name.Hex = codes "--hex"
 name_text name.Packets = codes "--packets"
+name_text name.Talk = codes "--talk"
 name_text name.Gap = codes "--gap"
 name_text name.Every = codes "--every"
 name_text name.Standard = codes "--standard"
@@ -25,6 +26,7 @@ name_text name.Recorded = codes "--recorded"
 abbrev pub option_words : MonitorOption → Words
 option_words Hex = name_text name.Hex ∷ []
 option_words Packets = name_text name.Packets ∷ []
+option_words Talk = name_text name.Talk ∷ []
 option_words (Gap n) = name_text name.Gap ∷ decimal n ∷ []
 option_words (Every n) = name_text name.Every ∷ decimal n ∷ []
 option_words Standard = name_text name.Standard ∷ []
@@ -34,6 +36,7 @@ option_words Recorded = name_text name.Recorded ∷ []
 abbrev pub OptionFits : MonitorOption → Type 0
 OptionFits Hex = Unit {0}
 OptionFits Packets = Unit {0}
+OptionFits Talk = Unit {0}
 OptionFits (Gap n) = IsTime n
 OptionFits (Every n) = IsTime n
 OptionFits Standard = Unit {0}
@@ -42,6 +45,7 @@ OptionFits Recorded = Unit {0}
 abbrev pub with_option : MonitorOption → MonitorMode → MonitorMode
 with_option Hex mode = record mode { hex = true }
 with_option Packets mode = record mode { detail = Full }
+with_option Talk mode = record mode { detail = Filtered (record { address = None; no_polls = true }) }
 with_option (Gap n) mode = record mode { gap = n }
 with_option (Every n) mode = record mode { every = Some n }
 with_option Standard mode = record mode { standard = true }
@@ -81,6 +85,7 @@ numbered option (Some n) = Some (option n)
 abbrev pub TakesOption : OptionName → Words → Words → Option MonitorOption → Type 0
 TakesOption name.Hex old new result = (result ≡ Some Hex) × (new ≡ old)
 TakesOption name.Packets old new result = (result ≡ Some Packets) × (new ≡ old)
+TakesOption name.Talk old new result = (result ≡ Some Talk) × (new ≡ old)
 TakesOption name.Gap old new result = (n : Option ℕ) × TakesNumber old new n × (result ≡ numbered Gap n)
 TakesOption name.Every old new result = (n : Option ℕ) × TakesNumber old new n × (result ≡ numbered Every n)
 TakesOption name.Standard old new result = (result ≡ Some Standard) × (new ≡ old)

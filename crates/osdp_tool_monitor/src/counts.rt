@@ -81,7 +81,7 @@ pub(crate) fn more_if(test: bool, count: u64) -> u64
 
 /// Whether a packet to a device is a POLL.
 #[tactic(auto, using(crate::proofs::ByCode::poll_is))]
-fn counts_as_poll(packet: &FrameView<'_>) -> bool
+pub(crate) fn counts_as_poll(packet: &FrameView<'_>) -> bool
     ensures { result ≡ is_poll (asked packet.now) }
 {
     is_poll(packet)

@@ -1,7 +1,7 @@
 //! What the counts of a line come to: its likely faults, in words.
 
 ghost use Rattle.std.specs.Prelude.{◌≡◌, ◌++◌, ◌≤◌, ◌<◌, ◌^◌, ◌&&◌, not, OnOk, codes, length, string_bytes};
-ghost use Rattle.osdp_tool_monitor.specs.Diagnoses.{add, answer_lines, are_all, copy_lines, damage_lines, device_lines, diagnoses_text, has_damage, is_alone, is_common, is_echoed, is_half, is_measured, is_mute, is_noise, is_often, is_shared, line_lines, lines_from, loses, loss_lines, loss_words, lost, repeat_lines, secure_lines, setting_lines, survey_of, told_at, told_count, told_if, told_share};
+ghost use Rattle.osdp_tool_monitor.specs.Diagnoses.{add, answer_lines, are_all, copy_lines, damage_lines, device_lines, diagnoses_text, has_damage, is_alone, is_common, is_echoed, is_half, is_measured, is_mute, is_noise, is_often, is_shared, is_touched, is_worn, line_lines, lines_from, loses, loss_lines, loss_words, lost, repeat_lines, secure_lines, setting_lines, survey_of, told_at, told_count, told_if, told_share};
 
 use crate::counts::{Counts, more_if};
 use crate::table::row_at;
@@ -18,8 +18,10 @@ pub(crate) struct Survey {
     pub measured: u64,
     /// They lose answers, or never answered.
     pub losing: u64,
-    /// Damage comes after the packets to them.
+    /// Damage comes after one in twenty packets to them, or more.
     pub damaged: u64,
+    /// It comes after one in sixty, or more.
+    pub touched: u64,
 }
 
 /// Whether it came at least three times, and once in a hundred.
@@ -105,6 +107,13 @@ impl Counts {
         self.is_measured() && is_common(self.damaged, self.asked)
     }
 
+    /// Whether damage comes after one in sixty packets to it, or more.
+    fn is_touched(&self) -> bool
+        ensures { result ≡ is_touched self.now }
+    {
+        self.is_measured() && self.damaged >= 1 && self.damaged >= self.asked / 60
+    }
+
     /// Whether two devices may answer there.
     fn is_shared(&self) -> bool
         ensures { result ≡ is_shared self.now }
@@ -123,6 +132,7 @@ impl Survey {
             measured: more_if(counts.is_measured(), self.measured),
             losing: more_if(losing, self.losing),
             damaged: more_if(counts.has_damage(), self.damaged),
+            touched: more_if(counts.is_touched(), self.touched),
         }
     }
 
@@ -149,6 +159,7 @@ fn look_over(counts: &[Counts]) -> Survey
         measured: 0,
         losing: 0,
         damaged: 0,
+        touched: 0,
     };
     'addresses: for address in 0..counts.len() {
         survey = survey.add(&row_at(counts, address));
@@ -272,10 +283,11 @@ fn push_repeats(
 }
 
 /// Whether damage comes after the packets to it, as after those to no other, and not so often that two devices may answer there.
-fn has_damage_alone(survey: Survey, counts: &Counts) -> bool
-    ensures { result ≡ (has_damage counts.now && not (is_shared counts.now) && is_alone survey survey.damaged) }
+#[tactic(auto, unfolding(crate::specs::Diagnoses::is_worn))]
+fn is_worn(survey: Survey, counts: &Counts) -> bool
+    ensures { result ≡ is_worn survey counts.now }
 {
-    counts.has_damage() && !counts.is_shared() && survey.is_alone(survey.damaged)
+    counts.has_damage() && !counts.is_shared() && survey.is_alone(survey.touched)
 }
 
 /// Writes where damage comes, and what is repeated.
@@ -289,7 +301,7 @@ fn push_damage(
 {
     let shared = counts.is_shared();
     push_at(text, shared, "two devices may answer at ", address, "")?;
-    push_repeats(text, has_damage_alone(survey, counts), address, counts)
+    push_repeats(text, is_worn(survey, counts), address, counts)
 }
 
 /// Writes what a device has to do with Secure Channel.

@@ -137,7 +137,7 @@ impl Listener {
         }
         let run = self.tally.runs + 1;
         let place = self.tally.place;
-        match tell(text, self.detail, &mut self.tally, item) {
+        match tell(text, self.trail.detail(self.detail), &mut self.tally, item) {
             Ok(()) => {}
             Err(_) => return Err(ToolFault::NoMemory),
         }

@@ -7,7 +7,7 @@ ghost use Rattle.osdp_words.specs.Reading.{Reads};
 ghost use Rattle.osdp_words.specs.Word.{number, texts};
 
 use osdp_frame::is_time;
-use osdp_tool_show::Detail;
+use osdp_tool_show::{Detail, Filter};
 use osdp_words::{Fields, number_u32};
 
 /// After so many milliseconds of silence a run is over, where no option says another number.
@@ -37,6 +37,8 @@ pub enum MonitorOption {
     Hex,
     /// `--packets`
     Packets,
+    /// `--talk`
+    Talk,
     /// `--gap` and the milliseconds.
     Gap(u32),
     /// `--every` and the seconds.
@@ -52,6 +54,7 @@ pub enum MonitorOption {
 pub(crate) enum OptionName {
     Hex,
     Packets,
+    Talk,
     Gap,
     Every,
     Standard,
@@ -65,6 +68,7 @@ fn option_name(word: &str) -> Option<OptionName>
     match word {
         "--hex" => Some(OptionName::Hex),
         "--packets" => Some(OptionName::Packets),
+        "--talk" => Some(OptionName::Talk),
         "--gap" => Some(OptionName::Gap),
         "--every" => Some(OptionName::Every),
         "--standard" => Some(OptionName::Standard),
@@ -99,6 +103,7 @@ impl MonitorOption {
         match name {
             OptionName::Hex => Some(MonitorOption::Hex),
             OptionName::Packets => Some(MonitorOption::Packets),
+            OptionName::Talk => Some(MonitorOption::Talk),
             OptionName::Gap => Some(MonitorOption::Gap(take_wait(words)?)),
             OptionName::Every => Some(MonitorOption::Every(take_wait(words)?)),
             OptionName::Standard => Some(MonitorOption::Standard),
@@ -113,6 +118,12 @@ impl MonitorOption {
         match self {
             MonitorOption::Hex => mode.hex = true,
             MonitorOption::Packets => mode.detail = Detail::Full,
+            MonitorOption::Talk => {
+                mode.detail = Detail::Filtered(Filter {
+                    address: None,
+                    no_polls: true,
+                });
+            }
             MonitorOption::Gap(gap) => mode.gap = gap,
             MonitorOption::Every(seconds) => mode.every = Some(seconds),
             MonitorOption::Standard => mode.standard = true,
