@@ -1,10 +1,11 @@
 -- Each bound is reached.
-use Rattle.std.proofs.Common.{◌≡◌, subst, ℕ, ◌≤◌, true, false, List, [], ◌∷◌, refl, arith}
+use Rattle.std.proofs.Common.{◌≡◌, ℕ, ◌≤◌, true, false, List, [], ◌∷◌, refl, arith}
 use Rattle.std.specs.Prelude.{max, nat_le}
 use Rattle.std.proofs.lemmas.Bool.{leb-true}
 use Rattle.std.proofs.lemmas.List.Elements.{All-cons, All-nil}
 use Rattle.osdp_frame.specs.Packet.{next_sequence}
 use Rattle.osdp_msg.specs.declared.command.Command.{Command}
+use Rattle.osdp_msg.specs.declared.command.Command.TheVariants.{Id}
 use Rattle.osdp_msg.specs.ReplyTable as replies
 use Rattle.osdp_controller.specs.declared.exchange.Exchange.TheVariants.{Opening, Polling}
 use Rattle.osdp_controller.specs.declared.session.Session.{Session}
@@ -13,11 +14,13 @@ use Rattle.osdp_controller.specs.declared.state.State.TheVariants.{Closed, Quiet
 use Rattle.osdp_controller.specs.Machine.{IsMachine, IsState, IsSubmitted, Machine, OpensAtZero, acts}
 use Rattle.osdp_controller.specs.Sessions.{seen}
 use Rattle.osdp_controller.specs.Settings.{IsConfig}
+use Rattle.osdp_controller.specs.States.{is_idle}
 use Rattle.osdp_controller.specs.Ticking.{Ticked, begins, sends_frame, stays, ticks_in, tries_again}
 use Rattle.osdp_controller.proofs.Choices.{either_way}
 use Rattle.osdp_controller_laws.specs.Runs.{Begin, Call, Hear, Tick, after_call}
 use Rattle.osdp_time_laws.specs.Clock.{IsOwed}
-use Rattle.osdp_time_laws.specs.Instances.{BoundsAreReached, ack, busy, dead_calls, machine_in, opening_calls, outstanding_poll, short_waits, silent_calls, slow_calls}
+use Rattle.osdp_time_laws.specs.Instances.{BoundsAreReached, ack, order_calls, two_orders, busy, dead_calls, machine_in, opening_calls, outstanding_poll, short_waits, silent_calls, slow_calls}
+use Rattle.osdp_time_laws.specs.Orders.{OrderWaits}
 use Rattle.osdp_time_laws.specs.Laws.{FallsSilent, GoesOn, IsNotBusy, IsOpening, IsSilent}
 use Rattle.osdp_time_laws.proofs.Duties.{until_of}
 
@@ -25,25 +28,27 @@ use Rattle.osdp_time_laws.proofs.Duties.{until_of}
 abbrev Acts : ℕ → Session → Ticked → Type 0
 Acts until s t = acts t.step ≡ true → until ≤ s.greatest
 
-reached_in : (state : State) (s : Session) → Acts (until_of state) s (ticks_in state s [])
-reached_in Closed s = λ h. cc
-reached_in (Quiet until) s =
-    either_way (Acts until s) (nat_le until s.greatest) (begins Opening 0 s []) (stays s []) (λ b h. leb-true until s.greatest b) (λ b h. cc)
-reached_in (Idle due) s =
+reached_in : (state : State) (s : Session) (w : List Command) → (is_idle state ≡ true → w ≡ []) → Acts (until_of state) s (ticks_in state s w)
+reached_in Closed s w none = λ h. cc
+reached_in (Quiet until) s w none =
+    either_way (Acts until s) (nat_le until s.greatest) (begins Opening 0 s w) (stays s w) (λ b h. leb-true until s.greatest b) (λ b h. cc)
+reached_in (Idle due) s (command ∷ w) none = λ h. absurd (let some : command ∷ w ≡ [] = none refl in cc)
+reached_in (Idle due) s [] none =
     either_way (Acts due s) (nat_le due s.greatest) (begins Polling (next_sequence s.number) s []) (stays s []) (λ b h. leb-true due s.greatest b) (λ b h. cc)
-reached_in (Waiting until sends o) s =
-    either_way (Acts until s) (nat_le until s.greatest) (tries_again sends o s []) (stays s []) (λ b h. leb-true until s.greatest b) (λ b h. cc)
-reached_in (Pausing until o) s =
-    either_way (Acts until s) (nat_le until s.greatest) (sends_frame 1 o s []) (stays s []) (λ b h. leb-true until s.greatest b) (λ b h. cc)
+reached_in (Waiting until sends o) s w none =
+    either_way (Acts until s) (nat_le until s.greatest) (tries_again sends o s w) (stays s w) (λ b h. leb-true until s.greatest b) (λ b h. cc)
+reached_in (Pausing until o) s w none =
+    either_way (Acts until s) (nat_le until s.greatest) (sends_frame 1 o s w) (stays s w) (λ b h. leb-true until s.greatest b) (λ b h. cc)
 
 -- a tick that is owed, by the moment that the state waits for
-owed_in : (state : State) (s : Session) (at : ℕ) → acts (ticks_in state (seen at s) []).step ≡ true → s.greatest ≤ at → until_of state ≤ at
-owed_in state s at due on = let now : until_of state ≤ max s.greatest at = reached_in state (seen at s) due in omega arith
+owed_by : (call : Call) (k : Machine) (at : ℕ) → (is_idle k.session.state ≡ true → k.waiting ≡ []) → IsOwed at call k → until_of k.session.state ≤ at
+owed_by call k at none owed =
+    let now : until_of k.session.state ≤ max k.session.greatest at = reached_in k.session.state (seen at k.session) k.waiting none owed.due in
+    let on : k.session.greatest ≤ at = owed.not_before in
+    omega arith
 
 owed_at : (call : Call) (k : Machine) (at : ℕ) → k.waiting ≡ [] → IsOwed at call k → until_of k.session.state ≤ at
-owed_at call k at none owed =
-    owed_in k.session.state k.session at (subst (λ (w : List Command). acts (ticks_in k.session.state (seen at k.session) w).step ≡ true) none owed.due)
-    owed.not_before
+owed_at call k at none owed = owed_by call k at (λ idle. none) owed
 
 no_other : {A : Type 0} → true ≡ false → A
 no_other h = cc
@@ -209,6 +214,63 @@ falls = record {
   );
 }
 
+abbrev order_0 : Machine
+order_0 = after_call (Tick 0) two_orders
+
+abbrev order_1 : Machine
+order_1 = after_call (Tick 3) order_0
+
+abbrev order_2 : Machine
+order_2 = after_call (Hear busy 6) order_1
+
+abbrev order_3 : Machine
+order_3 = after_call (Tick 6) order_2
+
+abbrev order_4 : Machine
+order_4 = after_call (Tick 8) order_3
+
+abbrev order_5 : Machine
+order_5 = after_call (Tick 11) order_4
+
+abbrev order_6 : Machine
+order_6 = after_call (Hear ack 14) order_5
+
+order_slow : OrderWaits 0 0 0 order_calls two_orders
+unfolding replies.reply_of replies.reply_fault replies.reply_at
+order_slow = record {
+  machine = record {
+    session = record { config = short_config; state = tt; opening = tt };
+    capacity = (omega arith, omega arith);
+    waiting = All-cons IsSubmitted (Id 0) (Id 0 ∷ []) (λ same. cc) (All-cons IsSubmitted (Id 0) [] (λ same. cc) (All-nil IsSubmitted));
+    room = omega arith;
+  };
+  begins = refl;
+  place = omega arith;
+  lasts = ((omega arith), refl, ((omega arith), refl, ((omega arith), refl, ((omega arith), refl, ((omega arith), refl, ((omega arith), refl, ((omega arith), refl, tt)))))));
+  in_time = (
+    λ at owed. let reached : 3 ≤ at = owed_by (Tick 3) order_0 at (λ idle. cc) owed in (omega arith, no_other),
+    (
+      λ at owed. let reached : 6 ≤ at = owed_by (Hear busy 6) order_1 at (λ idle. cc) owed in (omega arith, λ other. (omega arith, no_other)),
+      (
+        λ at owed. let now : 6 ≤ at = owed.not_before in (omega arith, no_other),
+        (
+          λ at owed. let reached : 8 ≤ at = owed_by (Tick 8) order_3 at (λ idle. cc) owed in (omega arith, no_other),
+          (
+            λ at owed. let reached : 11 ≤ at = owed_by (Tick 11) order_4 at (λ idle. cc) owed in (omega arith, no_other),
+            (
+              λ at owed. let reached : 14 ≤ at = owed_by (Hear ack 14) order_5 at (λ idle. cc) owed in (omega arith, λ other. (omega arith, no_other)),
+              (
+                λ at owed. let now : 14 ≤ at = owed.not_before in (omega arith, no_other),
+                tt,
+              ),
+            ),
+          ),
+        ),
+      ),
+    ),
+  );
+}
+
 pub bounds_reached : BoundsAreReached
 unfolding replies.reply_of replies.reply_fault replies.reply_at
 bounds_reached = record {
@@ -219,6 +281,8 @@ bounds_reached = record {
   round = refl;
   begins = begins_slow;
   opening = refl;
+  order_waits = order_slow;
+  order = refl;
   falls = falls;
   silence = refl;
 }

@@ -2,6 +2,7 @@
 use Rattle.std.specs.Prelude.{◌≡◌, ℕ, ◌+◌, false, true, All, List, [], ◌∷◌}
 use Rattle.osdp_frame.specs.declared.check_kind.CheckKind.TheVariants.{Sum}
 use Rattle.osdp_frame.specs.Packet.{Packet}
+use Rattle.osdp_msg.specs.declared.command.Command.TheVariants.{Id}
 use Rattle.osdp_controller.specs.declared.config.ControllerConfig.{ControllerConfig}
 use Rattle.osdp_controller.specs.declared.exchange.Exchange.TheVariants.{Polling}
 use Rattle.osdp_controller.specs.declared.state.State.{State}
@@ -9,6 +10,7 @@ use Rattle.osdp_controller.specs.declared.state.State.TheVariants.{Closed, Idle,
 use Rattle.osdp_controller.specs.Machine.{Machine}
 use Rattle.osdp_controller_laws.specs.Runs.{Call, Begin, Hear, Tick, after_call, after_calls}
 use Rattle.osdp_time_laws.specs.Bounds.{longest_exchange, opening_time, round_time, silence_time}
+use Rattle.osdp_time_laws.specs.Orders.{OrderWaits, order_time}
 use Rattle.osdp_time_laws.specs.Laws.{FallsSilent, GoesOn, IsNotBusy, IsOpening}
 
 -- two sends of 3 ms each, one BUSY with a pause of 2 ms, a POLL after 5 ms, 4 ms of quiet; ticks come up to 1 ms late
@@ -52,6 +54,13 @@ silent_calls = Tick 6 ∷ Tick 10 ∷ Tick 14 ∷ []
 abbrev pub outstanding_poll : State
 outstanding_poll = Waiting 3 1 (record { exchange = Polling; busies = 0; sent = 1 })
 
+-- the same with ticks on time, and an order in place of the POLL, while another waits: the first is answered at the last moment
+abbrev pub two_orders : Machine
+two_orders = record (machine_in (Idle 0) 0) { waiting = Id 0 ∷ Id 0 ∷ []; capacity = 2 }
+
+abbrev pub order_calls : List Call
+order_calls = Tick 3 ∷ Hear busy 6 ∷ Tick 6 ∷ Tick 8 ∷ Tick 11 ∷ Hear ack 14 ∷ Tick 14 ∷ []
+
 -- the last call comes exactly so long after the moment of the call before them
 abbrev pub LastsExactly : ℕ → Call → List Call → Machine → Type 0
 LastsExactly time call calls m = (after_calls calls (after_call call m)).session.greatest ≡ (after_call call m).session.greatest + time
@@ -65,5 +74,7 @@ pub record BoundsAreReached : Type 0 where
   pub round : LastsExactly (round_time short_waits 1) (Tick 0) dead_calls (machine_in (Idle 0) 0)
   pub begins : IsOpening 1 0 opening_calls (machine_in Closed 0)
   pub opening : LastsExactly (opening_time short_waits 1) (Begin 0) opening_calls (machine_in Closed 0)
+  pub order_waits : OrderWaits 0 0 0 order_calls two_orders
+  pub order : LastsExactly (order_time short_waits 0 0) (Tick 0) order_calls two_orders
   pub falls : FallsSilent 1 ack 0 silent_calls (machine_in outstanding_poll 1)
   pub silence : LastsExactly (silence_time short_waits 1) (Hear ack 0) silent_calls (machine_in outstanding_poll 1)

@@ -25,7 +25,8 @@ pub fn silence_is_told()
     ensures { SilenceIsTold }
 {}
 
-/// Each of these bounds is reached: runs of a controller with short waits, whose ticks come a millisecond late, take exactly so long.
+/// Each of these bounds is reached: runs of a controller with short waits, whose ticks come a millisecond late, take exactly so long. For an
+/// order the run has its ticks on time.
 pub fn bounds_are_reached()
     ensures { BoundsAreReached }
 {}
