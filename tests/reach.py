@@ -42,15 +42,15 @@ def run(words, seconds=240):
     return ran.stdout
 
 
-def link(kit, name, archive, work, session="session.c"):
-    """The session of a target as a program."""
+def link(kit, name, over, work, session="session.c", heap=(TOP / "c/heap_pool.c",)):
+    """The session of a target as a program, over an archive or objects."""
     files, linker, words, _ = RUNS[name]
     objects = []
-    for source in [REACH / session, *(REACH / one for one in files), TOP / "c/heap_pool.c"]:
+    for source in [REACH / session, *(REACH / one for one in files), *heap]:
         objects.append(work / f"{name}.{source.stem}.o")
         run([*compiles(kit, TARGETS[name]), "-fno-builtin", *C, POOL, "-c", source, "-o", objects[-1]])
     program = work / name
-    run([*clang(kit, linker), *words, "--gc-sections", "-o", program, *objects, archive])
+    run([*clang(kit, linker), *words, "--gc-sections", "-o", program, *objects, *over])
     return program
 
 
@@ -71,14 +71,14 @@ def made(kit, name, work):
     """The session of a target, once its archive is lowered, and how long it took."""
     began = time.monotonic()
     run([TOP / "tools/retarget", "--module", kept.MODULE, "--to", work, name])
-    said = emulated(name, link(kit, name, work / f"libosdp_{name}.a", work))
+    said = emulated(name, link(kit, name, [work / f"libosdp_{name}.a"], work))
     return name, said, time.monotonic() - began
 
 
 def is_seen(kit, wanted, work):
     """Whether a module with one pair left as it was comes out otherwise, on a target where a pair has another layout."""
     run([TOP / "tools/retarget", "--module", kept.MODULE, "--to", work, "--leave-one", LEFT, "i686"])
-    program = link(kit, "i686", work / "libosdp_i686.a", work)
+    program = link(kit, "i686", [work / "libosdp_i686.a"], work)
     try:
         ran = subprocess.run([*RUNS["i686"][3], program], capture_output=True, text=True, timeout=120)
     except subprocess.TimeoutExpired:
