@@ -26,12 +26,12 @@ CORTEX = ["-T", str(REACH / "cortex.ld")]
 EMULATED = ["qemu-system-arm", "-M", "mps2-an386", "-nographic", "-monitor", "none", "-serial", "null"]
 EMULATED += ["-chardev", "stdio,id=said", "-semihosting-config", "enable=on,target=native,chardev=said", "-kernel"]
 RUNS = {
-    "i686": (["linux.c", "memory.c"], "ld.lld", ["-m", "elf_i386"], ["qemu-i386"]),
-    "wasm32": (["wasm.c", "memory.c"], "wasm-ld", ["--no-entry", "-z", "stack-size=131072"], ["node", str(REACH / "wasm.js")]),
-    "thumbv7em": (["cortex.c", "memory.c"], "ld.lld", CORTEX, EMULATED),
-    "thumbv6m": (["cortex.c", "memory.c", "helpers.c"], "ld.lld", CORTEX, EMULATED),
-    "riscv32": (["linux.c", "memory.c"], "ld.lld", [], ["qemu-riscv32"]),
-    "aarch64": (["linux.c", "memory.c"], "ld.lld", [], ["qemu-aarch64"]),
+    "i686": (["linux.c", "../../examples/firmware/memory.c"], "ld.lld", ["-m", "elf_i386"], ["qemu-i386"]),
+    "wasm32": (["wasm.c", "../../examples/firmware/memory.c"], "wasm-ld", ["--no-entry", "-z", "stack-size=131072"], ["node", str(REACH / "wasm.js")]),
+    "thumbv7em": (["cortex.c", "../../examples/firmware/memory.c"], "ld.lld", CORTEX, EMULATED),
+    "thumbv6m": (["cortex.c", "../../examples/firmware/memory.c", "helpers.c"], "ld.lld", CORTEX, EMULATED),
+    "riscv32": (["linux.c", "../../examples/firmware/memory.c"], "ld.lld", [], ["qemu-riscv32"]),
+    "aarch64": (["linux.c", "../../examples/firmware/memory.c"], "ld.lld", [], ["qemu-aarch64"]),
 }
 
 

@@ -73,6 +73,7 @@ BLOCK = re.compile(rf"  ({NAME}) = call \{{ i64, i64 \}} @(rattle_alloc|rattle_r
 INTRINSIC = re.compile(r"declare void @llvm\.(?:memset\.p0|memmove\.p0\.p0|memcpy\.p0\.p0)\.i64\(.*\) #\d+")
 OUTSIDE = re.compile(r"declare \{ i64, i64 \} @(rattle_alloc|rattle_realloc)\(.*\) #\d+")
 MACHINE = re.compile(r'target (?:datalayout|triple) = ".*"')
+BOXES = re.compile(r'(define internal .*@"std_alloc::boxed::Box::new::[^"]*"\(.*\)) (#\d+) \{')
 ATTRIBUTES = re.compile(r"attributes (#\d+) = \{ (.*) \}")
 KNOWN_ATTRIBUTES = re.compile(
     r'alwaysinline|cold|inlinehint|nobuiltin|nocallback|nofree|noinline|noreturn|nosync|nounwind|optsize|speculatable|willreturn|memory\([\w: ]+\)|'
@@ -207,7 +208,8 @@ def is_wide(line):
 
 
 def lower(text, machine, leave=None):
-    """The module for another machine, and the places that were changed; the pair in memory that is counted `leave`, from 0 on, is left as it was."""
+    """The module for another machine, and the places that were changed. What puts a value on the heap is inlined, so that the value is made there: else clang
+    copies it over the stack three times where a pointer has 32 bits. The pair in memory that is counted `leave`, from 0 on, is left as it was."""
     lines, places = [], []
     for number, line in enumerate(text.splitlines(), 1):
         found = changed(line, machine, number)
@@ -219,6 +221,8 @@ def lower(text, machine, leave=None):
             lines += found[1]
         elif ATTRIBUTES.fullmatch(line):
             lines.append(attributes(line, number, machine))
+        elif BOXES.fullmatch(line) and IS_KEPT.fullmatch(line):
+            lines.append(BOXES.sub(r"\1 \2 alwaysinline {", line))
         elif IS_KEPT.fullmatch(line) or (machine.bits == 64 and is_wide(line)):
             lines.append(line)
         elif MACHINE.fullmatch(line):
@@ -236,31 +240,31 @@ def added(machine, places):
     return "".join(parts).replace("WIDE", f"i{machine.bits}").splitlines()
 
 
-# A block comes from outside as a number, 1 where there is one, and a pointer in a place: so nothing is asked of how a target's C returns a struct.
+# A block comes from outside as the number of its address, or 0: so nothing is asked of how a target's C returns a struct. It comes as a number, as the proved
+# module has it. A heap returns, and reads and writes what is its own alone: without that said clang makes copies of what is put into a block, and
+# `osdp_device_new` takes three times the stack. Where there is no block its address isn't 0 either, as in the module.
 HEAP = """
-declare i32 @osdp_take_block(i64, i64, ptr)
-define internal { i64, i64 } @narrow_rattle_alloc(i64 %size, i64 %align) {
-  %place = alloca ptr, align 8
-  store ptr null, ptr %place, align 8
-  %ok = call i32 @osdp_take_block(i64 %size, i64 %align, ptr %place)
-  %block = load ptr, ptr %place, align 8
-  %number = ptrtoint ptr %block to i64
-  %wide = zext i32 %ok to i64
+declare i64 @osdp_take_block(i64, i64) nobuiltin nounwind willreturn memory(inaccessiblemem: readwrite)
+define internal { i64, i64 } @narrow_rattle_alloc(i64 %size, i64 %align) nounwind {
+  %number = call i64 @osdp_take_block(i64 %size, i64 %align)
+  %ok = icmp ne i64 %number, 0
+  %some = select i1 %ok, i64 %number, i64 16
+  %wide = zext i1 %ok to i64
   %half = insertvalue { i64, i64 } poison, i64 %wide, 0
-  %whole = insertvalue { i64, i64 } %half, i64 %number, 1
+  %whole = insertvalue { i64, i64 } %half, i64 %some, 1
   ret { i64, i64 } %whole
 }
 """
 # No call of the library grows a block: one that did would end the program, and the archive would ask for it by a name that is refused.
 REALLOC = """
-declare { i64, i64 } @rattle_realloc(ptr, i64, i64, i64)
-define internal { i64, i64 } @narrow_rattle_realloc(ptr %block, i64 %size, i64 %align, i64 %wanted) {
+declare { i64, i64 } @rattle_realloc(ptr, i64, i64, i64) nounwind
+define internal { i64, i64 } @narrow_rattle_realloc(ptr %block, i64 %size, i64 %align, i64 %wanted) nounwind {
   %whole = call { i64, i64 } @rattle_realloc(ptr %block, i64 %size, i64 %align, i64 %wanted)
   ret { i64, i64 } %whole
 }
 """
 DIVIDES = """
-define internal i64 @narrow_NAME(i64 %value, i64 %by) noinline {
+define internal i64 @narrow_NAME(i64 %value, i64 %by) noinline nounwind {
 start:
   br label %each
 each:

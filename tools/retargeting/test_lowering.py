@@ -49,6 +49,10 @@ class Lowering(unittest.TestCase):
         self.assertEqual(body('target datalayout = "e"\ntarget triple = "x86_64-unknown-linux-gnu"'), ['target triple = "other"'])
         self.assertEqual(body('attributes #0 = { nounwind "probe-stack"="inline-asm" "target-cpu"="x86-64-v2" }'), ["attributes #0 = { nounwind }"])
 
+    def test_what_puts_a_value_on_the_heap_is_inlined(self):
+        for name, words in (("std_alloc::boxed::Box::new::<#1>", " alwaysinline"), ("osdp_device::device::Device::new", "")):
+            self.assertEqual(body(f'define internal void @"{name}"(ptr noundef %a0) #0 {{'), [f'define internal void @"{name}"(ptr noundef %a0) #0{words} {{'])
+
     def test_what_is_not_known_is_refused_by_its_line(self):
         for line in (
             "  %r1 = load { i8, i8, i8 }, ptr %a0, align 1", "  %r1 = load { i8, { i8, ptr } }, ptr %a0, align 8", "  %r1 = alloca { i8, ptr }, align 8",

@@ -1,4 +1,4 @@
-/* The calls of C that the archive and the session ask for, where there is no C library. */
+/* The calls of C that the archive and a program ask for, where there is no C library. */
 #include <string.h>
 
 void *memmove(void *to, const void *from, size_t length)
