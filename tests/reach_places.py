@@ -2,7 +2,8 @@
 """Tries each place that `tools/retarget` changes by itself: the line of the proved module on 64-bit x86, and what stands for it on each target, over the same
 memory. Both must leave the same. Places that differ only in the names of their values are one call.
 
-Of an address both must tell the one that C tells. Of a pointer the bits that the target has are compared. What asks to grow a block is not tried: an archive
+Of an address both must tell the one that C tells, and of a block that was given the one that the heap gave. Of a pointer the bits that the target has are
+compared. What asks to grow a block is not tried: an archive
 that reached it would be refused by the name that it asks for."""
 import re
 import sys
@@ -81,9 +82,9 @@ def of_block(found):
     before = ["  %size = and i64 %count, 1023", "  %align = and i64 %count, 7"]
     after = [
         "  %ok = extractvalue { i64, i64 } %r, 0", "  %bit = and i64 %ok, 255", "  store i64 %bit, ptr %to, align 1",
-        "  %block = extractvalue { i64, i64 } %r, 1", "  %last = load ptr, ptr @last_block, align 8", "  %plain = ptrtoint ptr %last to i64",
-        "  %same = icmp eq i64 %block, %plain", "  %wide = zext i1 %same to i64", "  %to.other = getelementptr i8, ptr %to, i64 8",
-        "  store i64 %wide, ptr %to.other, align 1",
+        "  %block = extractvalue { i64, i64 } %r, 1", "  %last = call i64 @last_block()", "  %same = icmp eq i64 %block, %last",
+        "  %wide = zext i1 %same to i64", "  %both = and i64 %wide, %bit", "  %to.other = getelementptr i8, ptr %to, i64 8",
+        "  store i64 %both, ptr %to.other, align 1",
     ]
     return {name: "%r", size: "%size", align: "%align"}, before, after
 
@@ -114,7 +115,7 @@ def module(found, lines_of, head, tail):
     for number, one in enumerate(found):
         body = [*one[0], *lines_of(one), *one[3], "  ret void"]
         functions += [f"define void @tried_{number}(ptr %to, ptr %from, i64 %count) {{", *body, "}"]
-    return "\n".join([*head, "@last_block = external global ptr", *functions, *tail]) + "\n"
+    return "\n".join([*head, "declare i64 @last_block()", *functions, *tail]) + "\n"
 
 
 def table(found):

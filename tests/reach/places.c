@@ -12,14 +12,21 @@ static union {
     uint8_t bytes[2 * ROOM];
     uint64_t words[WORDS];
 } memory;
-static uint64_t seed, heap[64];
-void *last_block;
+static uint64_t seed, heap[64], last;
+
+uint64_t last_block(void);
+
+/* The address of the block that was given last. */
+uint64_t last_block(void)
+{
+    return last;
+}
 
 /* One block at a time; one that is larger than all there is isn't given. */
 struct osdp_block rattle_alloc(size_t size, size_t align)
 {
     struct osdp_block given = { size <= sizeof heap, &heap[align % 8] };
-    last_block = given.block;
+    last = (uintptr_t)given.block;
     return given;
 }
 
