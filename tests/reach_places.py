@@ -3,7 +3,7 @@
 memory. Both must leave the same. Places that differ only in the names of their values are one call.
 
 Of an address both must tell the one that C tells, and of a block that was given the one that the heap gave. Of a pointer the bits that the target has are
-compared. What asks to grow a block is not tried: an archive
+compared. Another layout of a pair must be seen. What asks to grow a block is not tried: an archive
 that reached it would be refused by the name that it asks for."""
 import re
 import sys
@@ -152,6 +152,15 @@ def tried(kit, name, text, work):
     return name, len(places), len(found), faults if len(left) == len(wanted) == len(found) else found
 
 
+def is_seen(kit, text, work):
+    """Whether another layout of a pair is seen: the second part right after the first."""
+    layout, lowering.second_byte = lowering.second_byte, lambda first, _: lowering.SIZES[first]
+    try:
+        return any("i8, ptr" in line for _, line, _, _ in tried(kit, "i686", text, work)[3])
+    finally:
+        lowering.second_byte = layout
+
+
 def main():
     kit = kept.kit()
     text, status = kept.text(kit, kept.module()), 0
@@ -161,6 +170,10 @@ def main():
             for _, line, lines, _ in faults[:3]:
                 print(f"  {line.strip()}: {' / '.join(each.strip() for each in lines)}")
                 status = 1
+    with tempfile.TemporaryDirectory() as folder:
+        if not is_seen(kit, text, Path(folder)):
+            sys.exit("reach_places: another layout of a pair is not seen")
+    print("another layout of a pair is seen")
     return status
 
 
