@@ -196,6 +196,37 @@ def looks_at_calm(seed, loss):
         tell(f"{what}: .osdpcap has another row", cells, row(again, 5))
 
 
+def objects(text, *words):
+    """The objects of a capture, by their kinds."""
+    kinds = {}
+    for each in report(text, "--json", *words).splitlines():
+        each = json.loads(each)
+        kinds.setdefault(each["kind"], []).append(each)
+    return kinds
+
+
+def asks(what, wanted, got):
+    if wanted != got:
+        tell(what, wanted, got)
+
+
+def looks_at_objects():
+    """What a program reads: the same figures, by name."""
+    line, put = calm(random.Random(1), 5, True)
+    kinds, times = objects(line.digits()), put["times"]
+    five, six = kinds["device"]
+    asks("names of a device", ["address", "answered", "asked", "damaged", "events", "heard", "kind", "online", "orders", "repeats", "times"], sorted(five))
+    asks("a device", (5, 120 + put["repeats"], 120, put["repeats"], 0, put["cards"], put["orders"], True),
+         tuple(five[name] for name in ("address", "asked", "answered", "repeats", "damaged", "events", "orders", "online")))
+    asks("its times", {"count": len(times), "least": min(times), "median": nearest(times, 50), "of_95": nearest(times, 95), "greatest": max(times)}, five["times"])
+    asks("a device that is gone", (False, stamp(put["gone"])), (six["online"], six["heard"]))
+    asks("the echoes, and who is accused", (put["echoes"], 0), (kinds["line"][0]["echoes"], kinds["line"][0]["accused"]))
+    late_ones = objects(late(random.Random(0), 0).digits())
+    asks("late answers", {(5, 310, 200)}, {(each["address"], each["took"], each["waited"]) for each in late_ones["late"]})
+    asks("each is told", len(late_ones["late"]), sum(each["text"].startswith("a late answer") for each in late_ones["told"]))
+    asks("no capture", {"line"}, set(objects("")))
+
+
 def looks_at_late(loss):
     page = report(late(random.Random(loss), loss).digits())
     is_whole(f"late {loss}", page)
@@ -211,6 +242,9 @@ def looks_at_accused():
     for at, (way, burst) in enumerate((("out", packet(5, 0, POLL)), ("in", packet(5, 0, ACK, b"", True)), ("out", packet(5, 1, POLL)), ("in", packet(5, 1, RAW, card + b"\xA5", True)),
                                        ("out", packet(5, 1, POLL)), ("in", packet(5, 1, RAW, card + b"\xA6", True)))):
         line.add(at * 100, way, burst)
+    told = objects(line.digits())["told"][-1]
+    asks("what is told", (6, 0, "reader", 5, stamp(500), line.bursts[3][2].hex().upper(), line.bursts[5][2].hex().upper()),
+         tuple(told[name] for name in ("run", "place", "party", "address", "stamp", "expected", "seen")))
     page = report(line.digits())
     is_whole("accused", page)
     says("accused", page, ["Somebody broke a rule 1 time: "])
@@ -237,5 +271,6 @@ for loss in (0, 1, 5):
         looks_at_calm(seed, loss)
     looks_at_late(loss)
 looks_at_accused()
+looks_at_objects()
 print(f"reports: {faults} faults")
 sys.exit(1 if faults else 0)

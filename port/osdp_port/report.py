@@ -8,16 +8,18 @@ from . import VERSION
 from .faults import BAD_WORDS, FAILED, Stop
 from .figures import Figures, Packet, seconds
 from .program import PROGRAM_FAULTS, find_program
+from .report_lines import lines
 from .report_page import page
 
 HELP = """osdp-report: one page of HTML of a capture, which fetches nothing
 
-usage: osdp-report [FORM] [--osdp PROGRAM] [FILE] > report.html
+usage: osdp-report [FORM] [--json] [--osdp PROGRAM] [FILE] > report.html
 
   --hex       the capture is lines of digits, as osdp-port --trace writes them; so it is without a form
   --osdpcap   it is .osdpcap: an object of JSON a line
   --stamped   it is lines of a stamp, TX or RX, and digits
   --raw       it is bytes; they have no moments
+  --json      an object of JSON a line, in place of the page: man osdp-report has the names
   --osdp P    the path of the program osdp
 
 Without FILE it reads standard input. What an adapter hands back of a packet that was sent is left out, and told.
@@ -30,20 +32,22 @@ HEAD = re.compile(r"^ (\d+) seq (\d) (sum|crc)\S*(?: \S+=\S+)? (.*)$")
 
 
 def words_of(words):
-    """The form, the program's path and the file that the words ask for; the last two may be none."""
-    form, given, file = "--hex", None, None
+    """The form, what writes, the program's path and the file that the words ask for; the last two may be none."""
+    form, writes, given, file = "--hex", page, None, None
     rest = list(words)
     while rest:
         word = rest.pop(0)
         if word in FORMS:
             form = word
+        elif word == "--json":
+            writes = lines
         elif word == "--osdp" and rest:
             given = rest.pop(0)
         elif file is None and not word.startswith("--"):
             file = word
         else:
             raise Stop(f"no such word: {word}; try: osdp-report --help", BAD_WORDS)
-    return form, given, file
+    return form, writes, given, file
 
 
 def read(file):
@@ -116,14 +120,14 @@ def without_echo(form, capture, packets):
     return b"".join(kept), echoes
 
 
-def report(program, form, capture):
-    """The page of a capture."""
+def report(program, form, writes, capture):
+    """The page of a capture, or its lines."""
     packets = shown(program, form, capture)
     capture, echoes = without_echo(form, capture, packets)
     if echoes:
         packets = shown(program, form, capture)
     told = run(program, ["monitor", form, *(["--recorded"] if form == "--raw" else [])], capture)
-    return page(Figures(packets, told, echoes))
+    return writes(Figures(packets, told, echoes))
 
 
 def main(words):
@@ -134,8 +138,8 @@ def main(words):
         print(f"osdp-report {VERSION}")
         return 0
     try:
-        form, given, file = words_of(words)
-        sys.stdout.write(report(find_program(given), form, read(file)))
+        form, writes, given, file = words_of(words)
+        sys.stdout.write(report(find_program(given), form, writes, read(file)))
         sys.stdout.flush()
     except Stop as stop:
         print(f"osdp-report: {stop.why}", file=sys.stderr)
