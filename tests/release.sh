@@ -14,7 +14,7 @@ trap '[ -z "${fetching:-}" ] || wait "$fetching"; rm -rf --one-file-system "$wor
 
 fetch_root() {
   command -v mmdebstrap >/dev/null || { apt-get update -qq && apt-get install -qqy --no-install-recommends mmdebstrap; } || return
-  mmdebstrap --quiet --variant=minbase --include=gcc,libc6-dev,cmake,make,pkgconf,python3-minimal,python3-serial bookworm "$root" http://deb.debian.org/debian
+  mmdebstrap --quiet --variant=minbase --include=gcc,libc6-dev,cmake,make,pkgconf,python3-minimal,python3-serial bookworm "$root"
 }
 fetch_root >"$work/fetched" 2>&1 &
 fetching=$!
