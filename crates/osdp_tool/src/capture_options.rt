@@ -1,10 +1,12 @@
 //! What is printed of a capture, and the words that say so.
 
 ghost use Rattle.std.specs.Prelude.{◌≡◌, ◌↔◌, Option};
-ghost use Rattle.osdp_tool.specs.CaptureOptions.{IsAddress, ReadsCaptureMode, TakesAddress, TakesOption, name_text, with_option};
+ghost use Rattle.osdp_tool.specs.CaptureOptions.{IsAddress, ReadsCaptureMode, TakesOption, name_text, with_option};
+ghost use Rattle.osdp_tool_options.specs.Options.{TakesNumber};
 ghost use Rattle.osdp_words.specs.Reading.{Reads};
 ghost use Rattle.osdp_words.specs.Word.{number, texts};
 
+use osdp_tool_options::{CommandOption, read_options};
 use osdp_words::{Fields, number_u8};
 
 /// How lines of digits stand in runs, and what is printed of them.
@@ -68,14 +70,14 @@ fn address(word: &str) -> Option<u8>
 
 /// The address at the head of the words, which it takes off.
 fn take_address(words: &mut Fields<'_>) -> Option<u8>
-    ensures { TakesAddress words.old words.new result }
+    ensures { TakesNumber IsAddress words.old words.new result }
 {
     address(words.word()?)
 }
 
 impl CaptureOption {
     /// The option of this name, and of the address at the head of the words, which it takes off, where it has one.
-    fn take(name: OptionName, words: &mut Fields<'_>) -> Option<CaptureOption>
+    fn named(name: OptionName, words: &mut Fields<'_>) -> Option<CaptureOption>
         ensures { TakesOption name words.old words.new result }
     {
         match name {
@@ -85,11 +87,26 @@ impl CaptureOption {
             OptionName::Address => Some(CaptureOption::Address(take_address(words)?)),
         }
     }
+}
 
-    /// Sets it.
-    fn set(self, mode: &mut CaptureMode)
-        ensures { mode.new ≡ with_option self mode.old }
-    {
+impl CommandOption for CaptureOption {
+    type Mode = CaptureMode;
+
+    ghost use Rattle.osdp_tool.specs.CaptureOptions.{OptionFits, name_of, numbers_of};
+
+    ghost name = { λ option. name_text (name_of option) };
+
+    ghost numbers = { numbers_of };
+
+    ghost Fits = { OptionFits };
+
+    ghost with = { with_option };
+
+    fn take(word: &str, following: &mut Fields<'_>) -> Option<CaptureOption> {
+        CaptureOption::named(option_name(word)?, following)
+    }
+
+    fn set(self, mode: &mut CaptureMode) {
         match self {
             CaptureOption::Join => mode.join = true,
             CaptureOption::Times => mode.times = true,
@@ -104,16 +121,11 @@ impl CaptureOption {
 pub fn capture_mode(words: &[&str]) -> Option<CaptureMode>
     ensures { ReadsCaptureMode (texts words.now) result }
 {
-    let mut mode = CaptureMode {
+    let mode = CaptureMode {
         join: false,
         times: false,
         no_polls: false,
         address: None,
     };
-    let mut fields = Fields::new(words);
-    'options: while let Some(word) = fields.word() {
-        let option = CaptureOption::take(option_name(word)?, &mut fields)?;
-        option.set(&mut mode);
-    }
-    Some(mode)
+    read_options::<CaptureOption>(mode, words)
 }

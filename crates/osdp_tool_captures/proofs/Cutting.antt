@@ -2,26 +2,26 @@
 use Rattle.std.proofs.Common.{◌≡◌, ℕ, ◌+◌, ◌-◌, ◌≤◌, List, [], ◌∷◌, ◌++◌, Option, Some, None, Result, Ok, Err, length, take, drop, refl, sym, subst, ap, ◌∙◌, arith, append_assoc, append-nil, take-append-drop, length-drop}
 use Rattle.std.proofs.lemmas.List.{take_more, take_rest}
 use Rattle.std.proofs.Math.Seq.{drop-drop}
-use Rattle.osdp_tool_streams.specs.Cut.{IsLine, ended_lines, last_line, line_feed, lines_of, unended_line}
+use Rattle.osdp_tool_streams.specs.Cut.{HasLine, IsLine, ended_lines, last_line, line_feed, lines_of, unended_line}
 use Rattle.osdp_tool_streams.proofs.CutLemmas.{ended_after-feed, ended_after-line, unended_after-feed, unended_after-line}
 use Rattle.osdp_tool_captures.specs.declared.fault.BadLine.{BadLine}
 use Rattle.osdp_tool_captures.specs.declared.fault.LineFault.{LineFault}
 use Rattle.osdp_tool_captures.specs.declared.format.Tool.{Tool}
 use Rattle.osdp_tool_captures.specs.Lines.{line_text}
-use Rattle.osdp_tool_captures.specs.Captures.{AddsLine, HasLine, bad_or, before, capture_fault, capture_text, first_bad, lines_text}
+use Rattle.osdp_tool_captures.specs.Captures.{AddsLine, bad_or, before, capture_fault, capture_text, first_bad, lines_text}
 
 -- a line feed ends the first line
-lines_of-feed : (line rest : List ℕ) → IsLine line → lines_of (line ++ line_feed ∷ rest) ≡ line ∷ lines_of rest
+pub lines_of-feed : (line rest : List ℕ) → IsLine line → lines_of (line ++ line_feed ∷ rest) ≡ line ∷ lines_of rest
 lines_of-feed line rest h =
     ap (λ l. l ++ last_line (unended_line (line ++ line_feed ∷ rest))) (ended_after-feed [] line rest h)
     ∙ ap (λ u. (line ∷ ended_lines rest) ++ last_line u) (unended_after-feed [] line rest)
 
-lines_of-line : (rest : List ℕ) → IsLine rest → lines_of rest ≡ last_line rest
+pub lines_of-line : (rest : List ℕ) → IsLine rest → lines_of rest ≡ last_line rest
 lines_of-line rest h =
     ap (λ l. l ++ last_line (unended_line rest)) (ended_after-line [] rest h) ∙ ap last_line (unended_after-line [] rest h)
 
 -- bytes, cut before and after their first line
-line_cut : (bytes : List ℕ) (count : ℕ) → HasLine bytes count → bytes ≡ take count bytes ++ line_feed ∷ drop (count + 1) bytes
+pub line_cut : (bytes : List ℕ) (count : ℕ) → HasLine bytes count → bytes ≡ take count bytes ++ line_feed ∷ drop (count + 1) bytes
 line_cut bytes count h =
     let one_more : take (count + 1) bytes ≡ take count bytes ++ line_feed ∷ [] =
     take_more bytes count 0 h.below ∙ ap (λ n. take count bytes ++ n ∷ []) h.feed in

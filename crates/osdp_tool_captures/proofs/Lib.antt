@@ -1,2 +1,2 @@
-mod Cutting
+pub mod Cutting
 pub mod Zeros

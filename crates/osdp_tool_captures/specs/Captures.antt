@@ -1,6 +1,6 @@
 -- What a capture of another tool says, as lines of digits.
-use Rattle.std.specs.Prelude.{◌≡◌, ◌<◌, ℕ, ◌+◌, length, take, get_or, List, [], ◌∷◌, ◌++◌, Option, Some, None, Result, Ok, Err}
-use Rattle.osdp_tool_streams.specs.Cut.{IsLine, line_feed, lines_of}
+use Rattle.std.specs.Prelude.{◌≡◌, ℕ, ◌+◌, List, [], ◌∷◌, ◌++◌, Option, Some, None, Result, Ok, Err}
+use Rattle.osdp_tool_streams.specs.Cut.{lines_of}
 use Rattle.osdp_tool_captures.specs.Lines.{line_text}
 use Rattle.osdp_tool_captures.specs.declared.fault.BadLine.{BadLine}
 use Rattle.osdp_tool_captures.specs.declared.fault.LineFault.{LineFault}
@@ -34,12 +34,6 @@ abbrev pub capture_fault : Tool → List ℕ → Option BadLine
 capture_fault tool bytes = first_bad tool 1 (lines_of bytes)
 
 -- ---- how it is read
-
--- the first line feed stands after so many bytes
-pub record HasLine (bytes : List ℕ) (count : ℕ) : Type 0 where
-  pub below : count < length bytes
-  pub line : IsLine (take count bytes)
-  pub feed : get_or bytes count 0 ≡ line_feed
 
 -- what a line of this number says is added to a text; a bad one leaves it
 abbrev pub AddsLine : ℕ → Result (List ℕ) LineFault → List ℕ → List ℕ → Option BadLine → Type 0

@@ -13,5 +13,5 @@ mod whole;
 pub use fault::{BadLine, LineFault};
 pub use format::{Format, Tool};
 pub use hint::{FRONT, Hint, looks_like};
-pub use translation::{Translated, translate};
+pub use translation::{Translated, line_length, translate};
 pub use whole::{Whole, read_whole};

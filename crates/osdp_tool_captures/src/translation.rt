@@ -1,9 +1,9 @@
 //! A capture of another tool, line by line.
 
 ghost use Rattle.std.specs.Prelude.{◌≡◌, ◌<◌, IfErr, IfOk, MatchOption};
-ghost use Rattle.osdp_tool_streams.specs.Cut.{IsLine};
+ghost use Rattle.osdp_tool_streams.specs.Cut.{HasLine, IsLine};
 ghost use Rattle.osdp_tool_captures.specs.Lines.{line_text};
-ghost use Rattle.osdp_tool_captures.specs.Captures.{AddsLine, HasLine, capture_fault, capture_text};
+ghost use Rattle.osdp_tool_captures.specs.Captures.{AddsLine, capture_fault, capture_text};
 
 use crate::fault::BadLine;
 use crate::format::Tool;
@@ -22,7 +22,7 @@ pub struct Translated {
 }
 
 /// How many bytes stand before the first line feed.
-fn line_length(bytes: &[u8]) -> Option<usize>
+pub fn line_length(bytes: &[u8]) -> Option<usize>
     ensures { MatchOption result (IsLine bytes.now) (λ length. HasLine bytes.now length) }
 {
     memchr(b'\n', bytes)

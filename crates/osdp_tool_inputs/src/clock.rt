@@ -1,9 +1,11 @@
 //! The moments of the runtime's clock.
 
+ghost use Rattle.std.specs.Prelude.{◌≡◌};
+
 use osdp_tool_monitor::Moments;
 use std::time::Instant;
 
-/// The moments of the runtime's clock, from when it was made on. Where the clock can't be read, the moment is the one before.
+/// The moments of the runtime's clock, from when it was made on. Where the clock can't be read or went back, the moment is the one before.
 #[derive(Drop)]
 pub struct Clock<'a> {
     rt: &'a HostRuntime,
@@ -13,7 +15,9 @@ pub struct Clock<'a> {
 
 impl<'a> Clock<'a> {
     /// A clock that was not asked yet.
-    pub fn new(rt: &'a HostRuntime) -> Clock<'a> {
+    pub fn new(rt: &'a HostRuntime) -> Clock<'a>
+        ensures { result.last ≡ 0 }
+    {
         Clock {
             rt,
             start: None,
@@ -23,7 +27,9 @@ impl<'a> Clock<'a> {
 }
 
 impl Moments for Clock<'_> {
-    ghost tells = { λ old moment new. Unit {0} };
+    ghost use Rattle.osdp_tool_inputs.specs.Moments.{Tells};
+
+    ghost tells = { Tells };
 
     fn now(&mut self) -> u64 {
         let Some(start) = self.start else {
@@ -31,7 +37,8 @@ impl Moments for Clock<'_> {
             return self.last;
         };
         if let Ok(passed) = start.elapsed(self.rt) {
-            self.last = u64::try_from(passed.as_millis()).unwrap_or(u64::MAX);
+            let passed = u64::try_from(passed.as_millis()).unwrap_or(u64::MAX);
+            self.last = self.last.max(passed);
         }
         self.last
     }

@@ -1,9 +1,15 @@
 //! The inputs of `show`, `check` and `monitor`: standard input or files by name, in any form, one after the other.
 #![tactic(auto)]
 
+mod asked;
 mod clock;
 mod hinted;
 mod inputs;
+pub mod laws;
+mod lines;
+mod tasks;
 mod times;
+mod told;
 
-pub use inputs::{Asked, Reads, do_all, read_words};
+pub use asked::{Asked, Reads, Task, read_words};
+pub use inputs::do_all;

@@ -2,11 +2,13 @@
 
 ghost use Rattle.std.specs.Prelude.{◌≡◌, ◌↔◌, Option};
 ghost use Rattle.osdp_frame.specs.Times.{IsTime};
-ghost use Rattle.osdp_tool_monitor.specs.Options.{ReadsMode, TakesNumber, TakesOption, name_text, with_option};
+ghost use Rattle.osdp_tool_monitor.specs.Options.{ReadsMode, TakesOption, name_text, with_option};
+ghost use Rattle.osdp_tool_options.specs.Options.{TakesNumber};
 ghost use Rattle.osdp_words.specs.Reading.{Reads};
 ghost use Rattle.osdp_words.specs.Word.{number, texts};
 
 use osdp_frame::is_time;
+use osdp_tool_options::{CommandOption, read_options};
 use osdp_tool_show::{Detail, Filter};
 use osdp_words::{Fields, number_u32};
 
@@ -33,8 +35,6 @@ pub struct MonitorMode {
 /// A word of the command `monitor`, with its number.
 #[derive(Clone, Copy, Debug, PartialEq, Eq)]
 pub enum MonitorOption {
-    /// `--hex`
-    Hex,
     /// `--packets`
     Packets,
     /// `--talk`
@@ -52,7 +52,6 @@ pub enum MonitorOption {
 /// Which option a word names.
 #[derive(Clone, Copy, Debug, PartialEq, Eq)]
 pub(crate) enum OptionName {
-    Hex,
     Packets,
     Talk,
     Gap,
@@ -66,7 +65,6 @@ fn option_name(word: &str) -> Option<OptionName>
     ensures { (name : OptionName) → (result ≡ Option.Some name) ↔ (word.now ≡ name_text name) }
 {
     match word {
-        "--hex" => Some(OptionName::Hex),
         "--packets" => Some(OptionName::Packets),
         "--talk" => Some(OptionName::Talk),
         "--gap" => Some(OptionName::Gap),
@@ -90,18 +88,17 @@ fn wait(word: &str) -> Option<u32>
 
 /// The number at the head of the words, which it takes off.
 fn take_wait(words: &mut Fields<'_>) -> Option<u32>
-    ensures { TakesNumber words.old words.new result }
+    ensures { TakesNumber IsTime words.old words.new result }
 {
     wait(words.word()?)
 }
 
 impl MonitorOption {
     /// The option of this name, and of the number at the head of the words, which it takes off, where it has one.
-    fn take(name: OptionName, words: &mut Fields<'_>) -> Option<MonitorOption>
+    fn named(name: OptionName, words: &mut Fields<'_>) -> Option<MonitorOption>
         ensures { TakesOption name words.old words.new result }
     {
         match name {
-            OptionName::Hex => Some(MonitorOption::Hex),
             OptionName::Packets => Some(MonitorOption::Packets),
             OptionName::Talk => Some(MonitorOption::Talk),
             OptionName::Gap => Some(MonitorOption::Gap(take_wait(words)?)),
@@ -110,13 +107,27 @@ impl MonitorOption {
             OptionName::Recorded => Some(MonitorOption::Recorded),
         }
     }
+}
 
-    /// Sets it.
-    fn set(self, mode: &mut MonitorMode)
-        ensures { mode.new ≡ with_option self mode.old }
-    {
+impl CommandOption for MonitorOption {
+    type Mode = MonitorMode;
+
+    ghost use Rattle.osdp_tool_monitor.specs.Options.{OptionFits, name_of, numbers_of};
+
+    ghost name = { λ option. name_text (name_of option) };
+
+    ghost numbers = { numbers_of };
+
+    ghost Fits = { OptionFits };
+
+    ghost with = { with_option };
+
+    fn take(word: &str, following: &mut Fields<'_>) -> Option<MonitorOption> {
+        MonitorOption::named(option_name(word)?, following)
+    }
+
+    fn set(self, mode: &mut MonitorMode) {
         match self {
-            MonitorOption::Hex => mode.hex = true,
             MonitorOption::Packets => mode.detail = Detail::Full,
             MonitorOption::Talk => {
                 mode.detail = Detail::Filtered(Filter {
@@ -132,23 +143,19 @@ impl MonitorOption {
     }
 }
 
-/// How the words after `monitor` ask to listen: options in any order, of which a later one of a kind holds. Without options the input is bytes, only
-/// what is found is printed, a run is over after 20 milliseconds, the table comes at the end alone, and no accusation is left out. None where the words are no options.
-pub fn monitor_mode(words: &[&str]) -> Option<MonitorMode>
-    ensures { ReadsMode (texts words.now) result }
+/// How the words after `monitor` ask to listen to an input of lines of digits, or to one of bytes: options in any order, of which a later one of a kind holds.
+/// Without options only what is found is printed, a run is over after 20 milliseconds, the table comes at the end alone, and no accusation is left out.
+/// None where the words are no options.
+pub fn monitor_mode(hex: bool, words: &[&str]) -> Option<MonitorMode>
+    ensures { ReadsMode hex (texts words.now) result }
 {
-    let mut mode = MonitorMode {
-        hex: false,
+    let mode = MonitorMode {
+        hex,
         detail: Detail::Refusals,
         gap: GAP,
         every: None,
         standard: false,
         recorded: false,
     };
-    let mut fields = Fields::new(words);
-    'options: while let Some(word) = fields.word() {
-        let option = MonitorOption::take(option_name(word)?, &mut fields)?;
-        option.set(&mut mode);
-    }
-    Some(mode)
+    read_options::<MonitorOption>(mode, words)
 }

@@ -7,7 +7,6 @@ use Rattle.std.proofs.Common.{take-append-drop}
 use Rattle.std.proofs.lemmas.List.{take_more}
 use Rattle.std.proofs.lemmas.List.Filters.{length-filter_both}
 use Rattle.osdp_tool_show.specs.declared.detail.Detail.{Detail}
-use Rattle.osdp_tool_show.specs.Feeds.{HasLine}
 use Rattle.osdp_frame.specs.Bytes.{AreBytes}
 use Rattle.osdp_frame.proofs.Head.{AreBytes-nil}
 use Rattle.osdp_frame_laws.proofs.LeftOver.{items_nothing, left_nothing}
@@ -15,7 +14,7 @@ use Rattle.osdp_frame.specs.Held.{Held, new_run}
 use Rattle.osdp_frame.specs.Items.{items, left_over}
 use Rattle.osdp_tool_streams.specs.declared.form.Form.{Form}
 use Rattle.osdp_tool_streams.specs.declared.form.Form.TheVariants.{Raw, Joined, Apart}
-use Rattle.osdp_tool_streams.specs.Cut.{ended_after, unended_after, line_feed, ended_lines, unended_line, IsLine}
+use Rattle.osdp_tool_streams.specs.Cut.{HasLine, ended_after, unended_after, line_feed, ended_lines, unended_line, IsLine}
 use Rattle.osdp_tool_streams.specs.Line.{is_blank, kept, said}
 use Rattle.osdp_tool_streams.specs.Runs.{good_front, bad_line, ended_runs, open_run, first_bad_ended}
 use Rattle.osdp_tool_streams.proofs.FormLemmas.{ended_lines-hold, unended_line-hold, ended_lines-feed, unended_line-feed, kept-append, hold_runs, feed_joined, feed_apart, feed_bad}

@@ -6,7 +6,7 @@ use Rattle.osdp_frame.specs.Held.{Held}
 use Rattle.osdp_frame.specs.Items.{items, left_over}
 use Rattle.osdp_tool_streams.specs.declared.form.Form.{Form}
 use Rattle.osdp_tool_streams.specs.declared.form.Form.TheVariants.{Raw, Joined, Apart}
-use Rattle.osdp_tool_streams.specs.Cut.{line_feed, unended_line, IsLine}
+use Rattle.osdp_tool_streams.specs.Cut.{HasLine, line_feed, unended_line, IsLine}
 use Rattle.osdp_tool_streams.specs.Line.{said, line_bytes}
 use Rattle.osdp_tool_streams.specs.Runs.{good_front, ended_runs, open_run, first_bad_ended, closed_runs}
 use Rattle.osdp_tool_streams.proofs.FormLemmas.{feed_joined, feed_apart}
@@ -19,7 +19,6 @@ use Rattle.osdp_tool_show.specs.ToldItems.{shown_lines, after_runs, runs_lines, 
 use Rattle.osdp_tool_show.specs.declared.capture.Capture.{Capture}
 use Rattle.osdp_tool_show.specs.declared.report.Report.{Report}
 use Rattle.osdp_tool_show.specs.Machine.{written_or_held, IsSettled, Took, EndedRun, StopsIn, StopsAtRunEnd}
-use Rattle.osdp_tool_show.specs.Feeds.{HasLine}
 use Rattle.osdp_tool_show.specs.Shown.{shown, shown_so_far}
 use Rattle.osdp_tool_show.specs.Capture.{HasShown, TookPiece, StopsInPiece}
 use Rattle.osdp_tool_show.specs.Works.{EndsLine, StopsAtEnd, StopsClosing}

@@ -2,9 +2,8 @@
 
 ghost use Rattle.std.specs.Prelude.{◌≡◌, ◌+◌, ◌*◌, ◌<◌, ◌^◌, ◌++◌, ℕ, List, [], ◌∷◌, Bool, true, false, length, Option, string_bytes, OnOk, OnErr, IfOk, IfErr, MatchOption};
 ghost use Rattle.osdp_tool_streams.specs.Watched.{inner_of, has_failed};
-ghost use Rattle.osdp_tool_streams.specs.Cut.{line_feed, IsLine};
+ghost use Rattle.osdp_tool_streams.specs.Cut.{HasLine, IsLine, line_feed};
 ghost use Rattle.osdp_tool_show.specs.Machine.{written_or_held, IsStep, IsSettled};
-ghost use Rattle.osdp_tool_show.specs.Feeds.{HasLine};
 
 use crate::report::Report;
 use crate::runs::{end_run, take};

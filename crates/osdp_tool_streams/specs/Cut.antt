@@ -1,5 +1,5 @@
 -- How an input is cut into lines.
-use Rattle.std.specs.Prelude.{◌≡◌, ◌≢◌, ℕ, ◌==◌, if◌then◌else◌, List, [], ◌∷◌, ◌++◌, flat_map}
+use Rattle.std.specs.Prelude.{◌≡◌, ◌≢◌, ℕ, ◌==◌, ◌<◌, if◌then◌else◌, List, [], ◌∷◌, ◌++◌, flat_map, get_or, length, take}
 use Rattle.std.specs.List.{AllByRecursion}
 
 -- the byte that ends a line
@@ -44,3 +44,9 @@ pub record IsCut (bytes : List ℕ) (lines : List (List ℕ)) (rest : List ℕ) 
   pub whole : bytes ≡ flat_map (λ line. line ++ line_feed ∷ []) lines ++ rest
   pub each : AllByRecursion IsLine lines
   pub last : IsLine rest
+
+-- the first line feed stands after so many bytes
+pub record HasLine (bytes : List ℕ) (count : ℕ) : Type 0 where
+  pub below : count < length bytes
+  pub line : IsLine (take count bytes)
+  pub feed : get_or bytes count 0 ≡ line_feed

@@ -1,0 +1,70 @@
+-- How a text is cut, line by line.
+use Rattle.std.proofs.Common.{◌≡◌, ℕ, ◌+◌, ◌-◌, ◌≤◌, ◌<◌, List, [], ◌∷◌, ◌++◌, Bor, length, take, drop, refl, sym, subst, ap, ◌∙◌, arith, append_assoc, append-nil, length-drop}
+use Rattle.std.proofs.lemmas.List.{map-append, take_rest}
+use Rattle.std.proofs.Math.Seq.{drop-drop}
+use Rattle.osdp_tool_streams.specs.Cut.{HasLine, IsLine, last_line, lines_of}
+use Rattle.osdp_tool_captures.proofs.Cutting.{line_cut, lines_of-feed, lines_of-line}
+use Rattle.osdp_tool_inputs.specs.Times.{parts}
+
+-- these are the lines that end in the bytes so far
+pub record AreCut (text : List ℕ) (at : ℕ) (lines : List (Bor (List ℕ))) : Type 0 where
+  pub within : at ≤ length text
+  pub whole : parts lines ++ lines_of (drop at text) ≡ lines_of text
+
+pub none_cut : (text : List ℕ) → AreCut text 0 []
+none_cut text = record { within = omega arith; whole = refl }
+
+parts_more : (lines new : List (Bor (List ℕ))) (line : Bor (List ℕ)) → new ≡ lines ++ line ∷ [] → parts new ≡ parts lines ++ line.now ∷ []
+parts_more lines new line e = ap parts e ∙ map-append (λ (part : Bor (List ℕ)). part.now) lines (line ∷ [])
+
+part_of_slice : (text : List ℕ) (at count : ℕ) → take (at + count - at) (drop at text) ≡ take count (drop at text)
+part_of_slice text at count = ap (λ n. take n (drop at text)) (omega arith)
+
+module _ (text : List ℕ) (at : ℕ) (lines new : List (Bor (List ℕ))) (line : Bor (List ℕ)) (cut : AreCut text at lines) (added : new ≡ lines ++ line ∷ []) where
+  pub one_more : (count : ℕ) → HasLine (take (length text - at) (drop at text)) count → line.now ≡ take (at + count - at) (drop at text)
+      → AreCut text (at + (count + 1)) new
+  one_more count has is =
+      let stands = subst (λ l. HasLine l count) (take_rest text at) has in
+      let rest = drop (at + (count + 1)) text in
+      record {
+        within = let b = stands.below in let w = cut.within in let l = length-drop at text in omega arith;
+        whole =
+            ap (λ l. l ++ lines_of rest) (parts_more lines new line added) ∙ append_assoc (parts lines) (line.now ∷ []) (lines_of rest)
+            ∙ ap (λ l. parts lines ++ l ∷ lines_of rest) (is ∙ part_of_slice text at count)
+            ∙ ap (λ l. parts lines ++ l)
+            (sym (ap lines_of (line_cut (drop at text) count stands) ∙ lines_of-feed (take count (drop at text)) (drop (count + 1) (drop at text)) stands.line
+            ∙ ap (λ l. take count (drop at text) ∷ lines_of l) (drop-drop (count + 1) at text)))
+            ∙ cut.whole;
+      }
+
+  some_line : (l : List ℕ) → 0 < length l → last_line l ≡ l ∷ []
+  some_line [] h = absurd (omega arith)
+  some_line (b ∷ l) h = refl
+
+  some_left : (at ≡ length text → ⊥) → 0 < length (drop at text)
+  some_left more =
+      let l = length-drop at text in
+      let within = cut.within in
+      omega arith
+
+  pub last_one : (at ≡ length text → ⊥) → IsLine (take (length text - at) (drop at text)) → line.now ≡ take (length text - at) (drop at text)
+      → parts new ≡ lines_of text
+  last_one more is_line is =
+      let l = length-drop at text in
+      let is_rest : IsLine (drop at text) = subst IsLine (take_rest text at) is_line in
+      let within = cut.within in
+      let some : 0 < length (drop at text) = some_left more in
+      parts_more lines new line added ∙ ap (λ l. parts lines ++ l ∷ []) (is ∙ take_rest text at)
+      ∙ ap (λ l. parts lines ++ l) (sym (lines_of-line (drop at text) is_rest ∙ some_line (drop at text) some)) ∙ cut.whole
+
+-- nothing stands after the last line feed
+pub no_more : (text : List ℕ) (at : ℕ) (lines : List (Bor (List ℕ))) → AreCut text at lines → at ≡ length text → parts lines ≡ lines_of text
+no_more text at lines cut none =
+    let l = length-drop at text in
+    let w = cut.within in
+    let none_left = nothing (drop at text) (omega arith) in
+    sym (append-nil (parts lines)) ∙ ap (λ l. parts lines ++ l) (sym (lines_of-line [] tt)) ∙ ap (λ l. parts lines ++ lines_of l) (sym none_left) ∙ cut.whole
+  where
+    nothing : (l : List ℕ) → length l ≡ 0 → l ≡ []
+    nothing [] e = refl
+    nothing (b ∷ l) e = absurd (omega arith)

@@ -1,0 +1,44 @@
+-- What holds of the times that are printed.
+use Rattle.std.proofs.Common.{◌≡◌, ◌+◌, ◌-◌, ◌*◌, ◌&&◌, ℕ, nat_le, Bool, true, cond, List, [], ◌∷◌, ◌++◌, drop, refl, subst, ap, ◌∙◌, arith}
+use Rattle.std.specs.Fmt.{decimal}
+use Rattle.std.specs.Char.{digit_value}
+use Rattle.std.specs.Str.Parse.{AllDigits, digits_value_after}
+use Rattle.std.proofs.lemmas.Bool.{le-leb}
+use Rattle.std.proofs.lemmas.Str.{digit_value_digit}
+use Rattle.osdp_tool_captures.specs.Lines.{is_decimal}
+use Rattle.osdp_tool_inputs.proofs.Stamps.{a_run, a_stamp, at_run}
+use Rattle.std.proofs.lemmas.Str.Parse.{digit_from_value}
+use Rattle.std.proofs.lemmas.Fmt.{decimal_is_IsNumeral}
+use Rattle.osdp_tool_inputs.specs.Laws.{StampsOneRun, TellsInOrder, TimesByRuns}
+use Rattle.osdp_tool_inputs.specs.Moments.{AreInOrder}
+use Rattle.osdp_tool_inputs.specs.Times.{number_after, stamp_at}
+
+pub tells_in_order : TellsInOrder
+tells_in_order start end [] told = tt
+tells_in_order start end (moment ∷ moments) (next, tells, told) =
+    (tells.not_before, subst (λ last. AreInOrder last moments) tells.last (tells_in_order next end moments told))
+
+pub stamps_one_run : StampsOneRun
+stamps_one_run stamp comment line lines comments goes digits = a_stamp stamp comment (line ∷ lines) comments ∙ a_run (drop 2 comment) line lines goes digits
+
+-- digits, and then a space, are read as their number
+digits_go : (n : ℕ) (ds rest : List ℕ) → AllDigits 10 ds → number_after n (ds ++ 32 ∷ rest) ≡ digits_value_after 10 n ds
+unfolding number_after
+digits_go n [] rest h = refl
+digits_go n (c ∷ cs) rest h =
+    let range = digit_from_value c h.0 in
+    let value = digit_value_digit c range in
+    let low = range.0 in
+    let high = range.1 in
+    let is : is_decimal c ≡ true = and_is (nat_le 48 c) (nat_le c 57) (le-leb 48 c low) (le-leb c 57 high) in
+    let same : c - 48 ≡ digit_value c = omega arith in
+    ap (λ t. cond t (number_after (n * 10 + (c - 48)) (cs ++ 32 ∷ rest)) n) is ∙ ap (λ d. number_after (n * 10 + d) (cs ++ 32 ∷ rest)) same
+    ∙ digits_go (n * 10 + digit_value c) cs rest h.1
+  where
+    and_is : (a b : Bool) → a ≡ true → b ≡ true → (a && b) ≡ true
+    and_is a b e f = cc
+
+pub times_by_runs : TimesByRuns
+times_by_runs run rest stamps h =
+    let d = decimal_is_IsNumeral (run + 1) h in
+    ap (λ n. stamp_at n stamps) (digits_go 0 (decimal (run + 1)) rest d.0.1 ∙ d.1) ∙ at_run run stamps

@@ -1,0 +1,4 @@
+pub mod Cutting
+pub mod Stamps
+pub mod Held
+pub mod Fronts

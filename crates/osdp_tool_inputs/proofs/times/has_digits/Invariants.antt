@@ -1,0 +1,7 @@
+use Rattle.std.proofs.Common.{◌≡◌, drop}
+use Rattle.osdp_tool_inputs.specs.Times.{has_digits}
+use Rattle.osdp_tool_inputs.proofs.times.has_digits.Given as goal
+
+-- blanks alone stand before
+abbrev pub invariant-loop-byte : goal.invariant-loop-byte
+invariant-loop-byte l = has_digits (drop l.byte-index l.line) ≡ has_digits l.line

@@ -1,0 +1,121 @@
+-- What is done with an input.
+use Rattle.std.specs.Prelude.{◌≡◌, ℕ, Bool, true, false, List, [], ◌++◌, codes, Option, None, Some, Result, Ok, Err}
+use Rattle.std.specs.Io.KnownBytes.{Keeps}
+use Rattle.osdp_tool_captures.specs.Captures.{capture_fault, capture_text}
+use Rattle.osdp_tool_captures.specs.Whole.{ReadWhole}
+use Rattle.osdp_tool_captures.specs.declared.fault.BadLine.{BadLine}
+use Rattle.osdp_tool_captures.specs.declared.format.Format.{Format}
+use Rattle.osdp_tool_captures.specs.declared.format.Format.TheVariants.{Bytes, Digits, Of}
+use Rattle.osdp_tool_monitor.specs.Ending as monitor
+use Rattle.osdp_tool_monitor.specs.declared.mode.MonitorMode.{MonitorMode}
+use Rattle.osdp_tool_show.specs.Ending.{Ends, EndsWhole, Stream}
+use Rattle.osdp_tool_streams.specs.ToolFault.{status_of as fault_status}
+use Rattle.osdp_tool_streams.specs.declared.fault.ToolFault.{ToolFault}
+use Rattle.osdp_tool_streams.specs.declared.fault.ToolFault.TheVariants.{NoMemory, WriteFailed}
+use Rattle.osdp_tool_inputs.specs.Asked.{form_of}
+use Rattle.osdp_tool_inputs.specs.Moments.{Tells}
+use Rattle.osdp_tool_inputs.specs.declared.asked.Asked.{Asked}
+use Rattle.osdp_tool_inputs.specs.declared.asked.Task.{Task}
+use Rattle.osdp_tool_inputs.specs.declared.asked.Task.TheVariants.{Listen, Print, Time}
+use Rattle.osdp_tool_inputs.specs.declared.clock.Clock.{Clock}
+use Rattle.osdp_tool_inputs.specs.declared.tasks.TheConstants.{LONGEST}
+use Rattle.osdp_tool_inputs.specs.declared.told.Told.{Told}
+use Rattle.osdp_tool_inputs.specs.declared.told.Told.TheVariants.{Bad, Failed, Refused}
+
+-- ---- digits or bytes
+
+-- as the monitor does, at moments of a clock that begins now
+pub record EndsHeard (mode : MonitorMode) (input output : Stream) (result : Result Bool ToolFault) : Type 0 where
+  pub start : Clock
+  pub end : Clock
+  pub begins : start.last ≡ 0
+  pub ends : monitor.Ends Tells mode start end input.before input.after input.failed output.before output.after output.failed result
+
+-- What is asked is done with a stream of digits or bytes; these are all its bytes, where they were read before. With stamps, nothing is said here of the
+-- lines that stand behind them.
+abbrev pub Does : Task → Format → ℕ → List ℕ → Stream → Stream → Result Bool ToolFault → Type 0
+Does (Print detail join) format limit bytes input output result =
+    Ends detail (form_of format join) limit input output result × EndsWhole detail (form_of format join) limit input output result
+Does (Time detail join) format limit bytes input output result = Unit {0}
+Does (Listen mode) format limit bytes input output result = EndsHeard mode input output result
+
+-- ---- any form
+
+abbrev pub is_timed : Task → Bool
+is_timed (Print detail join) = false
+is_timed (Time detail join) = true
+is_timed (Listen mode) = false
+
+-- the lines of digits that a capture stands for, and its first bad line
+abbrev pub text_of : Format → List ℕ → List ℕ
+text_of Digits bytes = bytes
+text_of Bytes bytes = bytes
+text_of (Of tool) bytes = capture_text tool bytes
+
+abbrev pub bad_of : Format → List ℕ → Option BadLine
+bad_of Digits bytes = None
+bad_of Bytes bytes = None
+bad_of (Of tool) bytes = capture_fault tool bytes
+
+-- where the output or memory fails, nothing more is done
+abbrev pub told_of : Result Bool ToolFault → Result Told ToolFault
+told_of (Ok wrong) = Ok (Refused wrong)
+told_of (Err WriteFailed) = Err WriteFailed
+told_of (Err NoMemory) = Err NoMemory
+told_of (Err fault) = Ok (Failed fault)
+
+-- else a failure of the input is told, or a bad line of it, before what came of what was read
+abbrev pub instead : Option Told → Result Told ToolFault → Result Told ToolFault
+instead None told = told
+instead (Some other) (Ok told) = Ok other
+instead (Some other) (Err fault) = Err fault
+
+abbrev pub wrong_with : Option ToolFault → Option BadLine → Option Told
+wrong_with (Some fault) bad = Some (Failed fault)
+wrong_with None (Some bad) = Some (Bad bad)
+wrong_with None None = None
+
+-- what is asked is done with the text of an input that was read whole, or as far as it goes
+pub record DoesWhole (asked : Asked) (limit : ℕ) (input output : Stream) (result : Result Told ToolFault) : Type 0 where
+  pub bytes : List ℕ
+  pub fault : Option ToolFault
+  pub read : ReadWhole limit input.before input.after bytes fault
+  pub text : Stream
+  pub text_is : text.before ≡ Some (text_of asked.format bytes)
+  pub answer : Result Bool ToolFault
+  pub done : Does asked.task asked.format LONGEST (text_of asked.format bytes) text output answer
+  pub told : result ≡ instead (wrong_with fault (bad_of asked.format bytes)) (told_of answer)
+
+-- or memory ran out before anything was done with it
+pub data EndsWholly (asked : Asked) (limit : ℕ) (input output : Stream) (result : Result Told ToolFault) : Type 0 where
+  Read : DoesWhole asked limit input output result → EndsWholly asked limit input output result
+  Unread : result ≡ Err NoMemory → Keeps output.before output.after → EndsWholly asked limit input output result
+
+-- an input is read whole before anything is told of it where another tool wrote it, or the moments of runs are wanted
+abbrev pub is_whole : Format → Task → Bool
+is_whole (Of tool) task = true
+is_whole Digits task = is_timed task
+is_whole Bytes task = is_timed task
+
+-- what is asked is done with an input, as it comes where it isn't read whole
+pub record DoesDirectly (asked : Asked) (limit : ℕ) (input output : Stream) (result : Result Told ToolFault) : Type 0 where
+  pub answer : Result Bool ToolFault
+  pub done : Does asked.task asked.format limit [] input output answer
+  pub told : result ≡ told_of answer
+
+abbrev pub DoesInput : Bool → Asked → ℕ → Stream → Stream → Result Told ToolFault → Type 0
+DoesInput true asked limit input output result = EndsWholly asked limit input output result
+DoesInput false asked limit input output result = DoesDirectly asked limit input output result
+
+-- ---- statuses
+
+-- 1 where a refusal was met or an end accused, 2 at a bad line, and else that of the failure
+abbrev pub status_of : Told → ℕ
+status_of (Refused false) = 0
+status_of (Refused true) = 1
+status_of (Bad bad) = 2
+status_of (Failed fault) = fault_status fault
+
+-- what stands above the text of each of several inputs
+abbrev pub heading : List ℕ → List ℕ
+heading name = codes "# " ++ (name ++ codes "\n")

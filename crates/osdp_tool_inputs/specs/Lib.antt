@@ -1,0 +1,5 @@
+pub mod Times
+pub mod Moments
+pub mod Asked
+pub mod Done
+pub mod Laws

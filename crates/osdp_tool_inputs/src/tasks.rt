@@ -1,0 +1,121 @@
+//! What is done with a stream of digits or bytes.
+
+ghost use Rattle.std.specs.Prelude.{◌≡◌, ◌<◌, ◌^◌, OnOk, false};
+ghost use Rattle.std.specs.Io.KnownBytes.{Appends};
+ghost use Rattle.osdp_tool_inputs.specs.Done.{Does, EndsHeard};
+ghost use Rattle.osdp_tool_inputs.specs.Times.{timed_text};
+ghost use Rattle.osdp_tool_show.specs.Ending.{Ends, EndsWhole, watched};
+ghost use Rattle.osdp_tool_streams.specs.Watched.{has_failed, inner_of};
+
+use crate::asked::{Asked, Task, form_of};
+use crate::clock::Clock;
+use crate::times::timed;
+use osdp_tool_monitor::{MonitorMode, monitor};
+use osdp_tool_show::{Detail, command};
+use osdp_tool_streams::{Form, ToolFault, Watched, flush_out, write_out};
+use std::alloc::Global;
+use std::io::{Read, Write};
+
+/// The lines of digits that another tool's capture says may be longer than itself, and have so many bytes at most.
+pub const LONGEST: usize = 1 << 32;
+
+/// Prints the items of a stream. True where a refusal was met.
+// It stands by itself, as the two below do: so the stack has the places of one of them at a time.
+#[inline(never)]
+fn print_items<R: Read, W: Write>(
+    rt: &HostRuntime,
+    detail: Detail,
+    form: Form,
+    limit: usize,
+    input: &mut Watched<R>,
+    output: &mut Watched<W>,
+) -> Result<bool, ToolFault>
+    requires { limit < 2 ^ 40 }
+    ensures { Ends detail form limit (watched R.remaining input.old input.new) (watched W.contents output.old output.new) result
+        × EndsWhole detail form limit (watched R.remaining input.old input.new) (watched W.contents output.old output.new) result }
+{
+    command(rt.alloc(), detail, form, limit, input, output)
+}
+
+/// Listens to a stream, and tells what it finds. True where an end was accused.
+#[inline(never)]
+fn listen<R: Read, W: Write>(
+    rt: &HostRuntime,
+    mode: MonitorMode,
+    input: &mut Watched<R>,
+    output: &mut Watched<W>,
+) -> Result<bool, ToolFault>
+    requires input { has_failed input.old ≡ false }
+    requires output { has_failed output.old ≡ false }
+    ensures { EndsHeard mode (watched R.remaining input.old input.new) (watched W.contents output.old output.new) result }
+{
+    monitor(rt.alloc(), mode, &mut Clock::new(rt), input, output)
+}
+
+/// Prints these lines of `show`, each after the moment and the way of its run, which stand in the text.
+fn print_lines<W: Write>(
+    alloc: Global,
+    text: &[u8],
+    shown: &[u8],
+    output: &mut Watched<W>,
+) -> Result<(), ToolFault>
+    ensures { OnOk result (Appends (W.contents (inner_of output.old)) (W.contents (inner_of output.new)) (timed_text text.now shown.now)) }
+{
+    let Ok(lines) = timed(alloc, text, shown) else {
+        return Err(ToolFault::NoMemory);
+    };
+    write_out(output, lines.as_slice())?;
+    flush_out(output)
+}
+
+/// Prints the items of a text, each line after the moment and the way of its run, which stand in the text. True where a refusal was met.
+#[inline(never)]
+fn print_timed<W: Write>(
+    rt: &HostRuntime,
+    detail: Detail,
+    form: Form,
+    text: &[u8],
+    output: &mut Watched<W>,
+) -> Result<bool, ToolFault> {
+    let mut shown = Vec::new(rt.alloc());
+    let mut memory = Watched::new(&mut shown);
+    let mut input = Watched::new(text);
+    let answer = command(rt.alloc(), detail, form, LONGEST, &mut input, &mut memory);
+    if answer == Err(ToolFault::WriteFailed) {
+        return Err(ToolFault::NoMemory);
+    }
+    print_lines(rt.alloc(), text, shown.as_slice(), output)?;
+    answer
+}
+
+/// Does what is asked with a stream of digits or bytes; this text is all of it where it was read before. True where a refusal was met, or an end accused.
+pub fn do_task<R: Read, W: Write>(
+    rt: &HostRuntime,
+    asked: &Asked<'_>,
+    limit: usize,
+    text: &[u8],
+    input: &mut Watched<R>,
+    output: &mut Watched<W>,
+) -> Result<bool, ToolFault>
+    requires limit { limit < 2 ^ 40 }
+    requires input { has_failed input.old ≡ false }
+    requires output { has_failed output.old ≡ false }
+    ensures { Does asked.now.task asked.now.format limit text.now (watched R.remaining input.old input.new) (watched W.contents output.old output.new) result }
+{
+    match asked.task {
+        Task::Print(detail, join) => {
+            print_items(
+                rt,
+                detail,
+                form_of(asked.format, join),
+                limit,
+                input,
+                output,
+            )
+        }
+        Task::Time(detail, join) => {
+            print_timed(rt, detail, form_of(asked.format, join), text, output)
+        }
+        Task::Listen(mode) => listen(rt, mode, input, output),
+    }
+}

@@ -1,0 +1,3 @@
+pub mod Left
+pub mod Named
+pub mod One

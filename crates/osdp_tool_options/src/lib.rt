@@ -1,0 +1,6 @@
+//! Options of a command: words in any order, of which a later one of a kind holds.
+#![tactic(auto)]
+
+mod reading;
+
+pub use reading::{CommandOption, read_options};
