@@ -12,13 +12,13 @@ mod command_fields;
 mod event;
 mod fault;
 mod fitting;
+mod kept;
 mod leds;
+mod lent;
 mod limits;
-mod making;
 mod nak;
 mod outputs;
 mod parsing;
-mod placing;
 mod printing;
 mod raw;
 mod record_list;
@@ -35,12 +35,15 @@ pub use event::Event;
 pub use fault::{BadWords, MsgFault};
 pub use fitting::fits;
 pub use leds::{LedRecord, Leds};
+pub use lent::Records;
 pub use limits::{
-    MAX_CARD_BYTES, MAX_DATA, MAX_DETAIL, MAX_MAKER_BYTES, MAX_MESSAGE, MAX_WAITING, is_room,
+    MAX_CARD_BYTES, MAX_DATA, MAX_DETAIL, MAX_MAKER_BYTES, MAX_MESSAGE, MAX_WAITING, Room, is_room,
 };
 pub use nak::{NakReason, OtherReason};
 pub use outputs::{OutputRecord, Outputs};
 pub use raw::Raw;
 pub use record_list::RecordList;
+pub use records::Record;
 pub use reply::Reply;
-pub use reply_fields::{Formatted, Keypad, LocalState, Nak, PdCap, PdId};
+pub use reply_fields::{Formatted, Keypad, LocalState, Nak, PdCap, PdId, States};
+pub use spelling::Spelling;

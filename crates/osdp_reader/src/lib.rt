@@ -14,7 +14,6 @@ mod heard;
 mod kind;
 mod reader;
 mod reply;
-mod response;
 mod stored;
 
 pub use config::ReaderConfig;
@@ -22,5 +21,4 @@ pub use fault::ReaderFault;
 pub use handler::{Answer, Handler};
 pub use heard::Heard;
 pub use kind::Kind;
-pub use reader::{Reader, read_command};
-pub use response::Response;
+pub use reader::Reader;
