@@ -6,5 +6,4 @@ pub mod Sets
 pub mod Staying
 pub mod Moments
 pub mod Unasked
-pub mod Whole
 pub mod Waiting

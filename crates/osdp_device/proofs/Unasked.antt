@@ -10,7 +10,7 @@ use Rattle.osdp_device.specs.Program.{program_after, program_answer}
 use Rattle.osdp_device.specs.Saying.{Said, after_item, answers_first, said_of}
 use Rattle.osdp_device.specs.Telling.{next_told}
 use Rattle.osdp_device.specs.declared.program.ProgramAnswers.{ProgramAnswers}
-use Rattle.osdp_device.specs.declared.program.Question.TheVariants.{Asked, NotAsked}
+use Rattle.osdp_device.specs.declared.question.Question.TheVariants.{Asked, NotAsked}
 
 -- nothing has to be taken back of it
 pub unasked : (r : ReaderState ProgramAnswers) → r.handler.question ≡ NotAsked → r ≡ with_question NotAsked r
