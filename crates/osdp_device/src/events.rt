@@ -36,8 +36,8 @@ impl<H: Handler> Device<H> {
     pub fn submit_event(&mut self, event: &Event<'_>, now: u64) -> bool
         ensures room { result ≡ has_room event.now self.old.reader.queue }
         ensures device { self.new ≡ record self.old {
-            reader = after_submit_if result event.now self.old.reader;
-            ages = after_arrival_if result now (length self.old.reader.queue.events) self.old.ages
+          reader = after_submit_if result event.now self.old.reader;
+          ages = after_arrival_if result now (length self.old.reader.queue.events) self.old.ages;
         } }
     {
         let waiting = self.reader.waiting();
@@ -75,8 +75,8 @@ impl<H: Handler> Device<H> {
     pub fn withdraw_event(&mut self) -> bool
         ensures event { result ≡ is_some (never_offered self.old.reader.queue) }
         ensures device { self.new ≡ record self.old {
-            reader = after_withdraw_event self.old.reader;
-            ages = after_removal self.old.reader.queue.ever_offered (length self.old.reader.queue.events) self.old.ages
+          reader = after_withdraw_event self.old.reader;
+          ages = after_removal self.old.reader.queue.ever_offered (length self.old.reader.queue.events) self.old.ages;
         } }
     {
         self.ages.keep(self.reader.waiting());
@@ -93,8 +93,8 @@ impl<H: Handler> Device<H> {
     pub fn lapse_event(&mut self) -> bool
         ensures event { result ≡ is_some (in_doubt self.old.reader.queue) }
         ensures device { self.new ≡ record self.old {
-            reader = after_lapse_event self.old.reader;
-            ages = if self.old.reader.queue.ever_offered then after_removal false (length self.old.reader.queue.events) self.old.ages else self.old.ages
+          reader = after_lapse_event self.old.reader;
+          ages = if self.old.reader.queue.ever_offered then after_removal false (length self.old.reader.queue.events) self.old.ages else self.old.ages;
         } }
     {
         if self.reader.is_in_doubt() {
@@ -125,8 +125,8 @@ impl<H: Handler> Device<H> {
     fn take_off_oldest(&mut self) -> bool
         ensures event { result ≡ is_some (expired_front self.old.reader.queue) }
         ensures device { self.new ≡ record self.old {
-            reader = after_expiry self.old.reader;
-            ages = after_removal false (length self.old.reader.queue.events) self.old.ages
+          reader = after_expiry self.old.reader;
+          ages = after_removal false (length self.old.reader.queue.events) self.old.ages;
         } }
     {
         if self.reader.is_in_doubt() {
@@ -142,8 +142,8 @@ impl<H: Handler> Device<H> {
     pub fn expire_event(&mut self, now: u64, limit: u64) -> bool
         ensures event { result ≡ is_some (if expires now limit (length self.old.reader.queue.events) self.old.ages then expired_front self.old.reader.queue else None) }
         ensures device { self.new ≡ (if expires now limit (length self.old.reader.queue.events) self.old.ages then record self.old {
-            reader = after_expiry self.old.reader;
-            ages = after_removal false (length self.old.reader.queue.events) self.old.ages
+          reader = after_expiry self.old.reader;
+          ages = after_removal false (length self.old.reader.queue.events) self.old.ages;
         } else self.old) }
     {
         if !self.expires(now, limit) {

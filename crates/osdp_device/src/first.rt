@@ -68,9 +68,8 @@ pub(crate) fn first_command(first: First, line: &Receiver) -> Option<Command<'_>
     match first {
         First::Pending | First::Answered(Kind::Zero | Kind::Taken) => command_at(line),
         First::Unread
-        | First::Answered(
-            Kind::Silent | Kind::Secured | Kind::Repeat | Kind::Busy | Kind::Wrong,
-        ) => None,
+        | First::Answered(Kind::Silent | Kind::Secured | Kind::Repeat | Kind::Busy | Kind::Wrong) =>
+            None,
     }
 }
 
@@ -93,6 +92,7 @@ pub(crate) fn pass_over<H: Handler>(reader: &Reader<H>, line: &mut Receiver) -> 
     ensures passed { line.new.held ≡ passed reader.now line.old.held }
     ensures first { result ≡ answers_first reader.now (decided line.new.held.ended line.new.held.bytes) }
     ensures none { result ≡ false → decided line.new.held.ended line.new.held.bytes ≡ None }
+    ensures silent { result ≡ false → next_told H.answer_of H.after reader.now line.old.held ≡ record { said = None; reader = reader.now; held = line.new.held } }
     ensures nothing { result ≡ false → None ≡ pending_of reader.now line.old.held }
 {
     'items: while let Some(item) = line.next() {

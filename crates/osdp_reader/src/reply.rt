@@ -15,8 +15,8 @@ use crate::config::ReaderConfig;
 use crate::handler::{Answer, Handler};
 use osdp_frame::{Address, Burst, FrameView, Header, Seq};
 use osdp_msg::{
-    Command, Communication, Event, LocalState, MAX_MESSAGE, MakerMessage, MsgFault, NakReason, PdCap,
-    Reply, Spelling, States,
+    Command, Communication, Event, LocalState, MAX_MESSAGE, MakerMessage, MsgFault, NakReason,
+    PdCap, Reply, Spelling, States,
 };
 
 /// The reason of a packet that is no command.
