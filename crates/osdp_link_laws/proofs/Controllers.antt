@@ -13,7 +13,7 @@ use Rattle.osdp_controller.specs.declared.fault.ControllerFault.{ControllerFault
 use Rattle.osdp_controller.specs.declared.session.Session.{Session}
 use Rattle.osdp_reader.specs.declared.handler.Answer.{Answer}
 use Rattle.osdp_link_laws.specs.Link as link
-use Rattle.osdp_link_laws.specs.Link.{Delivered, Delivery, Link, Lost, Move, Queue as QueueEvent, Reopen, Repeated, RestartController, RestartReader, Retarget, SetBusy, SetHandler, Submit, Tick, ToController, ToReader, Withdraw, WithdrawEvent, after_move, run, LoseToReader, LoseToController}
+use Rattle.osdp_link_laws.specs.Link.{Delivered, Delivery, Link, Lost, Move, Queue as QueueEvent, Reopen, Repeated, RestartController, RestartReader, Retarget, SetBusy, SetHandler, Submit, Tick, ToController, ToReader, Withdraw, WithdrawEvent, after_move, run, LoseToReader, LoseToController, lacks_room}
 use Rattle.osdp_link_laws.specs.Headline.{MoveFits, MovesFit}
 use Rattle.osdp_link_laws.proofs.Removed.{IsInside}
 
@@ -67,7 +67,7 @@ module _ {H : Type 0} (answer_of : H → Command → Answer) (after : H → Comm
   -- a move that leaves the controller where it is
   pub inside_keeps : IsKept P → (move : Move H) (l : Link H) → IsInside move → Has l → Has (after_move answer_of after move l)
   inside_keeps kept (Submit c) l on is = submits_keep (submit_refusal c l.controller) c l is
-  inside_keeps kept (QueueEvent e) l on is = queues_keep (length l.reader.queue.events == l.reader.queue.capacity) e l is
+  inside_keeps kept (QueueEvent e) l on is = queues_keep (lacks_room e l.reader.queue) e l is
   inside_keeps kept (SetBusy busy) l on is = is
   inside_keeps kept WithdrawEvent l on is = is
   inside_keeps kept (Tick now) l on is = kept.tick now l.controller is

@@ -124,23 +124,23 @@ none_back (Pausing until o) all why = (refl, refl)
 
 -- ---- an event is withdrawn
 
-withdrawn_by : (capacity : ℕ) (offered ever : Bool) (front : List Event) (event : Event) (rest : List Event) → length front ≡ (if ever then 1 else 0)
-    → let q : EventQueue = record { events = front ++ event ∷ rest; capacity = capacity; offered = offered; ever_offered = ever } in
+withdrawn_by : (capacity room : ℕ) (offered ever : Bool) (front : List Event) (event : Event) (rest : List Event) → length front ≡ (if ever then 1 else 0)
+    → let q : EventQueue = record { events = front ++ event ∷ rest; capacity = capacity; room = room; offered = offered; ever_offered = ever } in
     ((withdrawn q).events ≡ front ++ rest) × (never_offered q ≡ Some event) × (unoffered_in q ≡ event ∷ rest)
-withdrawn_by capacity offered false [] event rest few = (refl, refl, refl)
-withdrawn_by capacity offered false (f ∷ front) event rest few = absurd (omega (arith, few))
-withdrawn_by capacity offered true [] event rest few = absurd (omega (arith, few))
-withdrawn_by capacity offered true (f ∷ []) event rest few = (refl, refl, refl)
-withdrawn_by capacity offered true (f ∷ g ∷ front) event rest few = absurd (omega (arith, few))
+withdrawn_by capacity room offered false [] event rest few = (refl, refl, refl)
+withdrawn_by capacity room offered false (f ∷ front) event rest few = absurd (omega (arith, few))
+withdrawn_by capacity room offered true [] event rest few = absurd (omega (arith, few))
+withdrawn_by capacity room offered true (f ∷ []) event rest few = (refl, refl, refl)
+withdrawn_by capacity room offered true (f ∷ g ∷ front) event rest few = absurd (omega (arith, few))
 
-none_by : (events : List Event) (capacity : ℕ) (offered ever : Bool) → length events ≤ (if ever then 1 else 0)
-    → let q : EventQueue = record { events = events; capacity = capacity; offered = offered; ever_offered = ever } in
+none_by : (events : List Event) (capacity room : ℕ) (offered ever : Bool) → length events ≤ (if ever then 1 else 0)
+    → let q : EventQueue = record { events = events; capacity = capacity; room = room; offered = offered; ever_offered = ever } in
     ((withdrawn q).events ≡ events) × (never_offered q ≡ None) × (unoffered_in q ≡ [])
-none_by [] capacity offered false few = (refl, refl, refl)
-none_by (e ∷ events) capacity offered false few = absurd (omega (arith, few))
-none_by [] capacity offered true few = (refl, refl, refl)
-none_by (e ∷ []) capacity offered true few = (refl, refl, refl)
-none_by (e ∷ f ∷ events) capacity offered true few = absurd (omega (arith, few))
+none_by [] capacity room offered false few = (refl, refl, refl)
+none_by (e ∷ events) capacity room offered false few = absurd (omega (arith, few))
+none_by [] capacity room offered true few = (refl, refl, refl)
+none_by (e ∷ []) capacity room offered true few = (refl, refl, refl)
+none_by (e ∷ f ∷ events) capacity room offered true few = absurd (omega (arith, few))
 
 -- ---- an address is set
 
@@ -197,7 +197,7 @@ module _ {H : Type 0} (answer_of : H → Command → Answer) (after : H → Comm
   withdraws_events : WithdrawsEvents answer_of after
   withdraws_events = record {
     first = λ l front event rest is few. taken l front event rest is few;
-    none = λ l few. nothing l (none_by l.reader.queue.events l.reader.queue.capacity l.reader.queue.offered l.reader.queue.ever_offered few);
+    none = λ l few. nothing l (none_by l.reader.queue.events l.reader.queue.capacity l.reader.queue.room l.reader.queue.offered l.reader.queue.ever_offered few);
   }
     where
       all_but : (all before : List Event) (q : EventQueue) (front : List Event) (event : Event) (rest : List Event) → q.events ≡ front ++ event ∷ rest
@@ -214,7 +214,7 @@ module _ {H : Type 0} (answer_of : H → Command → Answer) (after : H → Comm
       taken l front event rest is few =
           let q = l.reader.queue in
           let by = subst (λ es. ((withdrawn (record q { events = es })).events ≡ front ++ rest) × (never_offered (record q { events = es }) ≡ Some event)
-          × (unoffered_in (record q { events = es }) ≡ event ∷ rest)) (sym is) (withdrawn_by q.capacity q.offered q.ever_offered front event rest few) in
+          × (unoffered_in (record q { events = es }) ≡ event ∷ rest)) (sym is) (withdrawn_by q.capacity q.room q.offered q.ever_offered front event rest few) in
           record {
             others = refl;
             reader = ap (λ es. record l.reader { queue = record q { events = es } }) by.0;

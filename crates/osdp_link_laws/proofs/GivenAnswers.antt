@@ -23,7 +23,7 @@ use Rattle.osdp_reader.specs.declared.kind.Kind.{Kind}
 use Rattle.osdp_reader.specs.declared.kind.Kind.TheVariants as kind
 use Rattle.osdp_link_laws.specs.Headline.{Begins}
 use Rattle.osdp_link_laws.specs.Link as link
-use Rattle.osdp_link_laws.specs.Link.{Account, Delivered, Delivery, Link, LoseToController, LoseToReader, Lost, Move, Queue as QueueEvent, Reopen, Repeated, RestartController, RestartReader, Retarget, SetBusy, SetHandler, Submit, Tick, ToController, ToReader, Withdraw, WithdrawEvent, after_move, given_to, taken_command, after_report}
+use Rattle.osdp_link_laws.specs.Link.{Account, Delivered, Delivery, Link, LoseToController, LoseToReader, Lost, Move, Queue as QueueEvent, Reopen, Repeated, RestartController, RestartReader, Retarget, SetBusy, SetHandler, Submit, Tick, ToController, ToReader, Withdraw, WithdrawEvent, after_move, given_to, taken_command, after_report, lacks_room}
 use Rattle.osdp_link_laws.proofs.Acting.{no_event, taken_is}
 use Rattle.osdp_link_laws.proofs.Lines.{each_append}
 use Rattle.osdp_link_laws.proofs.Stages.{Each}
@@ -105,7 +105,7 @@ module _ {H : Type 0} (answer_of : H → Command → Answer) (after : H → Comm
 
   pub move_given : (move : Move H) (l : Link H) → AreAnswers l.account → AreAnswers (after_move answer_of after move l).account
   move_given (Submit c) l are = submits_given (controllers.submit_refusal c l.controller) c l are
-  move_given (QueueEvent e) l are = queues_given (length l.reader.queue.events == l.reader.queue.capacity) e l are
+  move_given (QueueEvent e) l are = queues_given (lacks_room e l.reader.queue) e l are
   move_given (SetBusy busy) l are = are
   move_given WithdrawEvent l are = are
   move_given (Tick now) l are = subst (Each IsAnswerOf) (sym (told_gives (ticks now l.controller.session l.controller.waiting).step.report l.account)) are

@@ -28,7 +28,7 @@ use Rattle.osdp_reader.specs.declared.kind.Kind.TheVariants as kind
 use Rattle.osdp_reader_laws.specs.Answering.{handler_after_commands}
 use Rattle.osdp_link_laws.specs.Headline.{EachIsOnce, IsBeginning, MovesFit}
 use Rattle.osdp_link_laws.specs.Link as link
-use Rattle.osdp_link_laws.specs.Link.{Account, Delivered, Delivery, Link, Lost, Move, Queue as QueueEvent, Reopen, Repeated, RestartController, RestartReader, Retarget, SetBusy, SetHandler, Submit, Tick, ToController, ToReader, Withdraw, WithdrawEvent, after_move, run, taken_command, after_report, LoseToReader, LoseToController}
+use Rattle.osdp_link_laws.specs.Link.{Account, Delivered, Delivery, Link, Lost, Move, Queue as QueueEvent, Reopen, Repeated, RestartController, RestartReader, Retarget, SetBusy, SetHandler, Submit, Tick, ToController, ToReader, Withdraw, WithdrawEvent, after_move, run, taken_command, after_report, LoseToReader, LoseToController, lacks_room}
 use Rattle.osdp_link_laws.specs.OneHandler.{AreItsAnswers, AreOnce, GivesItsAnswers, KeepHandler, KeepsDevice, KeepsHandler, OneHandlerHoldsOnce, handler_after, with_answers}
 use Rattle.osdp_link_laws.specs.Peers.{ReadEachOther}
 use Rattle.osdp_link_laws.specs.Refusals.{KeepsReader}
@@ -101,7 +101,7 @@ module _ {H : Type 0} (answer_of : H → Command → Answer) (after : H → Comm
             IsAnswered first (taken_command d (Some a.reply) front t) a.handler) (sym poll)
             (same_answered first t (record t { offered = t.offered ++ front }) r.handler
             (event_or_answer answer_of after (event_for command.Poll events) r.config r.handler command.Poll).handler refl refl
-            (polled fixed events r.queue.capacity false answer_of after r.config r.handler).1 is)
+            (polled fixed events r.queue.capacity r.queue.room false answer_of after r.config r.handler).1 is)
         | inr other ↦
             let a = answer_to answer_of after r.config r.handler c in
             let later = handler_after_commands answer_of after settings first t.taken in
@@ -253,7 +253,7 @@ module _ {H : Type 0} (answer_of : H → Command → Answer) (after : H → Comm
   move_answered : Assumed answer_of after settings → (start : H) (move : Move H) (l : Link H) → KeepsHandler move l → Stands answer_of after settings l
       → AllAnswered start l → AllAnswered start (after_move answer_of after move l)
   move_answered given start (Submit c) l keeps s is = submits_answered start (controllers.submit_refusal c l.controller) c l is
-  move_answered given start (QueueEvent e) l keeps s is = queues_answered start (length l.reader.queue.events == l.reader.queue.capacity) e l is
+  move_answered given start (QueueEvent e) l keeps s is = queues_answered start (lacks_room e l.reader.queue) e l is
   move_answered given start (SetBusy busy) l keeps s is = is
   move_answered given start WithdrawEvent l keeps s is = others_answered start l (link.withdraws_event l).account l.reader.handler refl refl refl is
   move_answered given start (LoseToReader place) l keeps s is = is

@@ -32,7 +32,7 @@ use Rattle.osdp_reader.specs.declared.kind.Kind.{Kind}
 use Rattle.osdp_reader.specs.declared.kind.Kind.TheVariants as kind
 use Rattle.osdp_link_laws.specs.Headline.{MovesFit, Begins, IsBeginning, IsOnce, MoveFits, asked}
 use Rattle.osdp_link_laws.specs.Link as link
-use Rattle.osdp_link_laws.specs.Link.{Account, Delivered, Delivery, Link, Lost, Move, Queue as QueueEvent, Reopen, Repeated, RestartController, RestartReader, Retarget, SetBusy, SetHandler, Submit, Tick, ToController, ToReader, Withdraw, WithdrawEvent, after_move, run, after_report, event_withdrawn, lost_at, LoseToReader, LoseToController, unoffered_in}
+use Rattle.osdp_link_laws.specs.Link.{Account, Delivered, Delivery, Link, Lost, Move, Queue as QueueEvent, Reopen, Repeated, RestartController, RestartReader, Retarget, SetBusy, SetHandler, Submit, Tick, ToController, ToReader, Withdraw, WithdrawEvent, after_move, run, after_report, event_withdrawn, lost_at, LoseToReader, LoseToController, unoffered_in, lacks_room}
 use Rattle.osdp_link_laws.specs.TwoLists.{IsInStep, IsLevel, IsOneOrNone, IsRead, IsReadOff, IsStepOf, Issue, KeepsInStep, May, MovesInStep, Offer, Offers, OffersOnce, Queue, Report as Tell, Settle, Step, Take, ThrowAway, TwoLists, WithdrawEvent as WithdrawPlace, after_step, two_lists}
 use Rattle.osdp_link_laws.specs.Peers.{ReadEachOther}
 use Rattle.osdp_link_laws.proofs.InARow.{all_once, assumed_of, is_once_now, standing, stands}
@@ -353,7 +353,7 @@ module _ {H : Type 0} (answer_of : H → Command → Answer) (after : H → Comm
   one_or_none (Submit c) l apart offers before later =
       is_one (Submit c) l.account (after_move answer_of after (Submit c) l).account before later (submits_would (controllers.submit_refusal c l.controller) c l)
   one_or_none (QueueEvent e) l apart offers before later =
-      is_one (QueueEvent e) l.account (after_move answer_of after (QueueEvent e) l).account before later (queues_would (length l.reader.queue.events == l.reader.queue.capacity) e l)
+      is_one (QueueEvent e) l.account (after_move answer_of after (QueueEvent e) l).account before later (queues_would (lacks_room e l.reader.queue) e l)
   one_or_none WithdrawEvent l apart offers before later = withdraws_one l.reader.queue (splits l.reader.queue) l.account apart
   one_or_none (SetBusy busy) l apart offers before later = inl refl
   one_or_none (Tick now) l apart offers before later =

@@ -5,6 +5,7 @@ use Rattle.osdp_frame.specs.Packet.{Packet}
 use Rattle.osdp_msg.specs.declared.command.Command.{Command}
 use Rattle.osdp_msg.specs.declared.command.Command.TheVariants.{Poll}
 use Rattle.osdp_msg.specs.declared.event.Event.{Event}
+use Rattle.osdp_msg.specs.declared.limits.Room.{Room}
 use Rattle.osdp_msg.specs.declared.nak.NakReason.TheVariants.{UnexpectedSequence}
 use Rattle.osdp_controller.specs.Machine.{Machine}
 use Rattle.osdp_controller.specs.declared.config.ControllerConfig.{ControllerConfig}
@@ -74,11 +75,11 @@ LosesOne {A} place old new =
 module _ {H : Type 0} where
   -- the same device at this address, with this handler and this room: nothing was taken and nothing is stored, no event waits, and it isn't
   -- busy
-  pub record IsNewReader (here : ℕ) (answering : H) (room : ℕ) (old new : ReaderState H) : Type 0 where
+  pub record IsNewReader (here : ℕ) (answering : H) (room : Room) (old new : ReaderState H) : Type 0 where
     pub config : new.config ≡ record old.config { address = here }
     pub last : new.last ≡ None
     pub stored : new.stored ≡ None
-    pub queue : new.queue ≡ record { events = []; capacity = room; offered = false; ever_offered = false }
+    pub queue : new.queue ≡ record { events = []; capacity = room.messages; room = room.bytes; offered = false; ever_offered = false }
     pub busy : new.busy ≡ false
     pub handler : new.handler ≡ answering
 

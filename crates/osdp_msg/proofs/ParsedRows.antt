@@ -10,8 +10,8 @@ use Rattle.osdp_words.specs.Reading.{ReadsWords, Takes}
 use Rattle.osdp_words.specs.Word.{AllStandFor, Word, bytes, number}
 use Rattle.osdp_words.proofs.Rows.{IsMadeOf, PairAllowed, front_missing, pair_taken, pair_words}
 use Rattle.osdp_msg.specs.declared.command_fields.Communication.{Communication}
-use Rattle.osdp_msg.specs.declared.reply_fields.Formatted.{Formatted}
-use Rattle.osdp_msg.specs.declared.reply_fields.Keypad.{Keypad}
+use Rattle.osdp_msg.specs.declared.event_fields.Formatted.{Formatted}
+use Rattle.osdp_msg.specs.declared.event_fields.Keypad.{Keypad}
 use Rattle.osdp_msg.specs.declared.command_fields.MakerMessage.{MakerMessage}
 use Rattle.osdp_msg.specs.declared.reply_fields.Nak.{Nak}
 use Rattle.osdp_msg.specs.declared.reply_fields.PdId.{PdId}

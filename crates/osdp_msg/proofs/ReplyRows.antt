@@ -7,8 +7,8 @@ use Rattle.byteorder.specs.Endian.{little_bytes, little_number}
 use Rattle.hex.specs.Hex.{IsBytes}
 use Rattle.osdp_msg.specs.declared.nak.NakReason.{NakReason}
 use Rattle.osdp_msg.specs.declared.nak.NakReason.TheVariants.{Other}
-use Rattle.osdp_msg.specs.declared.reply_fields.Formatted.{Formatted}
-use Rattle.osdp_msg.specs.declared.reply_fields.Keypad.{Keypad}
+use Rattle.osdp_msg.specs.declared.event_fields.Formatted.{Formatted}
+use Rattle.osdp_msg.specs.declared.event_fields.Keypad.{Keypad}
 use Rattle.osdp_msg.specs.declared.reply_fields.LocalState.{LocalState}
 use Rattle.osdp_msg.specs.declared.reply_fields.Nak.{Nak}
 use Rattle.osdp_msg.specs.declared.reply_fields.PdId.{PdId}

@@ -108,11 +108,7 @@ fn value_at(code: u8, bytes: &[u8]) -> Command<'_>
 
 /// The command whose text begins with a name and goes on with these fields. What it has of bytes stands in `place` then.
 #[tactic(auto, using(crate::proofs::CommandRows::outputs, crate::proofs::CommandRows::leds))]
-fn parse_row<'a>(
-    name: &str,
-    fields: Fields<'_>,
-    place: &'a mut Spelling,
-) -> Option<Command<'a>>
+fn parse_row<'a>(name: &str, fields: Fields<'_>, place: &'a mut Spelling) -> Option<Command<'a>>
     ensures { ReadsWords command_words CommandFits (name.now ∷ fields.entry) result }
 {
     match name {

@@ -7,11 +7,12 @@ ghost use Rattle.osdp_msg.specs.Events.{EventFits, event_in, event_reply, event_
 ghost use Rattle.osdp_msg.specs.Kept.{event_kept};
 ghost use Rattle.osdp_msg.specs.ReplyTable.{reply_code, reply_data};
 
+use crate::event_fields::{Formatted, Keypad, States};
 use crate::fault::BadWords;
 use crate::limits::MAX_MESSAGE;
 use crate::raw::Raw;
 use crate::reply::{self, Reply};
-use crate::reply_fields::{Formatted, Keypad, LocalState, States};
+use crate::reply_fields::LocalState;
 use crate::spelling::Spelling;
 use arrayvec::ArrayVec;
 use osdp_words::Fields;

@@ -5,8 +5,8 @@ ghost use Rattle.osdp_msg.specs.Kept.{command_from, command_kept, event_from, ev
 
 use crate::command::Command;
 use crate::event::Event;
+use crate::event_fields::States;
 use crate::reply::Reply;
-use crate::reply_fields::States;
 
 /// The command that these bytes are.
 fn command_from(bytes: &[u8]) -> Option<Command<'_>>

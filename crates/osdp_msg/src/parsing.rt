@@ -10,9 +10,9 @@ ghost use Rattle.osdp_msg.specs.ListedCommands.{AreWhole};
 ghost use Rattle.osdp_msg.specs.Records.{IsRecord, records_at};
 ghost use Rattle.osdp_msg.specs.ReplyTable.{StatesFit};
 
+use crate::event_fields::States;
 use crate::limits::MAX_DATA;
 use crate::records::Record;
-use crate::reply_fields::States;
 use crate::spelling::Spelling;
 use osdp_words::Fields;
 

@@ -8,12 +8,13 @@ ghost use Rattle.osdp_msg.specs.Kept.{reply_kept};
 ghost use Rattle.osdp_msg.specs.ReplyText.{reply_words, reply_text};
 
 use crate::command_fields::{Communication, MakerMessage};
+use crate::event_fields::{Formatted, Keypad, States};
 use crate::fault::{BadWords, MsgFault};
 use crate::limits::MAX_MESSAGE;
 use crate::parsing::{parse_nothing, parse_states};
 use crate::printing::print_bytes;
 use crate::raw::Raw;
-use crate::reply_fields::{Formatted, Keypad, LocalState, Nak, PdCap, PdId, States};
+use crate::reply_fields::{LocalState, Nak, PdCap, PdId};
 use crate::spelling::{Spelling, put_code, rest};
 use crate::tabled::{Tabled, first_fault};
 use arrayvec::ArrayVec;
@@ -147,10 +148,7 @@ fn parse_row<'a>(name: &str, fields: Fields<'_>, place: &'a mut Spelling) -> Opt
 }
 
 /// The reply whose text has these words.
-pub(crate) fn parse_fields<'a>(
-    mut fields: Fields<'_>,
-    place: &'a mut Spelling,
-) -> Option<Reply<'a>>
+pub(crate) fn parse_fields<'a>(mut fields: Fields<'_>, place: &'a mut Spelling) -> Option<Reply<'a>>
     ensures { ReadsWords reply_words ReplyFits fields.entry result }
 {
     let name = fields.word()?;

@@ -2,7 +2,7 @@ use Rattle.std.proofs.Common.{refl, ◌∙◌}
 use Rattle.osdp_msg.specs.ReplyFields.{FormattedFits, formatted_words}
 use Rattle.osdp_msg.proofs.ParsedRows.{formatted_from, formatted_made, formatted_parts}
 use Rattle.osdp_msg.proofs.TakenParts.{AreNumbers, IsList, list_words, numbers_words, two_no_back, two_no_front, two_whole, within}
-use Rattle.osdp_msg.proofs.reply_fields.Formatted.parse.Goals as goal
+use Rattle.osdp_msg.proofs.event_fields.Formatted.parse.Goals as goal
 
 pub returns-in_err-reader : goal.returns-in_err-reader
 returns-in_err-reader c = two_no_front numbers_words (AreNumbers 2) list_words (IsList 255) formatted_words FormattedFits formatted_from formatted_parts formatted_made _ _ _ c.in_err-reader.ensures c.from_residual.ensures
