@@ -16,7 +16,7 @@ use Rattle.osdp_controller.specs.declared.session.Session.{Session}
 use Rattle.osdp_controller.specs.declared.state.State.TheVariants.{Quiet, Idle}
 use Rattle.osdp_frame.specs.Packet.{next_sequence}
 use Rattle.osdp_controller.specs.Exchanges.{exchange_command}
-use Rattle.osdp_reader.specs.Queue.{Queue, event_for, offering, queued, released}
+use Rattle.osdp_reader.specs.Queue.{Queue, event_for, offering, queued, released, lacks_room}
 use Rattle.osdp_reader.specs.State.{ReaderState}
 use Rattle.osdp_reader.specs.Table.{answer_to}
 use Rattle.osdp_reader.specs.declared.config.ReaderConfig.{ReaderConfig}
@@ -257,7 +257,7 @@ module _ (fixed : ControllerConfig) {H : Type 0} (answer_of : H → Command → 
       orders_ready s orders (link.submits refusal c l) all.1 fits.1
       (submits_ready s refusal c l (λ e. record { no_poll = not_poll c l.controller e; fits = fits.0 }) h)
   orders_ready s (QueueEvent e ∷ orders) l all fits h =
-      let full = link.lacks_room e l.reader.queue in
+      let full = lacks_room e l.reader.queue in
       orders_ready s orders (link.queues full e l) all.1 fits.1 (queues_ready s full e l h)
   orders_ready s (WithdrawEvent ∷ orders) l all fits h = absurd all.0
   orders_ready s (SetBusy busy ∷ orders) l all fits h = absurd all.0

@@ -2,6 +2,7 @@
 use Rattle.std.proofs.Common.{◌≡◌, ℕ, Bool, true, false, List, [], ◌∷◌, length, Option, Some, None, refl}
 use Rattle.std.specs.Prelude.{◌==◌}
 use Rattle.osdp_frame.specs.Packet.{Packet}
+use Rattle.osdp_msg.specs.declared.limits.Room.{Room}
 use Rattle.osdp_msg.specs.declared.command.Command.{Command}
 use Rattle.osdp_msg.specs.declared.event.Event.{Event}
 use Rattle.osdp_controller.specs.Hearing.{hears}
@@ -12,8 +13,9 @@ use Rattle.osdp_controller.specs.Ticking.{ticks}
 use Rattle.osdp_controller.specs.declared.fault.ControllerFault.{ControllerFault}
 use Rattle.osdp_controller.specs.declared.session.Session.{Session}
 use Rattle.osdp_reader.specs.declared.handler.Answer.{Answer}
+use Rattle.osdp_reader.specs.Queue.{lacks_room}
 use Rattle.osdp_link_laws.specs.Link as link
-use Rattle.osdp_link_laws.specs.Link.{Delivered, Delivery, Link, Lost, Move, Queue as QueueEvent, Reopen, Repeated, RestartController, RestartReader, Retarget, SetBusy, SetHandler, Submit, Tick, ToController, ToReader, Withdraw, WithdrawEvent, after_move, run, LoseToReader, LoseToController, lacks_room}
+use Rattle.osdp_link_laws.specs.Link.{Delivered, Delivery, Link, Lost, Move, Queue as QueueEvent, Reopen, Repeated, RestartController, RestartReader, Retarget, SetBusy, SetHandler, Submit, Tick, ToController, ToReader, Withdraw, WithdrawEvent, after_move, run, LoseToReader, LoseToController}
 use Rattle.osdp_link_laws.specs.Headline.{MoveFits, MovesFit}
 use Rattle.osdp_link_laws.proofs.Removed.{IsInside}
 
@@ -26,7 +28,7 @@ pub record IsKept (P : Session → Type 0) : Type 0 where
 pub record IsKeptOutside (P : Session → Type 0) : Type 0 where
   pub begin : (now : ℕ) (m : Machine) → begin_refusal m ≡ None → P m.session → P (after_begin now m).session
   pub target : (address : ℕ) (m : Machine) → retarget_refusal address m ≡ None → P m.session → P (after_retarget address m).session
-  pub restart : (config : ControllerConfig) (room : ℕ) → AreSettings config room → P (new_session config)
+  pub restart : (config : ControllerConfig) (room : Room) → AreSettings config room.messages room.bytes → P (new_session config)
 
 module _ {H : Type 0} (answer_of : H → Command → Answer) (after : H → Command → H) (P : Session → Type 0) where
   abbrev Has : Link H → Type 0

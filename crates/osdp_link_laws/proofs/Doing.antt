@@ -4,6 +4,7 @@ use Rattle.std.proofs.lemmas.Bool.{le-ltb, lt-ltb}
 use Rattle.std.proofs.lemmas.List.{append-nil}
 use Rattle.std.specs.Prelude.{◌-◌, ◌||◌, if◌then◌else◌, not, option_to_list}
 use Rattle.osdp_frame.specs.Packet.{Packet}
+use Rattle.osdp_msg.specs.declared.limits.Room.{Room}
 use Rattle.osdp_msg.specs.declared.command.Command.{Command}
 use Rattle.osdp_msg.specs.declared.event.Event.{Event}
 use Rattle.osdp_msg.specs.declared.nak.NakReason.TheVariants.{UnexpectedSequence}
@@ -86,7 +87,7 @@ module _ {H : Type 0} where
         ap (λ es. record t { kept = t.offered; thrown_away = t.thrown_away ++ es; restarts = t.restarts + 1 })
         (ap (drop (length t.offered)) is ∙ drop_front t.offered gone)
 
-    restarts_reader : (l : Link H) (address : ℕ) (handler : H) (room : ℕ)
+    restarts_reader : (l : Link H) (address : ℕ) (handler : H) (room : Room)
         → HasNewReader answer_of after address handler room l (after_move answer_of after (RestartReader address handler room) l)
     restarts_reader l address handler room = record {
       others = refl;
@@ -95,11 +96,11 @@ module _ {H : Type 0} where
       account = λ gone is. throws_away gone l.account is;
     }
 
-    pub restarts_controller : (l : Link H) (config : ControllerConfig) (room : ℕ)
+    pub restarts_controller : (l : Link H) (config : ControllerConfig) (room : Room)
         → HasNewController config room l (after_move answer_of after (RestartController config room) l)
     restarts_controller l config room = record {
       others = refl;
-      controller = record { state = refl; config = refl; number = refl; greatest = refl; waiting = refl; capacity = refl };
+      controller = record { state = refl; config = refl; number = refl; greatest = refl; waiting = refl; capacity = refl; room = refl };
       account = refl;
     }
 
@@ -183,6 +184,7 @@ module _ {H : Type 0} (answer_of : H → Command → Answer) (after : H → Comm
       session = refl;
       waiting = back.0;
       capacity = refl;
+      room = refl;
       account = ap (λ o. record l.account { removed = l.account.removed ++ map Withdrawn (option_to_list o) }) back.1;
     };
     none = λ l why. let back = none_back l.controller.session.state l.controller.waiting why in
@@ -244,7 +246,7 @@ module _ {H : Type 0} (answer_of : H → Command → Answer) (after : H → Comm
   retargets = record {
     set = λ l address closed small.
         subst (λ fault. HasAddress address l (link.retargets fault address l)) (sym (may_set l.controller.session.state address closed small))
-        (record { others = refl; address = refl; config = refl; state = closed; number = refl; greatest = refl; waiting = refl; capacity = refl; account = refl });
+        (record { others = refl; address = refl; config = refl; state = closed; number = refl; greatest = refl; waiting = refl; capacity = refl; room = refl; account = refl });
     refused = λ l address why. ap (λ fault. link.retargets fault address l) (may_not l.controller.session.state address why).1;
   }
 

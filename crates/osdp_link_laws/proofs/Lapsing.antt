@@ -7,7 +7,7 @@ use Rattle.osdp_msg.specs.declared.event.Event.{Event}
 use Rattle.osdp_msg.specs.declared.limits.Room.{Room}
 use Rattle.osdp_controller.specs.Machine as controllers
 use Rattle.osdp_controller.specs.declared.fault.ControllerFault.{ControllerFault}
-use Rattle.osdp_reader.specs.Queue.{Queue, bytes_waiting, event_size, has_room}
+use Rattle.osdp_reader.specs.Queue.{Queue, bytes_waiting, event_size, has_room, lacks_room}
 use Rattle.osdp_reader.specs.State.{ReaderState}
 use Rattle.osdp_reader.specs.Table.{kind_of, outcome}
 use Rattle.osdp_reader.specs.declared.handler.Answer.{Answer}
@@ -16,7 +16,7 @@ use Rattle.osdp_reader.specs.declared.kind.Kind.TheVariants.{Silent, Secured, Ze
 use Rattle.std.specs.Prelude.{option_to_list}
 use Rattle.osdp_link_laws.specs.Lapses.{DifferByLapse, IsNotZero, IsNotZeroIf, KeepSession, KeepsSession, LapsesAreUnheard, NextBeginsWithout, Offers, SessionsHideLapses, StayInSession, StaysInSession, lapses}
 use Rattle.osdp_link_laws.specs.Link as link
-use Rattle.osdp_link_laws.specs.Link.{Delivered, Delivery, Link, LoseToController, LoseToReader, Lost, Move, Queue as QueueEvent, Reopen, Repeated, RestartController, RestartReader, Retarget, SetBusy, SetHandler, Submit, Tick, ToController, ToReader, Withdraw, WithdrawEvent, after_move, lacks_room, run}
+use Rattle.osdp_link_laws.specs.Link.{Delivered, Delivery, Link, LoseToController, LoseToReader, Lost, Move, Queue as QueueEvent, Reopen, Repeated, RestartController, RestartReader, Retarget, SetBusy, SetHandler, Submit, Tick, ToController, ToReader, Withdraw, WithdrawEvent, after_move, run}
 use Rattle.osdp_link_laws.specs.Headline.{Begins, MaySubmit}
 use Rattle.osdp_link_laws.specs.Peers.{ReadEachOther}
 use Rattle.osdp_link_laws.proofs.InARow.{stands}

@@ -4,6 +4,7 @@ use Rattle.std.proofs.lemmas.List.{append-nil, length-append, length-map}
 use Rattle.std.proofs.Math.Seq.{take-append_seam}
 use Rattle.std.specs.Prelude.{◌-◌, if◌then◌else◌, nat_le, nat_lt, option_to_list}
 use Rattle.osdp_frame.specs.Packet.{Packet, next_sequence}
+use Rattle.osdp_msg.specs.declared.limits.Room.{Room}
 use Rattle.osdp_msg.specs.declared.command.Command.{Command}
 use Rattle.osdp_msg.specs.declared.command.Command.TheVariants as command
 use Rattle.osdp_msg.specs.declared.event.Event.{Event}
@@ -24,7 +25,7 @@ use Rattle.osdp_controller.specs.declared.session.Session.{Session}
 use Rattle.osdp_controller.specs.declared.state.State.{State}
 use Rattle.osdp_controller.specs.declared.state.State.TheVariants.{Closed, Quiet, Idle, Waiting, Pausing}
 use Rattle.osdp_reader.specs.Table as reader
-use Rattle.osdp_reader.specs.Queue.{Queue as EventQueue, released}
+use Rattle.osdp_reader.specs.Queue.{Queue as EventQueue, released, lacks_room}
 use Rattle.osdp_reader.specs.State.{ReaderState}
 use Rattle.osdp_reader.specs.declared.config.ReaderConfig.{ReaderConfig}
 use Rattle.osdp_reader.specs.declared.handler.Answer.{Answer}
@@ -32,7 +33,7 @@ use Rattle.osdp_reader.specs.declared.kind.Kind.{Kind}
 use Rattle.osdp_reader.specs.declared.kind.Kind.TheVariants as kind
 use Rattle.osdp_link_laws.specs.Headline.{MovesFit, Begins, IsBeginning, IsOnce, MoveFits, asked}
 use Rattle.osdp_link_laws.specs.Link as link
-use Rattle.osdp_link_laws.specs.Link.{Account, Delivered, Delivery, Link, Lost, Move, Queue as QueueEvent, Reopen, Repeated, RestartController, RestartReader, Retarget, SetBusy, SetHandler, Submit, Tick, ToController, ToReader, Withdraw, WithdrawEvent, after_move, run, after_report, event_withdrawn, lost_at, LoseToReader, LoseToController, unoffered_in, lacks_room}
+use Rattle.osdp_link_laws.specs.Link.{Account, Delivered, Delivery, Link, Lost, Move, Queue as QueueEvent, Reopen, Repeated, RestartController, RestartReader, Retarget, SetBusy, SetHandler, Submit, Tick, ToController, ToReader, Withdraw, WithdrawEvent, after_move, run, after_report, event_withdrawn, lost_at, LoseToReader, LoseToController, unoffered_in}
 use Rattle.osdp_link_laws.specs.TwoLists.{IsInStep, IsLevel, IsOneOrNone, IsRead, IsReadOff, IsStepOf, Issue, KeepsInStep, May, MovesInStep, Offer, Offers, OffersOnce, Queue, Report as Tell, Settle, Step, Take, ThrowAway, TwoLists, WithdrawEvent as WithdrawPlace, after_step, two_lists}
 use Rattle.osdp_link_laws.specs.Peers.{ReadEachOther}
 use Rattle.osdp_link_laws.proofs.InARow.{all_once, assumed_of, is_once_now, standing, stands}
@@ -317,7 +318,7 @@ module _ {H : Type 0} (answer_of : H → Command → Answer) (after : H → Comm
   reopens None (p ∷ ps) qs now l = inl refl
   reopens (Some fault) ps qs now l = inl refl
 
-  restarts_would : (address : ℕ) (handler : H) (room : ℕ) (t : Account) → Offers t → Would {H = H} (RestartReader address handler room) t (link.reader_restarted t)
+  restarts_would : (address : ℕ) (handler : H) (room : Room) (t : Account) → Offers t → Would {H = H} (RestartReader address handler room) t (link.reader_restarted t)
   restarts_would address handler room t o =
       inr (ThrowAway, tt, tt, ap (λ es. record (two_lists t) { queued = es }) (is_front t.offered t.kept o.offered.0 o.offered.1))
 

@@ -1,5 +1,5 @@
 -- One link: a controller, a reader, and the packets that are on the way between them.
-use Rattle.std.specs.Prelude.{ℕ, zero, suc, Bool, true, false, ◌==◌, ◌+◌, ◌-◌, not, if◌then◌else◌, List, [], ◌∷◌, ◌++◌, drop, length, map, take, Option, Some, None, option_to_list}
+use Rattle.std.specs.Prelude.{ℕ, zero, suc, Bool, true, false, ◌==◌, ◌+◌, ◌-◌, if◌then◌else◌, List, [], ◌∷◌, ◌++◌, drop, length, map, take, Option, Some, None, option_to_list}
 use Rattle.osdp_frame.specs.Packet.{Packet}
 use Rattle.osdp_msg.specs.declared.command.Command.{Command}
 use Rattle.osdp_msg.specs.declared.command.Command.TheVariants.{Poll}
@@ -21,7 +21,7 @@ use Rattle.osdp_controller.specs.Ticking.{Ticked, ticks}
 use Rattle.osdp_reader.specs.declared.handler.Answer.{Answer}
 use Rattle.osdp_reader.specs.declared.kind.Kind.{Kind}
 use Rattle.osdp_reader.specs.declared.kind.Kind.TheVariants as kind
-use Rattle.osdp_reader.specs.Queue.{Queue as EventQueue, has_room, never_offered, released}
+use Rattle.osdp_reader.specs.Queue.{Queue as EventQueue, lacks_room, never_offered, released}
 use Rattle.osdp_reader.specs.State as readers
 use Rattle.osdp_reader.specs.State.{ReaderState}
 use Rattle.osdp_reader.specs.Table as reader
@@ -114,10 +114,6 @@ pub data Move (H : Type 0) : Type 0 where
   RestartController : ControllerConfig → Room → Move H
   LoseToReader : ℕ → Move H
   LoseToController : ℕ → Move H
-
--- an event finds no place in the queue, or no room for its bytes
-abbrev pub lacks_room : Event → EventQueue → Bool
-lacks_room event q = not (has_room event q)
 
 -- without what stands at this place, if anything does
 abbrev pub lost_at : {A : Type 0} → ℕ → List A → List A
@@ -261,7 +257,7 @@ module _ {H : Type 0} where
   -- closed, with nothing waiting and no moment seen: a session that lasted has ended, and nobody is told
   abbrev pub restarts_controller : ControllerConfig → Room → Link H → Link H
   restarts_controller config room l = record l {
-    controller = controllers.new_machine config room;
+    controller = controllers.new_machine config room.messages room.bytes;
     account = controller_restarted l.controller l.account;
   }
 

@@ -8,8 +8,9 @@ use Rattle.osdp_controller.specs.declared.fault.ControllerFault.{ControllerFault
 use Rattle.osdp_controller.specs.declared.state.State.{State}
 use Rattle.osdp_controller.specs.declared.state.State.TheVariants.{Closed}
 use Rattle.osdp_reader.specs.declared.handler.Answer.{Answer}
+use Rattle.osdp_reader.specs.Queue.{lacks_room}
 use Rattle.osdp_link_laws.specs.Headline.{MovesFit, Begins, IsBeginning, IsWithout, asked}
-use Rattle.osdp_link_laws.specs.Link.{Account, Link, Move, Queue, Removal, Submit, ThrownAway, Withdrawn, after_move, run, lacks_room}
+use Rattle.osdp_link_laws.specs.Link.{Account, Link, Move, Queue, Removal, Submit, ThrownAway, Withdrawn, after_move, run}
 
 abbrev pub settled_commands : Account → List Command
 settled_commands t = map asked t.settled

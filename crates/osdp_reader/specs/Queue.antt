@@ -1,5 +1,5 @@
 -- The events that wait until the controller has them.
-use Rattle.std.specs.Prelude.{ℕ, ◌≡◌, ◌+◌, ◌-◌, Bool, true, false, ◌||◌, ◌&&◌, nat_le, nat_lt, is_some, List, [], drop, take, length, slice_get, Option, None, if◌then◌else◌, ◌++◌, ◌∷◌}
+use Rattle.std.specs.Prelude.{ℕ, ◌≡◌, ◌+◌, ◌-◌, Bool, true, false, ◌||◌, ◌&&◌, not, nat_le, nat_lt, is_some, List, [], drop, take, length, slice_get, Option, None, if◌then◌else◌, ◌++◌, ◌∷◌}
 use Rattle.std.specs.Option.{option_map}
 use Rattle.osdp_msg.specs.declared.command.Command.{Command}
 use Rattle.osdp_msg.specs.declared.command.Command.TheVariants.{Poll}
@@ -36,6 +36,10 @@ bytes_waiting (e ∷ es) = event_size e + bytes_waiting es
 -- there is a place for one more event, and room for its bytes beside those that wait
 abbrev pub has_room : Event → Queue → Bool
 has_room event q = nat_lt (length q.events) q.capacity && nat_le (event_size event) (q.room - bytes_waiting q.events)
+
+-- .. or there isn't
+abbrev pub lacks_room : Event → Queue → Bool
+lacks_room event q = not (has_room event q)
 
 -- an event after the others
 abbrev pub queued : Event → Queue → Queue
