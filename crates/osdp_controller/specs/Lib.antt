@@ -7,6 +7,7 @@ pub mod Ticking
 pub mod Hearing
 pub mod Comsets
 pub mod Held
+pub mod Kept
 pub mod Lent
 pub mod Private
 pub mod Machine

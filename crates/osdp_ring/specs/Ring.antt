@@ -1,5 +1,6 @@
 -- A queue of byte strings: what it holds, and what fits.
-use Rattle.std.specs.Prelude.{◌≡◌, ◌≤◌, ℕ, ◌+◌, ◌-◌, Bool, true, false, ◌&&◌, nat_le, nat_lt, List, [], ◌∷◌, ◌++◌, length, take, drop}
+use Rattle.std.specs.Prelude.{◌≡◌, ◌≤◌, ℕ, ◌+◌, ◌-◌, Bool, true, false, ◌&&◌, ◌==◌, nat_le, nat_lt, List, [], ◌∷◌, ◌++◌, length, take, drop}
+use Rattle.std.specs.List.{list_any}
 
 pub record Strings : Type 0 where
   pub items : List (List ℕ)
@@ -32,6 +33,15 @@ popped q = record q { items = drop 1 q.items }
 -- without the second string
 abbrev pub second_popped : Strings → Strings
 second_popped q = record q { items = take 1 q.items ++ drop 2 q.items }
+
+-- a string begins with this byte
+abbrev pub begins : ℕ → List ℕ → Bool
+begins byte [] = false
+begins byte (first ∷ rest) = first == byte
+
+-- .. and one of the strings does
+abbrev pub has_first : ℕ → List (List ℕ) → Bool
+has_first byte strings = list_any (begins byte) strings
 
 -- ---- how they are kept
 

@@ -3,7 +3,7 @@
 ghost use Rattle.std.specs.Prelude.{◌≡◌, true, ◌+◌, ◌-◌, ◌<◌, ◌≤◌, ◌^◌, ◌++◌, [], ◌∷◌, drop, length, slice_get, take, IfOk, vec_capacity, vec_len};
 ghost use Rattle.std.specs.Option.{option_copied};
 ghost use Rattle.circular_buffer.specs.Buffer.{buffer};
-ghost use Rattle.osdp_ring.specs.Ring.{empty_ring, fits_in, popped, pushed, pushed_if, second_popped, total};
+ghost use Rattle.osdp_ring.specs.Ring.{begins, cut, empty_ring, fits_in, has_first, popped, pushed, pushed_if, second_popped, sum_of, total};
 
 use circular_buffer::HeapCircularBuffer;
 use std::alloc::{AllocError, Global};
@@ -93,6 +93,14 @@ impl Ring {
         Some(row.split_at(usize::from(size)).0)
     }
 
+    /// Whether one of the strings begins with this byte.
+    pub fn has_first(&self, byte: u8) -> bool
+        ensures { result ≡ has_first byte self.now.items }
+    {
+        let row = self.row.as_slice().split_at(self.gone).1;
+        has_first_in(&self.sizes, row, byte)
+    }
+
     /// Puts a string after the others, where it fits. Whether it does; else nothing changes.
     pub fn push(&mut self, bytes: &[u8]) -> bool
         requires { length bytes.now < 2 ^ 16 }
@@ -157,6 +165,29 @@ impl Ring {
         };
         self.gone += usize::from(size);
     }
+}
+
+/// Whether one of the strings that a row is cut into begins with this byte.
+fn has_first_in(sizes: &HeapCircularBuffer<u16>, row: &[u8], byte: u8) -> bool
+    requires { sum_of sizes.now.items ≡ length row.now }
+    ensures { result ≡ has_first byte (cut sizes.now.items row.now) }
+{
+    let mut left = row;
+    for size in sizes.iter() {
+        let (own, others) = left.split_at(usize::from(*size));
+        if begins(own, byte) {
+            return true;
+        }
+        left = others;
+    }
+    false
+}
+
+/// Whether a string begins with this byte.
+fn begins(bytes: &[u8], byte: u8) -> bool
+    ensures { result ≡ begins byte bytes.now }
+{
+    !bytes.is_empty() && bytes[0] == byte
 }
 
 /// Takes so many bytes out of a row, from a place on.
