@@ -8,7 +8,7 @@ ghost use Rattle.osdp_device.specs.declared.question.Question.TheVariants as que
 
 use arrayvec::ArrayVec;
 use osdp_msg::{MAX_DATA, MakerMessage, NakReason, Spelling};
-use osdp_reader::Answer;
+use osdp_reader::{Answer, lend};
 use std::marker::Model;
 
 /// How far a device's program has decided what is said to the next command.
@@ -149,16 +149,6 @@ fn keep(answer: &Answer<'_>, bytes: &mut ArrayVec<u8, MAX_DATA>) -> Shape
             Shape::Maker(own.vendor())
         }
     }
-}
-
-/// Puts these bytes in place of what stands in `place`, and lends them there.
-pub(crate) fn lend<'a>(bytes: &[u8], place: &'a mut Spelling) -> &'a [u8]
-    requires { length bytes.now ≤ MAX_DATA }
-    ensures { result.now ≡ bytes.now }
-{
-    place.clear();
-    place.try_extend_from_slice(bytes).unwrap();
-    place.as_slice()
 }
 
 /// The answer of this shape, whose bytes are put into `place`.

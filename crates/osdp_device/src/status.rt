@@ -3,10 +3,9 @@
 ghost use Rattle.std.specs.Prelude.{◌≡◌};
 ghost use Rattle.osdp_device.specs.Status.{are_there, new_status, status_answer};
 
-use crate::question::lend;
 use arrayvec::ArrayVec;
 use osdp_msg::{Command, MAX_DATA, NakReason, OutputRecord, Records, Spelling};
-use osdp_reader::{Answer, Handler};
+use osdp_reader::{Answer, Handler, lend};
 
 /// What there is at a device, as its program has set it: by `Reader::handler_mut` between two packets.
 ///

@@ -49,3 +49,13 @@ pub trait Handler: Drop {
         ensures answer { result ≡ answer_of self.old command.now }
         ensures state { self.new ≡ after self.old command.now };
 }
+
+/// Puts these bytes in place of what stands in `place`, and lends them there: for a handler whose answer has bytes that it keeps itself.
+pub fn lend<'a>(bytes: &[u8], place: &'a mut Spelling) -> &'a [u8]
+    requires { length bytes.now ≤ MAX_DATA }
+    ensures { result.now ≡ bytes.now }
+{
+    place.clear();
+    place.try_extend_from_slice(bytes).unwrap();
+    place.as_slice()
+}

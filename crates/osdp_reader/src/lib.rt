@@ -18,7 +18,7 @@ mod stored;
 
 pub use config::ReaderConfig;
 pub use fault::ReaderFault;
-pub use handler::{Answer, Handler};
+pub use handler::{Answer, Handler, lend};
 pub use heard::Heard;
 pub use kind::Kind;
 pub use reader::Reader;
