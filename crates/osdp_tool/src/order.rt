@@ -42,13 +42,10 @@ impl<'a> Message<'a> {
     ) -> Option<Message<'a>>
         ensures { ReadsWords message_words MessageFits (texts words.now) result }
     {
-        match Command::parse(words, command) {
-            Ok(command) => Some(Message::Command(command)),
-            Err(_) => match Reply::parse(words, reply) {
-                Ok(reply) => Some(Message::Reply(reply)),
-                Err(_) => None,
-            },
+        if let Ok(command) = Command::parse(words, command) {
+            return Some(Message::Command(command));
         }
+        Some(Message::Reply(Reply::parse(words, reply).ok()?))
     }
 
     /// The code and the data.
