@@ -28,11 +28,11 @@ pub record Machine : Type 0 where
   pub room : ℕ
 
 -- the settings and the room for waiting commands are in their ranges
-pub record AreSettings (config : ControllerConfig) (capacity room : ℕ) : Type 0 where
+pub record AreSettings (config : ControllerConfig) (capacity together : ℕ) : Type 0 where
   pub config_in_range : IsConfig config
   pub room : 1 ≤ capacity
   pub limit : capacity ≤ most_waiting
-  pub bytes : (1 ≤ room) × (room ≤ most_waiting * (1 + most_data))
+  pub bytes : (1 ≤ together) × (together ≤ most_waiting * (1 + most_data))
 
 -- a new controller: closed, and nothing waits
 abbrev pub new_machine : ControllerConfig → ℕ → ℕ → Machine

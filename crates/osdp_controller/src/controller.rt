@@ -28,7 +28,7 @@ pub struct Controller {
 }
 
 impl Model for Controller {
-    ghost use Rattle.osdp_controller.specs.Kept.{IsController, machine_of};
+    ghost use Rattle.osdp_controller.specs.Waiting.{IsController, machine_of};
     ghost use Rattle.osdp_controller.specs.Machine.{Machine};
 
     ghost Value = { Machine };

@@ -3,7 +3,8 @@
 ghost use Rattle.std.specs.Prelude.{◌≡◌, None, Some, is_some};
 ghost use Rattle.std.specs.Option.{option_map};
 ghost use Rattle.osdp_msg.specs.Kept.{command_kept};
-ghost use Rattle.osdp_controller.specs.declared.report.Report.TheVariants.{Event, Lost, Moved, Opened, PollAnswered, Settled, Unread};
+ghost use Rattle.osdp_controller.specs.declared.report.Report.TheVariants.{Lost, Moved, Opened, PollAnswered, Settled, Unread};
+ghost use Rattle.osdp_controller.specs.declared.report.Report.TheVariants as reports;
 ghost use Rattle.osdp_controller.specs.Kept.{told_as};
 
 use crate::report::{LostCause, Report};
@@ -116,7 +117,7 @@ impl KeptReport {
 
     /// The reader told this event.
     pub(crate) fn tell_event(&mut self, event: &Event<'_>)
-        ensures { self.new ≡ Some (Event event.now) }
+        ensures { self.new ≡ Some (reports.Event event.now) }
     {
         event.write_into(&mut self.reply);
         self.telling = Some(Telling::Event);
@@ -132,7 +133,7 @@ impl KeptReport {
 
     /// The answer to the command of these bytes, or to a POLL, can't be read.
     pub(crate) fn tell_unread(&mut self, command: Option<&Spelling>, code: u8)
-        ensures { self.new ≡ Some (Unread (option_map (λ bytes. command_kept bytes.now.items) command) code) }
+        ensures { self.new ≡ Some (Unread (option_map (λ bytes. command_kept bytes.now.items) command.entry) code) }
     {
         match command {
             Some(command) => {
@@ -145,7 +146,7 @@ impl KeptReport {
 
     /// The session has ended, with the command of these bytes outstanding, or with none.
     pub(crate) fn tell_lost(&mut self, cause: LostCause, command: Option<&Spelling>)
-        ensures { self.new ≡ Some (Lost cause (option_map (λ bytes. command_kept bytes.now.items) command)) }
+        ensures { self.new ≡ Some (Lost cause (option_map (λ bytes. command_kept bytes.now.items) command.entry)) }
     {
         match command {
             Some(command) => {

@@ -6,7 +6,7 @@ ghost use Rattle.osdp_controller.specs.declared.exchange.Exchange.TheVariants.{A
 ghost use Rattle.osdp_controller.specs.declared.state.Stage.TheVariants as stages;
 ghost use Rattle.osdp_controller.specs.declared.state.State.TheVariants.{Closed, Idle, Pausing, Quiet, Waiting};
 ghost use Rattle.osdp_controller.specs.Exchanges.{exchange_body, submitted_command};
-ghost use Rattle.osdp_controller.specs.Kept.{IsCommand};
+ghost use Rattle.osdp_controller.specs.Commands.{IsCommand};
 ghost use Rattle.osdp_msg.specs.Kept.{command_kept};
 ghost use Rattle.osdp_msg.specs.declared.command.Command.TheVariants.{Poll};
 ghost use Rattle.std.specs.Option.{option_map};
@@ -84,7 +84,7 @@ pub struct Held {
 impl Model for Held {
     ghost use Rattle.osdp_controller.specs.declared.state.State.{State};
     ghost use Rattle.osdp_controller.specs.Held.{exchange_of, state_of};
-    ghost use Rattle.osdp_controller.specs.Kept.{IsCommand};
+    ghost use Rattle.osdp_controller.specs.Commands.{IsCommand};
     ghost use Rattle.osdp_msg.specs.Kept.{command_kept};
 
     ghost Value = { State };

@@ -8,7 +8,7 @@ ghost use Rattle.osdp_controller.specs.declared.report.LostCause.TheVariants.{No
 ghost use Rattle.osdp_controller.specs.declared.state.Stage.TheVariants as stages;
 ghost use Rattle.osdp_msg.specs.declared.command.Command.TheVariants.{Poll};
 ghost use Rattle.osdp_msg.specs.Kept.{command_kept};
-ghost use Rattle.osdp_controller.specs.Kept.{IsCommand};
+ghost use Rattle.osdp_controller.specs.Commands.{IsCommand};
 ghost use Rattle.osdp_controller.specs.Held.{exchange_of, outstanding_in, sends_in, stage_of};
 ghost use Rattle.osdp_controller.specs.Machine.{IsSession, IsSubmitted, is_outstanding};
 ghost use Rattle.osdp_controller.specs.Sessions.{after_send, closed, lost};

@@ -4,7 +4,7 @@ use Rattle.std.proofs.Math.Seq.{take-length}
 use Rattle.std.proofs.lemmas.List.{drop-append-le, drop-take, drop_at, length-drop, length-take, take-append-le}
 use Rattle.std.specs.Prelude.{slice_get}
 use Rattle.std.proofs.lemmas.Bool.{leb-true, ltb-true}
-use Rattle.osdp_ring.specs.Ring.{cut, sum_of, total}
+use Rattle.osdp_ring.specs.Ring.{begins, cut, has_first, sum_of, total}
 
 zero-add : (k : ℕ) → 0 + k ≡ k
 zero-add k = omega arith
@@ -148,3 +148,38 @@ drop_without row gone n m le =
     ∙ ap (λ (s : List ℕ). s ++ drop (gone + n + m) row) (drop-take gone n row)
     ∙ ap (λ (k : ℕ). take n (drop gone row) ++ drop k row) same
     ∙ ap (λ (s : List ℕ). take n (drop gone row) ++ s) (sym (drop_again gone (n + m) row))
+
+-- the strings from a place on
+drop_some : (sizes : List ℕ) (k n : ℕ) → slice_get sizes k ≡ Some n → drop k sizes ≡ n ∷ drop (k + 1) sizes
+drop_some [] zero n e = cc
+drop_some [] (suc k) n e = cc
+drop_some (m ∷ sizes) zero n e = let same : m ≡ n = cc in ap (λ (j : ℕ). j ∷ sizes) same
+drop_some (m ∷ sizes) (suc k) n e =
+    let next : suc (k + 1) ≡ suc k + 1 = omega arith in
+    drop_some sizes k n e ∙ ap (λ (j : ℕ). n ∷ drop j (m ∷ sizes)) next
+
+drop_none : (sizes : List ℕ) (k : ℕ) → slice_get sizes k ≡ None → drop k sizes ≡ []
+drop_none [] zero e = refl
+drop_none [] (suc k) e = refl
+drop_none (m ∷ sizes) zero e = cc
+drop_none (m ∷ sizes) (suc k) e = drop_none sizes k e
+
+pub size_within : (sizes left : List ℕ) (k n : ℕ) → slice_get sizes k ≡ Some n → sum_of (drop k sizes) ≡ length left → n ≤ length left
+size_within sizes left k n e whole =
+    let more : sum_of (drop k sizes) ≡ n + sum_of (drop (k + 1) sizes) = ap sum_of (drop_some sizes k n e) in
+    omega (arith, more, whole)
+
+pub sizes_left : (sizes left : List ℕ) (k n : ℕ) → slice_get sizes k ≡ Some n → sum_of (drop k sizes) ≡ length left → sum_of (drop (k + 1) sizes) ≡ length (drop n left)
+sizes_left sizes left k n e whole =
+    let more : sum_of (drop k sizes) ≡ n + sum_of (drop (k + 1) sizes) = ap sum_of (drop_some sizes k n e) in
+    omega (arith, more, whole, length-drop n left)
+
+pub one_begins : (byte : ℕ) (sizes left : List ℕ) (k n : ℕ) → slice_get sizes k ≡ Some n → begins byte (take n left) ≡ true → has_first byte (cut (drop k sizes) left) ≡ true
+one_begins byte sizes left k n e h = rw (drop_some sizes k n e, h) refl
+
+pub one_does_not : (byte : ℕ) (sizes left : List ℕ) (k n : ℕ) → slice_get sizes k ≡ Some n → begins byte (take n left) ≡ false
+    → has_first byte (cut (drop k sizes) left) ≡ has_first byte (cut (drop (k + 1) sizes) (drop n left))
+one_does_not byte sizes left k n e h = rw (drop_some sizes k n e, h) refl
+
+pub none_begins : (byte : ℕ) (sizes left : List ℕ) (k : ℕ) → slice_get sizes k ≡ None → has_first byte (cut (drop k sizes) left) ≡ false
+none_begins byte sizes left k e = rw (drop_none sizes k e) refl

@@ -10,7 +10,7 @@ use std::alloc::{AllocError, Global};
 use std::marker::Model;
 
 /// Byte strings from the first on.
-#[derive(Drop)]
+#[derive(Debug, Drop)]
 pub struct Ring {
     /// How many bytes each has.
     sizes: HeapCircularBuffer<u16>,
@@ -173,7 +173,10 @@ fn has_first_in(sizes: &HeapCircularBuffer<u16>, row: &[u8], byte: u8) -> bool
     ensures { result ≡ has_first byte (cut sizes.now.items row.now) }
 {
     let mut left = row;
-    for size in sizes.iter() {
+    for i in 0..sizes.len() {
+        let Some(size) = sizes.get(i) else {
+            return false;
+        };
         let (own, others) = left.split_at(usize::from(*size));
         if begins(own, byte) {
             return true;
