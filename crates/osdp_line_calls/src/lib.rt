@@ -33,6 +33,7 @@
 mod answering;
 mod call;
 pub mod laws;
+mod kept;
 mod lines;
 mod listener;
 mod machine;
