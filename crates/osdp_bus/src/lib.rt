@@ -37,6 +37,7 @@ mod told;
 pub use bus::Bus;
 pub use config::BusConfig;
 pub use fault::BusFault;
+pub use told::Told;
 
 /// A device of a bus, by its number: 0 to 15, in the order of adding.
 pub type Entry = usize;

@@ -1,6 +1,6 @@
 //! The report that waits to be taken.
 
-ghost use Rattle.std.specs.Prelude.{◌≡◌, false, is_some, None};
+ghost use Rattle.std.specs.Prelude.{◌≡◌, false, is_some, None, Some};
 ghost use Rattle.osdp_controller.specs.Lent.{IsWritten};
 ghost use Rattle.osdp_bus.specs.Buses.{waiting_after};
 ghost use Rattle.osdp_bus.specs.Devices.{device_hears, device_ticks, step_of, told_of};
@@ -30,7 +30,7 @@ impl Model for Told {
 
 impl Told {
     /// No report waits.
-    pub(crate) fn new() -> Told
+    pub fn new() -> Told
         ensures { result ≡ None }
     {
         Told {
@@ -40,21 +40,29 @@ impl Told {
     }
 
     /// Whether one waits.
-    pub(crate) fn is_some(&self) -> bool
+    pub fn is_some(&self) -> bool
         ensures { result ≡ is_some self.now }
     {
         self.report.is_some()
     }
 
     /// The report where it lies, with its entry.
-    pub(crate) fn read(&self) -> Option<(Entry, Report<'_>)>
+    pub fn read(&self) -> Option<(Entry, Report<'_>)>
         ensures { result ≡ self.now }
     {
         Some((self.entry, self.report.read()?))
     }
 
+    /// Puts a report in place of what stands here.
+    pub fn keep(&mut self, entry: Entry, report: &Report<'_>)
+        ensures { self.new ≡ Some (entry, report.now) }
+    {
+        self.entry = entry;
+        self.report.keep(report);
+    }
+
     /// Lets the report go.
-    pub(crate) fn clear(&mut self)
+    pub fn clear(&mut self)
         ensures { self.new ≡ None }
     {
         self.report.clear();

@@ -84,6 +84,54 @@ impl KeptReport {
         ))
     }
 
+    /// Puts a report in place of what stands here.
+    pub fn keep(&mut self, report: &Report<'_>)
+        ensures { self.new ≡ Some report.now }
+    {
+        match report {
+            Report::Opened(id) => self.tell_opened(*id),
+            Report::Settled(command, reply) => {
+                command.write_into(&mut self.command);
+                reply.write_into(&mut self.reply);
+                self.telling = Some(Telling::Settled);
+            }
+            Report::Moved(command, answered) => {
+                command.write_into(&mut self.command);
+                self.telling = Some(Telling::Moved(*answered));
+            }
+            Report::Event(event) => self.tell_event(event),
+            Report::PollAnswered(reply) => self.tell_poll_answered(reply),
+            Report::Unread(command, code) => self.keep_unread(command, *code),
+            Report::Lost(cause, command) => self.keep_lost(*cause, command),
+        }
+    }
+
+    /// The answer to this command, or to a POLL, can't be read.
+    fn keep_unread(&mut self, command: &Option<Command<'_>>, code: u8)
+        ensures { self.new ≡ Some (Unread command.now code) }
+    {
+        match command {
+            Some(command) => {
+                command.write_into(&mut self.command);
+                self.telling = Some(Telling::CommandUnread(code));
+            }
+            None => self.telling = Some(Telling::PollUnread(code)),
+        }
+    }
+
+    /// The session has ended, with this command outstanding, or with none.
+    fn keep_lost(&mut self, cause: LostCause, command: &Option<Command<'_>>)
+        ensures { self.new ≡ Some (Lost cause command.now) }
+    {
+        match command {
+            Some(command) => {
+                command.write_into(&mut self.command);
+                self.telling = Some(Telling::CommandLost(cause));
+            }
+            None => self.telling = Some(Telling::Lost(cause)),
+        }
+    }
+
     /// Lets the report go.
     pub fn clear(&mut self)
         ensures { self.new ≡ None }
