@@ -80,14 +80,12 @@ pub fn run_listed<L: SimulatedLine>(line: L, steps: &[SimStep<'_>]) -> Result<L:
     ensures fits { HoldsAlong L.after_step L.StepFits (steps_done steps.now result) (L.state_of line) }
 {
     let mut line = line;
-    let mut left = steps;
-    let mut number = 0;
-    'steps: while let Some((step, rest)) = left.split_first() {
-        left = rest;
-        number += 1;
+    let mut at = 0;
+    for step in steps {
+        at += 1;
         if let Err(cause) = try_step(&mut line, step) {
             return Err(Fault {
-                step: number,
+                step: at,
                 cause,
                 account: line.into_told(),
             });
