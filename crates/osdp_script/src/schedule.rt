@@ -1,6 +1,6 @@
 //! The steps of a script, handed out one at a time.
 
-ghost use Rattle.std.specs.Prelude.{◌≡◌, ◌++◌, drop, slice_get, List, Some};
+ghost use Rattle.std.specs.Prelude.{◌≡◌, ◌∷◌, ◌++◌, [], drop, List, MatchOption};
 ghost use Rattle.osdp_sim.specs.declared.step.SimStep.{SimStep};
 ghost use Rattle.osdp_script.specs.Schedule.{steps_left};
 ghost use Rattle.osdp_script.specs.Kept.{line_of};
@@ -49,7 +49,7 @@ impl Script {
 
 /// The first step of a line, which is kept as this one with these bytes.
 fn first_step(line: ScriptStep, own: &[u8]) -> SimStep<'_>
-    ensures { (later : List SimStep) → slice_get (line_steps (line_of line own.now) ++ later) 0 ≡ Some result }
+    ensures { (later : List SimStep) → line_steps (line_of line own.now) ++ later ≡ result ∷ drop 1 (line_steps (line_of line own.now) ++ later) }
 {
     match line {
         ScriptStep::Issue(reader, _) => SimStep::Issue(reader, Command::kept(own)),
@@ -66,7 +66,7 @@ fn first_step(line: ScriptStep, own: &[u8]) -> SimStep<'_>
 impl ScriptSteps<'_> {
     /// The first step of the lines that are left. None where no line is left.
     fn line_step(&self) -> Option<SimStep<'_>>
-        ensures { result ≡ slice_get (lines_steps self.now.rest) 0 }
+        ensures { MatchOption result (lines_steps self.now.rest ≡ []) (λ step. lines_steps self.now.rest ≡ step ∷ drop 1 (lines_steps self.now.rest)) }
     {
         let mut rest = self.rest.copy();
         let (line, own) = rest.take_first()?;
