@@ -33,20 +33,19 @@ fn pdid(rt: HostRuntime) {
     );
 }
 
-/// What a device can do by one function.
-fn capability(function: u8, level: u8, count: u8) -> Capability {
-    Capability {
-        function,
-        level,
-        count,
-    }
-}
-
 #[test]
 fn pdcap(rt: HostRuntime) {
     let capabilities = [
-        capability(function::OUTPUT_CONTROL, 1, 4),
-        capability(function::VERSION, 2, 0),
+        Capability {
+            function: function::OUTPUT_CONTROL,
+            level: 1,
+            count: 4,
+        },
+        Capability {
+            function: function::VERSION,
+            level: 2,
+            count: 0,
+        },
     ];
     let capabilities = PdCap::new(&capabilities).expect(&rt, "two records");
     is_reply(
