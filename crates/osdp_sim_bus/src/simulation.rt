@@ -67,12 +67,13 @@ impl<H: Handler> Simulation<H> {
         requires room { All HasPlace self.old.sites.items }
         ensures state { state_of self.new ≡ takes_report (state_of self.old) }
     {
-        let Some((entry, report)) = self.bus.next_report() else {
+        let Some((entry, report)) = self.bus.report() else {
             return
         };
         if entry < self.sites.len() {
             self.sites[entry].account.tell(&report);
         }
+        self.bus.settle();
     }
 }
 
