@@ -47,7 +47,11 @@ pub(crate) fn put_communication(
 }
 
 /// Puts a name and a maker's message.
-pub(crate) fn put_maker(room: &mut Room, name: &str, message: &MakerMessage<'_>) -> Result<(), NoRoom>
+pub(crate) fn put_maker(
+    room: &mut Room,
+    name: &str,
+    message: &MakerMessage<'_>,
+) -> Result<(), NoRoom>
     ensures { IsPut MAX_TEXT room.old result room.new (text_of (plain name.now ∷ maker_words message.now)) }
 {
     put(room, name)?;

@@ -9,7 +9,9 @@ use crate::fields::{KeypadStruct, RawStruct, StatesStruct};
 use crate::message::MessageStruct;
 use crate::status::Status;
 use crate::told::{FormattedStruct, LocalStruct};
-use osdp_msg::{Formatted, Keypad, LocalState, MAX_CARD_BYTES, MAX_DATA, MsgFault, Raw, Reply, States};
+use osdp_msg::{
+    Formatted, Keypad, LocalState, MAX_CARD_BYTES, MAX_DATA, MsgFault, Raw, Reply, States,
+};
 
 /// Writes the states of inputs, outputs or readers, as many as the length says. Length (M2) where there is no room for them.
 macro_rules! tell_states {

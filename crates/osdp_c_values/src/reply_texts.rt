@@ -68,7 +68,12 @@ fn put_formatted(room: &mut Room, card: &Formatted<'_>) -> Result<(), NoRoom>
 fn put_keypad(room: &mut Room, keypad: &Keypad<'_>) -> Result<(), NoRoom>
     ensures { IsPut MAX_TEXT room.old result room.new (text_of (plain (codes "KEYPAD") ∷ keypad_words keypad.now)) }
 {
-    put_listed(room, "KEYPAD", &[u32::from(keypad.reader())], keypad.digits())
+    put_listed(
+        room,
+        "KEYPAD",
+        &[u32::from(keypad.reader())],
+        keypad.digits(),
+    )
 }
 
 /// Puts the text of a reply.

@@ -32,8 +32,8 @@
 
 mod answering;
 mod call;
-pub mod laws;
 mod kept;
+pub mod laws;
 mod lines;
 mod listener;
 mod machine;
