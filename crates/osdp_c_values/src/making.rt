@@ -149,8 +149,8 @@ fn led_records(given: &[LedStruct]) -> ArrayVec<LedRecord, 102>
 impl MessageStruct {
     /// Writes a command, where there is one.
     fn make(&mut self, given: Option<Command<'_>>) -> Status
-        ensures status { result ≡ (made given self.old).status }
-        ensures written { self.new ≡ (made given self.old).out }
+        ensures status { result ≡ (made given.entry self.old).status }
+        ensures written { self.new ≡ (made given.entry self.old).out }
     {
         match given {
             Some(given) => {
