@@ -138,11 +138,7 @@ impl Bus {
     /// answers to one. A device that confirms one to 127 or above is out of reach.
     ///
     /// The refusals of `submit` but for AddressOutOfRange (B6).
-    pub fn submit_anywhere(
-        &mut self,
-        entry: Entry,
-        command: &Command<'_>,
-    ) -> Result<(), BusFault>
+    pub fn submit_anywhere(&mut self, entry: Entry, command: &Command<'_>) -> Result<(), BusFault>
         ensures ok { OnOk result (submit_refusal_at entry command.now self.old ≡ None) }
         ensures accepted { OnOk result (self.new ≡ after_submit_at entry command.now self.old) }
         ensures err { IfErr result (λ fault. submit_refusal_at entry command.now self.old ≡ Some fault) }

@@ -68,11 +68,7 @@ impl Line {
     }
 
     /// Puts a command after those that wait for the device of an entry.
-    pub(crate) fn submit(
-        &mut self,
-        entry: Entry,
-        command: &Command<'_>,
-    ) -> Result<(), BusFault>
+    pub(crate) fn submit(&mut self, entry: Entry, command: &Command<'_>) -> Result<(), BusFault>
         requires { IsLine self.old }
         ensures ok { OnOk result (submit_refusal_at entry command.now (state_of self.old) ≡ None) }
         ensures accepted { OnOk result (state_of self.new ≡ after_submit_at entry command.now (state_of self.old)) }
@@ -90,11 +86,7 @@ impl Line {
     }
 
     /// The same for a panel's order, which is no COMSET to an address that no device has.
-    pub(crate) fn order(
-        &mut self,
-        entry: Entry,
-        command: &Command<'_>,
-    ) -> Result<(), BusFault>
+    pub(crate) fn order(&mut self, entry: Entry, command: &Command<'_>) -> Result<(), BusFault>
         requires { IsLine self.old }
         ensures ok { OnOk result (order_refusal_at entry command.now (state_of self.old) ≡ None) }
         ensures accepted { OnOk result (state_of self.new ≡ after_submit_at entry command.now (state_of self.old)) }

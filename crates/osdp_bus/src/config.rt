@@ -69,9 +69,7 @@ impl BusConfig {
     pub(crate) fn is_in_range(&self) -> bool
         ensures { IsTrue result ↔ IsBusConfig self.now }
     {
-        self.of_controller(first_address())
-            .is_in_range(self.room)
-            && is_time(self.gap)
+        self.of_controller(first_address()).is_in_range(self.room) && is_time(self.gap)
     }
 }
 

@@ -63,6 +63,7 @@ keeps_pushed true bytes session q fits submitted command is =
       };
       commands = All-push IsCommand q.items bytes is.commands command;
     }
+
 pub keeps_popped : (old session : Session) (q : Strings) → IsSession session → IsController old q → IsController session (popped q)
 keeps_popped old session q kept is = record {
   machine = record {

@@ -77,11 +77,7 @@ impl KeptReport {
         ensures { result ≡ self.now }
     {
         let telling = self.telling?;
-        Some(read_as(
-            telling,
-            self.command.as_slice(),
-            self.reply.as_slice(),
-        ))
+        Some(read_as(telling, self.command.as_slice(), self.reply.as_slice()))
     }
 
     /// Puts a report in place of what stands here.

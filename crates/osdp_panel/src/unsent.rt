@@ -13,11 +13,7 @@ impl Unsent {
     pub(crate) fn of(turn: &Turn) -> Option<Unsent>
         ensures { IsSome result ↔ IsTrue turn.now.sends }
     {
-        if turn.sends {
-            Some(Unsent(()))
-        } else {
-            None
-        }
+        if turn.sends { Some(Unsent(())) } else { None }
     }
 
     /// The bytes that go out now, before the next turn: those of the turn's burst, and none where it has none.

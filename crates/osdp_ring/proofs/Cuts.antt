@@ -120,15 +120,15 @@ pub without_second : (sizes row : List ℕ) (n m : ℕ) → slice_get sizes 0 �
 without_second [] row n m e f whole = cc
 without_second (k ∷ []) row n m e f whole = cc
 without_second (k ∷ l ∷ sizes) row n m e f whole = by_sizes
-    where
-      one : k ≡ n
-      one = cc
+  where
+    one : k ≡ n
+    one = cc
 
-      two : l ≡ m
-      two = cc
+    two : l ≡ m
+    two = cc
 
-      by_sizes : cut (n ∷ sizes) (take n row ++ drop (n + m) row) ≡ take k row ∷ cut sizes (drop l (drop k row))
-      by_sizes = rw (← one, ← two) (cut_out_second sizes row k l (omega (arith, whole)))
+    by_sizes : cut (n ∷ sizes) (take n row ++ drop (n + m) row) ≡ take k row ∷ cut sizes (drop l (drop k row))
+    by_sizes = rw (← one, ← two) (cut_out_second sizes row k l (omega (arith, whole)))
 
 pub two_within : (sizes row : List ℕ) (n m : ℕ) → slice_get sizes 0 ≡ Some n → slice_get (drop 1 sizes) 0 ≡ Some m → sum_of sizes ≡ length row → n + m ≤ length row
 two_within [] row n m e f whole = cc
