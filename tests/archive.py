@@ -7,6 +7,7 @@ So this is the last of the commands that `rt lib` runs: it proves `osdp_c` and c
 isn't there, `rt lib` itself is run before: it is quick in the first case, and nothing else can be done in the second."""
 import subprocess
 import sys
+import tempfile
 from pathlib import Path
 
 TOP = Path(__file__).resolve().parent.parent
@@ -31,7 +32,7 @@ def library(crate):
     return TOP / f"crates/{crate}/out/rlib/{crate}.rlib"
 
 
-def words(kit, named):
+def words(kit, named, toolchain):
     """What `rattle build` is told."""
     found = ["--crate-name", NAME, "src/lib.rt", "--crate-type", "staticlib", "--links", f"{NAME}="]
     for one in ["std", *named[NAME]]:
@@ -39,7 +40,7 @@ def words(kit, named):
     for folder in [kit / "rlibs", *(library(one).parent for one in sorted(below(NAME, named)))]:
         found += ["-L", f"dependency={folder}"]
     found += ["--antt-project", kit / "rattle/logic/antt-project.json", "--logic-built", kit / "logic_built"]
-    return found + ["--incremental", "out/incremental", "--jobs", "2", "--toolchain", kept.toolchain(kit), "--backend", "llvm", "-o", "out/libosdp_c.a"]
+    return found + ["--incremental", "out/incremental", "--jobs", "2", "--toolchain", toolchain, "--backend", "llvm", "-o", "out/libosdp_c.a"]
 
 
 def main():
@@ -51,7 +52,9 @@ def main():
             return status
     kit = kept.kit()
     (FOLDER / "out").mkdir(exist_ok=True)
-    return subprocess.run([kit / "bin/rattle", "build", *words(kit, named)], cwd=FOLDER).returncode
+    with tempfile.TemporaryDirectory(prefix="toolchain-") as folder:
+        toolchain = kept.toolchain(kit, Path(folder))
+        return subprocess.run([kit / "bin/rattle", "build", *words(kit, named, toolchain)], cwd=FOLDER).returncode
 
 
 if __name__ == "__main__":

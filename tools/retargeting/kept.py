@@ -25,13 +25,12 @@ def kit():
     return Path(page.strip()).parent
 
 
-def toolchain(kit_folder):
-    """A folder as the toolchain's, whose clang keeps the module."""
-    made, theirs = OUT / "toolchain", kit_folder / "toolchain"
-    (made / "bin").mkdir(parents=True, exist_ok=True)
+def toolchain(kit_folder, made):
+    """Makes an empty folder as the toolchain's, whose clang keeps the module. It has links, which the gate refuses in the tree, so it stands elsewhere."""
+    theirs = kit_folder / "toolchain"
+    (made / "bin").mkdir()
     for name, to in [("lib", theirs / "lib"), *((f"bin/{one.name}", one) for one in (theirs / "bin").iterdir() if one.name != "clang")]:
-        if not (made / name).is_symlink():
-            (made / name).symlink_to(to)
+        (made / name).symlink_to(to)
     (made / "bin/clang").write_text(KEEPS.format(module=MODULE, clang=theirs / "bin/clang"))
     (made / "bin/clang").chmod(0o755)
     return made
