@@ -2,10 +2,10 @@
 use Rattle.std.specs.Prelude.{◌≡◌, ◌⊎◌, ⊤, ℕ, ◌≤◌, Option, Some, None}
 
 -- a moment that doesn't come after another one; none comes after each
-abbrev pub IsBy : Option ℕ → Option ℕ → Type 0
-IsBy first None = ⊤
-IsBy (Some first) (Some other) = first ≤ other
-IsBy None (Some other) = ⊥
+abbrev pub IsNoLater : Option ℕ → Option ℕ → Type 0
+IsNoLater first None = ⊤
+IsNoLater (Some first) (Some other) = first ≤ other
+IsNoLater None (Some other) = ⊥
 
 abbrev pub IsFirstOf : Option ℕ → Option ℕ → Option ℕ → Type 0
-IsFirstOf one other first = ((first ≡ one) ⊎ (first ≡ other)) × IsBy first one × IsBy first other
+IsFirstOf one other first = ((first ≡ one) ⊎ (first ≡ other)) × IsNoLater first one × IsNoLater first other

@@ -55,7 +55,7 @@ module _ (reads : Reads) (format : Format) (words : Words) where
     lengths : (options files : Words) (task : Task) → AreAsked reads format words options files task → length words ≡ length options + length files
     lengths options files task are = ap length are.are ∙ length-append options files
 
-    -- the words behind the front are no files
+    -- the words after the front are no files
     pub no_files : are_files (drop (length words - count) words) ≡ false → (options files : Words) (task : Task) → AreAsked reads format words options files task → ⊥
     no_files none options files task are =
         let enough = tried options files task are in

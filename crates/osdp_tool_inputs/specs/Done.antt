@@ -32,7 +32,7 @@ pub record EndsHeard (mode : MonitorMode) (input output : Stream) (result : Resu
   pub ends : monitor.Ends Tells mode start end input.before input.after input.failed output.before output.after output.failed result
 
 -- What is asked is done with a stream of digits or bytes; these are all its bytes, where they were read before. With stamps, nothing is said here of the
--- lines that stand behind them.
+-- lines that stand after them.
 abbrev pub Does : Task → Format → ℕ → List ℕ → Stream → Stream → Result Bool ToolFault → Type 0
 Does (Print detail join) format limit bytes input output result =
     Ends detail (form_of format join) limit input output result × EndsWhole detail (form_of format join) limit input output result
