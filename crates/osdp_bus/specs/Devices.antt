@@ -7,11 +7,10 @@ use Rattle.osdp_msg.specs.declared.command.Command.{Command}
 use Rattle.osdp_msg.specs.declared.command_fields.Communication.{Communication}
 use Rattle.osdp_controller.specs.declared.report.Report.{Report}
 use Rattle.osdp_controller.specs.declared.report.Report.TheVariants.{Settled, Moved}
-use Rattle.osdp_controller.specs.declared.step.Step.{Step}
 use Rattle.osdp_controller.specs.Comsets.{is_comset}
 use Rattle.osdp_controller.specs.Hearing.{hears}
 use Rattle.osdp_controller.specs.Machine.{after_frame, after_tick, is_due, is_outstanding}
-use Rattle.osdp_controller.specs.Ticking.{ticks}
+use Rattle.osdp_controller.specs.Ticking.{Step, ticks}
 use Rattle.osdp_bus.specs.declared.device.Device.{Device}
 
 abbrev pub address_of : Device → ℕ

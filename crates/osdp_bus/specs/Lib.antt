@@ -4,7 +4,6 @@ pub mod Remembering
 pub mod Buses
 pub mod Hearing
 pub mod Ticking
-pub mod Sending
 pub mod Machine
 pub mod Deadlines
 pub mod Waits

@@ -56,7 +56,7 @@ add_refusal address b =
 -- a new device: closed, nothing waits and nothing is reserved
 abbrev pub new_device : ℕ → BusConfig → Device
 new_device address config = record {
-  controller = new_machine (controller_config address config) config.capacity;
+  controller = new_machine (controller_config address config) config.room.messages config.room.bytes;
   reserved = None;
 }
 
@@ -167,6 +167,14 @@ withdrawal_of (Some d) = Ok (withdrawn_of d)
 
 abbrev pub withdrawal_at : ℕ → BusState → Result (Option Command) BusFault
 withdrawal_at entry b = withdrawal_of (device_of entry b)
+
+-- .. and whether one is
+abbrev pub is_withdrawn_of : Option Device → Result Bool BusFault
+is_withdrawn_of None = Err NoEntry
+is_withdrawn_of (Some d) = Ok (is_some (withdrawn_of d))
+
+abbrev pub is_withdrawn_at : ℕ → BusState → Result Bool BusFault
+is_withdrawn_at entry b = is_withdrawn_of (device_of entry b)
 
 abbrev pub after_withdraw_at : ℕ → BusState → BusState
 after_withdraw_at entry b = changes_device entry device_withdraws b

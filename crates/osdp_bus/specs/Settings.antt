@@ -5,6 +5,7 @@ use Rattle.osdp_controller.specs.declared.config.ControllerConfig.{ControllerCon
 use Rattle.osdp_controller.specs.Machine.{AreSettings}
 use Rattle.osdp_controller.specs.Settings.{default_config as default_of_controllers}
 use Rattle.osdp_frame.specs.Times.{IsTime}
+use Rattle.osdp_msg.specs.declared.limits.Room.{Room}
 use Rattle.osdp_bus.specs.declared.config.BusConfig.{BusConfig}
 
 -- the settings of the controller of a device at this address
@@ -22,12 +23,12 @@ controller_config address c = record {
 
 -- each setting is in its range; an address is judged where a device is added, so it is any device's here
 pub record IsBusConfig (c : BusConfig) : Type 0 where
-  pub controllers : AreSettings (controller_config 0 c) c.capacity
+  pub controllers : AreSettings (controller_config 0 c) c.room.messages c.room.bytes
   pub gap : IsTime c.gap
 
 -- the settings of a bus whose controllers are set so, at whatever address
-abbrev pub bus_config : ControllerConfig → ℕ → ℕ → BusConfig
-bus_config c gap capacity = record {
+abbrev pub bus_config : ControllerConfig → ℕ → Room → BusConfig
+bus_config c gap room = record {
   check = c.check;
   reply_wait = c.reply_wait;
   poll_interval = c.poll_interval;
@@ -36,9 +37,9 @@ bus_config c gap capacity = record {
   busy_limit = c.busy_limit;
   quiet_wait = c.quiet_wait;
   gap = gap;
-  capacity = capacity;
+  room = room;
 }
 
 -- as controllers are set by default
-abbrev pub default_config : CheckKind → ℕ → BusConfig
-default_config check capacity = bus_config (default_of_controllers 0 check) 20 capacity
+abbrev pub default_config : CheckKind → Room → BusConfig
+default_config check room = bus_config (default_of_controllers 0 check) 20 room

@@ -44,7 +44,7 @@ impl BoxedDevice {
         ensures made { IfOk result (λ d. d ≡ new_device address config.now) }
         ensures fault { IfErr result (λ fault. fault ≡ NoMemory) }
     {
-        match Controller::new(alloc, config.of_controller(address), config.capacity) {
+        match Controller::new(alloc, config.of_controller(address), config.room) {
             Ok(controller) => match Box::new(
                 alloc,
                 Device {

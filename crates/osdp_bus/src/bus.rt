@@ -47,8 +47,7 @@ impl Bus {
     ghost use Rattle.osdp_bus.specs.Buses.{device_of, is_maybe_again};
     ghost use Rattle.osdp_bus.specs.Deadlines.{IsDeadline};
     ghost use Rattle.osdp_bus.specs.Hearing.{after_bytes, after_silence};
-    ghost use Rattle.osdp_bus.specs.Machine.{AddEnds, NewEnds, after_begin_at, after_next_report, after_retarget_at, after_submit_at, after_withdraw_at, begin_refusal_at, changed_unless, order_refusal_at, retarget_refusal_at, submit_refusal_at, unless_refused, withdrawal_at};
-    ghost use Rattle.osdp_bus.specs.Sending.{IsSentAs};
+    ghost use Rattle.osdp_bus.specs.Machine.{AddEnds, NewEnds, after_begin_at, after_next_report, after_retarget_at, after_submit_at, after_withdraw_at, begin_refusal_at, changed_unless, is_withdrawn_at, order_refusal_at, retarget_refusal_at, submit_refusal_at, unless_refused, withdrawal_at};
     ghost use Rattle.osdp_controller.specs.Lent.{IsWritten};
     ghost use Rattle.osdp_bus.specs.Ticking.{bus_ticks};
 
@@ -125,12 +124,12 @@ impl Bus {
     /// NoEntry (B4); else PollSubmitted (C4) for a POLL; else AddressOutOfRange (B6) for a COMSET to an address that no
     /// device has, 127 and above, where the device would be out of reach; else AddressTaken (B3) for a COMSET to an address
     /// of another device or reserved for one, or where an address is reserved for this device already; else Full (C3) where
-    /// as many commands wait as there is room for. The command comes back, and nothing has changed.
-    pub fn submit(&mut self, entry: Entry, command: Command) -> Result<(), (BusFault, Command)>
-        ensures ok { OnOk result (order_refusal_at entry command self.old ≡ None) }
-        ensures accepted { OnOk result (self.new ≡ after_submit_at entry command self.old) }
-        ensures err { IfErr result (λ e. order_refusal_at entry command self.old ≡ Some e.0) }
-        ensures back { IfErr result (λ e. (e.1 ≡ command) × (self.new ≡ self.old)) }
+    /// as many commands wait as there is room for, or their bytes leave no room for this one's. Nothing has changed then.
+    pub fn submit(&mut self, entry: Entry, command: &Command<'_>) -> Result<(), BusFault>
+        ensures ok { OnOk result (order_refusal_at entry command.now self.old ≡ None) }
+        ensures accepted { OnOk result (self.new ≡ after_submit_at entry command.now self.old) }
+        ensures err { IfErr result (λ fault. order_refusal_at entry command.now self.old ≡ Some fault) }
+        ensures same { IfErr result (λ fault. self.new ≡ self.old) }
     {
         self.line.order(entry, command)
     }
@@ -139,25 +138,31 @@ impl Bus {
     /// answers to one. A device that confirms one to 127 or above is out of reach.
     ///
     /// The refusals of `submit` but for AddressOutOfRange (B6).
-    pub fn submit_anywhere(
-        &mut self,
-        entry: Entry,
-        command: Command,
-    ) -> Result<(), (BusFault, Command)>
-        ensures ok { OnOk result (submit_refusal_at entry command self.old ≡ None) }
-        ensures accepted { OnOk result (self.new ≡ after_submit_at entry command self.old) }
-        ensures err { IfErr result (λ e. submit_refusal_at entry command self.old ≡ Some e.0) }
-        ensures back { IfErr result (λ e. (e.1 ≡ command) × (self.new ≡ self.old)) }
+    pub fn submit_anywhere(&mut self, entry: Entry, command: &Command<'_>) -> Result<(), BusFault>
+        ensures ok { OnOk result (submit_refusal_at entry command.now self.old ≡ None) }
+        ensures accepted { OnOk result (self.new ≡ after_submit_at entry command.now self.old) }
+        ensures err { IfErr result (λ fault. submit_refusal_at entry command.now self.old ≡ Some fault) }
+        ensures same { IfErr result (λ fault. self.new ≡ self.old) }
     {
         self.line.submit(entry, command)
     }
 
-    /// Takes back the command that has waited longest for a device: it won't be sent. None where none waits, or where its
-    /// session has begun; nothing has changed then. A withdrawn COMSET reserves its address no longer.
+    /// The command that may be withdrawn of a device: the one that has waited longest. None where none waits, or where its
+    /// session has begun.
     ///
     /// NoEntry (B4).
-    pub fn withdraw(&mut self, entry: Entry) -> Result<Option<Command>, BusFault>
-        ensures result { result ≡ withdrawal_at entry self.old }
+    pub fn withdrawable(&self, entry: Entry) -> Result<Option<Command<'_>>, BusFault>
+        ensures { result ≡ withdrawal_at entry self.now }
+    {
+        self.line.withdrawable(entry)
+    }
+
+    /// Takes that command back: it won't be sent. Whether there was one; else nothing changes. A withdrawn COMSET reserves its
+    /// address no longer.
+    ///
+    /// NoEntry (B4).
+    pub fn withdraw(&mut self, entry: Entry) -> Result<bool, BusFault>
+        ensures result { result ≡ is_withdrawn_at entry self.old }
         ensures bus { self.new ≡ after_withdraw_at entry self.old }
     {
         self.line.withdraw(entry)
@@ -190,23 +195,9 @@ impl Bus {
         self.line.on_silence(now);
     }
 
-    /// What is due at a moment: a burst to send. While a report waits, none.
-    #[tactic(auto, using(crate::proofs::Sent::sent_written, crate::proofs::Sent::none_sent))]
-    pub fn tick(&mut self, now: u64) -> Option<Burst>
-        ensures sent { IsSentAs (bus_ticks now self.old).sent result }
-        ensures bus { self.new ≡ (bus_ticks now self.old).bus }
-    {
-        let mut out = Burst::new();
-        if self.tick_into(now, &mut out) {
-            Some(out)
-        } else {
-            None
-        }
-    }
-
     /// What is due at a moment, put into what the caller lends: whether a burst is to be sent, which stands in `out` then. Where none
     /// is, `out` is as it was. While a report waits, none is.
-    pub fn tick_into(&mut self, now: u64, out: &mut Burst) -> bool
+    pub fn tick(&mut self, now: u64, out: &mut Burst) -> bool
         ensures sent { result ≡ is_some (bus_ticks now self.old).sent }
         ensures bytes { IsWritten (bus_ticks now self.old).sent out.old.items out.new.items }
         ensures bus { self.new ≡ (bus_ticks now self.old).bus }
@@ -223,19 +214,11 @@ impl Bus {
         self.line.next_deadline()
     }
 
-    /// Takes the report that waits, with the entry of the device whose controller told it.
-    pub fn next_report(&mut self) -> Option<(Entry, Report)>
-        ensures report { result ≡ self.old.devices.report }
-        ensures bus { self.new ≡ after_next_report self.old }
+    /// The report that waits, where it lies, with the entry of the device whose controller told it. It waits until `settle`.
+    pub fn report(&self) -> Option<(Entry, Report<'_>)>
+        ensures { result ≡ self.now.devices.report }
     {
-        self.line.next_report()
-    }
-
-    /// The report that waits, where it lies, with the entry of the device whose controller told it. It waits until `drop_report` or `next_report`.
-    pub fn report(&self) -> Option<(Entry, &Report)>
-        ensures { option_map (λ told. (told.0, told.1.now)) result ≡ self.now.devices.report }
-    {
-        self.line.devices.report.as_ref()
+        self.line.devices.report.read()
     }
 
     /// Whether the report that waits is an event that may have been reported before: the first of its session, and equal in all its bytes to the one
@@ -249,10 +232,10 @@ impl Bus {
     }
 
     /// Lets the report that waits go, once it was read where it lies. Where none waits nothing changes.
-    pub fn drop_report(&mut self)
+    pub fn settle(&mut self)
         ensures { self.new ≡ after_next_report self.old }
     {
-        self.line.drop_report();
+        self.line.settle();
     }
 
     /// How many devices there are.

@@ -3,7 +3,7 @@
 ghost use Rattle.std.specs.Prelude.{◌≡◌, ◌<◌, None, Some, IfErr, OnOk, length, slice_get};
 ghost use Rattle.osdp_controller.specs.Hearing.{comset_of};
 ghost use Rattle.osdp_bus.specs.declared.device.Device.{Device};
-ghost use Rattle.osdp_bus.specs.Machine.{after_begin_at, after_retarget_at, after_submit_at, after_withdraw_at, begin_refusal_at, changed_unless, is_comset_refused, leads_nowhere, order_refusal_at, retarget_refusal_at, submit_refusal_at, unless_refused, withdrawal_at};
+ghost use Rattle.osdp_bus.specs.Machine.{after_begin_at, after_retarget_at, after_submit_at, after_withdraw_at, begin_refusal_at, changed_unless, is_comset_refused, is_withdrawn_at, leads_nowhere, order_refusal_at, retarget_refusal_at, submit_refusal_at, unless_refused, withdrawal_at};
 ghost use Rattle.osdp_bus.specs.Private.{IsLine, state_of};
 
 use crate::Entry;
@@ -54,7 +54,7 @@ impl Line {
     }
 
     /// Whether a COMSET is refused: another device takes its address up, or one is reserved for this device.
-    fn is_comset_refused(&self, entry: Entry, command: &Command) -> bool
+    fn is_comset_refused(&self, entry: Entry, command: &Command<'_>) -> bool
         requires { entry < length self.now.devices.entries.items }
         ensures { (d : Device) → slice_get self.now.devices.entries.items entry ≡ Some d → result ≡ is_comset_refused (comset_of command.now) entry d (state_of self.now) }
     {
@@ -68,53 +68,55 @@ impl Line {
     }
 
     /// Puts a command after those that wait for the device of an entry.
-    pub(crate) fn submit(
-        &mut self,
-        entry: Entry,
-        command: Command,
-    ) -> Result<(), (BusFault, Command)>
+    pub(crate) fn submit(&mut self, entry: Entry, command: &Command<'_>) -> Result<(), BusFault>
         requires { IsLine self.old }
-        ensures ok { OnOk result (submit_refusal_at entry command (state_of self.old) ≡ None) }
-        ensures accepted { OnOk result (state_of self.new ≡ after_submit_at entry command (state_of self.old)) }
-        ensures err { IfErr result (λ e. submit_refusal_at entry command (state_of self.old) ≡ Some e.0) }
-        ensures back { IfErr result (λ e. (e.1 ≡ command) × (state_of self.new ≡ state_of self.old)) }
+        ensures ok { OnOk result (submit_refusal_at entry command.now (state_of self.old) ≡ None) }
+        ensures accepted { OnOk result (state_of self.new ≡ after_submit_at entry command.now (state_of self.old)) }
+        ensures err { IfErr result (λ fault. submit_refusal_at entry command.now (state_of self.old) ≡ Some fault) }
+        ensures same { IfErr result (λ fault. state_of self.new ≡ state_of self.old) }
         ensures kept { IsLine self.new }
     {
         if entry >= self.devices.entries.len() {
-            return Err((BusFault::NoEntry, command));
+            return Err(BusFault::NoEntry);
         }
-        if self.is_comset_refused(entry, &command) {
-            return Err((BusFault::AddressTaken, command));
+        if self.is_comset_refused(entry, command) {
+            return Err(BusFault::AddressTaken);
         }
         self.devices.entries[entry].submit(command)
     }
 
     /// The same for a panel's order, which is no COMSET to an address that no device has.
-    pub(crate) fn order(
-        &mut self,
-        entry: Entry,
-        command: Command,
-    ) -> Result<(), (BusFault, Command)>
+    pub(crate) fn order(&mut self, entry: Entry, command: &Command<'_>) -> Result<(), BusFault>
         requires { IsLine self.old }
-        ensures ok { OnOk result (order_refusal_at entry command (state_of self.old) ≡ None) }
-        ensures accepted { OnOk result (state_of self.new ≡ after_submit_at entry command (state_of self.old)) }
-        ensures err { IfErr result (λ e. order_refusal_at entry command (state_of self.old) ≡ Some e.0) }
-        ensures back { IfErr result (λ e. (e.1 ≡ command) × (state_of self.new ≡ state_of self.old)) }
+        ensures ok { OnOk result (order_refusal_at entry command.now (state_of self.old) ≡ None) }
+        ensures accepted { OnOk result (state_of self.new ≡ after_submit_at entry command.now (state_of self.old)) }
+        ensures err { IfErr result (λ fault. order_refusal_at entry command.now (state_of self.old) ≡ Some fault) }
+        ensures same { IfErr result (λ fault. state_of self.new ≡ state_of self.old) }
         ensures kept { IsLine self.new }
     {
         if entry >= self.devices.entries.len() {
-            return Err((BusFault::NoEntry, command));
+            return Err(BusFault::NoEntry);
         }
-        if leads_nowhere(comset_of(&command)) {
-            return Err((BusFault::AddressOutOfRange, command));
+        if leads_nowhere(comset_of(command)) {
+            return Err(BusFault::AddressOutOfRange);
         }
         self.submit(entry, command)
     }
 
-    /// Takes back the command that has waited longest for the device of an entry.
-    pub(crate) fn withdraw(&mut self, entry: Entry) -> Result<Option<Command>, BusFault>
+    /// The command that may be withdrawn of the device of an entry.
+    pub(crate) fn withdrawable(&self, entry: Entry) -> Result<Option<Command<'_>>, BusFault>
+        ensures { result ≡ withdrawal_at entry (state_of self.now) }
+    {
+        if entry >= self.devices.entries.len() {
+            return Err(BusFault::NoEntry);
+        }
+        Ok(self.devices.entries[entry].withdrawable())
+    }
+
+    /// Takes it back. Whether there was one.
+    pub(crate) fn withdraw(&mut self, entry: Entry) -> Result<bool, BusFault>
         requires { IsLine self.old }
-        ensures result { result ≡ withdrawal_at entry (state_of self.old) }
+        ensures result { result ≡ is_withdrawn_at entry (state_of self.old) }
         ensures line { state_of self.new ≡ after_withdraw_at entry (state_of self.old) }
         ensures kept { IsLine self.new }
     {

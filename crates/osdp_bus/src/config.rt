@@ -5,6 +5,7 @@ ghost use Rattle.osdp_bus.specs.Settings.{IsBusConfig, controller_config, defaul
 
 use osdp_controller::ControllerConfig;
 use osdp_frame::{Address, CheckKind, is_time};
+use osdp_msg::Room;
 
 /// The settings of a bus: those of each of its controllers, and of the line. Times are in milliseconds, 1 to 3,600,000.
 #[derive(Clone, Copy, Debug, PartialEq, Eq)]
@@ -25,14 +26,14 @@ pub struct BusConfig {
     pub quiet_wait: u32,
     /// After how long a silence a run of bytes is over.
     pub gap: u32,
-    /// How many commands may wait for each device, 1 to 1024.
-    pub capacity: usize,
+    /// How much may wait for each device.
+    pub room: Room,
 }
 
 impl BusConfig {
     /// The default times, which are those of a controller, and a gap of 20 ms.
-    pub fn new(check: CheckKind, capacity: usize) -> BusConfig
-        ensures { result ≡ default_config check capacity }
+    pub fn new(check: CheckKind, room: Room) -> BusConfig
+        ensures { result ≡ default_config check room }
     {
         let times = ControllerConfig::new(first_address(), check);
         BusConfig {
@@ -44,7 +45,7 @@ impl BusConfig {
             busy_limit: times.busy_limit,
             quiet_wait: times.quiet_wait,
             gap: 20,
-            capacity,
+            room,
         }
     }
 
@@ -68,9 +69,7 @@ impl BusConfig {
     pub(crate) fn is_in_range(&self) -> bool
         ensures { IsTrue result ↔ IsBusConfig self.now }
     {
-        self.of_controller(first_address())
-            .is_in_range(self.capacity)
-            && is_time(self.gap)
+        self.of_controller(first_address()).is_in_range(self.room) && is_time(self.gap)
     }
 }
 

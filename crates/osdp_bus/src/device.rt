@@ -10,7 +10,7 @@ ghost use Rattle.osdp_bus.specs.Machine.{bus_fault, device_begins, device_retarg
 ghost use Rattle.osdp_bus.specs.Waits.{IsDueFrom};
 
 use crate::fault::BusFault;
-use osdp_controller::{Controller, ControllerFault, Report};
+use osdp_controller::{Controller, ControllerFault, KeptReport, Report};
 use osdp_frame::{Address, Burst, FrameView};
 use osdp_msg::{Command, Communication};
 
@@ -66,18 +66,16 @@ impl Device {
     }
 
     /// Puts a command after those that wait. A COMSET reserves its address.
-    pub(crate) fn submit(&mut self, command: Command) -> Result<(), (BusFault, Command)>
-        ensures ok { OnOk result ((submit_refusal command self.old.controller ≡ None) × (self.new ≡ device_submits command self.old)) }
-        ensures err { IfErr result (λ e. (option_map bus_fault (submit_refusal command self.old.controller) ≡ Some e.0) × (self.new ≡ self.old)) }
-        ensures back { IfErr result (λ e. e.1 ≡ command) }
+    pub(crate) fn submit(&mut self, command: &Command<'_>) -> Result<(), BusFault>
+        ensures ok { OnOk result ((submit_refusal command.now self.old.controller ≡ None) × (self.new ≡ device_submits command.now self.old)) }
+        ensures err { IfErr result (λ fault. (option_map bus_fault (submit_refusal command.now self.old.controller) ≡ Some fault) × (self.new ≡ self.old)) }
     {
-        let reserved = reserved_for(comset_of(&command), self.reserved);
         match self.controller.submit(command) {
             Ok(()) => {
-                self.reserved = reserved;
+                self.reserved = reserved_for(comset_of(command), self.reserved);
                 Ok(())
             }
-            Err((fault, command)) => Err((bus_fault(fault), command)),
+            Err(fault) => Err(bus_fault(fault)),
         }
     }
 
@@ -90,14 +88,20 @@ impl Device {
         self.reserved = None;
     }
 
-    /// Takes back the command that has waited longest, where no session has begun.
-    pub(crate) fn withdraw(&mut self) -> Option<Command>
-        ensures command { result ≡ withdrawn_of self.old }
+    /// The command that may be withdrawn: the one that has waited longest, where no session has begun.
+    pub(crate) fn withdrawable(&self) -> Option<Command<'_>>
+        ensures { result ≡ withdrawn_of self.now }
+    {
+        self.controller.withdrawable()
+    }
+
+    /// Takes it back. Whether there was one.
+    pub(crate) fn withdraw(&mut self) -> bool
+        ensures command { result ≡ is_some (withdrawn_of self.old) }
         ensures device { self.new ≡ device_withdraws self.old }
     {
-        let command = self.controller.withdraw();
-        self.reserved = reserved_without(&command, self.reserved);
-        command
+        self.reserved = reserved_without(&self.withdrawable(), self.reserved);
+        self.controller.withdraw()
     }
 
     /// From when on its controller would send or report, but not before this moment. None where it never would.
@@ -113,23 +117,23 @@ impl Device {
     }
 
     /// A packet comes from the line. What it says, or that nothing is to be told, stands in `report`.
-    pub(crate) fn hear(&mut self, frame: &FrameView<'_>, now: u64, report: &mut Option<Report>)
+    pub(crate) fn hear(&mut self, frame: &FrameView<'_>, now: u64, report: &mut KeptReport)
         ensures report { report.new ≡ told_of frame.now now self.old }
         ensures device { self.new ≡ device_hears frame.now now self.old }
     {
         self.controller.hear(frame, now, report);
-        self.reserved = reserved_after(&*report, self.reserved);
+        self.reserved = reserved_after(&report.read(), self.reserved);
     }
 
     /// What is due at a moment: whether a packet goes out, whose bytes stand in `out` then, and what is told, in `report`.
-    pub(crate) fn tick(&mut self, now: u64, out: &mut Burst, report: &mut Option<Report>) -> bool
+    pub(crate) fn tick(&mut self, now: u64, out: &mut Burst, report: &mut KeptReport) -> bool
         ensures sent { result ≡ is_some (step_of now self.old).frame }
         ensures bytes { IsWritten (step_of now self.old).frame out.old.items out.new.items }
         ensures report { report.new ≡ (step_of now self.old).report }
         ensures device { self.new ≡ device_ticks now self.old }
     {
-        let sends = self.controller.tick_into(now, out, report);
-        self.reserved = reserved_after(&*report, self.reserved);
+        let sends = self.controller.tick(now, out, report);
+        self.reserved = reserved_after(&report.read(), self.reserved);
         sends
     }
 }
@@ -144,7 +148,7 @@ fn is_reserved(address: u8, reserved: Option<u8>) -> bool
 }
 
 /// Where and how fast a COMSET asks a reader to go.
-pub(crate) fn comset_of(command: &Command) -> Option<Communication>
+pub(crate) fn comset_of(command: &Command<'_>) -> Option<Communication>
     ensures { result ≡ comset_of command.now }
 {
     match command {
@@ -164,7 +168,7 @@ fn reserved_for(asked: Option<Communication>, reserved: Option<u8>) -> Option<u8
 }
 
 /// What stays reserved once a command is withdrawn.
-fn reserved_without(command: &Option<Command>, reserved: Option<u8>) -> Option<u8>
+fn reserved_without(command: &Option<Command<'_>>, reserved: Option<u8>) -> Option<u8>
     ensures { result ≡ reserved_without command.now reserved }
 {
     match command {
@@ -187,21 +191,21 @@ pub(crate) fn bus_fault(fault: ControllerFault) -> BusFault
 }
 
 /// Whether it is a COMSET.
-fn is_comset(command: &Command) -> bool
+fn is_comset(command: &Command<'_>) -> bool
     ensures { result ≡ is_comset command.now }
 {
     matches!(command, Command::Comset(_))
 }
 
 /// What stays reserved once a command is done with.
-fn freed_with(command: &Command, reserved: Option<u8>) -> Option<u8>
+fn freed_with(command: &Command<'_>, reserved: Option<u8>) -> Option<u8>
     ensures { result ≡ freed_with command.now reserved }
 {
     if is_comset(command) { None } else { reserved }
 }
 
 /// What stays reserved after a report.
-fn reserved_after(report: &Option<Report>, reserved: Option<u8>) -> Option<u8>
+fn reserved_after(report: &Option<Report<'_>>, reserved: Option<u8>) -> Option<u8>
     ensures { result ≡ reserved_after report.now reserved }
 {
     match report {

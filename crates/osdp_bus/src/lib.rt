@@ -5,14 +5,17 @@
 //! packet goes to the controller of its address alone. Moments are milliseconds that the caller hands in.
 //!
 //! ```text
-//! let mut bus = Bus::new(alloc, BusConfig::new(CheckKind::Crc, 16))?;
+//! let mut bus = Bus::new(alloc, BusConfig::new(CheckKind::Crc, Room::of(16)))?;
 //! let door = bus.add(address)?;
 //! bus.begin(door, clock.now())?;
+//! let mut burst = Burst::new();
 //! loop {
 //!     .. bus.on_bytes(bytes, clock.now()), where bytes have come ..
-//!     while let Some((entry, report)) = bus.next_report() { .. }
-//!     if let Some(burst) = bus.tick(clock.now()) { .. it goes out .. }
-//!     while let Some((entry, report)) = bus.next_report() { .. }
+//!     if let Some((entry, report)) = bus.report() { .. }
+//!     bus.settle();
+//!     if bus.tick(clock.now(), &mut burst) { .. it goes out .. }
+//!     if let Some((entry, report)) = bus.report() { .. }
+//!     bus.settle();
 //! }
 //! ```
 //!
@@ -34,6 +37,7 @@ mod told;
 pub use bus::Bus;
 pub use config::BusConfig;
 pub use fault::BusFault;
+pub use told::Told;
 
 /// A device of a bus, by its number: 0 to 15, in the order of adding.
 pub type Entry = usize;

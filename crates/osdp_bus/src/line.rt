@@ -14,7 +14,6 @@ use crate::Entry;
 use crate::config::BusConfig;
 use crate::device_list::{DeviceList, first_holding, next_due};
 use crate::memory::BoxedMemory;
-use osdp_controller::Report;
 use osdp_frame::{Burst, Receiver, whole_item};
 
 /// The parts of a bus. Moments are in milliseconds.
@@ -268,10 +267,10 @@ impl Line {
     pub(crate) fn is_maybe_again(&self) -> bool
         ensures { result ≡ is_maybe_again (state_of self.now) }
     {
-        match self.devices.report.as_ref() {
+        match self.devices.report.read() {
             None => false,
             Some((entry, report)) => {
-                entry < self.memories.len() && self.memories[entry].may_be_again(report)
+                entry < self.memories.len() && self.memories[entry].may_be_again(&report)
             }
         }
     }
@@ -283,27 +282,16 @@ impl Line {
         ensures line { state_of self.new ≡ record (state_of self.old) { remembered = remembered_after self.old.devices.report (state_of self.old) } }
         ensures kept { IsLine self.new }
     {
-        let Some((entry, report)) = self.devices.report.as_ref() else {
+        let Some((entry, report)) = self.devices.report.read() else {
             return
         };
         if entry < self.memories.len() {
-            self.memories[entry].remember(report);
+            self.memories[entry].remember(&report);
         }
     }
 
-    /// Takes the report that waits.
-    pub(crate) fn next_report(&mut self) -> Option<(Entry, Report)>
-        requires { IsLine self.old }
-        ensures report { result ≡ self.old.devices.report }
-        ensures line { state_of self.new ≡ after_next_report (state_of self.old) }
-        ensures kept { IsLine self.new }
-    {
-        self.remember();
-        self.devices.report.take()
-    }
-
     /// Lets the report that waits go.
-    pub(crate) fn drop_report(&mut self)
+    pub(crate) fn settle(&mut self)
         requires { IsLine self.old }
         ensures line { state_of self.new ≡ after_next_report (state_of self.old) }
         ensures kept { IsLine self.new }

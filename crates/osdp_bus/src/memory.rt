@@ -45,7 +45,7 @@ impl Model for BoxedMemory {
 /// Whether these are the bytes of an event.
 // It stands by itself, since it has a place for all that an event may have.
 #[inline(never)]
-fn is_spelled(event: &Event, bytes: &[u8]) -> bool
+fn is_spelled(event: &Event<'_>, bytes: &[u8]) -> bool
     ensures { result ≡ bytes_eq (event_bytes event.now) bytes.now }
 {
     let mut spelled = ArrayVec::new();
@@ -54,7 +54,7 @@ fn is_spelled(event: &Event, bytes: &[u8]) -> bool
 }
 
 impl Memory {
-    fn may_be_again(&self, report: &Report) -> bool
+    fn may_be_again(&self, report: &Report<'_>) -> bool
         ensures { result ≡ may_be_again report.now self.now }
     {
         match report {
@@ -68,7 +68,7 @@ impl Memory {
         }
     }
 
-    fn remember(&mut self, report: &Report)
+    fn remember(&mut self, report: &Report<'_>)
         ensures { self.new ≡ remembers report.now self.old }
     {
         match report {
@@ -105,14 +105,14 @@ impl BoxedMemory {
     }
 
     /// Whether a report is an event that may have been reported before.
-    pub(crate) fn may_be_again(&self, report: &Report) -> bool
+    pub(crate) fn may_be_again(&self, report: &Report<'_>) -> bool
         ensures { result ≡ may_be_again report.now self.now }
     {
         self.block.as_ref().may_be_again(report)
     }
 
     /// A report is taken.
-    pub(crate) fn remember(&mut self, report: &Report)
+    pub(crate) fn remember(&mut self, report: &Report<'_>)
         ensures { self.new ≡ remembers report.now self.old }
     {
         self.block.as_mut().remember(report);

@@ -1,22 +1,22 @@
 //! The report that waits to be taken.
 
-ghost use Rattle.std.specs.Prelude.{◌≡◌, false, is_some, option_map, None};
+ghost use Rattle.std.specs.Prelude.{◌≡◌, false, is_some, None, Some};
 ghost use Rattle.osdp_controller.specs.Lent.{IsWritten};
 ghost use Rattle.osdp_bus.specs.Buses.{waiting_after};
 ghost use Rattle.osdp_bus.specs.Devices.{device_hears, device_ticks, step_of, told_of};
 
 use crate::Entry;
 use crate::boxed_device::BoxedDevice;
-use osdp_controller::Report;
+use osdp_controller::{KeptReport, Report};
 use osdp_frame::{Burst, FrameView};
 use std::marker::Model;
 
 /// The report that waits to be taken, where one does, with the entry of the device whose controller told it. The controllers tell into this
-/// place, and it is read where it lies: a report takes 3.1 kB, and none is moved.
+/// place, which keeps it as bytes, and it is read where it lies.
 #[derive(Debug, Drop)]
 pub struct Told {
     entry: Entry,
-    report: Option<Report>,
+    report: KeptReport,
 }
 
 impl Model for Told {
@@ -30,53 +30,42 @@ impl Model for Told {
 
 impl Told {
     /// No report waits.
-    pub(crate) fn new() -> Told
+    pub fn new() -> Told
         ensures { result ≡ None }
     {
         Told {
             entry: 0,
-            report: None,
+            report: KeptReport::new(),
         }
     }
 
     /// Whether one waits.
-    pub(crate) fn is_some(&self) -> bool
+    pub fn is_some(&self) -> bool
         ensures { result ≡ is_some self.now }
     {
-        match &self.report {
-            Some(_) => true,
-            None => false,
-        }
+        self.report.is_some()
     }
 
     /// The report where it lies, with its entry.
-    pub(crate) fn as_ref(&self) -> Option<(Entry, &Report)>
-        ensures { option_map (λ t. (t.0, t.1.now)) result ≡ self.now }
+    pub fn read(&self) -> Option<(Entry, Report<'_>)>
+        ensures { result ≡ self.now }
     {
-        match &self.report {
-            Some(report) => Some((self.entry, report)),
-            None => None,
-        }
+        Some((self.entry, self.report.read()?))
     }
 
-    /// Takes the report, with its entry.
-    pub(crate) fn take(&mut self) -> Option<(Entry, Report)>
-        ensures report { result ≡ self.old }
-        ensures none { self.new ≡ None }
+    /// Puts a report in place of what stands here.
+    pub fn keep(&mut self, entry: Entry, report: &Report<'_>)
+        ensures { self.new ≡ Some (entry, report.now) }
     {
-        match self.report.take() {
-            Some(taken) => Some((self.entry, taken)),
-            None => None,
-        }
+        self.entry = entry;
+        self.report.keep(report);
     }
 
-    /// Lets the report go. Where none waits, nothing is written.
-    pub(crate) fn clear(&mut self)
+    /// Lets the report go.
+    pub fn clear(&mut self)
         ensures { self.new ≡ None }
     {
-        if self.report.is_some() {
-            self.report = None;
-        }
+        self.report.clear();
     }
 
     /// A packet reaches the device of an entry. What its controller tells waits in place of what waited; where it tells nothing, that stays.
@@ -113,7 +102,7 @@ impl Told {
         ensures told { self.new ≡ waiting_after entry (told_of frame.now now device.old) self.old }
         ensures device { device.new ≡ device_hears frame.now now device.old }
     {
-        let mut report = None;
+        let mut report = KeptReport::new();
         device.hear(frame, now, &mut report);
         if report.is_some() {
             self.entry = entry;

@@ -237,17 +237,18 @@ comes_withdrawn entry d ds sound at =
 
 -- a device is added
 
-new_settings : (address : ℕ) (c : BusConfig) → address < 127 → IsBusConfig c → AreSettings (controller_config address c) c.capacity
+new_settings : (address : ℕ) (c : BusConfig) → address < 127 → IsBusConfig c → AreSettings (controller_config address c) c.room.messages c.room.bytes
 new_settings address c device is = record {
   config_in_range = keeps_config (controller_config 0 c) address device is.controllers.config_in_range;
   room = is.controllers.room;
   limit = is.controllers.limit;
+  bytes = is.controllers.bytes;
 }
 
 comes_new : (address : ℕ) (b : BusState) → address < 127 → is_taken address b.devices.entries ≡ false → SoundBus b
     → Comes b.devices (length b.devices.entries) (new_device address b.config) None
 comes_new address b device free is = record {
-  device = record { machine = stays_well.new (controller_config address b.config) b.config.capacity (new_settings address b.config device is.config); reserves = inl refl };
+  device = record { machine = stays_well.new (controller_config address b.config) b.config.room.messages b.config.room.bytes (new_settings address b.config device is.config); reserves = inl refl };
   free = free_new;
   holds_alone = λ h. absurd cc;
   ended = λ h. absurd cc;

@@ -1,5 +1,5 @@
 -- Each refusal comes exactly where its cause holds, in the order in which the causes are judged.
-use Rattle.std.proofs.Common.{◌≡◌, ◌∙◌, ap, sym, subst, inl, inr, ℕ, zero, suc, ◌+◌, ◌<◌, ◌≤◌, ◌||◌, Bool, true, false, List, [], ◌∷◌, ◌++◌, length, take, drop, Option, Some, None, refl, arith}
+use Rattle.std.proofs.Common.{◌≡◌, ◌∙◌, ap, sym, subst, inl, inr, ℕ, zero, suc, ◌+◌, ◌-◌, ◌<◌, ◌≤◌, ◌&&◌, ◌||◌, Bool, true, false, List, [], ◌∷◌, ◌++◌, length, take, drop, Option, Some, None, refl, arith}
 use Rattle.std.specs.Prelude.{◌≢◌, ◌⊎◌, if◌then◌else◌, is_some, nat_le, nat_lt, option_map, option_to_list, slice_get, slice_set}
 use Rattle.std.specs.List.{list_any}
 use Rattle.std.specs.Option.{option_map_or}
@@ -8,12 +8,13 @@ use Rattle.std.proofs.lemmas.Option.{slice_get_within}
 use Rattle.osdp_msg.specs.declared.command.Command.{Command}
 use Rattle.osdp_msg.specs.declared.command.Command.TheVariants.{Poll, Comset}
 use Rattle.osdp_msg.specs.declared.command_fields.Communication.{Communication}
+use Rattle.osdp_msg.specs.declared.limits.Room.{Room}
 use Rattle.osdp_controller.specs.declared.fault.ControllerFault.TheVariants.{Full as FullOf, NotClosed as NotClosedOf, OutOfRange as OutOfRangeOf}
 use Rattle.osdp_controller.specs.declared.state.State.{State}
 use Rattle.osdp_controller.specs.declared.state.State.TheVariants.{Closed, Quiet, Idle, Waiting, Pausing}
 use Rattle.osdp_controller.specs.Comsets.{has_comset}
 use Rattle.osdp_controller.specs.Hearing.{comset_of}
-use Rattle.osdp_controller.specs.Machine.{Machine, or_no_device, refused_unless_closed, submit_refusal}
+use Rattle.osdp_controller.specs.Machine.{Machine, bytes_waiting, command_size, has_room, or_no_device, refused_unless_closed, submit_refusal}
 use Rattle.osdp_controller.specs.States.{is_closed}
 use Rattle.osdp_controller_laws.proofs.Closed.{may_begin}
 use Rattle.osdp_bus.specs.declared.device.Device.{Device}
@@ -188,7 +189,7 @@ judges_withdraw entry b = by_device (device_of entry b) refl
 -- submitting
 
 poll_or : (command : Command) → (command ≡ Poll) ⊎ ((command ≢ Poll)
-    × ((m : Machine) → submit_refusal command m ≡ (if nat_lt (length m.waiting) m.capacity then None else Some FullOf)))
+    × ((m : Machine) → submit_refusal command m ≡ (if has_room command m then None else Some FullOf)))
 poll_or Poll = inl refl
 poll_or command = inr ((λ h. cc), (λ m. refl))
 
@@ -226,36 +227,60 @@ not_barred entry command d b at h (asked, is, why) =
         let none = sym free.1 ∙ same ∙ some in
         cc
 
-judges_room : (entry : ℕ) (d : Device) (b : BusState) → HasRooms b → device_of entry b ≡ Some d
-    → Judges Full (HasNoRoom entry b) Accepts (option_map bus_fault (if nat_lt (length d.controller.waiting) d.controller.capacity then None else Some FullOf))
-judges_room entry d b rooms at = by_test (nat_lt (length d.controller.waiting) d.controller.capacity) refl
+no_room_for : (place bytes : Bool) → (place && bytes) ≡ false → (place ≡ false) ⊎ (bytes ≡ false)
+no_room_for true bytes h = inr h
+no_room_for false bytes h = inl refl
+
+room_for : (place bytes : Bool) → (place && bytes) ≡ true → (place ≡ true) × (bytes ≡ true)
+room_for true bytes h = (refl, h)
+room_for false bytes h = absurd cc
+
+abbrev LacksRoom : Room → Command → Device → Type 0
+LacksRoom room command d = (room.messages ≤ length d.controller.waiting) ⊎ (room.bytes - bytes_waiting d.controller.waiting < command_size command)
+
+judges_room : (entry : ℕ) (command : Command) (d : Device) (b : BusState) → HasRooms b → device_of entry b ≡ Some d
+    → Judges Full (HasNoRoom entry command b) Accepts (option_map bus_fault (if has_room command d.controller then None else Some FullOf))
+judges_room entry command d b rooms at = by_test (has_room command d.controller) refl
   where
-    by_test : (t : Bool) → nat_lt (length d.controller.waiting) d.controller.capacity ≡ t
-        → Judges Full (HasNoRoom entry b) Accepts (option_map bus_fault (if t then None else Some FullOf))
+    places : d.controller.capacity ≡ b.config.room.messages
+    places = ap (λ (r : Room). r.messages) (rooms entry d at)
+
+    bytes : d.controller.room ≡ b.config.room.bytes
+    bytes = ap (λ (r : Room). r.bytes) (rooms entry d at)
+
+    by_test : (t : Bool) → has_room command d.controller ≡ t
+        → Judges Full (HasNoRoom entry command b) Accepts (option_map bus_fault (if t then None else Some FullOf))
     by_test true h = inr (there_is_room, refl)
       where
-        there_is_room : HasNoRoom entry b → ⊥
-        there_is_room (e, there, full) =
-            let below = ltb-true (length d.controller.waiting) d.controller.capacity h in
-            let room = rooms entry d at in
-            let is = subst (λ (x : Device). b.config.capacity ≤ length x.controller.waiting) (sym (same_device entry d e b at there)) full in
-            omega arith
-    by_test false h = inl ((d, at, subst (λ n. n ≤ length d.controller.waiting) (rooms entry d at) (ltb-false (length d.controller.waiting) d.controller.capacity h)), refl)
+        free : (nat_lt (length d.controller.waiting) d.controller.capacity ≡ true) × (nat_le (command_size command) (d.controller.room - bytes_waiting d.controller.waiting) ≡ true)
+        free = room_for (nat_lt (length d.controller.waiting) d.controller.capacity) (nat_le (command_size command) (d.controller.room - bytes_waiting d.controller.waiting)) h
+
+        by_cause : LacksRoom b.config.room command d → ⊥
+        by_cause (inl many) = let below = ltb-true (length d.controller.waiting) d.controller.capacity free.0 in omega (arith, below, many, places)
+        by_cause (inr long) = let within = leb-true (command_size command) (d.controller.room - bytes_waiting d.controller.waiting) free.1 in omega (arith, within, long, bytes)
+
+        there_is_room : HasNoRoom entry command b → ⊥
+        there_is_room (e, there, full) = by_cause (subst (LacksRoom b.config.room command) (sym (same_device entry d e b at there)) full)
+    by_test false h = inl ((d, at, by_lack (no_room_for (nat_lt (length d.controller.waiting) d.controller.capacity) (nat_le (command_size command) (d.controller.room - bytes_waiting d.controller.waiting)) h)), refl)
+      where
+        by_lack : (nat_lt (length d.controller.waiting) d.controller.capacity ≡ false) ⊎ (nat_le (command_size command) (d.controller.room - bytes_waiting d.controller.waiting) ≡ false) → LacksRoom b.config.room command d
+        by_lack (inl place) = let many = ltb-false (length d.controller.waiting) d.controller.capacity place in inl (omega (arith, many, places))
+        by_lack (inr room) = let long = leb-false (command_size command) (d.controller.room - bytes_waiting d.controller.waiting) room in inr (omega (arith, long, bytes))
 
 judges_comset : (entry : ℕ) (command : Command) (d : Device) (b : BusState) → HasRooms b → device_of entry b ≡ Some d
-    → ((m : Machine) → submit_refusal command m ≡ (if nat_lt (length m.waiting) m.capacity then None else Some FullOf))
-    → Judges AddressTaken (IsBarredComset entry command b) (Judges Full (HasNoRoom entry b) Accepts) (submit_refusal_of entry command (Some d) b)
+    → ((m : Machine) → submit_refusal command m ≡ (if has_room command m then None else Some FullOf))
+    → Judges AddressTaken (IsBarredComset entry command b) (Judges Full (HasNoRoom entry command b) Accepts) (submit_refusal_of entry command (Some d) b)
 judges_comset entry command d b rooms at rule =
-    judged AddressTaken (IsBarredComset entry command b) (Judges Full (HasNoRoom entry b) Accepts) (is_comset_refused (comset_of command) entry d b)
+    judged AddressTaken (IsBarredComset entry command b) (Judges Full (HasNoRoom entry command b) Accepts) (is_comset_refused (comset_of command) entry d b)
     (option_map bus_fault (submit_refusal command d.controller)) (barred entry command d b at (comset_of command) refl) (not_barred entry command d b at)
-    (subst (λ r. Judges Full (HasNoRoom entry b) Accepts (option_map bus_fault r)) (sym (rule d.controller)) (judges_room entry d b rooms at))
+    (subst (λ r. Judges Full (HasNoRoom entry command b) Accepts (option_map bus_fault r)) (sym (rule d.controller)) (judges_room entry command d b rooms at))
 
 judges_submit : (entry : ℕ) (command : Command) (b : BusState) → HasRooms b → JudgesInOrder (Submit entry command) b (submit_refusal_at entry command b)
 judges_submit entry command b rooms = by_device (device_of entry b) refl
   where
     by_poll : (d : Device) → device_of entry b ≡ Some d → (command ≡ Poll) ⊎ ((command ≢ Poll)
-        × ((m : Machine) → submit_refusal command m ≡ (if nat_lt (length m.waiting) m.capacity then None else Some FullOf)))
-        → Judges PollSubmitted (command ≡ Poll) (Judges AddressTaken (IsBarredComset entry command b) (Judges Full (HasNoRoom entry b) Accepts))
+        × ((m : Machine) → submit_refusal command m ≡ (if has_room command m then None else Some FullOf)))
+        → Judges PollSubmitted (command ≡ Poll) (Judges AddressTaken (IsBarredComset entry command b) (Judges Full (HasNoRoom entry command b) Accepts))
         (submit_refusal_of entry command (Some d) b)
     by_poll d at (inl is) = inl (is, ap (λ c. submit_refusal_of entry c (Some d) b) is)
     by_poll d at (inr (other, rule)) = inr (other, judges_comset entry command d b rooms at rule)
@@ -279,14 +304,14 @@ judges_order : (entry : ℕ) (command : Command) (b : BusState) → HasRooms b �
 judges_order entry command b rooms = by_device (device_of entry b) refl
   where
     by_poll : (d : Device) → device_of entry b ≡ Some d → (command ≡ Poll) ⊎ ((command ≢ Poll)
-        × ((m : Machine) → submit_refusal command m ≡ (if nat_lt (length m.waiting) m.capacity then None else Some FullOf)))
+        × ((m : Machine) → submit_refusal command m ≡ (if has_room command m then None else Some FullOf)))
         → Judges PollSubmitted (command ≡ Poll) (Judges AddressOutOfRange (IsNowhere command)
-        (Judges AddressTaken (IsBarredComset entry command b) (Judges Full (HasNoRoom entry b) Accepts)))
+        (Judges AddressTaken (IsBarredComset entry command b) (Judges Full (HasNoRoom entry command b) Accepts)))
         (order_refusal_of entry command (Some d) b)
     by_poll d at (inl is) = inl (is, ap (λ c. order_refusal_of entry c (Some d) b) is)
     by_poll d at (inr (other, rule)) = inr (
       other,
-      judged AddressOutOfRange (IsNowhere command) (Judges AddressTaken (IsBarredComset entry command b) (Judges Full (HasNoRoom entry b) Accepts))
+      judged AddressOutOfRange (IsNowhere command) (Judges AddressTaken (IsBarredComset entry command b) (Judges Full (HasNoRoom entry command b) Accepts))
           (leads_nowhere (comset_of command)) (submit_refusal_of entry command (Some d) b) (nowhere command (comset_of command) refl) (not_nowhere command)
           (judges_comset entry command d b rooms at rule),
     )

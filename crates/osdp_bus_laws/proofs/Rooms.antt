@@ -5,6 +5,7 @@ use Rattle.std.specs.Option.{option_map_or}
 use Rattle.osdp_frame.specs.Items.{items}
 use Rattle.osdp_frame.specs.Reading.{RunItem}
 use Rattle.osdp_controller.proofs.Choices.{either_way}
+use Rattle.osdp_msg.specs.declared.limits.Room.{Room}
 use Rattle.osdp_bus.specs.declared.config.BusConfig.{BusConfig}
 use Rattle.osdp_bus.specs.declared.device.Device.{Device}
 use Rattle.osdp_bus.specs.declared.fault.BusFault.{BusFault}
@@ -17,27 +18,30 @@ use Rattle.osdp_bus_laws.specs.Calls.{Call, Add, Begin, Submit, Withdraw, Retarg
 use Rattle.osdp_bus_laws.proofs.Hearing.{items_keep}
 use Rattle.osdp_bus_laws.proofs.Places.{IsAt, added, replaced}
 
-abbrev RoomsAre : ℕ → List Device → Type 0
-RoomsAre room ds = (j : ℕ) (f : Device) → slice_get ds j ≡ Some f → f.controller.capacity ≡ room
+abbrev room_of : Device → Room
+room_of d = record { messages = d.controller.capacity; bytes = d.controller.room }
+
+abbrev RoomsAre : Room → List Device → Type 0
+RoomsAre room ds = (j : ℕ) (f : Device) → slice_get ds j ≡ Some f → room_of f ≡ room
 
 abbrev pub HasRooms : BusState → Type 0
-HasRooms b = RoomsAre b.config.capacity b.devices.entries
+HasRooms b = RoomsAre b.config.room b.devices.entries
 
 -- a device takes the place of one with the same room
-rooms_set : (room i : ℕ) (d e : Device) (ds : List Device) → slice_get ds i ≡ Some d → e.controller.capacity ≡ d.controller.capacity → RoomsAre room ds
+rooms_set : (room : Room) (i : ℕ) (d e : Device) (ds : List Device) → slice_get ds i ≡ Some d → room_of e ≡ room_of d → RoomsAre room ds
     → RoomsAre room (slice_set ds i e)
 rooms_set room i d e ds at same are = λ j f there. by_place j f (replaced ds i e j f there)
   where
-    by_place : (j : ℕ) (f : Device) → IsAt ds i e j f → f.controller.capacity ≡ room
-    by_place j f (inl (here, is)) = ap (λ (x : Device). x.controller.capacity) is ∙ same ∙ are i d at
+    by_place : (j : ℕ) (f : Device) → IsAt ds i e j f → room_of f ≡ room
+    by_place j f (inl (here, is)) = ap room_of is ∙ same ∙ are i d at
     by_place j f (inr (other, was)) = are j f was
 
-rooms_items : (room now : ℕ) (parts : List RunItem) (ds : Devices) → RoomsAre room ds.entries → RoomsAre room (hears_items now parts ds).entries
+rooms_items : (room : Room) (now : ℕ) (parts : List RunItem) (ds : Devices) → RoomsAre room ds.entries → RoomsAre room (hears_items now parts ds).entries
 rooms_items room now =
     items_keep now (λ (ds : Devices). RoomsAre room ds.entries) (λ p i d ds at are. rooms_set room i d (device_hears p now d) ds.entries at refl are)
 
 rooms_run : (b : BusState) → HasRooms b → HasRooms (ends_run b)
-rooms_run b are = rooms_items b.config.capacity b.greatest (items true b.held) b.devices are
+rooms_run b are = rooms_items b.config.room b.greatest (items true b.held) b.devices are
 
 rooms_silent : (b : BusState) → HasRooms b → HasRooms (ends_silent b)
 rooms_silent b are = either_way HasRooms (is_silent b) (ends_run b) b (λ h. rooms_run b are) (λ h. are)
@@ -46,7 +50,7 @@ rooms_bytes : (bytes : List ℕ) (now : ℕ) (b : BusState) → HasRooms b → H
 rooms_bytes [] now b are = are
 rooms_bytes (byte ∷ bytes) now b are =
     let e = ends_silent (seen now b) in
-    rooms_items e.config.capacity e.greatest (items false (e.held ++ (byte ∷ bytes))) e.devices (rooms_silent (seen now b) are)
+    rooms_items e.config.room e.greatest (items false (e.held ++ (byte ∷ bytes))) e.devices (rooms_silent (seen now b) are)
 
 -- ticks
 
@@ -55,7 +59,7 @@ TickRooms t = HasRooms t.bus
 
 rooms_ticks_with : (i : ℕ) (o : Option Device) (b : BusState) → device_of i b ≡ o → HasRooms b → TickRooms (ticks_with i o b)
 rooms_ticks_with i None b at are = are
-rooms_ticks_with i (Some d) b at are = rooms_set b.config.capacity i d (device_ticks b.greatest d) b.devices.entries at refl are
+rooms_ticks_with i (Some d) b at are = rooms_set b.config.room i d (device_ticks b.greatest d) b.devices.entries at refl are
 
 rooms_ticks_at : (o : Option ℕ) (b : BusState) → HasRooms b → TickRooms (ticks_at o b)
 rooms_ticks_at None b are = are
@@ -79,14 +83,14 @@ rooms_tick now b are =
 
 -- each call
 
-rooms_changes : (entry : ℕ) (change : Device → Device) (b : BusState) → ((d : Device) → (change d).controller.capacity ≡ d.controller.capacity) → HasRooms b
+rooms_changes : (entry : ℕ) (change : Device → Device) (b : BusState) → ((d : Device) → room_of (change d) ≡ room_of d) → HasRooms b
     → HasRooms (changes_device entry change b)
 rooms_changes entry change b same are = by_device (device_of entry b) refl
   where
     by_device : (o : Option Device) → device_of entry b ≡ o
         → HasRooms (option_map_or (λ d. record b { devices = record b.devices { entries = slice_set b.devices.entries entry (change d) } }) o b)
     by_device None at = are
-    by_device (Some d) at = rooms_set b.config.capacity entry d (change d) b.devices.entries at (same d) are
+    by_device (Some d) at = rooms_set b.config.room entry d (change d) b.devices.entries at (same d) are
 
 rooms_unless : (f : Option BusFault) (b c : BusState) → HasRooms b → HasRooms c → HasRooms (changed_unless f b c)
 rooms_unless None b c before after = after
@@ -95,8 +99,8 @@ rooms_unless (Some fault) b c before after = before
 rooms_added : (address : ℕ) (b : BusState) → HasRooms b → HasRooms (after_add address b)
 rooms_added address b are = λ j f there. by_place j f (added b.devices.entries (new_device address b.config) j f there)
   where
-    by_place : (j : ℕ) (f : Device) → IsAt b.devices.entries (length b.devices.entries) (new_device address b.config) j f → f.controller.capacity ≡ b.config.capacity
-    by_place j f (inl (here, same)) = ap (λ (x : Device). x.controller.capacity) same
+    by_place : (j : ℕ) (f : Device) → IsAt b.devices.entries (length b.devices.entries) (new_device address b.config) j f → room_of f ≡ b.config.room
+    by_place j f (inl (here, same)) = ap room_of same
     by_place j f (inr (other, was)) = are j f was
 
 rooms_call : (call : Call) (b : BusState) → HasRooms b → HasRooms (after_call call b)

@@ -1,5 +1,6 @@
 -- When a call is refused, and with what.
-use Rattle.std.specs.Prelude.{◌≡◌, ◌≢◌, ◌⊎◌, ℕ, ◌≤◌, false, [], length, Option, Some, None, Result, Ok, Err}
+use Rattle.std.specs.Prelude.{◌≡◌, ◌≢◌, ◌⊎◌, ℕ, ◌-◌, ◌<◌, ◌≤◌, false, [], length, Option, Some, None, Result, Ok, Err}
+use Rattle.osdp_controller.specs.Machine.{bytes_waiting, command_size}
 use Rattle.osdp_controller.specs.States.{is_closed}
 use Rattle.osdp_msg.specs.declared.command.Command.{Command}
 use Rattle.osdp_msg.specs.declared.command.Command.TheVariants.{Poll, Comset}
@@ -48,9 +49,10 @@ IsBarredComset entry command b =
 abbrev pub IsNowhere : Command → Type 0
 IsNowhere command = (asked : Communication) × (command ≡ Comset asked) × (127 ≤ asked.address)
 
--- as many commands wait for it as the bus's settings leave room for
-abbrev pub HasNoRoom : ℕ → BusState → Type 0
-HasNoRoom entry b = OfEntry entry (λ d. b.config.capacity ≤ length d.controller.waiting) b
+-- as many commands wait for it as the bus's settings leave room for, or their bytes leave no room for those of this one
+abbrev pub HasNoRoom : ℕ → Command → BusState → Type 0
+HasNoRoom entry command b = OfEntry entry (λ d. (b.config.room.messages ≤ length d.controller.waiting)
+    ⊎ (b.config.room.bytes - bytes_waiting d.controller.waiting < command_size command)) b
 
 -- a COMSET waits for it
 abbrev pub AwaitsMove : ℕ → BusState → Type 0
@@ -63,7 +65,7 @@ JudgesInOrder (Add address) b =
 JudgesInOrder (Begin entry now) b = Judges NoEntry (IsNoEntry entry b) (Judges NotClosed (IsOpen entry b) Accepts)
 JudgesInOrder (Submit entry command) b =
     Judges NoEntry (IsNoEntry entry b) (Judges PollSubmitted (command ≡ Poll)
-    (Judges AddressTaken (IsBarredComset entry command b) (Judges Full (HasNoRoom entry b) Accepts)))
+    (Judges AddressTaken (IsBarredComset entry command b) (Judges Full (HasNoRoom entry command b) Accepts)))
 JudgesInOrder (Withdraw entry) b = Judges NoEntry (IsNoEntry entry b) Accepts
 JudgesInOrder (Retarget entry address) b =
     Judges NoEntry (IsNoEntry entry b) (Judges NotClosed (IsOpen entry b)
@@ -74,7 +76,7 @@ JudgesInOrder _ b = Accepts
 abbrev pub JudgesOrder : ℕ → Command → BusState → Option BusFault → Type 0
 JudgesOrder entry command b =
     Judges NoEntry (IsNoEntry entry b) (Judges PollSubmitted (command ≡ Poll) (Judges AddressOutOfRange (IsNowhere command)
-    (Judges AddressTaken (IsBarredComset entry command b) (Judges Full (HasNoRoom entry b) Accepts))))
+    (Judges AddressTaken (IsBarredComset entry command b) (Judges Full (HasNoRoom entry command b) Accepts))))
 
 -- why a call is refused, as its contract has it
 abbrev pub refused_with : Result (Option Command) BusFault → Option BusFault

@@ -2,6 +2,7 @@
 use Rattle.std.specs.Prelude.{◌≡◌, ℕ}
 use Rattle.osdp_frame.specs.declared.check_kind.CheckKind.{CheckKind}
 use Rattle.osdp_controller.specs.declared.config.ControllerConfig.{ControllerConfig}
+use Rattle.osdp_msg.specs.declared.limits.Room.{Room}
 use Rattle.osdp_bus.specs.declared.config.BusConfig.{BusConfig}
 use Rattle.osdp_bus.specs.Machine.{new_device}
 use Rattle.osdp_bus.specs.Settings.{default_config}
@@ -17,12 +18,12 @@ pub record AreOfTheBus (at : ℕ) (c : BusConfig) (k : ControllerConfig) : Type 
   pub busy_limit : k.busy_limit ≡ c.busy_limit
   pub quiet_wait : k.quiet_wait ≡ c.quiet_wait
 
--- a new device at an address has the settings of its bus, and room for as many commands
+-- a new device at an address has the settings of its bus, and its room for commands
 abbrev pub DevicesAreSetAsTheBus : Type 0
 DevicesAreSetAsTheBus = (at : ℕ) (c : BusConfig)
-    → AreOfTheBus at c (new_device at c).controller.session.config × ((new_device at c).controller.capacity ≡ c.capacity)
+    → AreOfTheBus at c (new_device at c).controller.session.config × ((new_device at c).controller.capacity ≡ c.room.messages) × ((new_device at c).controller.room ≡ c.room.bytes)
 
-pub record AreDefaults (kind : CheckKind) (room : ℕ) (c : BusConfig) : Type 0 where
+pub record AreDefaults (kind : CheckKind) (given : Room) (c : BusConfig) : Type 0 where
   pub check : c.check ≡ kind
   pub reply_wait : c.reply_wait ≡ 200
   pub poll_interval : c.poll_interval ≡ 50
@@ -31,7 +32,7 @@ pub record AreDefaults (kind : CheckKind) (room : ℕ) (c : BusConfig) : Type 0 
   pub busy_limit : c.busy_limit ≡ 20
   pub quiet_wait : c.quiet_wait ≡ 400
   pub gap : c.gap ≡ 20
-  pub capacity : c.capacity ≡ room
+  pub room : c.room ≡ given
 
 abbrev pub DefaultsAreThese : Type 0
-DefaultsAreThese = (kind : CheckKind) (room : ℕ) → AreDefaults kind room (default_config kind room)
+DefaultsAreThese = (kind : CheckKind) (room : Room) → AreDefaults kind room (default_config kind room)

@@ -22,6 +22,7 @@ use Rattle.osdp_reader.specs.Table as reader
 use Rattle.osdp_reader.specs.Table.{command_in}
 use Rattle.osdp_shared_line.specs.Addresses.{SetsReader, address_in, asked_in}
 use Rattle.osdp_reader.specs.declared.handler.Answer.{Answer}
+use Rattle.osdp_reader.specs.Queue.{lacks_room}
 use Rattle.osdp_link_laws.specs.Headline.{MoveFits, SaysWhatFitsIf}
 use Rattle.osdp_link_laws.specs.Link as link
 use Rattle.osdp_link_laws.specs.Link.{Delivered, Delivery, Link, LoseToController, LoseToReader, Lost, Move, Queue as QueueEvent, Reopen, Repeated, RestartController, RestartReader, Retarget, SetBusy, SetHandler, Submit, Tick, ToController, ToReader, Withdraw, WithdrawEvent, after_move, run}
@@ -460,7 +461,7 @@ module _ {H : Type 0} (answer_of : H → Command → Answer) (after : H → Comm
       → IsUsual move → MoveFits answer_of after move l → ToldAsAsked (told_by move l) → MayMove move r → Keeps r l → Keeps (reserved_after move l r) (after_move answer_of after move l)
   keeps_move asked answered (Submit c) r l device one usual fits told may h = submitting (controllers.submit_refusal c l.controller) c r l may fits h
   keeps_move asked answered (QueueEvent e) r l device one usual fits told may h =
-      queueing (length l.reader.queue.events == l.reader.queue.capacity) e r l h
+      queueing (lacks_room e l.reader.queue) e r l h
   keeps_move asked answered (SetBusy busy) r l device one usual fits told may h =
       record { one = h.one; fits = h.fits; names = h.names }
   keeps_move asked answered (Tick now) r l device one usual fits told may h =

@@ -3,25 +3,21 @@
 ghost use Rattle.std.specs.Prelude.{◌≡◌};
 ghost use Rattle.osdp_c.specs.CommandTexts.{IsReadCommand, IsReadEvent};
 
-use osdp_msg::{Command, Event};
+use osdp_msg::{Command, Event, Spelling};
 use std::str;
 
-/// Puts the command there whose text these bytes are, or none.
-pub(crate) fn read_command(text: &[u8], command: &mut Option<Command>)
-    ensures { IsReadCommand text.now command.new }
+/// The command whose text these bytes are, if they are one's. What it has of bytes stands in `place` then.
+pub(crate) fn read_command<'a>(text: &[u8], place: &'a mut Spelling) -> Option<Command<'a>>
+    ensures { IsReadCommand text.now result }
 {
-    match str::from_utf8(text) {
-        Ok(text) => Command::parse_line_into(text, command),
-        Err(_) => *command = None,
-    }
+    let text = str::from_utf8(text).ok()?;
+    Command::parse_line(text, place).ok()
 }
 
-/// Puts the event there whose text these bytes are, or none.
-pub(crate) fn read_event(text: &[u8], event: &mut Option<Event>)
-    ensures { IsReadEvent text.now event.new }
+/// The event whose text these bytes are, if they are one's. What it has of bytes stands in `place` then.
+pub(crate) fn read_event<'a>(text: &[u8], place: &'a mut Spelling) -> Option<Event<'a>>
+    ensures { IsReadEvent text.now result }
 {
-    match str::from_utf8(text) {
-        Ok(text) => Event::parse_line_into(text, event),
-        Err(_) => *event = None,
-    }
+    let text = str::from_utf8(text).ok()?;
+    Event::parse_line(text, place).ok()
 }

@@ -36,6 +36,16 @@ pieces_done f start new xs i past before =
     let none : flat_map f (drop i xs) ≡ [] = rw (drop_all i xs past) refl in
     sym (append-nil new) ∙ ap (λ l. new ++ l) (sym none) ∙ before
 
+-- one more piece is put, and the others are left
+pub next_piece : {X : Type 0} (f : X → List ℕ) (whole old new : List ℕ) (x : X) (xs : List X) → old ++ flat_map f (x ∷ xs) ≡ whole → new ≡ old ++ f x → new ++ flat_map f xs ≡ whole
+next_piece f whole old new x xs before put = ap (λ l. l ++ flat_map f xs) put ∙ append_assoc old (f x) (flat_map f xs) ∙ before
+
+-- a piece that has no room: then all of them have none
+pub next_without_room : {X : Type 0} (f : X → List ℕ) (room : ℕ) (start old : List ℕ) (x : X) (xs all : List X)
+    → old ++ flat_map f (x ∷ xs) ≡ start ++ flat_map f all → room < length old + length (f x) → room < length start + length (flat_map f all)
+next_without_room f room start old x xs all before full =
+    omega (arith, full, ap length before, length-append old (f x ++ flat_map f xs), length-append start (flat_map f all), length-append (f x) (flat_map f xs))
+
 pub encoded : (bs : List ℕ) → encode_upper bs ≡ flat_map two_digits bs
 unfolding encode_with
 encoded [] = refl

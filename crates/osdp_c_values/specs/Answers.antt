@@ -6,7 +6,7 @@ use Rattle.osdp_device.specs.declared.order.Order.{Order}
 use Rattle.osdp_device.specs.declared.order.Order.TheVariants.{Nothing, Once, Again, Refused}
 use Rattle.osdp_msg.specs.declared.command.Command.{Command}
 use Rattle.osdp_msg.specs.declared.command_fields.Communication.{Communication}
-use Rattle.osdp_reader.specs.Responses.{accepted_comset}
+use Rattle.osdp_reader.specs.Heard.{accepted_comset}
 use Rattle.osdp_reader.specs.declared.kind.Kind.{Kind}
 use Rattle.osdp_reader.specs.declared.kind.Kind.TheVariants.{Silent, Secured, Zero, Repeat, Taken, Busy, Wrong}
 use Rattle.osdp_c_values.specs.declared.answer.AnswerStruct.{AnswerStruct}

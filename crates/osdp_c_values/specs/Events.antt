@@ -3,8 +3,8 @@ use Rattle.std.specs.Prelude.{ℕ, List, nat_lt, if◌then◌else◌, take, Opti
 use Rattle.osdp_msg.specs.declared.fault.MsgFault.TheVariants.{Count, Length}
 use Rattle.osdp_msg.specs.declared.reply.Reply.{Reply}
 use Rattle.osdp_msg.specs.declared.reply.Reply.TheVariants as reply
-use Rattle.osdp_msg.specs.declared.reply_fields.Formatted.{Formatted}
-use Rattle.osdp_msg.specs.declared.reply_fields.Keypad.{Keypad}
+use Rattle.osdp_msg.specs.declared.event_fields.Formatted.{Formatted}
+use Rattle.osdp_msg.specs.declared.event_fields.Keypad.{Keypad}
 use Rattle.osdp_msg.specs.declared.reply_fields.LocalState.{LocalState}
 use Rattle.osdp_msg.specs.Limits.{most_card_bytes, most_data}
 use Rattle.osdp_msg.specs.Raw.{RawCard, raw_card}

@@ -6,7 +6,7 @@ use Rattle.osdp_msg.specs.declared.fault.MsgFault.{MsgFault}
 use Rattle.osdp_msg.specs.declared.outputs.OutputRecord.{OutputRecord}
 use Rattle.osdp_msg.specs.declared.reply.Reply.{Reply}
 use Rattle.osdp_msg.specs.declared.reply.Reply.TheVariants as reply
-use Rattle.osdp_msg.specs.declared.reply_fields.Keypad.{Keypad}
+use Rattle.osdp_msg.specs.declared.event_fields.Keypad.{Keypad}
 use Rattle.osdp_msg.specs.declared.reply_fields.Nak.{Nak}
 use Rattle.osdp_msg.specs.declared.reply_fields.PdId.{PdId}
 use Rattle.osdp_msg.specs.CommandTable.{command_of}

@@ -262,7 +262,7 @@ answers_list states m = answers_if (list_answer states) m
 
 -- the maker's own reply
 abbrev pub maker_answer : List ℕ → List ℕ → Option Answer
-maker_answer vendor bytes = if nat_le (length bytes) most_maker_bytes then Some (answer.Maker vendor (record { items = bytes })) else None
+maker_answer vendor bytes = if nat_le (length bytes) most_maker_bytes then Some (answer.Maker (record { vendor = vendor; bytes = record { items = bytes } })) else None
 
 abbrev pub answers_maker : List ℕ → List ℕ → ReaderMachine → Done ReaderMachine
 answers_maker vendor bytes m = answers_if (maker_answer vendor bytes) m

@@ -4,7 +4,7 @@ use Rattle.osdp_msg.specs.declared.capability.Capability.{Capability}
 use Rattle.osdp_msg.specs.declared.fault.MsgFault.{MsgFault}
 use Rattle.osdp_msg.specs.declared.reply.Reply.{Reply}
 use Rattle.osdp_msg.specs.declared.reply.Reply.TheVariants as reply
-use Rattle.osdp_msg.specs.declared.reply_fields.Formatted.{Formatted}
+use Rattle.osdp_msg.specs.declared.event_fields.Formatted.{Formatted}
 use Rattle.osdp_msg.specs.declared.reply_fields.LocalState.{LocalState}
 use Rattle.osdp_c_values.specs.declared.fields.StatesStruct.{StatesStruct}
 use Rattle.osdp_c_values.specs.declared.shared.CommunicationStruct.{CommunicationStruct}

@@ -1,12 +1,12 @@
 //! What a reader says.
 
 ghost use Rattle.std.specs.Prelude.{◌≡◌};
-ghost use Rattle.osdp_device.specs.Lent.{heard_in, settled_pending, settled_said};
+ghost use Rattle.osdp_device.specs.Lent.{said_by, said_if, settled_kind, settled_pending};
 ghost use Rattle.osdp_c_values.specs.Answers.{kind_number, moves, order_number, orders, pends, says, says_nothing, turn_struct};
 
 use crate::arrays::BurstStruct;
 use crate::message::MessageStruct;
-use osdp_device::{Order, Settled, order_of_heard, ordered_heard};
+use osdp_device::{Order, Settled, order_of, ordered};
 use osdp_msg::{Command, Communication};
 use osdp_reader::{Heard, Kind};
 
@@ -78,13 +78,13 @@ impl AnswerStruct {
         }
     }
 
-    /// Writes a command, and what the device is to do with it.
-    fn set_order(&mut self, heard: &Heard)
-        ensures { self.new ≡ orders (heard_in heard.now) self.old }
+    /// Writes a command, and what the device is to do with it, where these bytes are sent back.
+    fn set_order(&mut self, heard: &Heard<'_>, bytes: &[u8])
+        ensures { self.new ≡ orders (said_by heard.now bytes.now) self.old }
     {
-        match ordered_heard(heard) {
+        match ordered(heard) {
             Some(command) => {
-                self.order = order_number(order_of_heard(heard));
+                self.order = order_number(order_of(heard, bytes));
                 self.command.set_command(Some(command));
             }
             None => {
@@ -106,17 +106,17 @@ impl AnswerStruct {
     }
 
     /// Writes what is said.
-    fn set_heard(&mut self, heard: &Heard)
-        ensures { self.new ≡ says (heard_in heard.now) self.old }
+    fn set_said(&mut self, heard: &Heard<'_>, bytes: &[u8])
+        ensures { self.new ≡ says (said_by heard.now bytes.now) self.old }
     {
         self.kind = kind_number(heard.kind);
-        self.set_order(heard);
+        self.set_order(heard, bytes);
         self.set_moved(heard.comset());
-        self.burst.set(heard.burst.as_slice());
+        self.burst.set(bytes);
     }
 
     /// Writes that the device stops before a command.
-    fn set_pending(&mut self, command: &Command)
+    fn set_pending(&mut self, command: &Command<'_>)
         ensures { self.new ≡ pends command.now self.old }
     {
         self.kind = 7;
@@ -126,14 +126,13 @@ impl AnswerStruct {
         self.burst.set(&[]);
     }
 
-    /// Writes what a turn comes to, which stands in a place.
-    #[inline(always)]
-    pub fn set_settled(&mut self, settled: Settled, heard: &Heard)
-        ensures { self.new ≡ turn_struct (settled_pending settled heard.now) (settled_said settled heard.now) self.old }
+    /// Writes what a turn comes to: the command that it is about, and the bytes that are sent back.
+    pub fn set_settled(&mut self, settled: Settled, command: Option<Command<'_>>, bytes: &[u8])
+        ensures { self.new ≡ turn_struct (settled_pending settled command.entry) (said_if (settled_kind settled) command.entry bytes.now) self.old }
     {
-        match (settled, &heard.command) {
-            (Settled::Pending, Some(command)) => self.set_pending(command),
-            (Settled::Said, _) => self.set_heard(heard),
+        match (settled, command) {
+            (Settled::Said(kind), command) => self.set_said(&Heard { kind, command }, bytes),
+            (Settled::Pending, Some(command)) => self.set_pending(&command),
             (Settled::Pending, None) | (Settled::Nothing, _) => self.set_nothing(),
         }
     }

@@ -22,11 +22,17 @@ fn put_buzzer(room: &mut Room, buzzer: &Buzzer) -> Result<(), NoRoom>
 }
 
 /// Puts the text of a TEXT.
-fn put_text(room: &mut Room, text: &Text) -> Result<(), NoRoom>
+fn put_text(room: &mut Room, text: &Text<'_>) -> Result<(), NoRoom>
     ensures { IsPut MAX_TEXT room.old result room.new (text_of (plain (codes "TEXT") ∷ text_words text.now)) }
 {
-    let numbers = numbers_of!(text: reader command time row column);
-    put_listed(room, "TEXT", &numbers, text.characters.as_slice())
+    let numbers = [
+        u32::from(text.reader()),
+        u32::from(text.command()),
+        u32::from(text.time()),
+        u32::from(text.row()),
+        u32::from(text.column()),
+    ];
+    put_listed(room, "TEXT", &numbers, text.characters())
 }
 
 /// Puts a name, an address and a baud rate.
@@ -41,17 +47,21 @@ pub(crate) fn put_communication(
 }
 
 /// Puts a name and a maker's message.
-pub(crate) fn put_maker(room: &mut Room, name: &str, message: &MakerMessage) -> Result<(), NoRoom>
+pub(crate) fn put_maker(
+    room: &mut Room,
+    name: &str,
+    message: &MakerMessage<'_>,
+) -> Result<(), NoRoom>
     ensures { IsPut MAX_TEXT room.old result room.new (text_of (plain name.now ∷ maker_words message.now)) }
 {
     put(room, name)?;
-    put_list(room, &message.vendor)?;
-    put_list(room, message.bytes.as_slice())
+    put_list(room, &message.vendor())?;
+    put_list(room, message.bytes())
 }
 
 /// Puts the text of a command.
 #[tactic(auto, unfolding(osdp_msg::specs::CommandText::command_text))]
-fn put_command(room: &mut Room, command: &Command) -> Result<(), NoRoom>
+fn put_command(room: &mut Room, command: &Command<'_>) -> Result<(), NoRoom>
     ensures { IsPut MAX_TEXT room.old result room.new (command_text command.now) }
 {
     match command {

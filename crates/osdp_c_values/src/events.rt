@@ -9,8 +9,9 @@ use crate::fields::{KeypadStruct, RawStruct, StatesStruct};
 use crate::message::MessageStruct;
 use crate::status::Status;
 use crate::told::{FormattedStruct, LocalStruct};
-use arrayvec::ArrayVec;
-use osdp_msg::{Formatted, Keypad, LocalState, MAX_CARD_BYTES, MAX_DATA, MsgFault, Raw, Reply};
+use osdp_msg::{
+    Formatted, Keypad, LocalState, MAX_CARD_BYTES, MAX_DATA, MsgFault, Raw, Reply, States,
+};
 
 /// Writes the states of inputs, outputs or readers, as many as the length says. Length (M2) where there is no room for them.
 macro_rules! tell_states {
@@ -19,14 +20,14 @@ macro_rules! tell_states {
         if count > MAX_DATA {
             return Status::Message(MsgFault::Length);
         }
-        let states = ArrayVec::try_from(&$given.states[..count]);
+        let states = States::new(&$given.states[..count]);
         $self.tell(&$reply(states.unwrap()))
     }};
 }
 
 impl MessageStruct {
     /// Writes a reply.
-    fn tell(&mut self, given: &Reply) -> Status
+    fn tell(&mut self, given: &Reply<'_>) -> Status
         ensures status { result ≡ (told given.now self.old).status }
         ensures written { self.new ≡ (told given.now self.old).out }
     {
@@ -58,23 +59,17 @@ impl MessageStruct {
     pub fn make_keypad(&mut self, given: &KeypadStruct)
         ensures { self.new ≡ reply_struct (Some (reply.Keypad (keypad_in given.now))) self.old }
     {
-        let digits = ArrayVec::try_from(&given.digits[..usize::from(given.count)]);
-        self.set_reply(Some(&Reply::Keypad(Keypad {
-            reader: given.reader,
-            digits: digits.unwrap(),
-        })));
+        let keypad = Keypad::new(given.reader, &given.digits[..usize::from(given.count)]);
+        self.set_reply(Some(&Reply::Keypad(keypad.unwrap())));
     }
 
     /// Writes a FMT.
     pub fn make_formatted(&mut self, given: &FormattedStruct)
         ensures { self.new ≡ reply_struct (Some (reply.Formatted (formatted_in given.now))) self.old }
     {
-        let digits = ArrayVec::try_from(&given.digits[..usize::from(given.count)]);
-        self.set_reply(Some(&Reply::Formatted(Formatted {
-            reader: given.reader,
-            direction: given.direction,
-            digits: digits.unwrap(),
-        })));
+        let digits = &given.digits[..usize::from(given.count)];
+        let formatted = Formatted::new(given.reader, given.direction, digits);
+        self.set_reply(Some(&Reply::Formatted(formatted.unwrap())));
     }
 
     /// Writes an LSTATR.

@@ -5,12 +5,12 @@ ghost use Rattle.osdp_c_values.specs.Fields.{command_in, data_of, keypad_struct,
 
 use crate::arrays::fill;
 use crate::message::MessageStruct;
+use crate::records::record_at;
 use crate::settings::ProductStruct;
 use crate::status::Status;
-use arrayvec::ArrayVec;
 use osdp_msg::{
     Command, Keypad, MAX_CARD_BYTES, MAX_DATA, MAX_DETAIL, MsgFault, Nak, OutputRecord, PdId, Raw,
-    Reply,
+    Reply, States,
 };
 
 /// A card's bits.
@@ -95,14 +95,14 @@ impl MessageStruct {
     }
 
     /// The reply that it is.
-    pub fn read_reply(&self) -> Result<Reply, MsgFault>
+    pub fn read_reply(&self) -> Result<Reply<'_>, MsgFault>
         ensures { result ≡ reply_in self.now }
     {
         Reply::read(self.code, self.data())
     }
 
     /// The command that it is.
-    pub fn read_command(&self) -> Result<Command, MsgFault>
+    pub fn read_command(&self) -> Result<Command<'_>, MsgFault>
         ensures { result ≡ command_in self.now }
     {
         Command::read(self.code, self.data())
@@ -111,7 +111,7 @@ impl MessageStruct {
 
 impl RawStruct {
     /// Writes a card.
-    pub fn set(&mut self, card: &Raw)
+    pub fn set(&mut self, card: &Raw<'_>)
         ensures { self.new ≡ raw_struct card.now self.old }
     {
         self.reader = card.reader();
@@ -124,22 +124,22 @@ impl RawStruct {
 
 impl KeypadStruct {
     /// Writes keys.
-    pub fn set(&mut self, keys: &Keypad)
+    pub fn set(&mut self, keys: &Keypad<'_>)
         ensures { self.new ≡ keypad_struct keys.now self.old }
     {
-        self.reader = keys.reader;
-        self.count = keys.digits.len() as u8;
-        fill(&mut self.digits, keys.digits.as_slice());
+        self.reader = keys.reader();
+        self.count = keys.digits().len() as u8;
+        fill(&mut self.digits, keys.digits());
     }
 }
 
 impl StatesStruct {
     /// Writes states.
-    pub fn set(&mut self, states: &ArrayVec<u8, MAX_DATA>)
+    pub fn set(&mut self, states: &States<'_>)
         ensures { self.new ≡ states_struct states.now.items self.old }
     {
-        self.length = states.len() as u16;
-        fill(&mut self.states, states.as_slice());
+        self.length = states.bytes().len() as u16;
+        fill(&mut self.states, states.bytes());
     }
 }
 
@@ -162,12 +162,12 @@ impl PdIdStruct {
 
 impl NakStruct {
     /// Writes a NAK.
-    pub fn set(&mut self, nak: &Nak)
+    pub fn set(&mut self, nak: &Nak<'_>)
         ensures { self.new ≡ nak_struct nak.now self.old }
     {
-        self.length = nak.detail.len() as u16;
-        self.reason = u8::from(nak.reason);
-        fill(&mut self.detail, nak.detail.as_slice());
+        self.length = nak.detail().len() as u16;
+        self.reason = u8::from(nak.reason());
+        fill(&mut self.detail, nak.detail());
     }
 }
 
@@ -187,9 +187,9 @@ impl OutputStruct {
         ensures written { self.new ≡ (output_of (command_in message.now) at self.old).out }
     {
         match message.read_command() {
-            Ok(Command::Output(outputs)) => match outputs.records().get(at) {
+            Ok(Command::Output(outputs)) => match record_at(outputs.records(), at) {
                 Some(output) => {
-                    self.set(output);
+                    self.set(&output);
                     Status::Done
                 }
                 None => Status::OtherMessage,

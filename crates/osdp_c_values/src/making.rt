@@ -146,31 +146,11 @@ fn led_records(given: &[LedStruct]) -> ArrayVec<LedRecord, 102>
     each_made!(given, led_record)
 }
 
-/// The OUT of these outputs. None where there are none or too many.
-fn outputs(given: &[OutputStruct]) -> Option<Command>
-    ensures { result ≡ option_map command.Output (records_within 358 (map output_record given.now)) }
-{
-    if given.len() > 358 {
-        return None;
-    }
-    Outputs::new(output_records(given).as_slice()).map(Command::Output)
-}
-
-/// The LED of these LEDs. None where there are none or too many.
-fn leds(given: &[LedStruct]) -> Option<Command>
-    ensures { result ≡ option_map command.Led (records_within 102 (map led_record given.now)) }
-{
-    if given.len() > 102 {
-        return None;
-    }
-    Leds::new(led_records(given).as_slice()).map(Command::Led)
-}
-
 impl MessageStruct {
     /// Writes a command, where there is one.
-    fn make(&mut self, given: Option<Command>) -> Status
-        ensures status { result ≡ (made given self.old).status }
-        ensures written { self.new ≡ (made given self.old).out }
+    fn make(&mut self, given: Option<Command<'_>>) -> Status
+        ensures status { result ≡ (made given.entry self.old).status }
+        ensures written { self.new ≡ (made given.entry self.old).out }
     {
         match given {
             Some(given) => {
@@ -186,7 +166,11 @@ impl MessageStruct {
         ensures status { result ≡ (made_out given.now self.old).status }
         ensures written { self.new ≡ (made_out given.now self.old).out }
     {
-        self.make(outputs(given))
+        if given.len() > 358 {
+            return self.make(None);
+        }
+        let records = output_records(given);
+        self.make(Outputs::new(records.as_slice()).map(Command::Output))
     }
 
     /// Writes a LED of 1 to 102 records.
@@ -194,7 +178,11 @@ impl MessageStruct {
         ensures status { result ≡ (made_led given.now self.old).status }
         ensures written { self.new ≡ (made_led given.now self.old).out }
     {
-        self.make(leds(given))
+        if given.len() > 102 {
+            return self.make(None);
+        }
+        let records = led_records(given);
+        self.make(Leds::new(records.as_slice()).map(Command::Led))
     }
 
     /// Writes a BUZ.
@@ -214,15 +202,15 @@ impl MessageStruct {
     pub fn make_text(&mut self, given: &TextStruct)
         ensures { self.new ≡ command_struct (Some (command.Text (text_in given.now))) self.old }
     {
-        let characters = ArrayVec::try_from(&given.characters[..usize::from(given.count)]);
-        self.set_command(Some(&Command::Text(Text {
-            reader: given.reader,
-            command: given.command,
-            time: given.time,
-            row: given.row,
-            column: given.column,
-            characters: characters.unwrap(),
-        })));
+        let text = Text::new(
+            given.reader,
+            given.command,
+            given.time,
+            given.row,
+            given.column,
+            &given.characters[..usize::from(given.count)],
+        );
+        self.set_command(Some(&Command::Text(text.unwrap())));
     }
 
     /// Writes a MFG of 0 to 1,429 bytes. Length (M2) for more; nothing is written then.
@@ -234,11 +222,8 @@ impl MessageStruct {
         if count > MAX_MAKER_BYTES {
             return Status::Message(MsgFault::Length);
         }
-        let bytes = ArrayVec::try_from(&given.bytes[..count]);
-        self.make(Some(Command::Maker(MakerMessage {
-            vendor: given.vendor,
-            bytes: bytes.unwrap(),
-        })))
+        let message = MakerMessage::new(given.vendor, &given.bytes[..count]);
+        self.make(Some(Command::Maker(message.unwrap())))
     }
 
     /// Writes a COMSET to an address of 0 to 126. AddressOutOfRange (B6) for any other; nothing is written then.

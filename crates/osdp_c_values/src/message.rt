@@ -74,7 +74,7 @@ impl MessageStruct {
     /// This command. The place that it is spelled in is cleared where a function begins, so the function that has it stands by itself: where
     /// there is no message, nothing is cleared.
     #[inline(never)]
-    fn write_command(&mut self, command: &Command)
+    fn write_command(&mut self, command: &Command<'_>)
         ensures { self.new ≡ command_struct (Some command.now) self.old }
     {
         write_message!(self, command);
@@ -82,21 +82,21 @@ impl MessageStruct {
 
     /// So it is with a reply.
     #[inline(never)]
-    fn write_reply(&mut self, reply: &Reply)
+    fn write_reply(&mut self, reply: &Reply<'_>)
         ensures { self.new ≡ reply_struct (Some reply.now) self.old }
     {
         write_message!(self, reply);
     }
 
     /// This command, where there is one.
-    pub fn set_command(&mut self, command: Option<&Command>)
+    pub fn set_command(&mut self, command: Option<&Command<'_>>)
         ensures { self.new ≡ command_struct (option_copied command.entry) self.old }
     {
         set_message!(self, command, write_command)
     }
 
     /// This reply, where there is one.
-    pub fn set_reply(&mut self, reply: Option<&Reply>)
+    pub fn set_reply(&mut self, reply: Option<&Reply<'_>>)
         ensures { self.new ≡ reply_struct (option_copied reply.entry) self.old }
     {
         set_message!(self, reply, write_reply)

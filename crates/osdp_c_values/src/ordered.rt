@@ -7,6 +7,7 @@ ghost use Rattle.osdp_c_values.specs.Fields.{command_in};
 use crate::arrays::fill;
 use crate::making::{BuzzerStruct, LedState, LedStruct, TextStruct};
 use crate::message::MessageStruct;
+use crate::records::record_at;
 use crate::status::Status;
 use osdp_msg::{Buzzer, Command, LedRecord, Text};
 
@@ -54,9 +55,9 @@ impl LedStruct {
         ensures written { self.new ≡ (led_of (command_in message.now) at self.old).out }
     {
         match message.read_command() {
-            Ok(Command::Led(leds)) => match leds.records().get(at) {
+            Ok(Command::Led(leds)) => match record_at(leds.records(), at) {
                 Some(led) => {
-                    self.set(led);
+                    self.set(&led);
                     Status::Done
                 }
                 None => Status::OtherMessage,
@@ -82,15 +83,15 @@ impl BuzzerStruct {
 
 impl TextStruct {
     /// Writes what a display shows.
-    pub fn set(&mut self, text: &Text)
+    pub fn set(&mut self, text: &Text<'_>)
         ensures { self.new ≡ text_struct text.now self.old }
     {
-        self.reader = text.reader;
-        self.command = text.command;
-        self.time = text.time;
-        self.row = text.row;
-        self.column = text.column;
-        self.count = text.characters.len() as u8;
-        fill(&mut self.characters, text.characters.as_slice());
+        self.reader = text.reader();
+        self.command = text.command();
+        self.time = text.time();
+        self.row = text.row();
+        self.column = text.column();
+        self.count = text.characters().len() as u8;
+        fill(&mut self.characters, text.characters());
     }
 }

@@ -1,6 +1,6 @@
 //! Pieces that are records.
 
-ghost use Rattle.std.specs.Prelude.{◌≡◌, ◌++◌, ◌∷◌, codes, map};
+ghost use Rattle.std.specs.Prelude.{◌≡◌, ◌++◌, ◌∷◌, codes, map, slice_get};
 ghost use Rattle.std.specs.List.{flat_map};
 ghost use Rattle.osdp_words.specs.Word.{numbers, plain, printed, text_of};
 ghost use Rattle.osdp_msg.specs.CommandFields.{led_word, output_word};
@@ -8,7 +8,7 @@ ghost use Rattle.osdp_msg.specs.ReplyFields.{capability_word};
 ghost use Rattle.osdp_c_values.specs.Pieces.{IsPut};
 
 use crate::pieces::{MAX_TEXT, NoRoom, Room, numbers_of, put, put_decimal, put_numbers};
-use osdp_msg::{Capability, LedRecord, OutputRecord};
+use osdp_msg::{Capability, LedRecord, OutputRecord, Record, Records};
 
 /// Puts a record of numbers, after a space.
 fn put_record(room: &mut Room, first: u8, others: &[u32]) -> Result<(), NoRoom>
@@ -20,19 +20,19 @@ fn put_record(room: &mut Room, first: u8, others: &[u32]) -> Result<(), NoRoom>
 }
 
 /// What a record is in a text.
-pub(crate) trait Recorded: Drop {
+pub(crate) trait Recorded: Record {
     ghost use Rattle.osdp_words.specs.Word.{Word};
 
-    /// Its word.
-    ghost word: { Self → Word };
+    /// Its word, as it is put.
+    ghost put_as: { Self → Word };
 
     /// Puts its word, after a space.
     fn put_word(&self, room: &mut Room) -> Result<(), NoRoom>
-        ensures { IsPut MAX_TEXT room.old result room.new (codes " " ++ printed (word self.now)) };
+        ensures { IsPut MAX_TEXT room.old result room.new (codes " " ++ printed (put_as self.now)) };
 }
 
 impl Recorded for OutputRecord {
-    ghost word = { output_word };
+    ghost put_as = { output_word };
 
     fn put_word(&self, room: &mut Room) -> Result<(), NoRoom> {
         put_record(room, self.output, &numbers_of!(self: control timer))
@@ -40,7 +40,7 @@ impl Recorded for OutputRecord {
 }
 
 impl Recorded for LedRecord {
-    ghost word = { led_word };
+    ghost put_as = { led_word };
 
     fn put_word(&self, room: &mut Room) -> Result<(), NoRoom> {
         let others = numbers_of!(self:
@@ -51,7 +51,7 @@ impl Recorded for LedRecord {
 }
 
 impl Recorded for Capability {
-    ghost word = { capability_word };
+    ghost put_as = { capability_word };
 
     fn put_word(&self, room: &mut Room) -> Result<(), NoRoom> {
         put_record(room, self.function, &numbers_of!(self: level count))
@@ -59,10 +59,11 @@ impl Recorded for Capability {
 }
 
 /// Puts records, each after a space.
-fn put_words<R: Recorded>(room: &mut Room, records: &[R]) -> Result<(), NoRoom>
-    ensures { IsPut MAX_TEXT room.old result room.new (flat_map (λ r. codes " " ++ printed (R.word r)) records.now) }
+fn put_words<R: Recorded>(room: &mut Room, records: Records<'_, R>) -> Result<(), NoRoom>
+    ensures { IsPut MAX_TEXT room.old result room.new (flat_map (λ r. codes " " ++ printed (R.put_as r)) records.entry) }
 {
-    for record in records {
+    let mut left = records;
+    'records: while let Some(record) = left.next() {
         record.put_word(room)?;
     }
     Ok(())
@@ -72,10 +73,24 @@ fn put_words<R: Recorded>(room: &mut Room, records: &[R]) -> Result<(), NoRoom>
 pub(crate) fn put_records<R: Recorded>(
     room: &mut Room,
     name: &str,
-    records: &[R],
+    records: Records<'_, R>,
 ) -> Result<(), NoRoom>
-    ensures { IsPut MAX_TEXT room.old result room.new (text_of (plain name.now ∷ map R.word records.now)) }
+    ensures { IsPut MAX_TEXT room.old result room.new (text_of (plain name.now ∷ map R.put_as records.entry)) }
 {
     put(room, name)?;
     put_words(room, records)
+}
+
+/// The record at a place, counted from 0. None where there are no more than so many.
+pub(crate) fn record_at<R: Record>(records: Records<'_, R>, at: usize) -> Option<R>
+    ensures { result ≡ slice_get records.entry at }
+{
+    let (mut left, mut before) = (records, at);
+    'records: while let Some(record) = left.next() {
+        if before == 0 {
+            return Some(record);
+        }
+        before -= 1;
+    }
+    None
 }

@@ -16,14 +16,14 @@ use crate::records::put_records;
 use osdp_msg::{Formatted, Keypad, LocalState, MsgFault, Nak, PdId, Raw, Reply};
 
 /// Puts the text of a NAK.
-fn put_nak(room: &mut Room, nak: &Nak) -> Result<(), NoRoom>
+fn put_nak(room: &mut Room, nak: &Nak<'_>) -> Result<(), NoRoom>
     ensures { IsPut MAX_TEXT room.old result room.new (text_of (plain (codes "NAK") ∷ nak_words nak.now)) }
 {
-    let reason = [u32::from(nak.reason.number())];
-    if nak.detail.is_empty() {
+    let reason = [u32::from(nak.reason().number())];
+    if nak.detail().is_empty() {
         return put_plain(room, "NAK", &reason);
     }
-    put_listed(room, "NAK", &reason, nak.detail.as_slice())
+    put_listed(room, "NAK", &reason, nak.detail())
 }
 
 /// Puts the text of a PDID.
@@ -45,7 +45,7 @@ fn put_local_state(room: &mut Room, state: &LocalState) -> Result<(), NoRoom>
 }
 
 /// Puts the text of a RAW.
-fn put_raw(room: &mut Room, raw: &Raw) -> Result<(), NoRoom>
+fn put_raw(room: &mut Room, raw: &Raw<'_>) -> Result<(), NoRoom>
     ensures { IsPut MAX_TEXT room.old result room.new (text_of (plain (codes "RAW") ∷ raw_words raw.now)) }
 {
     let numbers = [
@@ -57,35 +57,39 @@ fn put_raw(room: &mut Room, raw: &Raw) -> Result<(), NoRoom>
 }
 
 /// Puts the text of an FMT.
-fn put_formatted(room: &mut Room, card: &Formatted) -> Result<(), NoRoom>
+fn put_formatted(room: &mut Room, card: &Formatted<'_>) -> Result<(), NoRoom>
     ensures { IsPut MAX_TEXT room.old result room.new (text_of (plain (codes "FMT") ∷ formatted_words card.now)) }
 {
-    let numbers = numbers_of!(card: reader direction);
-    put_listed(room, "FMT", &numbers, card.digits.as_slice())
+    let numbers = [u32::from(card.reader()), u32::from(card.direction())];
+    put_listed(room, "FMT", &numbers, card.digits())
 }
 
 /// Puts the text of a KEYPAD.
-fn put_keypad(room: &mut Room, keypad: &Keypad) -> Result<(), NoRoom>
+fn put_keypad(room: &mut Room, keypad: &Keypad<'_>) -> Result<(), NoRoom>
     ensures { IsPut MAX_TEXT room.old result room.new (text_of (plain (codes "KEYPAD") ∷ keypad_words keypad.now)) }
 {
-    let numbers = numbers_of!(keypad: reader);
-    put_listed(room, "KEYPAD", &numbers, keypad.digits.as_slice())
+    put_listed(
+        room,
+        "KEYPAD",
+        &[u32::from(keypad.reader())],
+        keypad.digits(),
+    )
 }
 
 /// Puts the text of a reply.
 #[tactic(auto, unfolding(osdp_msg::specs::ReplyText::reply_text))]
-fn put_reply(room: &mut Room, reply: &Reply) -> Result<(), NoRoom>
+fn put_reply(room: &mut Room, reply: &Reply<'_>) -> Result<(), NoRoom>
     ensures { IsPut MAX_TEXT room.old result room.new (reply_text reply.now) }
 {
     match reply {
         Reply::Ack => put(room, "ACK"),
         Reply::Nak(nak) => put_nak(room, nak),
         Reply::PdId(pd_id) => put_pd_id(room, pd_id),
-        Reply::PdCap(caps) => put_records(room, "PDCAP", caps.capabilities.as_slice()),
+        Reply::PdCap(caps) => put_records(room, "PDCAP", caps.capabilities()),
         Reply::LocalState(state) => put_local_state(room, state),
-        Reply::Inputs(states) => put_listed(room, "ISTATR", &[], states.as_slice()),
-        Reply::Outputs(states) => put_listed(room, "OSTATR", &[], states.as_slice()),
-        Reply::Readers(states) => put_listed(room, "RSTATR", &[], states.as_slice()),
+        Reply::Inputs(states) => put_listed(room, "ISTATR", &[], states.bytes()),
+        Reply::Outputs(states) => put_listed(room, "OSTATR", &[], states.bytes()),
+        Reply::Readers(states) => put_listed(room, "RSTATR", &[], states.bytes()),
         Reply::Raw(raw) => put_raw(room, raw),
         Reply::Formatted(card) => put_formatted(room, card),
         Reply::Keypad(keypad) => put_keypad(room, keypad),

@@ -1,15 +1,13 @@
 //! What a panel tells.
 
-ghost use Rattle.std.specs.Prelude.{◌≡◌, None, Some};
+ghost use Rattle.std.specs.Prelude.{◌≡◌};
 ghost use Rattle.std.specs.Option.{option_copied, option_map};
-ghost use Rattle.osdp_msg.specs.Events.{event_reply};
-ghost use Rattle.osdp_msg.specs.declared.reply.Reply.TheVariants.{Com, PdId as Identity};
 ghost use Rattle.osdp_c_values.specs.Reports.{cause_number, report_of, report_struct, tells};
 
 use crate::message::MessageStruct;
 use osdp_bus::Entry;
 use osdp_controller::{LostCause, Report};
-use osdp_msg::{Command, Communication, Event, PdId, Reply};
+use osdp_msg::{Command, Reply};
 
 /// What a panel tells, where it tells anything.
 #[repr(C)]
@@ -41,7 +39,13 @@ fn cause_number(cause: LostCause) -> u32
 
 impl ReportStruct {
     /// Tells this of a device.
-    fn tell(&mut self, kind: u32, detail: u32, command: Option<&Command>, reply: Option<&Reply>)
+    fn tell(
+        &mut self,
+        kind: u32,
+        detail: u32,
+        command: Option<&Command<'_>>,
+        reply: Option<&Reply<'_>>,
+    )
         ensures { self.new ≡ tells kind detail (option_copied command.entry) (option_copied reply.entry) self.old }
     {
         self.kind = kind;
@@ -50,39 +54,17 @@ impl ReportStruct {
         self.reply.set_reply(reply);
     }
 
-    /// Tells what a reader is. A function that has a place for a reply stands by itself, so that the stack has no more than one of them.
-    #[inline(never)]
-    fn tell_opened(&mut self, id: &PdId)
-        ensures { self.new ≡ tells 1 0 None (Some (Identity id.now)) self.old }
-    {
-        self.tell(1, 0, None, Some(&Reply::PdId(*id)));
-    }
-
-    /// Tells where a reader is from now on.
-    #[inline(never)]
-    fn tell_moved(&mut self, command: &Command, answered: &Communication)
-        ensures { self.new ≡ tells 3 0 (Some command.now) (Some (Com answered.now)) self.old }
-    {
-        self.tell(3, 0, Some(command), Some(&Reply::Com(*answered)));
-    }
-
-    /// Tells an event.
-    #[inline(never)]
-    fn tell_event(&mut self, event: &Event)
-        ensures { self.new ≡ tells 4 0 None (Some (event_reply event.now)) self.old }
-    {
-        self.tell(4, 0, None, Some(&event.to_reply()));
-    }
-
     /// Tells a report.
-    fn tell_report(&mut self, report: &Report)
+    fn tell_report(&mut self, report: &Report<'_>)
         ensures { self.new ≡ report_of report.now self.old }
     {
         match report {
-            Report::Opened(id) => self.tell_opened(id),
+            Report::Opened(id) => self.tell(1, 0, None, Some(&Reply::PdId(*id))),
             Report::Settled(command, reply) => self.tell(2, 0, Some(command), Some(reply)),
-            Report::Moved(command, answered) => self.tell_moved(command, answered),
-            Report::Event(event) => self.tell_event(event),
+            Report::Moved(command, answered) => {
+                self.tell(3, 0, Some(command), Some(&Reply::Com(*answered)));
+            }
+            Report::Event(event) => self.tell(4, 0, None, Some(&event.reply())),
             Report::PollAnswered(reply) => self.tell(5, 0, None, Some(reply)),
             Report::Unread(command, code) => {
                 self.tell(6, u32::from(*code), command.as_ref(), None);
@@ -94,7 +76,7 @@ impl ReportStruct {
     }
 
     /// Writes a report where it lies, with the device of which it tells and whether it is an event that may have been reported before, or that there is none.
-    pub fn set(&mut self, report: Option<(Entry, &Report)>, maybe_again: bool)
+    pub fn set(&mut self, report: Option<(Entry, &Report<'_>)>, maybe_again: bool)
         ensures { self.new ≡ report_struct (option_map (λ told. (told.0, told.1.now)) report.entry) maybe_again self.old }
     {
         match report {

@@ -40,11 +40,11 @@ impl CommunicationStruct {
 
 impl MakerStruct {
     /// Writes a maker's message.
-    pub fn set(&mut self, message: &MakerMessage)
+    pub fn set(&mut self, message: &MakerMessage<'_>)
         ensures { self.new ≡ maker_struct message.now self.old }
     {
-        self.length = message.bytes.len() as u16;
-        self.vendor = message.vendor;
-        fill(&mut self.bytes, message.bytes.as_slice());
+        self.length = message.bytes().len() as u16;
+        self.vendor = message.vendor();
+        fill(&mut self.bytes, message.bytes());
     }
 }

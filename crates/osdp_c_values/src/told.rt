@@ -6,6 +6,7 @@ ghost use Rattle.osdp_c_values.specs.Replies.{capability_of, capability_struct, 
 
 use crate::arrays::fill;
 use crate::message::MessageStruct;
+use crate::records::record_at;
 use crate::status::Status;
 use osdp_msg::{Capability, Formatted, LocalState, Reply};
 
@@ -47,13 +48,13 @@ pub struct CapabilityStruct {
 
 impl FormattedStruct {
     /// Writes a card.
-    pub fn set(&mut self, card: &Formatted)
+    pub fn set(&mut self, card: &Formatted<'_>)
         ensures { self.new ≡ formatted_struct card.now self.old }
     {
-        self.reader = card.reader;
-        self.direction = card.direction;
-        self.count = card.digits.len() as u8;
-        fill(&mut self.digits, card.digits.as_slice());
+        self.reader = card.reader();
+        self.direction = card.direction();
+        self.count = card.digits().len() as u8;
+        fill(&mut self.digits, card.digits());
     }
 }
 
@@ -69,8 +70,8 @@ impl LocalStruct {
 
 impl CapabilityStruct {
     /// Writes a record.
-    fn set(&mut self, given: &Capability)
-        ensures { self.new ≡ capability_struct given.now }
+    fn set(&mut self, given: Capability)
+        ensures { self.new ≡ capability_struct given }
     {
         self.function = given.function;
         self.level = given.level;
@@ -83,7 +84,7 @@ impl CapabilityStruct {
         ensures written { self.new ≡ (capability_of (reply_in message.now) at self.old).out }
     {
         match message.read_reply() {
-            Ok(Reply::PdCap(told)) => match told.capabilities.get(at) {
+            Ok(Reply::PdCap(told)) => match record_at(told.capabilities(), at) {
                 Some(capability) => {
                     self.set(capability);
                     Status::Done

@@ -1,6 +1,7 @@
 -- From the rule for programs, as it is said of a line in use, follows the rule on its net's moves, and so the premise on addresses.
 use Rattle.std.proofs.Common.{◌≡◌, ◌≢◌, ◌<◌, ◌||◌, ℕ, zero, suc, true, false, not, List, [], ◌∷◌, ◌++◌, All, length, Option, Some, None, refl, sym, subst, ap, ◌∙◌, arith, inl, inr}
 use Rattle.std.specs.Prelude.{is_some}
+use Rattle.osdp_msg.specs.declared.limits.Room.{Room}
 use Rattle.osdp_frame.specs.Packet.{Packet}
 use Rattle.osdp_msg.specs.CommandTable.{CommandFits}
 use Rattle.osdp_msg.specs.declared.command.Command.{Command}
@@ -123,7 +124,7 @@ module _ {H : Type 0} where
       to_site k address it.device it.station s l (begun_of (site_at k l.stations)) it.device.controller.session.state
       (notes k) (noted k) it.is (agree k it.device it.entry) (rule none it.device it.entry)
 
-  pub panel_rule : (config : BusConfig) (xs : List ℕ) (settings : ℕ → ControllerConfig × ℕ) (l : InUse H) (n : Net H) (notes noted : ℕ → Note) → IsNetOf l n
+  pub panel_rule : (config : BusConfig) (xs : List ℕ) (settings : ℕ → ControllerConfig × Room) (l : InUse H) (n : Net H) (notes noted : ℕ → Note) → IsNetOf l n
       → AllAgree l notes noted → KeepsRule (NewPanel config xs) l notes → length xs ≡ length l.stations
       → ((k a : ℕ) → site_at k xs ≡ Some a → (settings k).0.address ≡ a) → programs.KeepsRule (RestartPanel settings) n noted
   panel_rule config xs settings l n notes noted h agree rule many set k s at =

@@ -76,13 +76,13 @@ ticks_same top m c is =
     ap (λ (d : Machine). ticks top d.session d.waiting) is.same
     ∙ ap (λ x. ticks_in m.session.state (record m.session { greatest = x }) m.waiting) (is.later top (omega arith))
 
-pub ticked_same : (top : ℕ) (m c : Machine) (t : Ticked) → c.capacity ≡ m.capacity → ticks top c.session c.waiting ≡ ticks top m.session m.waiting
+pub ticked_same : (top : ℕ) (m c : Machine) (t : Ticked) → c.capacity ≡ m.capacity → c.room ≡ m.room → ticks top c.session c.waiting ≡ ticks top m.session m.waiting
     → IsSame top (record m { session = (ticks top m.session m.waiting).session; waiting = (ticks top m.session m.waiting).waiting })
     (record c { session = (ticks top c.session c.waiting).session; waiting = (ticks top c.session c.waiting).waiting })
-ticked_same top m c t room is =
+ticked_same top m c t room bytes is =
     equal_same top (record m { session = (ticks top m.session m.waiting).session; waiting = (ticks top m.session m.waiting).waiting })
     (record c { session = (ticks top c.session c.waiting).session; waiting = (ticks top c.session c.waiting).waiting })
-    (λ i. record { session = (is i).session; waiting = (is i).waiting; capacity = room i })
+    (λ i. record { session = (is i).session; waiting = (is i).waiting; capacity = room i; room = bytes i })
 
 -- the opening ID goes out: the session of the site begins at its moment, and ticks
 pub opened_ticks : (began top : ℕ) (m c : Machine) → IsToOpen began top m c

@@ -1,6 +1,7 @@
 -- What a restart costs an entry is what it costs the site.
 use Rattle.std.proofs.Common.{◌≡◌, ◌<◌, ℕ, zero, suc, ◌+◌, List, [], ◌∷◌, ◌++◌, length, Some, None, refl, sym, subst, ap, ◌∙◌, append_assoc, arith, inl, inr}
 use Rattle.std.specs.Prelude.{map, option_to_list, slice_get}
+use Rattle.osdp_msg.specs.declared.limits.Room.{Room}
 use Rattle.osdp_msg.specs.declared.command.Command.{Command}
 use Rattle.osdp_msg.specs.declared.event.Event.{Event}
 use Rattle.osdp_controller.specs.Machine.{AreSettings}
@@ -71,14 +72,14 @@ module _ {H : Type 0} where
         let new : Station H = made_anew address handler room gap t in
         some_same u new (sym next ∙ ap (λ o. site_at k (changes_at k (made_anew address handler room gap) o ts)) is ∙ at_changed k new t ts is)
 
-    restart_at : (k address : ℕ) (handler : H) (room : ℕ) (s : Site H) (n : Net H) → site_at k n.sites ≡ Some s
+    restart_at : (k address : ℕ) (handler : H) (room : Room) (s : Site H) (n : Net H) → site_at k n.sites ≡ Some s
         → site_at k (after_net answer_of after (RestartReader k address handler room) n).sites
         ≡ Some (line.calls answer_of after (link.RestartReader address handler room) s)
     restart_at k address handler room s n is =
         let f = line.calls answer_of after (link.RestartReader address handler room) in
         ap (λ o. site_at k (line.change_at k o f n).sites) is ∙ at_changed k (f s) s n.sites is
 
-    all_restart_at : (m i k : ℕ) (settings : ℕ → ControllerConfig × ℕ) (s : Site H) (ss : List (Site H)) → i ≡ m + k → site_at k ss ≡ Some s
+    all_restart_at : (m i k : ℕ) (settings : ℕ → ControllerConfig × Room) (s : Site H) (ss : List (Site H)) → i ≡ m + k → site_at k ss ≡ Some s
         → site_at k (all_restart answer_of after m settings ss) ≡ Some (restarts answer_of after (settings i) s)
     all_restart_at m i k settings s [] at is = absurd cc
     all_restart_at m i zero settings s (u ∷ ss) at is =
@@ -157,7 +158,7 @@ module _ {H : Type 0} where
         let settings = settings_of config addresses in
         let new : Site H = restarts answer_of after (settings k) s.site in
         let many : k < length addresses = (let less = within k t ls.stations h.station in let same = h.keeps.in_range.2 in omega (arith, less, same)) in
-        let fits : AreSettings (settings k).0 (settings k).1 =
+        let fits : AreSettings (settings k).0 (settings k).1.messages (settings k).1.bytes =
         are_settings config (address_at k addresses) h.keeps.in_range.0
         (each_at (λ a. a < 127) k (address_at k addresses) addresses (each_of (λ a. a < 127) addresses h.keeps.in_range.1) (there_is k addresses many)) in
         let cost = costs b.net b.moves settings k b.began s.site new (record {

@@ -14,6 +14,7 @@ use Rattle.osdp_link_laws.proofs.Stages.{Each}
 use Rattle.osdp_reader.specs.State.{ReaderState, after_set_handler, after_submit, after_withdraw_event}
 use Rattle.osdp_reader.specs.Table.{hears}
 use Rattle.osdp_reader.specs.declared.handler.Answer.{Answer}
+use Rattle.osdp_reader.specs.Queue.{lacks_room}
 use Rattle.osdp_shared_line.specs.Line as line
 use Rattle.osdp_shared_line.specs.Line.{Net, Queue, Site, after_net, changed, left_by, link_of, site_at}
 use Rattle.osdp_shared_line.proofs.Sites.{at_changed, some_same}
@@ -49,20 +50,20 @@ module _ {H : Type 0} (answer_of : H → Command → Answer) (after : H → Comm
       by_found (Nobody a b c) = ap (λ o. site_queues o event) c ∙ sym (ap (λ o. queued_at o event) b)
       by_found (Somebody d t s a b c is) =
           ap (λ o. site_queues o event) c
-          ∙ ap (λ (r : ReaderState H). unless_full (length r.queue.events == r.queue.capacity) event) is.reader
+          ∙ ap (λ (r : ReaderState H). unless_full (lacks_room event r.queue) event) is.reader
           ∙ sym (ap (λ o. queued_at o event) b)
 
   pub queueing : (k : ℕ) (event : Event) (l : InUse H) (n : Net H) → IsNetOf l n
-      → StepsTo answer_of after (SubmitEvent k event) l n (on_station k (λ t. queues (length t.reader.queue.events == t.reader.queue.capacity) event t) l)
+      → StepsTo answer_of after (SubmitEvent k event) l n (on_station k (λ t. queues (lacks_room event t.reader.queue) event t) l)
   queueing k event l n h = record {
     net = after_net answer_of after (Queue k event) n;
     moves = Queue k event ∷ [];
     fit = (tt, tt);
     run = refl;
-    same = both_change k (λ t. queues (length t.reader.queue.events == t.reader.queue.capacity) event t) (line.calls answer_of after (link.Queue event)) l n h
+    same = both_change k (λ t. queues (lacks_room event t.reader.queue) event t) (line.calls answer_of after (link.Queue event)) l n h
         (λ d t s is. subst (λ b. Sites l k d (queues b event t) (line.calls answer_of after (link.Queue event) s))
-        (ap (λ (r : ReaderState H). length r.queue.events == r.queue.capacity) is.reader)
-        (queued_so (length s.reader.queue.events == s.reader.queue.capacity) event l k d t s is));
+        (ap (λ (r : ReaderState H). lacks_room event r.queue) is.reader)
+        (queued_so (lacks_room event s.reader.queue) event l k d t s is));
     kinds = (refl, tt);
     made = (tt, tt);
     submitted = λ j. queue_no_command answer_of after k j event n;

@@ -15,6 +15,7 @@ use Rattle.osdp_device.specs.Deciding.{passed}
 use Rattle.osdp_frame.specs.Receiving.{after_silence, after_take, after_tick}
 use Rattle.osdp_reader.specs.State.{after_set_busy, after_set_handler}
 use Rattle.osdp_reader.specs.declared.handler.Answer.{Answer}
+use Rattle.osdp_reader.specs.Queue.{lacks_room}
 use Rattle.osdp_shared_line.specs.Line.{site_at}
 use Rattle.osdp_shared_line.proofs.Sites.{some_same}
 use Rattle.osdp_calls.specs.Calls.{Call, NewDevice, NewPanel, Next, OfPanel, Pending, SetBusy, SetHandler, Silence, Step, SubmitEvent, Take, TickDevice, after_call, after_calls, after_next, all_forget, asked_at, begins_with, begun_of, change_at, changes_at, forgets, last_of, made_anew, nexts, noted, panel_says, queues, said_at, WithdrawEvent, withdraws_event}
@@ -85,8 +86,8 @@ module _ {H : Type 0} where
         → IsHeld k (cond (is_of_device k call) (device_after answer_of after call d) d) (after_call answer_of after call places l).stations
     step_keeps k (OfPanel call) places d l is = panel_so {H = H} as_before (λ x t. held_by t ≡ d) (stays_held d) k call places tt l is
     step_keeps k (SubmitEvent i event) places d l is =
-        device_keeps k i (λ t. queues (length t.reader.queue.events == t.reader.queue.capacity) event t) (device_after answer_of after (SubmitEvent i event)) d
-        l.stations (λ t. queue_held (length t.reader.queue.events == t.reader.queue.capacity) event t) is
+        device_keeps k i (λ t. queues (lacks_room event t.reader.queue) event t) (device_after answer_of after (SubmitEvent i event)) d
+        l.stations (λ t. queue_held (lacks_room event t.reader.queue) event t) is
     step_keeps k (SetBusy i busy) places d l is =
         device_keeps k i (λ t. record t { reader = after_set_busy busy t.reader }) (device_after answer_of after (SetBusy i busy)) d l.stations (λ t. refl) is
     step_keeps k (SetHandler i handler) places d l is =

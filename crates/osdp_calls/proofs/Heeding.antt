@@ -3,6 +3,7 @@ use Rattle.std.proofs.Common.{◌≡◌, ◌≢◌, ℕ, zero, suc, max, Bool, t
 use Rattle.std.proofs.lemmas.Bool.Decides.{eqb_tells}
 use Rattle.std.specs.Option.{option_map_or}
 use Rattle.std.specs.Prelude.{◌==◌, ◌&&◌, slice_get, slice_set}
+use Rattle.osdp_msg.specs.declared.limits.Room.{Room}
 use Rattle.osdp_msg.specs.declared.command.Command.{Command}
 use Rattle.osdp_controller.specs.Hearing.{comset_of}
 use Rattle.osdp_controller.specs.declared.config.ControllerConfig.{ControllerConfig}
@@ -301,7 +302,7 @@ module _ {H : Type 0} where
     forgotten zero d (e ∷ ds) (t ∷ ts) is = refl
     forgotten (suc k) d (e ∷ ds) (t ∷ ts) is = forgotten k d ds ts is
 
-    pub panel_agrees : (config : BusConfig) (xs : List ℕ) (settings : ℕ → ControllerConfig × ℕ) (l : InUse H) (n : Net H) (notes noted : ℕ → Note) → IsNetOf l n
+    pub panel_agrees : (config : BusConfig) (xs : List ℕ) (settings : ℕ → ControllerConfig × Room) (l : InUse H) (n : Net H) (notes noted : ℕ → Note) → IsNetOf l n
         → ((k a : ℕ) → site_at k xs ≡ Some a → (d : Device) × (device_of k l.bus ≡ Some d)) → AllAgree l notes noted
         → AllAgree (panel_made_anew config xs l) (notes_after (NewPanel config xs) l notes) (notes_along answer_of after (RestartPanel settings ∷ []) n noted)
     panel_agrees config xs settings l n notes noted h has agree =

@@ -20,6 +20,7 @@ use Rattle.osdp_reader.specs.Table.{hears, kind_of}
 use Rattle.osdp_reader.specs.declared.handler.Answer.{Answer}
 use Rattle.osdp_reader.specs.declared.kind.Kind.{Kind}
 use Rattle.osdp_reader.specs.declared.kind.Kind.TheVariants as kinds
+use Rattle.osdp_reader.specs.Queue.{lacks_room}
 use Rattle.osdp_shared_line.specs.Line.{site_at}
 use Rattle.osdp_calls.specs.Calls.{Call, NewDevice, NewPanel, Next, OfPanel, Pending, SetBusy, SetHandler, Silence, SubmitEvent, Take, TickDevice, WithdrawEvent, after_call, after_next, after_panel, answers, change_at, first_answered, last_of, made_anew, nexts, noted, queues, read_up_to, withdraws_event}
 use Rattle.osdp_calls.specs.Ends.{KeepsPanel}
@@ -90,8 +91,8 @@ module _ {H : Type 0} where
           (sym (said_bus call l.bus (record l { bus = bus.after_call call l.bus; stations = noted call l.bus l.stations; place = last_of places l.place })))
           (call_tells n k call places l x is)
       step_tells (SubmitEvent i event) places l x keeps is =
-          of_device i (λ t. queues (length t.reader.queue.events == t.reader.queue.capacity) event t) l x
-          (λ t. queues_same (length t.reader.queue.events == t.reader.queue.capacity) event t) is
+          of_device i (λ t. queues (lacks_room event t.reader.queue) event t) l x
+          (λ t. queues_same (lacks_room event t.reader.queue) event t) is
       step_tells (SetBusy i busy) places l x keeps is =
           of_device i (λ t. record t { reader = after_set_busy busy t.reader }) l x (λ t. (refl, refl)) is
       step_tells (SetHandler i handler) places l x keeps is =

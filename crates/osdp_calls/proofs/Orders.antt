@@ -1,6 +1,6 @@
 -- The calls of a panel's program that read nothing: sessions, commands and addresses.
-use Rattle.std.proofs.Common.{◌≡◌, ◌||◌, ℕ, zero, suc, ◌+◌, max, Bool, true, false, cond, List, [], ◌∷◌, ◌++◌, length, map, take, drop, Option, Some, None, refl, sym, subst, ap, ◌∙◌, arith, append-nil, inl, inr}
-use Rattle.std.specs.Prelude.{is_some, nat_lt, option_map, option_to_list, slice_get, slice_set}
+use Rattle.std.proofs.Common.{◌≡◌, ◌||◌, ◌&&◌, ◌-◌, ℕ, zero, suc, ◌+◌, max, Bool, true, false, cond, List, [], ◌∷◌, ◌++◌, length, map, take, drop, Option, Some, None, refl, sym, subst, ap, ◌∙◌, arith, append-nil, inl, inr}
+use Rattle.std.specs.Prelude.{is_some, nat_le, nat_lt, option_map, option_to_list, slice_get, slice_set}
 use Rattle.osdp_frame.specs.Packet.{Packet}
 use Rattle.osdp_msg.specs.CommandTable.{CommandFits}
 use Rattle.osdp_msg.specs.declared.command.Command.{Command}
@@ -9,7 +9,7 @@ use Rattle.osdp_msg.specs.declared.command_fields.Communication.{Communication}
 use Rattle.osdp_controller.specs.Comsets.{has_comset}
 use Rattle.osdp_controller.specs.Hearing.{comset_of}
 use Rattle.osdp_controller.specs.Machine as controllers
-use Rattle.osdp_controller.specs.Machine.{Machine, begin_refusal, retarget_refusal, submit_refusal}
+use Rattle.osdp_controller.specs.Machine.{Machine, begin_refusal, bytes_waiting, command_size, retarget_refusal, submit_refusal}
 use Rattle.osdp_controller.specs.declared.fault.ControllerFault.{ControllerFault}
 use Rattle.osdp_controller.specs.declared.fault.ControllerFault.TheVariants.{Full}
 use Rattle.osdp_controller.specs.declared.state.State.TheVariants.{Closed}
@@ -58,9 +58,11 @@ pub asked_same : (o : Option ℕ) (top : ℕ) (m c : Machine) → Controls o top
 asked_same None top m c is = ap (λ (x : Machine). asked_in x.session.state) is.same
 asked_same (Some began) top m c is = ap (λ (x : Machine). asked_in x.session.state) is.same ∙ sym (ap asked_in is.quiet)
 
-submit_alike : (command : Command) (m c : Machine) → c.waiting ≡ m.waiting → c.capacity ≡ m.capacity → submit_refusal command c ≡ submit_refusal command m
-submit_alike Poll m c waiting room = refl
-submit_alike _ m c waiting room = (λ i. cond (nat_lt (length (waiting i)) (room i)) None (Some Full))
+submit_alike : (command : Command) (m c : Machine) → c.waiting ≡ m.waiting → c.capacity ≡ m.capacity → c.room ≡ m.room
+    → submit_refusal command c ≡ submit_refusal command m
+submit_alike Poll m c waiting places room = refl
+submit_alike command m c waiting places room =
+    (λ i. cond (nat_lt (length (waiting i)) (places i) && nat_le (command_size command) (room i - bytes_waiting (waiting i))) None (Some Full))
 
 module _ {H : Type 0} where
   -- the device of an entry and its station change
@@ -195,9 +197,9 @@ module _ {H : Type 0} where
 
     pub refusal_same : (command : Command) (o : Option ℕ) (top : ℕ) (m c : Machine) → Controls o top m c → submit_refusal command c ≡ submit_refusal command m
     refusal_same command None top m c is =
-        submit_alike command m c (ap (λ (x : Machine). x.waiting) is.same) (ap (λ (x : Machine). x.capacity) is.same)
+        submit_alike command m c (ap (λ (x : Machine). x.waiting) is.same) (ap (λ (x : Machine). x.capacity) is.same) (ap (λ (x : Machine). x.room) is.same)
     refusal_same command (Some began) top m c is =
-        submit_alike command m c (ap (λ (x : Machine). x.waiting) is.same) (ap (λ (x : Machine). x.capacity) is.same)
+        submit_alike command m c (ap (λ (x : Machine). x.waiting) is.same) (ap (λ (x : Machine). x.capacity) is.same) (ap (λ (x : Machine). x.room) is.same)
 
     pub submitting : (k : ℕ) (command : Command) (l : InUse H) (n : Net H) → IsNetOf l n → CommandFits command
         → (submit_refusal_at k command l.bus ≡ None → (asked : Communication) → comset_of command ≡ Some asked → IsNoOthers k asked.address l)

@@ -1,8 +1,9 @@
 -- Restarts: a device made anew, and the panel made anew with its devices at their addresses.
 use Rattle.std.proofs.Common.{◌≡◌, ◌≢◌, ◌<◌, ◌⊎◌, ℕ, zero, suc, ◌+◌, List, [], ◌∷◌, ◌++◌, length, map, All, Option, Some, None, refl, sym, subst, ap, ◌∙◌, arith, inl, inr}
 use Rattle.std.specs.Prelude.{option_to_list}
+use Rattle.osdp_msg.specs.declared.limits.Room.{Room}
 use Rattle.osdp_frame.specs.Packet.{Packet}
-use Rattle.osdp_msg.specs.Limits.{IsRoom}
+use Rattle.osdp_msg.specs.Limits.{AreRoom}
 use Rattle.osdp_msg.specs.declared.command.Command.{Command}
 use Rattle.osdp_controller.specs.Machine.{AreSettings, Machine, new_machine}
 use Rattle.osdp_controller.specs.declared.config.ControllerConfig.{ControllerConfig}
@@ -36,7 +37,7 @@ address_at k [] = 0
 address_at zero (a ∷ xs) = a
 address_at (suc k) (a ∷ xs) = address_at k xs
 
-abbrev pub settings_of : BusConfig → List ℕ → ℕ → ControllerConfig × ℕ
+abbrev pub settings_of : BusConfig → List ℕ → ℕ → ControllerConfig × Room
 settings_of config xs k = (controller_config (address_at k xs) config, config.capacity)
 
 pub there_is : (k : ℕ) (xs : List ℕ) → k < length xs → site_at k xs ≡ Some (address_at k xs)
@@ -89,9 +90,9 @@ module _ {H : Type 0} where
         read_so is (ap (λ (r : ReaderState H). new_reader (record r.config { address = address }) handler room) is.reader)
         (ap link.reader_restarted is.account) tt)
 
-    pub new_device_fits : (k address : ℕ) (handler : H) (room : ℕ) (l : InUse H) (n : Net H) → IsNetOf l n
+    pub new_device_fits : (k address : ℕ) (handler : H) (room : Room) (l : InUse H) (n : Net H) → IsNetOf l n
         → ((t : Station H) → site_at k l.stations ≡ Some t → (t.reader.config.address ≡ address) ⊎ IsFreeFor k address t l)
-        → (address < 127) × IsRoom room → addresses.NetMoveFits answer_of after (RestartReader k address handler room) n
+        → (address < 127) × AreRoom room.messages room.bytes → addresses.NetMoveFits answer_of after (RestartReader k address handler room) n
     new_device_fits k address handler room l n h free fits =
         λ s at. (fits, by_found s at (found (Sites l) k l.bus.devices.entries l.stations n.sites h.sites))
       where
@@ -118,14 +119,14 @@ module _ {H : Type 0} where
 
     pub device_anew : (k address : ℕ) (handler : H) (room gap : ℕ) (l : InUse H) (n : Net H) → IsNetOf l n
         → ((t : Station H) → site_at k l.stations ≡ Some t → (t.reader.config.address ≡ address) ⊎ IsFreeFor k address t l)
-        → (address < 127) × IsRoom room → StepsTo answer_of after (NewDevice k address handler room gap) l n (on_station k (made_anew address handler room gap) l)
+        → (address < 127) × AreRoom room.messages room.bytes → StepsTo answer_of after (NewDevice k address handler room gap) l n (on_station k (made_anew address handler room gap) l)
     device_anew k address handler room gap l n h free fits =
         by_own answer_of after (NewDevice k address handler room gap) (RestartReader k address handler room) l n (on_station k (made_anew address handler room gap) l)
         (λ j. refl) (λ j. refl) tt (gap, refl) refl (new_device_fits k address handler room l n h free fits) (new_device_is k address handler room gap l n h)
 
     -- ---- the panel
 
-    each_made : (config : BusConfig) (settings : ℕ → ControllerConfig × ℕ) (l : InUse H) (i : ℕ) (xs : List ℕ) (ds : List Device) (ts : List (Station H)) (ss : List (Site H))
+    each_made : (config : BusConfig) (settings : ℕ → ControllerConfig × Room) (l : InUse H) (i : ℕ) (xs : List ℕ) (ds : List Device) (ts : List (Station H)) (ss : List (Site H))
         → length xs ≡ length ts → ((k a : ℕ) → site_at k xs ≡ Some a → settings (i + k) ≡ (controller_config a config, config.capacity))
         → Match (Sites l) i ds ts ss
         → Match (IsSiteOf l.openings l.said 0) i (map (λ a. new_device a config) xs) (all_forget ds ts) (all_restart answer_of after i settings ss)

@@ -18,6 +18,7 @@ use Rattle.osdp_link_laws.specs.Peers.{ReadsWhatIsAsked}
 use Rattle.osdp_link_laws.proofs.Stages.{Each}
 use Rattle.osdp_reader.specs.State.{ReaderState, after_set_busy, after_set_handler}
 use Rattle.osdp_reader.specs.declared.handler.Answer.{Answer}
+use Rattle.osdp_reader.specs.Queue.{lacks_room}
 use Rattle.osdp_shared_line.specs.Addresses.{IsSetUp, NetMovesFit, NobodyElseHears}
 use Rattle.osdp_shared_line.specs.Line.{Net, NetMove, RestartPanel, RestartReader, after_net, site_at}
 use Rattle.osdp_shared_line.specs.Line as line
@@ -198,7 +199,7 @@ module _ {H : Type 0} where
           → Ruled answer_of after n0 (after_call answer_of after call places l) (notes_after call l notes)
       call_ruled (OfPanel call) places order quiet rule range = panel_ruled call places order quiet rule range
       call_ruled (SubmitEvent k event) places order quiet rule range =
-          station_ruled (SubmitEvent k event) k (λ t. queues (length t.reader.queue.events == t.reader.queue.capacity) event t) (λ t. queues_begun (length t.reader.queue.events == t.reader.queue.capacity) event t) (λ j d. refl)
+          station_ruled (SubmitEvent k event) k (λ t. queues (lacks_room event t.reader.queue) event t) (λ t. queues_begun (lacks_room event t.reader.queue) event t) (λ j d. refl)
           (steps_to (SubmitEvent k event) places order quiet rule range) (λ s. s.made)
       call_ruled (SetBusy k busy) places order quiet rule range =
           let s = steps_to (SetBusy k busy) places order quiet rule range in reader_ruled (SetBusy k busy) k (after_set_busy busy) (λ j d. refl) s s.made

@@ -1,5 +1,6 @@
 -- A line as it is set up is a net whose panel has just been made anew.
 use Rattle.std.proofs.Common.{◌≡◌, ◌≢◌, ◌≤◌, ◌<◌, ℕ, zero, suc, ◌+◌, List, [], ◌∷◌, ◌++◌, length, map, All, Option, Some, None, IfSome, refl, sym, subst, ap, ◌∙◌, arith, inl, inr}
+use Rattle.osdp_msg.specs.declared.limits.Room.{Room}
 use Rattle.osdp_frame.specs.Packet.{Packet}
 use Rattle.osdp_msg.specs.declared.command.Command.{Command}
 use Rattle.osdp_controller.specs.Machine.{new_machine}
@@ -70,7 +71,7 @@ module _ {H : Type 0} where
     pub earlier : t.earlier ≡ []
 
   module _ (answer_of : H → Command → Answer) (after : H → Command → H) where
-    made_first : (config : BusConfig) (settings : ℕ → ControllerConfig × ℕ) (os : List Opening) (said : List Burst) (i : ℕ) (ts : List (Station H)) → said ≡ []
+    made_first : (config : BusConfig) (settings : ℕ → ControllerConfig × Room) (os : List Opening) (said : List Burst) (i : ℕ) (ts : List (Station H)) → said ≡ []
         → ((k : ℕ) (t : Station H) → site_at k ts ≡ Some t → settings (i + k) ≡ (controller_config (address_of t) config, config.capacity))
         → ((k : ℕ) (t : Station H) → site_at k ts ≡ Some t → IsFresh t)
         → Match (IsSiteOf os said 0) i (map (λ a. new_device a config) (map address_of ts)) ts (all_restart answer_of after i settings (map (first_site config) ts))
@@ -99,7 +100,7 @@ module _ {H : Type 0} where
     pub record Starts (l : InUse H) : Type 0 where
       pub config : BusConfig
       pub is_set_up : addresses.IsSetUp (first_net config l.stations)
-      pub settings : ℕ → ControllerConfig × ℕ
+      pub settings : ℕ → ControllerConfig × Room
       pub given : (k : ℕ) (t : Station H) → site_at k l.stations ≡ Some t → (settings k).0.address ≡ address_of t
       pub fits : addresses.NetMoveFits answer_of after (RestartPanel settings) (first_net config l.stations)
       pub same : IsNetOf l (after_net answer_of after (RestartPanel settings) (first_net config l.stations))

@@ -2,6 +2,7 @@
 use Rattle.std.proofs.Common.{◌≡◌, ℕ, true, false, cond, List, [], ◌∷◌, ◌++◌, ◌⊎◌, length, Option, Some, None, refl, sym, subst, ap, ◌∙◌, append-nil, inl, inr}
 use Rattle.std.proofs.lemmas.Bool.Decides.{eqb_tells}
 use Rattle.std.specs.Prelude.{◌==◌}
+use Rattle.osdp_msg.specs.declared.limits.Room.{Room}
 use Rattle.osdp_msg.specs.declared.command.Command.{Command}
 use Rattle.osdp_msg.specs.declared.event.Event.{Event}
 use Rattle.osdp_controller.specs.Hearing.{comset_of}
@@ -17,6 +18,7 @@ use Rattle.osdp_link_laws.specs.Sessions.{accepted, queued, submitted, unless_fu
 use Rattle.osdp_link_laws.proofs.Lines.{both, each_map}
 use Rattle.osdp_link_laws.proofs.Stages.{Each}
 use Rattle.osdp_reader.specs.declared.handler.Answer.{Answer}
+use Rattle.osdp_reader.specs.Queue.{lacks_room}
 use Rattle.osdp_shared_line.specs.Addresses.{NetMoveFits, NetMovesFit, Somewhere}
 use Rattle.osdp_shared_line.specs.Line.{LoseToPanel, LoseToReader, Net, NetMove, Queue, Reopen, RestartPanel, RestartReader, Retarget, SetBusy, Site, Submit, Tick, ToPanel, ToReader, Withdraw, after_net, is_comset_refused, run, site_at}
 use Rattle.osdp_shared_line.specs.Line as line
@@ -63,7 +65,7 @@ module _ {H : Type 0} where
   Made (OfPanel call) l moves = MadeByPanel call l moves
   Made (NewDevice k address handler room gap) l moves = moves ≡ RestartReader k address handler room ∷ []
   Made (NewPanel config addresses) l moves =
-      (settings : ℕ → ControllerConfig × ℕ) × (moves ≡ RestartPanel settings ∷ [])
+      (settings : ℕ → ControllerConfig × Room) × (moves ≡ RestartPanel settings ∷ [])
       × ((k a : ℕ) → site_at k addresses ≡ Some a → (settings k).0.address ≡ a)
   Made _ l moves = Each IsStill moves
 
@@ -100,7 +102,7 @@ module _ {H : Type 0} where
   -- the event that a site takes
   abbrev pub site_queues : Option (Site H) → Event → List Event
   site_queues None event = []
-  site_queues (Some s) event = unless_full (length s.reader.queue.events == s.reader.queue.capacity) event
+  site_queues (Some s) event = unless_full (lacks_room event s.reader.queue) event
 
   module _ (answer_of : H → Command → Answer) (after : H → Command → H) where
     pub record StepsTo (call : Call H) (l : InUse H) (n : Net H) (next : InUse H) : Type 0 where
@@ -208,7 +210,7 @@ module _ {H : Type 0} where
     own_queue k j event None n here = refl
     own_queue k j event (Some s) n here =
         ap (λ b. counted answer_of after queued (cond b (link.Queue event ∷ []) []) (view j s n)) here
-        ∙ append-nil (unless_full (length s.reader.queue.events == s.reader.queue.capacity) event)
+        ∙ append-nil (unless_full (lacks_room event s.reader.queue) event)
 
     other_queue : (k j : ℕ) (event : Event) (o : Option (Site H)) (n : Net H) → (k == j) ≡ false
         → at_site answer_of after queued j o (Queue k event) n ≡ []

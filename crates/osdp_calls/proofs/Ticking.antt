@@ -131,13 +131,14 @@ module _ {H : Type 0} where
             let u : Station H = record t { account = after_report y.step.report t.account } in
             let ctl = subst (λ o. Controls o l.bus.greatest d.controller s.controller) begun is.controller in
             let room : s.controller.capacity ≡ d.controller.capacity = ap (λ (m : Machine). m.capacity) ctl.same in
+            let bytes : s.controller.room ≡ d.controller.room = ap (λ (m : Machine). m.room) ctl.same in
             let eq = ticks_same l.bus.greatest d.controller s.controller ctl in
             sites_so h
             (subst (λ ts. Match (Sites l) 0 (slice_set l.bus.devices.entries k e) ts (changed k (line.ticks answer_of after l.bus.greatest s) n.sites))
             (sym (one_told k y.step.report t l.stations b))
             (set (Sites l) k e u (line.ticks answer_of after l.bus.greatest s) l.bus.devices.entries l.stations n.sites h.sites (controlled_so is
             (subst (λ o. Controls o l.bus.greatest e.controller (line.ticks answer_of after l.bus.greatest s).controller) (sym begun)
-            (ticked_same l.bus.greatest d.controller s.controller y room eq))
+            (ticked_same l.bus.greatest d.controller s.controller y room bytes eq))
             (is.reserved ∙ sym (tick_so (λ r. reserved_after r d.reserved ≡ d.reserved) refl (λ o. refl) d.controller.session.state
             (clocks.seen l.bus.greatest d.controller.session) d.controller.waiting))
             (ap (λ (z : Ticked). after_report z.step.report s.account) eq ∙ ap (after_report y.step.report) is.account))))
@@ -247,13 +248,14 @@ module _ {H : Type 0} where
         ∙ ap (λ ss. record m { sites = map (is_told ((k, opening_packet d.controller) ∷ [])) ss }) (changed_twice k s2 s1 m.sites) in
         let waiting : s.controller.waiting ≡ d.controller.waiting = ap (λ (x : Machine). x.waiting) control.same in
         let room : s.controller.capacity ≡ d.controller.capacity = ap (λ (x : Machine). x.capacity) control.same in
+        let bytes : s.controller.room ≡ d.controller.room = ap (λ (x : Machine). x.room) control.same in
         let y : Ticked = opened d.controller g in
         let e : Device = record { controller = record d.controller { session = y.session; waiting = y.waiting }; reserved = d.reserved } in
         let u : Station H = begins_session d.controller.waiting t in
         let lb : InUse H = record (ticked_bus k d y lo) { stations = changed k u l.stations } in
         let before : IsNetOf lb (record m { sites = changed k s2 m.sites }) =
         sites_so h (set (Sites lo) k e u s2 l.bus.devices.entries l.stations m.sites h.sites (record {
-          controller = equal_same g e.controller s2.controller (λ i. record { session = (eq i).session; waiting = (eq i).waiting; capacity = room i });
+          controller = equal_same g e.controller s2.controller (λ i. record { session = (eq i).session; waiting = (eq i).waiting; capacity = room i; room = bytes i });
           reserved = is.reserved;
           reader = is.reader;
           coming = is.coming;

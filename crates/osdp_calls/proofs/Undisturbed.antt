@@ -26,6 +26,7 @@ use Rattle.osdp_reader.specs.Table.{hears, kind_of}
 use Rattle.osdp_reader.specs.declared.handler.Answer.{Answer}
 use Rattle.osdp_reader.specs.declared.kind.Kind.{Kind}
 use Rattle.osdp_reader.specs.declared.kind.Kind.TheVariants as kind
+use Rattle.osdp_reader.specs.Queue.{lacks_room}
 use Rattle.osdp_shared_line.specs.Line.{site_at}
 use Rattle.osdp_shared_line.proofs.Sites.{changed_from}
 use Rattle.osdp_calls.specs.Calls.{Call, NewDevice, NewPanel, Next, OfPanel, Pending, SetBusy, SetHandler, Silence, Step, SubmitEvent, Take, TickDevice, after_call, after_calls, all_hear, answers, asked_at, begins_session, begins_with, begun_of, change_at, changes_at, first_answered, hears_of, is_to_begin, issues, last_of, made_anew, nexts, noted, panel_says, queues, read_up_to, said_at, takes_back, waiting_of, withdrawn, WithdrawEvent, withdraws_event}
@@ -174,8 +175,8 @@ module _ {H : Type 0} where
           place = last_of places l.place;
         }) (noted_still k call l.bus l.stations ordinary is)
     step_still k (SubmitEvent i event) places l ordinary is =
-        one_still k i (λ t. queues (length t.reader.queue.events == t.reader.queue.capacity) event t) l.stations
-        (λ t so. queue_still (length t.reader.queue.events == t.reader.queue.capacity) event t so) is
+        one_still k i (λ t. queues (lacks_room event t.reader.queue) event t) l.stations
+        (λ t so. queue_still (lacks_room event t.reader.queue) event t so) is
     step_still k (SetBusy i busy) places l ordinary is = one_still k i (λ t. record t { reader = after_set_busy busy t.reader }) l.stations (λ t so. so) is
     step_still k (SetHandler i handler) places l ordinary is =
         one_still k i (λ t. record t { reader = after_set_handler handler t.reader }) l.stations (λ t so. so) is

@@ -7,6 +7,7 @@ use Rattle.osdp_bus.specs.Machine.{changed_unless, submit_refusal_at}
 use Rattle.osdp_bus_laws.specs.Calls as bus
 use Rattle.osdp_link_laws.specs.Sessions.{unless_full}
 use Rattle.osdp_reader.specs.declared.handler.Answer.{Answer}
+use Rattle.osdp_reader.specs.Queue.{lacks_room}
 use Rattle.osdp_shared_line.specs.Line.{site_at}
 use Rattle.osdp_calls.specs.Calls.{Call, OfPanel, Step, SubmitEvent, after_call}
 use Rattle.osdp_calls.specs.Lines.{InUse, Station}
@@ -24,7 +25,7 @@ module _ {H : Type 0} where
   -- the event that a device takes, unless its queue is full
   abbrev pub queued_at : Option (Station H) → Event → List Event
   queued_at None event = []
-  queued_at (Some t) event = unless_full (length t.reader.queue.events == t.reader.queue.capacity) event
+  queued_at (Some t) event = unless_full (lacks_room event t.reader.queue) event
 
   -- .. and that a call has accepted for the device of this entry
   abbrev pub queued_by : ℕ → Call H → InUse H → List Event

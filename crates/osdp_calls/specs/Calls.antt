@@ -26,6 +26,7 @@ use Rattle.osdp_link_laws.specs.Link as link
 use Rattle.osdp_reader.specs.State.{ReaderState, after_set_busy, after_set_handler, after_submit, after_withdraw_event, new_reader}
 use Rattle.osdp_reader.specs.Table.{hears, kind_of}
 use Rattle.osdp_reader.specs.declared.handler.Answer.{Answer}
+use Rattle.osdp_reader.specs.Queue.{lacks_room}
 use Rattle.osdp_shared_line.specs.Line.{changed, site_at}
 use Rattle.osdp_calls.specs.Lines.{Burst, InUse, Station, bus_with}
 
@@ -270,7 +271,7 @@ module _ {H : Type 0} where
     abbrev pub after_call : Call H → List ℕ → InUse H → InUse H
     after_call (OfPanel call) places l = after_panel call places l
     after_call (SubmitEvent k event) places l =
-        on_station k (λ t. queues (length t.reader.queue.events == t.reader.queue.capacity) event t) l
+        on_station k (λ t. queues (lacks_room event t.reader.queue) event t) l
     after_call (SetBusy k busy) places l = on_station k (λ t. record t { reader = after_set_busy busy t.reader }) l
     after_call (SetHandler k handler) places l = on_station k (λ t. record t { reader = after_set_handler handler t.reader }) l
     after_call (WithdrawEvent k) places l = on_station k withdraws_event l

@@ -12,6 +12,7 @@ use Rattle.osdp_frame.specs.Receiving.{Received, after_silence, after_take, afte
 use Rattle.osdp_device.specs.Telling.{next_told}
 use Rattle.osdp_reader.specs.State.{ReaderState, after_set_busy, after_set_handler, after_submit, after_withdraw_event, new_reader}
 use Rattle.osdp_reader.specs.declared.handler.Answer.{Answer}
+use Rattle.osdp_reader.specs.Queue.{lacks_room}
 use Rattle.osdp_shared_line.specs.Line.{site_at}
 use Rattle.osdp_calls.specs.Calls.{Call, NewDevice, NewPanel, Next, OfPanel, Pending, SetBusy, SetHandler, Silence, Step, SubmitEvent, Take, TickDevice, WithdrawEvent, after_calls}
 use Rattle.osdp_calls.specs.Lines.{InUse, Station, bus_with}
@@ -74,7 +75,7 @@ module _ {H : Type 0} where
   module _ (answer_of : H → Command → Answer) (after : H → Command → H) where
     -- what a call of it makes of the device: what the call's contract cites
     abbrev pub device_after : Call H → Held H → Held H
-    device_after (SubmitEvent i event) d = takes_event (length d.reader.queue.events == d.reader.queue.capacity) event d
+    device_after (SubmitEvent i event) d = takes_event (lacks_room event d.reader.queue) event d
     device_after (SetBusy i busy) d = record d { reader = after_set_busy busy d.reader }
     device_after (SetHandler i handler) d = record d { reader = after_set_handler handler d.reader }
     device_after (WithdrawEvent i) d = record d { reader = after_withdraw_event d.reader }

@@ -2,7 +2,7 @@
 use Rattle.std.specs.Prelude.{◌≡◌, ◌≢◌, ◌≤◌, ◌<◌, ◌⊎◌, ℕ, false, Bool, All, List, [], ◌∷◌, ◌++◌, map, length, Option, Some, None, IfSome}
 use Rattle.osdp_frame.specs.Packet.{Packet}
 use Rattle.osdp_msg.specs.CommandTable.{CommandFits}
-use Rattle.osdp_msg.specs.Limits.{IsRoom}
+use Rattle.osdp_msg.specs.Limits.{AreRoom}
 use Rattle.osdp_msg.specs.ReplyTable.{ReplyFits}
 use Rattle.osdp_msg.specs.declared.command.Command.{Command}
 use Rattle.osdp_msg.specs.declared.command_fields.Communication.{Communication}
@@ -138,7 +138,7 @@ module _ {H : Type 0} where
     abbrev pub InRange : Call H → InUse H → Type 0
     InRange (OfPanel call) l = PanelInRange call
     InRange (Next k) l = NextInRange (site_at k l.stations)
-    InRange (NewDevice k address handler room gap) l = (address < 127) × IsRoom room
+    InRange (NewDevice k address handler room gap) l = (address < 127) × AreRoom room.messages room.bytes
     InRange (NewPanel config addresses) l =
         IsBusConfig config × All (λ a. a < 127) addresses × (length addresses ≡ length l.stations)
     InRange _ l = Unit {0}

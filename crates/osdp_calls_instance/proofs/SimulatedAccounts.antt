@@ -17,6 +17,7 @@ use Rattle.osdp_bus_laws.specs.Reports.{TellsEachOnce, taken_along, taken_in, to
 use Rattle.osdp_link_laws.proofs.Lines.{each_all, each_of}
 use Rattle.osdp_link_laws.proofs.Stages.{Each}
 use Rattle.osdp_reader.specs.declared.handler.Answer.{Answer}
+use Rattle.osdp_reader.specs.Queue.{lacks_room}
 use Rattle.osdp_shared_line.specs.Line.{site_at}
 use Rattle.osdp_shared_line.proofs.Sites.{some_same}
 use Rattle.osdp_sim.specs.Line.{handed, left}
@@ -285,7 +286,7 @@ module _ {H : Type 0} where
     step_tells k (Queue number event) y s w follows is =
         let i = number - 1 in
         there_tells (is_there number s) k (AtDevice i (Queues event)) s (changes_site i (site_queues event) s) w y refl is
-        (keep_site k i (site_queues event) y s.sites (λ u. queue_site (length u.reader.queue.events == u.reader.queue.capacity) event u) is)
+        (keep_site k i (site_queues event) y s.sites (λ u. queue_site (lacks_room event u.reader.queue) event u) is)
     step_tells k (Busy number busy) y s w follows is =
         let i = number - 1 in
         there_tells (is_there number s) k (AtDevice i (IsBusy busy)) s (changes_site i (site_is_busy busy) s) w y refl is

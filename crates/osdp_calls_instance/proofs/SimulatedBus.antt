@@ -23,6 +23,7 @@ use Rattle.osdp_bus_laws.specs.Calls as bus
 use Rattle.osdp_frame.proofs.Receipt.{received_new}
 use Rattle.osdp_reader.specs.State.{ReaderState, after_set_busy, after_submit}
 use Rattle.osdp_reader.specs.declared.handler.Answer.{Answer}
+use Rattle.osdp_reader.specs.Queue.{lacks_room}
 use Rattle.osdp_shared_line.specs.Line.{changed, site_at}
 use Rattle.osdp_shared_line.proofs.Sites.{some_same}
 use Rattle.osdp_sim.specs.Line.{handed, left}
@@ -149,8 +150,8 @@ module _ {H : Type 0} (answer_of : H → Command → Answer) (after : H → Comm
   queues_same : (event : Event) (d : Held H) (u : ReaderSite H) → d.reader ≡ u.reader
       → (after_device_step answer_of after (Queues event) d).reader ≡ (site_queues event u).reader
   queues_same event d u same =
-      ap (λ (r : ReaderState H). (takes_event (length r.queue.events == r.queue.capacity) event d).reader) same
-      ∙ queue_same (length u.reader.queue.events == u.reader.queue.capacity) event d u same
+      ap (λ (r : ReaderState H). (takes_event (lacks_room event r.queue) event d).reader) same
+      ∙ queue_same (lacks_room event u.reader.queue) event d u same
 
   -- where there is such a reader
   there : (t : Bool) (k : ℕ) (own : SimCall answer_of after) (s next : LineState H) (w : Here) → Follows s w

@@ -20,6 +20,7 @@ use Rattle.osdp_link_laws.proofs.Stages.{Each}
 use Rattle.osdp_reader.specs.State.{ReaderState}
 use Rattle.osdp_reader.specs.Table.{hears}
 use Rattle.osdp_reader.specs.declared.handler.Answer.{Answer}
+use Rattle.osdp_reader.specs.Queue.{lacks_room}
 use Rattle.osdp_device.proofs.Pieces.{after_ended}
 use Rattle.osdp_calls.specs.Calls.{Call, OfPanel, Silence}
 use Rattle.osdp_calls.specs.Ends.{Held, takes_event}
@@ -159,7 +160,7 @@ module _ {H : Type 0} (answer_of : H → Command → Answer) (after : H → Comm
 
   stays_sound : (own : DeviceStep) (d : Held H) → BurstFits own d → IsSound d → IsSound (after_device_step answer_of after own d)
   stays_sound (Queues event) d fits is =
-      subst (λ (l : Received). (l.held ≡ new_run) × IsReceived l) (sym (event_line (length d.reader.queue.events == d.reader.queue.capacity) event d)) is
+      subst (λ (l : Received). (l.held ≡ new_run) × IsReceived l) (sym (event_line (lacks_room event d.reader.queue) event d)) is
   stays_sound (IsBusy busy) d fits is = is
   stays_sound (HearsBurst [] now) d fits is = is
   stays_sound (HearsBurst (b ∷ bytes) now) d fits is =

@@ -14,6 +14,7 @@ use Rattle.osdp_link_laws.specs.Peers.{ReadsWhatIsAsked}
 use Rattle.osdp_link_laws.proofs.Lines.{each_map}
 use Rattle.osdp_link_laws.proofs.Stages.{Each}
 use Rattle.osdp_reader.specs.declared.handler.Answer.{Answer}
+use Rattle.osdp_reader.specs.Queue.{lacks_room}
 use Rattle.osdp_shared_line.specs.Line as line
 use Rattle.osdp_shared_line.specs.Line.{Net, Site, address_of, change_unless, changed, first_gets, gets, is_told, keeping, left_by, link_of, site_at, tagged}
 use Rattle.osdp_shared_line.proofs.Apart.{Apart}
@@ -115,7 +116,7 @@ module _ {H : Type 0} where
     pub queue_keeps : (k : ℕ) (event : Event) (n : Net H) → NetKeeps n (line.after_net answer_of after (line.Queue k event) n)
     queue_keeps k event n =
         change_keeps (λ s. false) k (line.calls answer_of after (link.Queue event)) n (λ s. refl)
-        (λ s. queue_address (length s.reader.queue.events == s.reader.queue.capacity) event s)
+        (λ s. queue_address (lacks_room event s.reader.queue) event s)
 
     pub busy_keeps : (k : ℕ) (busy : Bool) (n : Net H) → NetKeeps n (line.after_net answer_of after (line.SetBusy k busy) n)
     busy_keeps k busy n = change_keeps (λ s. false) k (line.calls answer_of after (link.SetBusy busy)) n (λ s. refl) (λ s. refl)

@@ -11,6 +11,7 @@ use Rattle.osdp_link_laws.proofs.Lines.{each_all}
 use Rattle.osdp_link_laws.proofs.Stages.{Each}
 use Rattle.osdp_reader.specs.State.{ReaderState}
 use Rattle.osdp_reader.specs.declared.handler.Answer.{Answer}
+use Rattle.osdp_reader.specs.Queue.{lacks_room}
 use Rattle.osdp_shared_line.specs.Line.{site_at}
 use Rattle.osdp_shared_line.proofs.Sites.{at_changed, at_other, some_same}
 use Rattle.osdp_calls.specs.Calls.{Call, NewDevice, NewPanel, Next, OfPanel, Pending, SetBusy, SetHandler, Silence, Step, SubmitEvent, Take, TickDevice, after_call, after_calls, after_next, answers, by_device, changes_at, first_answered, last_of, nexts, on_station, queues, read_by, read_up_to, WithdrawEvent}
@@ -252,9 +253,9 @@ module _ {H : Type 0} where
     one_spoke k i (NewDevice j address handler room gap) l t Good own good at = absurd good
     one_spoke k i (NewPanel config addresses) l t Good own good at = absurd good
     one_spoke k i (SubmitEvent j event) l t Good own good at =
-        let full = length t.reader.queue.events == t.reader.queue.capacity in
-        subst (λ (m : ℕ). SpokeBy k i [] l (on_station m (λ (x : Station H). queues (length x.reader.queue.events == x.reader.queue.capacity) event x) l)) (sym (same_number j k own))
-        (on_one k i (λ (x : Station H). queues (length x.reader.queue.events == x.reader.queue.capacity) event x) l t at (queue_begun full event t) (queue_place full event t))
+        let full = lacks_room event t.reader.queue in
+        subst (λ (m : ℕ). SpokeBy k i [] l (on_station m (λ (x : Station H). queues (lacks_room event x.reader.queue) event x) l)) (sym (same_number j k own))
+        (on_one k i (λ (x : Station H). queues (lacks_room event x.reader.queue) event x) l t at (queue_begun full event t) (queue_place full event t))
     one_spoke k i (SetBusy j busy) l t Good own good at =
         subst (λ (m : ℕ). SpokeBy k i [] l (after_call answer_of after (SetBusy m busy) [] l)) (sym (same_number j k own)) (on_one k i _ l t at refl refl)
     one_spoke k i (WithdrawEvent j) l t Good own good at =

@@ -18,6 +18,7 @@ use Rattle.osdp_reader.specs.Table.{hears, kind_of}
 use Rattle.osdp_reader.specs.declared.handler.Answer.{Answer}
 use Rattle.osdp_reader.specs.declared.kind.Kind.{Kind}
 use Rattle.osdp_reader.specs.declared.kind.Kind.TheVariants as kind
+use Rattle.osdp_reader.specs.Queue.{lacks_room}
 use Rattle.osdp_shared_line.specs.Line.{site_at}
 use Rattle.osdp_calls.specs.Calls.{Call, NewDevice, NewPanel, Next, OfPanel, Pending, SetBusy, SetHandler, Silence, Step, SubmitEvent, Take, TickDevice, after_call, after_calls, after_next, after_panel, answers, begins_session, change_at, changes_at, first_answered, hears_of, nexts, queues, read_up_to, WithdrawEvent}
 use Rattle.osdp_calls.specs.Ends.{KeepsPanel, one_panel_call, panel_calls}
@@ -143,8 +144,8 @@ module _ {H : Type 0} where
         subst (λ said. IsTold k (with_those k said y) (after_panel call places l).stations) (sym (append-nil (told_in call l.bus)))
         (panel_so {H = H} with_one (λ x t. told_to t ≡ x) stays_told k call places y l is)
     step_told k (SubmitEvent i event) places y l keeps is =
-        keep_told k i (λ t. queues (length t.reader.queue.events == t.reader.queue.capacity) event t) y l.stations
-        (λ t. queue_told (length t.reader.queue.events == t.reader.queue.capacity) event t) is
+        keep_told k i (λ t. queues (lacks_room event t.reader.queue) event t) y l.stations
+        (λ t. queue_told (lacks_room event t.reader.queue) event t) is
     step_told k (SetBusy i busy) places y l keeps is = keep_told k i _ y l.stations (λ t. refl) is
     step_told k (WithdrawEvent i) places y l keeps is = keep_told k i _ y l.stations (λ t. refl) is
     step_told k (SetHandler i handler) places y l keeps is = keep_told k i _ y l.stations (λ t. refl) is

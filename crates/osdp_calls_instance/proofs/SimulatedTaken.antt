@@ -16,6 +16,7 @@ use Rattle.osdp_link_laws.proofs.Lines.{each_of}
 use Rattle.osdp_link_laws.proofs.Stages.{Each}
 use Rattle.osdp_reader.specs.Table.{hears, kind_of}
 use Rattle.osdp_reader.specs.declared.handler.Answer.{Answer}
+use Rattle.osdp_reader.specs.Queue.{lacks_room}
 use Rattle.osdp_shared_line.specs.Line.{changed, site_at}
 use Rattle.osdp_shared_line.proofs.Sites.{at_changed, at_other, some_same}
 use Rattle.osdp_sim.specs.Account as sim
@@ -255,7 +256,7 @@ module _ {H : Type 0} where
     step_takes_in k (Queue number event) d y s w follows at is =
         let i = number - 1 in
         there_takes (is_there number s) k (AtDevice i (Queues event)) s (changes_site i (site_queues event) s) d y (no_taking (i == k) y) is
-        (keep_taken k i (site_queues event) y s.sites (λ u. queue_taken (length u.reader.queue.events == u.reader.queue.capacity) event u) is)
+        (keep_taken k i (site_queues event) y s.sites (λ u. queue_taken (lacks_room event u.reader.queue) event u) is)
     step_takes_in k (Busy number busy) d y s w follows at is =
         let i = number - 1 in
         there_takes (is_there number s) k (AtDevice i (IsBusy busy)) s (changes_site i (site_is_busy busy) s) d y (no_taking (i == k) y) is

@@ -13,6 +13,7 @@ use Rattle.osdp_link_laws.specs.Link as link
 use Rattle.osdp_link_laws.proofs.Stages.{Each}
 use Rattle.osdp_reader.specs.State.{after_set_busy, after_set_handler}
 use Rattle.osdp_reader.specs.declared.handler.Answer.{Answer}
+use Rattle.osdp_reader.specs.Queue.{lacks_room}
 use Rattle.osdp_shared_line.specs.Line.{site_at}
 use Rattle.osdp_calls.specs.Calls.{Call, NewDevice, NewPanel, Next, OfPanel, Pending, SetBusy, SetHandler, Silence, Step, SubmitEvent, Take, TickDevice, after_call, after_calls, answers, begins_session, change_at, first_answered, hears_of, made_anew, nexts, queues, read_up_to, WithdrawEvent, withdraws_event}
 use Rattle.osdp_calls.specs.Ends.{Held, KeepsPanel, device_after, held_by, is_of_device}
@@ -90,9 +91,9 @@ module _ {H : Type 0} where
       step_takes k (OfPanel call) places d y l keeps is =
           panel_so {H = H} as_before (λ x t. (held_by t ≡ d) × (taken_to t ≡ y)) (stays_taking d y) k call places tt l is
       step_takes k (SubmitEvent i event) places d y l keeps is =
-          change_one k i (λ t. queues (length t.reader.queue.events == t.reader.queue.capacity) event t) (device_after answer_of after (SubmitEvent i event)) (λ x. []) d y
-          l.stations (λ t. queue_held (length t.reader.queue.events == t.reader.queue.capacity) event t)
-          (λ t at. silent t _ (queue_takes (length t.reader.queue.events == t.reader.queue.capacity) event t)) is
+          change_one k i (λ t. queues (lacks_room event t.reader.queue) event t) (device_after answer_of after (SubmitEvent i event)) (λ x. []) d y
+          l.stations (λ t. queue_held (lacks_room event t.reader.queue) event t)
+          (λ t at. silent t _ (queue_takes (lacks_room event t.reader.queue) event t)) is
       step_takes k (SetBusy i busy) places d y l keeps is =
           change_one k i (λ t. record t { reader = after_set_busy busy t.reader }) (device_after answer_of after (SetBusy i busy)) (λ x. []) d y l.stations
           (λ t. refl) (λ t at. silent t _ refl) is

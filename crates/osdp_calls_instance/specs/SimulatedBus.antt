@@ -13,6 +13,7 @@ use Rattle.osdp_frame.specs.Receiving.{IsReceived, Received, after_silence, new_
 use Rattle.osdp_link_laws.specs.Link.{new_account}
 use Rattle.osdp_reader.specs.State.{after_set_busy, new_reader}
 use Rattle.osdp_reader.specs.declared.handler.Answer.{Answer}
+use Rattle.osdp_reader.specs.Queue.{lacks_room}
 use Rattle.osdp_shared_line.specs.Line.{site_at}
 use Rattle.osdp_sim.specs.Line.{handed}
 use Rattle.osdp_sim.specs.Schedules.{HoldsAlong}
@@ -126,7 +127,7 @@ module _ {H : Type 0} (answer_of : H → Command → Answer) (after : H → Comm
   }
 
   abbrev pub after_device_step : DeviceStep → Held H → Held H
-  after_device_step (Queues event) d = takes_event (length d.reader.queue.events == d.reader.queue.capacity) event d
+  after_device_step (Queues event) d = takes_event (lacks_room event d.reader.queue) event d
   after_device_step (IsBusy busy) d = record d { reader = after_set_busy busy d.reader }
   after_device_step (HearsBurst bytes now) d = hears_burst bytes now d
 

@@ -55,17 +55,23 @@ fn prints(rt: &impl Abort, alloc: Global, message: &impl fmt::Display, text: &st
     is_text(rt, printed.expect(rt, "memory for a text").as_str(), text);
 }
 
-/// These are one message, that of this text.
-fn are_one<M: fmt::Display + PartialEq>(
+/// A command has this code and data, and is printed as this text.
+fn is_command(
     rt: &impl Abort,
     alloc: Global,
-    messages: [&M; 3],
+    command: &Command<'_>,
+    code: u8,
+    data: &[u8],
     text: &str,
 ) {
-    let [read, parsed, copied] = messages;
-    prints(rt, alloc, read, text);
-    assert!(rt; parsed == read);
-    assert!(rt; copied == read);
+    is_spelled(rt, command.write().as_slice(), code, data);
+    prints(rt, alloc, command, text);
+}
+
+/// A reply has this code and data, and is printed as this text.
+fn is_reply(rt: &impl Abort, alloc: Global, reply: &Reply<'_>, code: u8, data: &[u8], text: &str) {
+    is_spelled(rt, reply.write().as_slice(), code, data);
+    prints(rt, alloc, reply, text);
 }
 
 /// A code and data are read as the message of this table and text, and the words of the text as that of this code
@@ -73,15 +79,18 @@ fn are_one<M: fmt::Display + PartialEq>(
 fn is_message(rt: &impl Abort, alloc: Global, table: &str, code: u8, data: &[u8], text: &str) {
     let words = words_of(rt, alloc, text);
     let words = words.as_slice();
+    let mut place = Spelling::new();
     if table == "command" {
         let read = Command::read(code, data).ok().expect(rt, text);
-        let parsed = Command::parse(words).ok().expect(rt, text);
-        is_spelled(rt, parsed.write().as_slice(), code, data);
-        are_one(rt, alloc, [&read, &parsed, &parsed.copy()], text);
+        let parsed = Command::parse(words, &mut place).ok().expect(rt, text);
+        is_command(rt, alloc, &read, code, data, text);
+        is_command(rt, alloc, &parsed, code, data, text);
+        is_command(rt, alloc, &parsed.copy(), code, data, text);
     } else {
         let read = Reply::read(code, data).ok().expect(rt, text);
-        let parsed = Reply::parse(words).ok().expect(rt, text);
-        is_spelled(rt, parsed.write().as_slice(), code, data);
-        are_one(rt, alloc, [&read, &parsed, &parsed.copy()], text);
+        let parsed = Reply::parse(words, &mut place).ok().expect(rt, text);
+        is_reply(rt, alloc, &read, code, data, text);
+        is_reply(rt, alloc, &parsed, code, data, text);
+        is_reply(rt, alloc, &parsed.copy(), code, data, text);
     }
 }

@@ -3,3 +3,4 @@ pub mod Asking
 pub mod Choices
 pub mod Keeping
 pub mod Over
+pub mod Waiting

@@ -1,6 +1,5 @@
 -- The table of frames: what a frame from the line brings about.
-use Rattle.std.specs.Prelude.{ℕ, ◌+◌, Bool, true, false, not, ◌&&◌, ◌||◌, ◌==◌, nat_lt, if◌then◌else◌, [], ◌∷◌, Option, Some, None}
-use Rattle.std.specs.Str.{bytes_eq}
+use Rattle.std.specs.Prelude.{ℕ, ◌+◌, Bool, true, false, not, ◌&&◌, ◌||◌, ◌==◌, nat_lt, if◌then◌else◌, Option, Some, None}
 use Rattle.osdp_frame.specs.Packet.{Packet}
 use Rattle.osdp_msg.specs.declared.command.Command.{Command}
 use Rattle.osdp_msg.specs.declared.command.Command.TheVariants.{Comset}
@@ -23,8 +22,6 @@ use Rattle.osdp_controller.specs.declared.state.State.{State}
 use Rattle.osdp_controller.specs.declared.state.State.TheVariants.{Closed, Quiet, Idle, Waiting, Pausing}
 use Rattle.osdp_msg.specs.Events.{event_in}
 use Rattle.osdp_controller.specs.Answers.{meaning_of, is_not_taken}
-use Rattle.osdp_controller.specs.Exchanges.{submitted_command}
-use Rattle.osdp_controller.specs.Held.{outstanding_in}
 use Rattle.osdp_controller.specs.Sessions.{at_rest, closed, later, lost, seen}
 
 -- what comes of a frame: the session after it, and what is told
@@ -46,11 +43,6 @@ loses cause o s = record { session = closed s; report = Some (lost cause o) }
 -- a reply from the own address that can be read
 abbrev pub is_from_reader : Packet → Session → Bool
 is_from_reader p s = p.reply && p.address == s.config.address && not p.block
-
--- the command that a packet settles by an ACK: it comes from the reader, has the number of the exchange, and is the code of ACK alone
-abbrev pub acknowledged_command : Packet → Session → Option Command
-acknowledged_command p s =
-    if is_from_reader p s && p.sequence == s.number && bytes_eq p.body (0x40 ∷ []) then submitted_command (outstanding_in s.state).exchange else None
 
 -- it has the number of the exchange; a BUSY may have 0
 abbrev pub is_numbered : ℕ → ReplyMeaning → Session → Bool

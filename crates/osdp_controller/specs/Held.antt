@@ -1,5 +1,5 @@
 -- How the state of a session is held: its parts, of which a submitted command is one that stays where it is.
-use Rattle.std.specs.Prelude.{ℕ, Option, Some, None}
+use Rattle.std.specs.Prelude.{ℕ}
 use Rattle.osdp_msg.specs.declared.command.Command.{Command}
 use Rattle.osdp_controller.specs.declared.exchange.Asked.{Asked}
 use Rattle.osdp_controller.specs.declared.exchange.Asked.TheVariants as asked
@@ -12,11 +12,10 @@ use Rattle.osdp_controller.specs.declared.state.State.{State}
 use Rattle.osdp_controller.specs.declared.state.State.TheVariants.{Closed, Quiet, Idle, Waiting, Pausing}
 
 -- the exchange that what is asked and the command that is kept make
-abbrev pub exchange_of : Asked → Option Command → Exchange
+abbrev pub exchange_of : Asked → Command → Exchange
 exchange_of asked.Opening command = Opening
 exchange_of asked.Polling command = Polling
-exchange_of asked.Submitted (Some command) = Asking command
-exchange_of asked.Submitted None = Polling
+exchange_of asked.Submitted command = Asking command
 
 -- the state that a stage, its moment, its sends and an exchange make
 abbrev pub state_of : Stage → ℕ → ℕ → Outstanding → State

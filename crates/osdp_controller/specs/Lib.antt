@@ -7,7 +7,10 @@ pub mod Ticking
 pub mod Hearing
 pub mod Comsets
 pub mod Held
+pub mod Kept
+pub mod Commands
 pub mod Lent
 pub mod Private
 pub mod Machine
 pub mod Causes
+pub mod Waiting

@@ -1,7 +1,8 @@
 -- What a controller is to its callers.
-use Rattle.std.specs.Prelude.{◌≡◌, ◌≢◌, ℕ, ◌+◌, ◌*◌, ◌≤◌, Bool, true, false, nat_le, nat_lt, if◌then◌else◌, max, All, List, [], ◌∷◌, ◌++◌, drop, length, slice_get, Option, Some, None, is_some, IfSome, ◌||◌, Result, Ok, Err}
+use Rattle.std.specs.Prelude.{◌≡◌, ◌≢◌, ℕ, ◌+◌, ◌-◌, ◌*◌, ◌≤◌, Bool, true, false, nat_le, nat_lt, if◌then◌else◌, max, All, List, [], ◌∷◌, ◌++◌, drop, length, slice_get, Option, Some, None, is_some, IfSome, ◌&&◌, ◌||◌, Result, Ok, Err}
 use Rattle.osdp_frame.specs.Packet.{Packet}
-use Rattle.osdp_msg.specs.Limits.{most_waiting}
+use Rattle.osdp_msg.specs.CommandTable.{command_code, command_data}
+use Rattle.osdp_msg.specs.Limits.{most_data, most_waiting}
 use Rattle.osdp_msg.specs.declared.command.Command.{Command}
 use Rattle.osdp_msg.specs.declared.command.Command.TheVariants.{Poll}
 use Rattle.osdp_controller.specs.declared.config.ControllerConfig.{ControllerConfig}
@@ -12,40 +13,42 @@ use Rattle.osdp_controller.specs.declared.fault.ControllerFault.TheVariants.{NoM
 use Rattle.osdp_controller.specs.declared.session.Session.{Session}
 use Rattle.osdp_controller.specs.declared.state.State.{State}
 use Rattle.osdp_controller.specs.declared.state.State.TheVariants.{Closed, Quiet, Idle, Waiting, Pausing}
-use Rattle.osdp_controller.specs.declared.step.Step.{Step}
 use Rattle.osdp_controller.specs.Exchanges.{submitted_command}
 use Rattle.osdp_controller.specs.Settings.{IsConfig}
 use Rattle.osdp_controller.specs.Sessions.{later, new_session, seen}
 use Rattle.osdp_controller.specs.States.{is_closed}
-use Rattle.osdp_controller.specs.Ticking.{ticks}
+use Rattle.osdp_controller.specs.Ticking.{Step, ticks}
 use Rattle.osdp_controller.specs.Hearing.{hears}
 
--- the session, the commands that wait in their order, and how many there may be
+-- the session, the commands that wait in their order, how many there may be, and how many bytes they may have together
 pub record Machine : Type 0 where
   pub session : Session
   pub waiting : List Command
   pub capacity : ℕ
+  pub room : ℕ
 
 -- the settings and the room for waiting commands are in their ranges
-pub record AreSettings (config : ControllerConfig) (capacity : ℕ) : Type 0 where
+pub record AreSettings (config : ControllerConfig) (capacity together : ℕ) : Type 0 where
   pub config_in_range : IsConfig config
   pub room : 1 ≤ capacity
   pub limit : capacity ≤ most_waiting
+  pub bytes : (1 ≤ together) × (together ≤ most_waiting * (1 + most_data))
 
 -- a new controller: closed, and nothing waits
-abbrev pub new_machine : ControllerConfig → ℕ → Machine
-new_machine config capacity = record {
+abbrev pub new_machine : ControllerConfig → ℕ → ℕ → Machine
+new_machine config capacity room = record {
   session = new_session config;
   waiting = [];
   capacity = capacity;
+  room = room;
 }
 
 -- how a new controller comes about: the settings are judged before memory is asked for
-abbrev pub NewEnds : ControllerConfig → ℕ → Result Machine ControllerFault → Type 0
-NewEnds config capacity (Ok m) = AreSettings config capacity × (m ≡ new_machine config capacity)
-NewEnds config capacity (Err OutOfRange) = AreSettings config capacity → ⊥
-NewEnds config capacity (Err NoMemory) = AreSettings config capacity
-NewEnds config capacity (Err _) = ⊥
+abbrev pub NewEnds : ControllerConfig → ℕ → ℕ → Result Machine ControllerFault → Type 0
+NewEnds config capacity room (Ok m) = AreSettings config capacity room × (m ≡ new_machine config capacity room)
+NewEnds config capacity room (Err OutOfRange) = AreSettings config capacity room → ⊥
+NewEnds config capacity room (Err NoMemory) = AreSettings config capacity room
+NewEnds config capacity room (Err _) = ⊥
 
 -- the answer of a call that has nothing to give
 abbrev pub unless_refused : {Fault : Type 0} → Option Fault → Result (Unit {0}) Fault
@@ -61,10 +64,23 @@ abbrev pub refused_unless_closed : State → Option ControllerFault
 refused_unless_closed Closed = None
 refused_unless_closed _ = Some NotClosed
 
--- submitting: a POLL is refused, then any command where as many wait as there is room for
+-- how many bytes a command has: its code and its data
+abbrev pub command_size : Command → ℕ
+command_size command = length (command_code command ∷ command_data command)
+
+-- .. and commands have together
+abbrev pub bytes_waiting : List Command → ℕ
+bytes_waiting [] = 0
+bytes_waiting (command ∷ commands) = command_size command + bytes_waiting commands
+
+-- there is a place for one more command, and room for its bytes beside those that wait
+abbrev pub has_room : Command → Machine → Bool
+has_room command m = nat_lt (length m.waiting) m.capacity && nat_le (command_size command) (m.room - bytes_waiting m.waiting)
+
+-- submitting: a POLL is refused, then a command that has no room
 abbrev pub submit_refusal : Command → Machine → Option ControllerFault
 submit_refusal Poll m = Some PollSubmitted
-submit_refusal _ m = if nat_lt (length m.waiting) m.capacity then None else Some Full
+submit_refusal command m = if has_room command m then None else Some Full
 
 abbrev pub after_submit : Command → Machine → Machine
 after_submit command m = record m { waiting = m.waiting ++ command ∷ [] }

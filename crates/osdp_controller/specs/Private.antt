@@ -16,7 +16,7 @@ use Rattle.osdp_controller.specs.declared.state.State.TheVariants.{Closed, Quiet
 use Rattle.osdp_controller.specs.Answers.{meaning_of}
 use Rattle.osdp_controller.specs.Held.{outstanding_in}
 use Rattle.osdp_controller.specs.Hearing.{Heard, hears_in, ignores, pausing_hears, pd_id_of, waiting_hears}
-use Rattle.osdp_controller.specs.Machine.{IsSession, Machine, is_outstanding}
+use Rattle.osdp_controller.specs.Machine.{IsSession, Machine, after_submit, is_outstanding}
 use Rattle.osdp_controller.specs.Sessions.{frame_of}
 use Rattle.osdp_controller.specs.States.{is_idle, moment_of}
 use Rattle.osdp_controller.specs.Ticking.{ticks_in}
@@ -30,8 +30,8 @@ abbrev pub is_over : State → Session → Bool
 is_over (Waiting until sends o) s = nat_le until s.greatest && not (nat_lt sends s.config.sends)
 is_over _ s = false
 
--- the command that a tick in a state takes from the waiting ones
-abbrev pub next_in : State → List Command → Option Command
+-- what a tick in a state takes from what waits: the command, or its bytes
+abbrev pub next_in : {A : Type 0} → State → List A → Option A
 next_in state waiting = if is_idle state then slice_get waiting 0 else None
 
 -- an answer is none to the exchange: the opening ID is answered by a PDID alone
@@ -68,6 +68,11 @@ abbrev pub after_act : Machine → Machine
 after_act m =
     let ticked = ticks_in m.session.state m.session m.waiting in
     record m { session = ticked.session; waiting = ticked.waiting }
+
+-- a command after the others, where it has room
+abbrev pub submitted_if : Bool → Command → Machine → Machine
+submitted_if true command m = after_submit command m
+submitted_if false command m = m
 
 -- the frame of the outstanding exchange, and of the one that has just been sent where one was
 abbrev pub frame_in : Session → Packet

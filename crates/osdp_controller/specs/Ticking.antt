@@ -1,16 +1,21 @@
 -- The table of ticks: what a moment brings about by itself.
-use Rattle.std.specs.Prelude.{ℕ, ◌+◌, nat_le, nat_lt, if◌then◌else◌, List, [], ◌∷◌, Some, None}
-use Rattle.osdp_frame.specs.Packet.{next_sequence}
+use Rattle.std.specs.Prelude.{ℕ, ◌+◌, nat_le, nat_lt, if◌then◌else◌, List, [], ◌∷◌, Option, Some, None}
+use Rattle.osdp_frame.specs.Packet.{Packet, next_sequence}
 use Rattle.osdp_msg.specs.declared.command.Command.{Command}
 use Rattle.osdp_controller.specs.declared.exchange.Exchange.{Exchange}
 use Rattle.osdp_controller.specs.declared.exchange.Exchange.TheVariants.{Opening, Polling, Asking}
 use Rattle.osdp_controller.specs.declared.exchange.Outstanding.{Outstanding}
 use Rattle.osdp_controller.specs.declared.report.LostCause.TheVariants.{NoReply}
+use Rattle.osdp_controller.specs.declared.report.Report.{Report}
 use Rattle.osdp_controller.specs.declared.session.Session.{Session}
 use Rattle.osdp_controller.specs.declared.state.State.{State}
 use Rattle.osdp_controller.specs.declared.state.State.TheVariants.{Closed, Quiet, Idle, Waiting, Pausing}
-use Rattle.osdp_controller.specs.declared.step.Step.{Step}
 use Rattle.osdp_controller.specs.Sessions.{after_send, closed, frame_of, lost, seen}
+
+-- what is sent now, and what is told now: by a tick only that the session has ended; it never does both
+pub record Step : Type 0 where
+  pub frame : Option Packet
+  pub report : Option Report
 
 -- what comes of a tick: the session and the waiting commands after it, and what is sent and told
 pub record Ticked : Type 0 where

@@ -6,7 +6,7 @@ ghost use Rattle.osdp_controller.specs.Settings.{IsConfig, default_config};
 ghost use Rattle.osdp_frame.specs.Times.{IsTime};
 
 use osdp_frame::{Address, CheckKind, LONGEST_TIME, is_time};
-use osdp_msg::is_room;
+use osdp_msg::Room;
 
 /// The settings of a controller. Times are in milliseconds, 1 to 3,600,000.
 #[derive(Clone, Copy, Debug, PartialEq, Eq)]
@@ -58,12 +58,12 @@ impl ControllerConfig {
         is_time(wait)
     }
 
-    /// Whether a controller may have these settings and room for so many waiting commands: each setting is in its range, and
-    /// the room is 1 to 1024.
-    pub fn is_in_range(&self, capacity: usize) -> bool
-        ensures { IsTrue result ↔ AreSettings self.now capacity }
+    /// Whether a controller may have these settings and such room for waiting commands: each setting and the room are in their
+    /// ranges.
+    pub fn is_in_range(&self, room: Room) -> bool
+        ensures { IsTrue result ↔ AreSettings self.now room.messages room.bytes }
     {
-        self.is_set_in_range() && is_room(capacity)
+        self.is_set_in_range() && room.is_right()
     }
 
     /// Whether each setting is in its range.

@@ -4,20 +4,20 @@ use osdp_msg::Command;
 
 /// What an exchange asks, as the tables say it.
 #[derive(Debug, Drop)]
-pub enum Exchange {
+pub enum Exchange<'a> {
     /// The opening ID.
     Opening,
     /// A POLL.
     Polling,
     /// A command that was submitted.
-    Asking(Command),
+    Asking(Command<'a>),
 }
 
 /// An exchange that waits for its answer, as the tables say it.
 #[derive(Debug, Drop)]
-pub struct Outstanding {
+pub struct Outstanding<'a> {
     /// The opening ID, the POLL or the command that waits for its answer.
-    pub exchange: Exchange,
+    pub exchange: Exchange<'a>,
     /// How often the reader answered BUSY.
     pub busies: u8,
     /// How many frames went out.

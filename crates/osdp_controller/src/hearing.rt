@@ -1,31 +1,28 @@
 //! The table of frames.
 
 ghost use Rattle.std.specs.Str.{bytes_eq};
-ghost use Rattle.std.specs.Prelude.{◌≡◌, ◌==◌, ◌&&◌, ◌<◌, ℕ, [], ◌∷◌, true, false, Option, None, Some, is_none, is_some, option_copied, IfSome};
+ghost use Rattle.std.specs.Prelude.{◌≡◌, ◌==◌, ◌&&◌, ◌<◌, ℕ, [], ◌∷◌, true, false, None, Some, is_none, is_some, IfSome};
 ghost use Rattle.osdp_controller.specs.declared.meaning.ReplyMeaning.TheVariants.{Plain, Unreadable};
-ghost use Rattle.osdp_controller.specs.declared.report.Report.TheVariants.{Moved, PollAnswered, Settled};
-ghost use Rattle.osdp_controller.specs.declared.report.Report.TheVariants as reports;
-ghost use Rattle.osdp_msg.specs.declared.event.Event.TheVariants as events;
-ghost use Rattle.osdp_msg.specs.declared.reply.Reply.TheVariants.{Ack};
+ghost use Rattle.osdp_controller.specs.declared.report.Report.TheVariants.{Moved, Settled};
 ghost use Rattle.osdp_msg.specs.declared.command.Command.{Command};
 ghost use Rattle.osdp_controller.specs.declared.state.Stage.TheVariants as stages;
 ghost use Rattle.osdp_controller.specs.Answers.{meaning_of};
 ghost use Rattle.osdp_controller.specs.Exchanges.{submitted_command};
 ghost use Rattle.osdp_msg.specs.Events.{event_in};
-ghost use Rattle.osdp_controller.specs.Hearing.{acknowledged_command, answered, answered_unread, com_of, comset_of, hears, hears_busy, hears_in, is_ack, is_from_reader, is_numbered, loses, moved_by, opening_answered, pausing_hears, pd_id_of, poll_told, rests, waiting_hears};
+ghost use Rattle.osdp_controller.specs.Hearing.{answered, answered_unread, com_of, comset_of, hears, hears_busy, hears_in, is_ack, is_from_reader, is_numbered, loses, moved_by, opening_answered, pausing_hears, pd_id_of, poll_told, rests, waiting_hears};
 ghost use Rattle.osdp_controller.specs.Held.{exchange_of, outstanding_in, sends_in, stage_of};
 ghost use Rattle.osdp_controller.specs.Machine.{IsSession, is_outstanding};
 ghost use Rattle.osdp_controller.specs.Private.{HearsReply, acknowledged, is_no_answer, is_no_answer_in, numbered_in, takes_ack};
 ghost use Rattle.osdp_controller.specs.Sessions.{at_rest, closed};
 
 use crate::exchange::Asked;
+use crate::kept::KeptReport;
 use crate::meaning::ReplyMeaning;
-use crate::report::{LostCause, Report};
+use crate::report::LostCause;
 use crate::session::Session;
 use crate::state::Stage;
 use osdp_frame::{Address, FrameView, Seq};
-use osdp_msg::{Command, Communication, Event, LocalState, PdId, Reply};
-use std::mem;
+use osdp_msg::{Command, Communication, PdId, Reply};
 
 impl Session {
     /// Whether a packet is a reply from the own address that can be read.
@@ -36,25 +33,24 @@ impl Session {
     }
 
     /// Whether an answer has the number of the exchange. A BUSY may have 0.
-    fn is_numbered(&self, number: Seq, answer: &ReplyMeaning) -> bool
+    fn is_numbered(&self, number: Seq, answer: &ReplyMeaning<'_>) -> bool
         ensures { result ≡ is_numbered number answer.now self.now }
     {
         number == self.number || number.get() == 0 && answer.is_not_taken()
     }
 
     /// The session ends without an answer.
-    #[inline(never)]
-    fn lose(&mut self, cause: LostCause, report: &mut Option<Report>)
+    fn lose(&mut self, cause: LostCause, report: &mut KeptReport)
         requires { is_outstanding self.old.state ≡ true }
         ensures report { report.new ≡ (loses cause (outstanding_in self.old.state) self.old).report }
         ensures session { self.new ≡ (loses cause (outstanding_in self.old.state) self.old).session }
     {
-        *report = Some(Report::Lost(cause, self.state.take_command()));
+        report.tell_lost(cause, self.state.submitted());
         self.state.close();
     }
 
     /// One more BUSY: the exchange pauses, or the session ends where there are more than are allowed.
-    fn hear_busy(&mut self, report: &mut Option<Report>)
+    fn hear_busy(&mut self, report: &mut KeptReport)
         requires held { is_outstanding self.old.state ≡ true }
         requires none { report.old ≡ None }
         ensures report { report.new ≡ (hears_busy (outstanding_in self.old.state) self.old).report }
@@ -69,67 +65,62 @@ impl Session {
     }
 
     /// A COMSET is answered by its COM: the session ends, and the reader is at its new address.
-    #[inline(never)]
-    fn move_to(&mut self, answered: Communication, report: &mut Option<Report>)
+    fn move_to(&mut self, answered: Communication, report: &mut KeptReport)
         requires held { is_outstanding self.old.state ≡ true }
         requires device { answered.address < 127 }
         ensures report { (command : Command) → submitted_command (outstanding_in self.old.state).exchange ≡ Some command → report.new ≡ Some (Moved command answered) }
         ensures session { self.new ≡ closed (record self.old { config = record self.old.config { address = answered.address } }) }
     {
-        if let Some(command) = self.state.take_command() {
-            *report = Some(Report::Moved(command, answered));
+        if let Some(command) = self.state.submitted() {
+            report.tell_moved(command, answered);
         }
         self.config.address = Address::new(answered.address).unwrap();
         self.state.close();
     }
 
     /// The command that was submitted, where one is outstanding, is settled by an ACK.
-    #[inline(never)]
-    fn settle_acknowledged(&mut self, report: &mut Option<Report>)
+    fn settle_acknowledged(&mut self, report: &mut KeptReport)
         requires held { is_outstanding self.old.state ≡ true }
         requires none { report.old ≡ None }
         ensures report { report.new ≡ acknowledged (outstanding_in self.old.state).exchange }
         ensures session { self.new ≡ at_rest self.old }
     {
-        match (self.state.asked, &self.state.command) {
-            (Asked::Submitted, Some(command)) => tell_settled(command, report),
-            (Asked::Opening | Asked::Polling, _) | (Asked::Submitted, None) => {}
+        if let Some(command) = self.state.submitted() {
+            report.tell_settled(command, &Reply::Ack);
         }
         self.rest();
     }
 
-    /// The command that was submitted is settled by a reply, which is taken out of its place.
-    fn settle_command(&mut self, reply: &mut Reply, report: &mut Option<Report>)
+    /// The command that was submitted is settled by a reply.
+    fn settle_command(&mut self, reply: &Reply<'_>, report: &mut KeptReport)
         requires held { is_outstanding self.old.state ≡ true }
-        requires none { report.old ≡ None }
-        ensures report { (command : Command) → submitted_command (outstanding_in self.old.state).exchange ≡ Some command → report.new ≡ Some (Settled command reply.old) }
+        ensures report { (command : Command) → submitted_command (outstanding_in self.old.state).exchange ≡ Some command → report.new ≡ Some (Settled command reply.now) }
         ensures session { self.new ≡ at_rest self.old }
     {
-        self.settle_acknowledged(report);
-        put_reply(reply, report);
+        if let Some(command) = self.state.submitted() {
+            report.tell_settled(command, reply);
+        }
+        self.rest();
     }
 
     /// The COM that moves the reader, where a COMSET is outstanding and the reply answers it so.
-    fn moved_by(&self, reply: &Reply) -> Option<Communication>
+    fn moved_by(&self, reply: &Reply<'_>) -> Option<Communication>
         requires held { is_outstanding self.now.state ≡ true }
         ensures value { (command : Command) → submitted_command (outstanding_in self.now.state).exchange ≡ Some command → result ≡ moved_by (comset_of command) (com_of reply.now) }
         ensures device { IfSome result (λ answered. answered.address < 127) }
     {
-        match &self.state.command {
-            Some(command) => moved_by(command, reply),
-            None => None,
-        }
+        let command = self.state.submitted()?;
+        moved_by(&Command::kept(command.as_slice()), reply)
     }
 
     /// A command is answered.
-    #[inline(never)]
     #[tactic(auto, using(crate::proofs::Asking::asking))]
-    fn hear_answer(&mut self, reply: &mut Reply, report: &mut Option<Report>)
+    fn hear_answer(&mut self, reply: &Reply<'_>, report: &mut KeptReport)
         requires held { is_outstanding self.old.state ≡ true }
         requires asked { is_some (submitted_command (outstanding_in self.old.state).exchange) ≡ true }
         requires none { report.old ≡ None }
-        ensures report { report.new ≡ (answered (outstanding_in self.old.state).exchange reply.old self.old).report }
-        ensures session { self.new ≡ (answered (outstanding_in self.old.state).exchange reply.old self.old).session }
+        ensures report { report.new ≡ (answered (outstanding_in self.old.state).exchange reply.now self.old).report }
+        ensures session { self.new ≡ (answered (outstanding_in self.old.state).exchange reply.now self.old).session }
     {
         match self.moved_by(reply) {
             Some(answered) => self.move_to(answered, report),
@@ -137,27 +128,25 @@ impl Session {
         }
     }
 
-    /// A reply that is neither BUSY, NAK 1 nor NAK 4 answers the outstanding exchange. It is taken out of its place where it is told, and
-    /// is not moved on the way.
-    fn settle(&mut self, reply: &mut Reply, report: &mut Option<Report>)
+    /// A reply that is neither BUSY, NAK 1 nor NAK 4 answers the outstanding exchange.
+    fn settle(&mut self, reply: &Reply<'_>, report: &mut KeptReport)
         requires held { is_outstanding self.old.state ≡ true }
-        requires answer { is_no_answer (outstanding_in self.old.state).exchange (Plain reply.old) ≡ false }
+        requires answer { is_no_answer (outstanding_in self.old.state).exchange (Plain reply.now) ≡ false }
         requires none { report.old ≡ None }
-        ensures report { report.new ≡ (answered (outstanding_in self.old.state).exchange reply.old self.old).report }
-        ensures session { self.new ≡ (answered (outstanding_in self.old.state).exchange reply.old self.old).session }
+        ensures report { report.new ≡ (answered (outstanding_in self.old.state).exchange reply.now self.old).report }
+        ensures session { self.new ≡ (answered (outstanding_in self.old.state).exchange reply.now self.old).session }
     {
-        match (self.state.asked, &self.state.command) {
-            (Asked::Opening, _) => self.open(pd_id_of(reply), report),
-            (Asked::Submitted, Some(_)) => self.hear_answer(reply, report),
-            (Asked::Polling, _) | (Asked::Submitted, None) => self.settle_poll(reply, report),
+        match self.state.asked {
+            Asked::Opening => self.open(pd_id_of(reply), report),
+            Asked::Submitted => self.hear_answer(reply, report),
+            Asked::Polling => self.settle_poll(reply, report),
         }
     }
 
     /// A POLL is answered.
-    #[inline(never)]
-    fn settle_poll(&mut self, reply: &mut Reply, report: &mut Option<Report>)
+    fn settle_poll(&mut self, reply: &Reply<'_>, report: &mut KeptReport)
         requires { report.old ≡ None }
-        ensures report { report.new ≡ poll_told reply.old (event_in reply.old) }
+        ensures report { report.new ≡ poll_told reply.now (event_in reply.now) }
         ensures session { self.new ≡ at_rest self.old }
     {
         self.rest();
@@ -165,8 +154,7 @@ impl Session {
     }
 
     /// The opening ID is answered by a PDID.
-    #[inline(never)]
-    fn open(&mut self, id: Option<PdId>, report: &mut Option<Report>)
+    fn open(&mut self, id: Option<PdId>, report: &mut KeptReport)
         requires some { is_none id ≡ false }
         requires none { report.old ≡ None }
         ensures report { report.new ≡ (opening_answered id self.old).report }
@@ -174,29 +162,28 @@ impl Session {
     {
         if let Some(id) = id {
             self.rest();
-            *report = Some(Report::Opened(id));
+            report.tell_opened(id);
         }
     }
 
     /// A reply that cannot be read answers the outstanding exchange.
-    #[inline(never)]
-    fn settle_unread(&mut self, code: u8, report: &mut Option<Report>)
+    fn settle_unread(&mut self, code: u8, report: &mut KeptReport)
         requires held { is_outstanding self.old.state ≡ true }
         requires answer { is_no_answer (outstanding_in self.old.state).exchange (Unreadable code) ≡ false }
         ensures report { report.new ≡ (answered_unread (outstanding_in self.old.state).exchange code self.old).report }
         ensures session { self.new ≡ (answered_unread (outstanding_in self.old.state).exchange code self.old).session }
     {
-        *report = Some(Report::Unread(self.state.take_command(), code));
+        report.tell_unread(self.state.submitted(), code);
         self.rest();
     }
 
     /// An answer comes while it is waited for.
-    fn hear_waiting(&mut self, answer: &mut ReplyMeaning, report: &mut Option<Report>)
+    fn hear_waiting(&mut self, answer: &ReplyMeaning<'_>, report: &mut KeptReport)
         requires waiting { stage_of self.old.state ≡ stages.Waiting }
-        requires answer { is_no_answer (outstanding_in self.old.state).exchange answer.old ≡ false }
+        requires answer { is_no_answer (outstanding_in self.old.state).exchange answer.now ≡ false }
         requires none { report.old ≡ None }
-        ensures report { report.new ≡ (waiting_hears answer.old (sends_in self.old.state) (outstanding_in self.old.state) self.old).report }
-        ensures session { self.new ≡ (waiting_hears answer.old (sends_in self.old.state) (outstanding_in self.old.state) self.old).session }
+        ensures report { report.new ≡ (waiting_hears answer.now (sends_in self.old.state) (outstanding_in self.old.state) self.old).report }
+        ensures session { self.new ≡ (waiting_hears answer.now (sends_in self.old.state) (outstanding_in self.old.state) self.old).session }
     {
         match answer {
             ReplyMeaning::NotTaken => self.hear_busy(report),
@@ -208,12 +195,12 @@ impl Session {
     }
 
     /// An answer comes in a pause.
-    fn hear_pausing(&mut self, answer: &mut ReplyMeaning, report: &mut Option<Report>)
+    fn hear_pausing(&mut self, answer: &ReplyMeaning<'_>, report: &mut KeptReport)
         requires held { is_outstanding self.old.state ≡ true }
-        requires answer { is_no_answer (outstanding_in self.old.state).exchange answer.old ≡ false }
+        requires answer { is_no_answer (outstanding_in self.old.state).exchange answer.now ≡ false }
         requires none { report.old ≡ None }
-        ensures report { report.new ≡ (pausing_hears answer.old (outstanding_in self.old.state) self.old).report }
-        ensures session { self.new ≡ (pausing_hears answer.old (outstanding_in self.old.state) self.old).session }
+        ensures report { report.new ≡ (pausing_hears answer.now (outstanding_in self.old.state) self.old).report }
+        ensures session { self.new ≡ (pausing_hears answer.now (outstanding_in self.old.state) self.old).session }
     {
         match answer {
             ReplyMeaning::NotTaken | ReplyMeaning::Damaged => {}
@@ -224,18 +211,18 @@ impl Session {
     }
 
     /// Whether an answer is none to the outstanding exchange.
-    fn is_no_answer(&self, answer: &ReplyMeaning) -> bool
+    fn is_no_answer(&self, answer: &ReplyMeaning<'_>) -> bool
         ensures { result ≡ is_no_answer_in self.now.state answer.now }
     {
         self.state.is_outstanding() && is_no_answer(self.state.asked, answer)
     }
 
     /// An answer with the number of the exchange comes, where one is outstanding.
-    fn hear_numbered(&mut self, answer: &mut ReplyMeaning, report: &mut Option<Report>)
-        requires answer { is_no_answer_in self.old.state answer.old ≡ false }
+    fn hear_numbered(&mut self, answer: &ReplyMeaning<'_>, report: &mut KeptReport)
+        requires answer { is_no_answer_in self.old.state answer.now ≡ false }
         requires none { report.old ≡ None }
-        ensures report { report.new ≡ (numbered_in self.old.state answer.old self.old).report }
-        ensures session { self.new ≡ (numbered_in self.old.state answer.old self.old).session }
+        ensures report { report.new ≡ (numbered_in self.old.state answer.now self.old).report }
+        ensures session { self.new ≡ (numbered_in self.old.state answer.now self.old).session }
     {
         match self.state.stage {
             Stage::Closed | Stage::Quiet | Stage::Idle => {}
@@ -245,8 +232,7 @@ impl Session {
     }
 
     /// A frame comes from the line.
-    #[inline(always)]
-    pub(crate) fn hear(&mut self, frame: &FrameView<'_>, now: u64, report: &mut Option<Report>)
+    pub(crate) fn hear(&mut self, frame: &FrameView<'_>, now: u64, report: &mut KeptReport)
         requires session { IsSession self.old }
         requires none { report.old ≡ None }
         ensures report { report.new ≡ (hears frame.now now self.old).report }
@@ -260,8 +246,7 @@ impl Session {
     }
 
     /// A reply comes from the own address, at the greatest moment seen.
-    #[inline(never)]
-    fn hear_reader(&mut self, frame: &FrameView<'_>, report: &mut Option<Report>)
+    fn hear_reader(&mut self, frame: &FrameView<'_>, report: &mut KeptReport)
         requires session { IsSession self.old }
         requires none { report.old ≡ None }
         ensures { HearsReply frame.now self.old report.new self.new }
@@ -275,58 +260,6 @@ impl Session {
         }
     }
 
-    /// The command that was submitted, where a packet settles it by an ACK.
-    pub(crate) fn acknowledged(&self, frame: &FrameView<'_>) -> Option<&Command>
-        ensures command { option_copied result ≡ acknowledged_command frame.now self.now }
-        ensures settled { IfSome (option_copied result) (λ command. (now : ℕ) → (hears frame.now now self.now).report ≡ Some (Settled command Ack)) }
-    {
-        match self.state.asked {
-            Asked::Opening | Asked::Polling => return None,
-            Asked::Submitted => {}
-        }
-        if !self.is_from_reader(frame) || !self.is_acknowledged_by(frame) {
-            return None;
-        }
-        self.state.command.as_ref()
-    }
-
-    /// A frame comes from the line, of which nothing is to be told.
-    #[inline(always)]
-    pub(crate) fn pass(&mut self, frame: &FrameView<'_>, now: u64)
-        requires session { IsSession self.old }
-        ensures session { self.new ≡ (hears frame.now now self.old).session }
-        ensures kept { IsSession self.new }
-    {
-        self.see(now);
-        if self.is_from_reader(frame) {
-            self.pass_reader(frame);
-        }
-    }
-
-    /// A reply comes from the own address, at the greatest moment seen, of which nothing is to be told.
-    fn pass_reader(&mut self, frame: &FrameView<'_>)
-        requires { IsSession self.old }
-        ensures session { self.new ≡ (hears_in self.old.state frame.now.sequence (meaning_of frame.now) self.old).session }
-        ensures kept { IsSession self.new }
-    {
-        if self.is_acknowledged_by(frame) {
-            self.rest();
-        } else {
-            self.pass_reply(frame);
-        }
-    }
-
-    /// The same of one that is read. It stands by itself, since a report has the size of the largest one.
-    #[inline(never)]
-    fn pass_reply(&mut self, frame: &FrameView<'_>)
-        requires { IsSession self.old }
-        ensures session { self.new ≡ (hears_in self.old.state frame.now.sequence (meaning_of frame.now) self.old).session }
-        ensures kept { IsSession self.new }
-    {
-        let mut report = None;
-        self.hear_reply(frame, &mut report);
-    }
-
     /// Whether a packet is the ACK that a POLL or a command that was submitted waits for.
     #[tactic(auto, using(crate::proofs::Acks::acked))]
     fn is_acknowledged_by(&self, frame: &FrameView<'_>) -> bool
@@ -338,38 +271,15 @@ impl Session {
     }
 
     /// A reply comes from the own address, at the greatest moment seen, and is read.
-    #[inline(never)]
-    fn hear_reply(&mut self, frame: &FrameView<'_>, report: &mut Option<Report>)
+    fn hear_reply(&mut self, frame: &FrameView<'_>, report: &mut KeptReport)
         requires session { IsSession self.old }
         requires none { report.old ≡ None }
         ensures { HearsReply frame.now self.old report.new self.new }
     {
-        let mut answer = ReplyMeaning::NotTaken;
-        ReplyMeaning::read_into(frame, &mut answer);
+        let answer = ReplyMeaning::read(frame);
         if self.is_numbered(frame.seq(), &answer) && !self.is_no_answer(&answer) {
-            self.hear_numbered(&mut answer, report);
+            self.hear_numbered(&answer, report);
         }
-    }
-}
-
-/// Tells that a command is settled by an ACK.
-#[inline(never)]
-fn tell_settled(command: &Command, report: &mut Option<Report>)
-    ensures { report.new ≡ Some (Settled command.now Ack) }
-{
-    *report = Some(Report::Settled(Command::Poll, Reply::Ack));
-    if let Some(Report::Settled(settled, _)) = report {
-        command.copy_into(settled);
-    }
-}
-
-/// Puts a reply in place of that of a command that is told as settled.
-#[inline(never)]
-fn put_reply(reply: &mut Reply, report: &mut Option<Report>)
-    ensures { (command : Command) → report.old ≡ Some (Settled command Ack) → report.new ≡ Some (Settled command reply.old) }
-{
-    if let Some(Report::Settled(_, place)) = report {
-        mem::swap(place, reply);
     }
 }
 
@@ -381,8 +291,8 @@ fn is_ack_alone(body: &[u8]) -> bool
 }
 
 /// Whether an answer is none to the exchange: the opening ID is answered by a PDID alone.
-fn is_no_answer(asked: Asked, answer: &ReplyMeaning) -> bool
-    ensures { (command : Option Command) → result ≡ is_no_answer (exchange_of asked command) answer.now }
+fn is_no_answer(asked: Asked, answer: &ReplyMeaning<'_>) -> bool
+    ensures { (command : Command) → result ≡ is_no_answer (exchange_of asked command) answer.now }
 {
     match (asked, answer) {
         (Asked::Opening, ReplyMeaning::Plain(reply)) => pd_id_of(reply).is_none(),
@@ -392,7 +302,7 @@ fn is_no_answer(asked: Asked, answer: &ReplyMeaning) -> bool
 }
 
 /// The identity that a PDID tells.
-fn pd_id_of(reply: &Reply) -> Option<PdId>
+fn pd_id_of(reply: &Reply<'_>) -> Option<PdId>
     ensures { result ≡ pd_id_of reply.now }
 {
     match reply {
@@ -402,7 +312,7 @@ fn pd_id_of(reply: &Reply) -> Option<PdId>
 }
 
 /// The COM that answers a COMSET to a device's address with that address.
-fn moved_by(command: &Command, reply: &Reply) -> Option<Communication>
+fn moved_by(command: &Command<'_>, reply: &Reply<'_>) -> Option<Communication>
     ensures value { result ≡ moved_by (comset_of command.now) (com_of reply.now) }
     ensures device { IfSome result (λ answered. answered.address < 127) }
 {
@@ -424,53 +334,22 @@ fn moved(asked: Communication, answered: Communication) -> Option<Communication>
     }
 }
 
-fn is_ack(reply: &Reply) -> bool
+fn is_ack(reply: &Reply<'_>) -> bool
     ensures { result ≡ is_ack reply.now }
 {
     matches!(reply, Reply::Ack)
 }
 
-/// Tells what the answer to a POLL tells. An event is read into its place in the report, and another reply is taken out of its own.
-// Each function that writes a report stands by itself. So the stack has no more than one of them at a time.
-fn tell_poll(reply: &mut Reply, report: &mut Option<Report>)
+/// Tells what the answer to a POLL tells.
+fn tell_poll(reply: &Reply<'_>, report: &mut KeptReport)
     requires { report.old ≡ None }
-    ensures { report.new ≡ poll_told reply.old (event_in reply.old) }
+    ensures { report.new ≡ poll_told reply.now (event_in reply.now) }
 {
     if is_ack(reply) {
         return;
     }
-    if !tell_event(reply, report) {
-        tell_poll_answered(reply, report);
-    }
-}
-
-/// Tells the event that a reply tells. Whether it tells one.
-fn tell_event(reply: &Reply, report: &mut Option<Report>) -> bool
-    ensures told { result ≡ is_some (event_in reply.now) }
-    ensures report { IfSome (event_in reply.now) (λ event. report.new ≡ Some (reports.Event event)) }
-{
-    begin_event(report);
-    match report {
-        Some(Report::Event(place)) => reply.event_into(place),
-        _ => false,
-    }
-}
-
-/// Puts a report there that has a place for an event.
-#[inline(never)]
-fn begin_event(report: &mut Option<Report>)
-    ensures { report.new ≡ Some (reports.Event (events.LocalState (record { tamper = 0; power = 0 }))) }
-{
-    *report = Some(Report::Event(Event::LocalState(LocalState::NORMAL)));
-}
-
-/// Tells that a POLL is answered by this reply, which is taken out of its place.
-#[inline(never)]
-fn tell_poll_answered(reply: &mut Reply, report: &mut Option<Report>)
-    ensures { report.new ≡ Some (PollAnswered reply.old) }
-{
-    *report = Some(Report::PollAnswered(Reply::Ack));
-    if let Some(Report::PollAnswered(answered)) = report {
-        mem::swap(answered, reply);
+    match reply.event() {
+        Some(event) => report.tell_event(&event),
+        None => report.tell_poll_answered(reply),
     }
 }

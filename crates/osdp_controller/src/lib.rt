@@ -13,15 +13,15 @@ mod controller;
 mod exchange;
 mod fault;
 mod hearing;
+mod kept;
 mod meaning;
 mod report;
 mod session;
 mod state;
-mod step;
 mod ticking;
 
 pub use config::ControllerConfig;
 pub use controller::Controller;
 pub use fault::ControllerFault;
+pub use kept::KeptReport;
 pub use report::{LostCause, Report};
-pub use step::Step;

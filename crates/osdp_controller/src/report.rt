@@ -5,24 +5,24 @@ ghost use Rattle.osdp_controller.specs.Causes.{cause_name};
 
 use osdp_msg::{Command, Communication, Event, PdId, Reply};
 
-/// What happened. Each report comes once.
-#[derive(Debug, Drop, PartialEq)]
-pub enum Report {
+/// What happened, as a place that keeps it lends it. Each report comes once.
+#[derive(Debug, Drop)]
+pub enum Report<'a> {
     /// The session is open; the reader said what it is.
     Opened(PdId),
     /// A command was answered. The reply may be one that doesn't fit it.
-    Settled(Command, Reply),
+    Settled(Command<'a>, Reply<'a>),
     /// A COMSET was answered by its COM: the reader is at its new address, and the session has ended.
-    Moved(Command, Communication),
+    Moved(Command<'a>, Communication),
     /// The reader told an event.
-    Event(Event),
+    Event(Event<'a>),
     /// The reader answered a POLL by a reply that is neither ACK nor an event.
-    PollAnswered(Reply),
+    PollAnswered(Reply<'a>),
     /// The answer to this command, or to a POLL (None), cannot be read. Its code.
-    Unread(Option<Command>, u8),
+    Unread(Option<Command<'a>>, u8),
     /// The session has ended. What became of the outstanding command, if there was one, is unknown; it is
     /// not sent again.
-    Lost(LostCause, Option<Command>),
+    Lost(LostCause, Option<Command<'a>>),
 }
 
 /// Why a session ended with its exchange unsettled.

@@ -1,21 +1,18 @@
 //! What is kept of a session, and the small steps of its tables.
 
-ghost use Rattle.std.specs.Prelude.{◌≡◌, ◌+◌, ◌<◌, ◌≤◌, ◌^◌, Some, length, false, true};
+ghost use Rattle.std.specs.Prelude.{◌≡◌, ◌+◌, ◌<◌, ◌≤◌, ◌^◌, length, false, true};
 ghost use Rattle.osdp_frame.specs.Packed.{packed};
 ghost use Rattle.osdp_frame.specs.Spelling.{Spells};
-ghost use Rattle.osdp_controller.specs.declared.exchange.Exchange.TheVariants.{Asking};
 ghost use Rattle.osdp_controller.specs.Held.{outstanding_in};
 ghost use Rattle.osdp_controller.specs.Machine.{is_outstanding};
 ghost use Rattle.osdp_controller.specs.Private.{frame_in};
-ghost use Rattle.osdp_controller.specs.Sessions.{after_send, at_rest, frame_of, later, new_session, seen};
+ghost use Rattle.osdp_controller.specs.Sessions.{after_send, at_rest, later, new_session, seen};
 
 use crate::config::ControllerConfig;
-use crate::exchange::Asked;
 use crate::state::Held;
 use crate::ticking::first_number;
-use arrayvec::ArrayVec;
-use osdp_frame::{Burst, Frame, FrameView, Header, Seq};
-use osdp_msg::{Command, MAX_MESSAGE};
+use osdp_frame::{Burst, FrameView, Header, Seq};
+use osdp_msg::MAX_MESSAGE;
 
 /// A session with one reader.
 #[derive(Debug, Drop)]
@@ -70,71 +67,12 @@ impl Session {
         FrameView::new(head, body).unwrap()
     }
 
-    /// Puts the frame of the outstanding exchange into a place of the caller's.
-    // Each function that holds a frame or a body stands by itself. So the stack has no more than one of them at a time, and a POLL writes nothing
-    // for a command that there might be.
-    #[inline(never)]
-    pub(crate) fn put_frame(&self, frame: &mut Option<Frame>)
-        requires { is_outstanding self.now.state ≡ true }
-        ensures { frame.new ≡ Some (frame_in self.now) }
-    {
-        match (self.state.asked, &self.state.command) {
-            (Asked::Opening, _) => self.put_body(&OPENING, frame),
-            (Asked::Submitted, Some(command)) => self.put_command(command, frame),
-            (Asked::Polling, _) | (Asked::Submitted, None) => self.put_body(&POLL, frame),
-        }
-    }
-
-    /// Puts the frame of a command into a place of the caller's.
-    #[inline(never)]
-    fn put_command(&self, command: &Command, frame: &mut Option<Frame>)
-        ensures { frame.new ≡ Some (frame_of (Asking command.now) self.now) }
-    {
-        let mut body = ArrayVec::new();
-        command.write_into(&mut body);
-        self.put_body(body.as_slice(), frame);
-    }
-
-    /// Puts the frame with this code and data into a place of the caller's.
-    #[inline(never)]
-    fn put_body(&self, body: &[u8], frame: &mut Option<Frame>)
-        requires some { 1 ≤ length body.now }
-        requires room { length body.now ≤ MAX_MESSAGE }
-        ensures { frame.new ≡ Some (packed false self.now.config.address self.now.number self.now.config.check false 0 body.now) }
-    {
-        *frame = Some(self.frame_of(body).to_frame());
-    }
-
     /// Puts the bytes of the outstanding exchange's frame in place of what stands in `out`.
     pub(crate) fn spell(&self, out: &mut Burst)
         requires { is_outstanding self.now.state ≡ true }
         ensures { Spells (frame_in self.now) out.new.items }
     {
-        match (self.state.asked, &self.state.command) {
-            (Asked::Opening, _) => self.frame_of(&OPENING).encode_to(out),
-            (Asked::Submitted, Some(command)) => self.spell_command(command, out),
-            (Asked::Polling, _) | (Asked::Submitted, None) => self.frame_of(&POLL).encode_to(out),
-        }
-    }
-
-    /// Puts the bytes of a command's frame in place of what stands in `out`.
-    #[inline(never)]
-    fn spell_command(&self, command: &Command, out: &mut Burst)
-        ensures { Spells (frame_of (Asking command.now) self.now) out.new.items }
-    {
-        let mut body = ArrayVec::new();
-        command.write_into(&mut body);
-        self.spell_body(body.as_slice(), out);
-    }
-
-    /// Puts the bytes of the frame with this code and data in place of what stands in `out`.
-    #[inline(never)]
-    fn spell_body(&self, body: &[u8], out: &mut Burst)
-        requires some { 1 ≤ length body.now }
-        requires room { length body.now ≤ MAX_MESSAGE }
-        ensures { Spells (packed false self.now.config.address self.now.number self.now.config.check false 0 body.now) out.new.items }
-    {
-        self.frame_of(body).encode_to(out);
+        self.frame_of(self.state.body()).encode_to(out);
     }
 
     /// The outstanding exchange is asked once more, as this send.
@@ -155,9 +93,3 @@ impl Session {
         self.state.rest(due);
     }
 }
-
-/// The code and data of the opening ID.
-const OPENING: [u8; 2] = [0x61, 0];
-
-/// The code of a POLL.
-const POLL: [u8; 1] = [0x60];

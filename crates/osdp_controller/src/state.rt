@@ -1,23 +1,27 @@
 //! Where a session stands.
 
-ghost use Rattle.std.specs.Prelude.{◌≡◌, ◌&&◌, ◌≢◌, ◌+◌, ◌<◌, ◌^◌, true, None, Some};
+ghost use Rattle.std.specs.Prelude.{◌≡◌, ◌&&◌, ◌≢◌, ◌+◌, ◌<◌, ◌≤◌, ◌^◌, length, true};
 ghost use Rattle.osdp_controller.specs.declared.exchange.Asked.TheVariants.{Submitted};
 ghost use Rattle.osdp_controller.specs.declared.exchange.Exchange.TheVariants.{Asking, Polling};
 ghost use Rattle.osdp_controller.specs.declared.state.Stage.TheVariants as stages;
 ghost use Rattle.osdp_controller.specs.declared.state.State.TheVariants.{Closed, Idle, Pausing, Quiet, Waiting};
-ghost use Rattle.osdp_controller.specs.Exchanges.{submitted_command};
+ghost use Rattle.osdp_controller.specs.Exchanges.{exchange_body, submitted_command};
+ghost use Rattle.osdp_controller.specs.Commands.{IsCommand};
+ghost use Rattle.osdp_msg.specs.Kept.{command_kept};
+ghost use Rattle.osdp_msg.specs.declared.command.Command.TheVariants.{Poll};
+ghost use Rattle.std.specs.Option.{option_map};
 ghost use Rattle.osdp_controller.specs.Held.{exchange_of, outstanding_in, sends_in, stage_of};
 ghost use Rattle.osdp_controller.specs.Machine.{is_outstanding};
 ghost use Rattle.osdp_controller.specs.Private.{takes_ack};
 ghost use Rattle.osdp_controller.specs.States.{is_closed, is_idle, moment_of};
 
 use crate::exchange::{Asked, Outstanding};
-use osdp_msg::Command;
+use osdp_msg::{Command, MAX_MESSAGE, Spelling};
 use std::marker::Model;
 
 /// Where a session stands, as the tables say it. Moments are in milliseconds.
 #[derive(Debug, Drop)]
-pub enum State {
+pub enum State<'a> {
     /// There is no session.
     Closed,
     /// The line is left quiet until this moment; then the opening ID goes out.
@@ -33,12 +37,12 @@ pub enum State {
         until: u64,
         /// How often the frame went out, beginning anew after each BUSY.
         sends: u8,
-        outstanding: Outstanding,
+        outstanding: Outstanding<'a>,
     },
     /// The reader answered BUSY: the frame goes out again at this moment.
     Pausing {
         until: u64,
-        outstanding: Outstanding,
+        outstanding: Outstanding<'a>,
     },
 }
 
@@ -73,21 +77,25 @@ pub struct Held {
     pub busies: u8,
     /// How many frames went out.
     pub sent: u32,
-    /// The command that was submitted, where one is asked.
-    pub command: Option<Command>,
+    /// The code and the data of the command that was asked last; a POLL's where none was.
+    pub command: Spelling,
 }
 
 impl Model for Held {
     ghost use Rattle.osdp_controller.specs.declared.state.State.{State};
     ghost use Rattle.osdp_controller.specs.Held.{exchange_of, state_of};
+    ghost use Rattle.osdp_controller.specs.Commands.{IsCommand};
+    ghost use Rattle.osdp_msg.specs.Kept.{command_kept};
 
     ghost Value = { State };
 
     ghost view = { λ h. state_of h.stage h.moment h.sends (record {
-      exchange = exchange_of h.asked h.command;
+      exchange = exchange_of h.asked (command_kept h.command.items);
       busies = h.busies;
       sent = h.sent;
     }) };
+
+    ghost invariant = { λ h. IsCommand h.command.items };
 }
 
 impl Held {
@@ -95,6 +103,8 @@ impl Held {
     pub(crate) fn new() -> Held
         ensures { result ≡ Closed }
     {
+        let mut command = Spelling::new();
+        Command::Poll.write_into(&mut command);
         Held {
             stage: Stage::Closed,
             moment: 0,
@@ -102,7 +112,7 @@ impl Held {
             asked: Asked::Polling,
             busies: 0,
             sent: 0,
-            command: None,
+            command,
         }
     }
 
@@ -177,7 +187,7 @@ impl Held {
     /// The opening ID or a POLL is asked for the first time.
     pub(crate) fn begin(&mut self, asked: Asked, until: u64)
         requires { asked ≢ Submitted }
-        ensures { self.new ≡ Waiting until 1 (record { exchange = exchange_of asked None; busies = 0; sent = 1 }) }
+        ensures { self.new ≡ Waiting until 1 (record { exchange = exchange_of asked Poll; busies = 0; sent = 1 }) }
     {
         self.stage = Stage::Waiting;
         self.moment = until;
@@ -187,9 +197,10 @@ impl Held {
         self.asked = asked;
     }
 
-    /// A command is asked for the first time.
-    pub(crate) fn begin_command(&mut self, command: &Command, until: u64)
-        ensures { self.new ≡ Waiting until 1 (record { exchange = Asking command.now; busies = 0; sent = 1 }) }
+    /// The command of these bytes is asked for the first time.
+    pub(crate) fn begin_command(&mut self, command: &[u8], until: u64)
+        requires { IsCommand command.now }
+        ensures { self.new ≡ Waiting until 1 (record { exchange = Asking (command_kept command.now); busies = 0; sent = 1 }) }
     {
         self.stage = Stage::Waiting;
         self.moment = until;
@@ -197,7 +208,7 @@ impl Held {
         self.asked = Asked::Submitted;
         self.busies = 0;
         self.sent = 1;
-        put_command(command, &mut self.command);
+        put(command, &mut self.command);
     }
 
     /// The exchange is asked once more, as this send.
@@ -231,34 +242,43 @@ impl Held {
         self.busies += 1;
     }
 
-    /// The command that was submitted for the outstanding exchange, which is over.
-    pub(crate) fn take_command(&mut self) -> Option<Command>
-        requires held { is_outstanding self.old ≡ true }
-        ensures { result ≡ submitted_command (outstanding_in self.old).exchange }
+    /// The code and the data of the command that was submitted for the outstanding exchange, if one was.
+    pub(crate) fn submitted(&self) -> Option<&Spelling>
+        requires held { is_outstanding self.now ≡ true }
+        ensures { option_map (λ bytes. command_kept bytes.now.items) result ≡ submitted_command (outstanding_in self.now).exchange }
     {
         match self.asked {
             Asked::Opening | Asked::Polling => None,
-            Asked::Submitted => self.command.take(),
+            Asked::Submitted => Some(&self.command),
+        }
+    }
+
+    /// The code and the data of what the outstanding exchange asks.
+    pub(crate) fn body(&self) -> &[u8]
+        requires held { is_outstanding self.now ≡ true }
+        ensures some { 1 ≤ length result.now }
+        ensures room { length result.now ≤ MAX_MESSAGE }
+        ensures body { result.now ≡ exchange_body (outstanding_in self.now).exchange }
+    {
+        match self.asked {
+            Asked::Opening => &OPENING,
+            Asked::Polling => &POLL,
+            Asked::Submitted => self.command.as_slice(),
         }
     }
 }
 
-/// Puts an equal command in a place. One that stands there is written over.
-fn put_command(command: &Command, place: &mut Option<Command>)
-    ensures { place.new ≡ Some command.now }
+/// Puts bytes in place of what stands there.
+fn put(bytes: &[u8], place: &mut Spelling)
+    requires { length bytes.now ≤ MAX_MESSAGE }
+    ensures { place.new.items ≡ bytes.now }
 {
-    if let Some(place) = place {
-        command.copy_into(place);
-        return;
-    }
-    begin_place(command, place);
+    place.clear();
+    let _ = place.try_extend_from_slice(bytes);
 }
 
-/// Puts an equal command in a place that has none.
-// It stands by itself, since the zeros of a whole command are written for it, which a place that has one has no need of.
-#[inline(never)]
-fn begin_place(command: &Command, place: &mut Option<Command>)
-    ensures { place.new ≡ Some command.now }
-{
-    *place = Some(command.copy());
-}
+/// The code and data of the opening ID.
+const OPENING: [u8; 2] = [0x61, 0];
+
+/// The code of a POLL.
+const POLL: [u8; 1] = [0x60];

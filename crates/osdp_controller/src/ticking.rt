@@ -6,6 +6,9 @@ ghost use Rattle.osdp_controller.specs.declared.exchange.Asked.TheVariants.{Subm
 ghost use Rattle.osdp_controller.specs.declared.exchange.Exchange.TheVariants.{Asking};
 ghost use Rattle.osdp_controller.specs.declared.report.LostCause.TheVariants.{NoReply};
 ghost use Rattle.osdp_controller.specs.declared.state.Stage.TheVariants as stages;
+ghost use Rattle.osdp_msg.specs.declared.command.Command.TheVariants.{Poll};
+ghost use Rattle.osdp_msg.specs.Kept.{command_kept};
+ghost use Rattle.osdp_controller.specs.Commands.{IsCommand};
 ghost use Rattle.osdp_controller.specs.Held.{exchange_of, outstanding_in, sends_in, stage_of};
 ghost use Rattle.osdp_controller.specs.Machine.{IsSession, IsSubmitted, is_outstanding};
 ghost use Rattle.osdp_controller.specs.Sessions.{after_send, closed, lost};
@@ -15,17 +18,17 @@ ghost use Rattle.osdp_controller.specs.States.{moment_of};
 ghost use Rattle.osdp_controller.specs.Ticking.{begins, ticks_in};
 
 use crate::exchange::Asked;
-use crate::report::{LostCause, Report};
+use crate::kept::KeptReport;
+use crate::report::LostCause;
 use crate::session::Session;
 use crate::state::Stage;
 use osdp_frame::Seq;
-use osdp_msg::Command;
 
 impl Session {
     /// The opening ID or a POLL begins a new exchange.
     fn begin(&mut self, asked: Asked, number: Seq)
         requires { asked ≢ Submitted }
-        ensures { self.new ≡ (begins (exchange_of asked None) number self.old []).session }
+        ensures { self.new ≡ (begins (exchange_of asked Poll) number self.old []).session }
     {
         self.number = number;
         let until = self.later(self.config.reply_wait);
@@ -39,11 +42,12 @@ impl Session {
         self.number.next()
     }
 
-    /// A command begins a new exchange with the next number.
-    pub(crate) fn begin_command(&mut self, command: &Command)
+    /// The command of these bytes begins a new exchange with the next number.
+    pub(crate) fn begin_command(&mut self, command: &[u8])
         requires config { IsConfig self.old.config }
-        requires command { IsSubmitted command.now }
-        ensures session { self.new ≡ (begins (Asking command.now) (next_sequence self.old.number) self.old []).session }
+        requires bytes { IsCommand command.now }
+        requires command { IsSubmitted (command_kept command.now) }
+        ensures session { self.new ≡ (begins (Asking (command_kept command.now)) (next_sequence self.old.number) self.old []).session }
         ensures kept { IsSession self.new }
     {
         self.number = self.next_number();
@@ -73,13 +77,12 @@ impl Session {
     }
 
     /// The session ends without an answer to the last of the sends.
-    #[inline(never)]
-    pub(crate) fn give_up(&mut self, report: &mut Option<Report>)
+    pub(crate) fn give_up(&mut self, report: &mut KeptReport)
         requires { is_over self.old.state self.old ≡ true }
         ensures report { report.new ≡ Some (lost NoReply (outstanding_in self.old.state)) }
         ensures session { self.new ≡ closed self.old }
     {
-        *report = Some(Report::Lost(LostCause::NoReply, self.state.take_command()));
+        report.tell_lost(LostCause::NoReply, self.state.submitted());
         self.state.close();
     }
 

@@ -260,7 +260,7 @@ near_all m (call ∷ calls) near = near_all (after_call call m) calls (near_afte
 
 pub stays_near : StaysInRange
 stays_near = record {
-  new = λ config capacity. record { number = omega arith; above_zero = λ x h other. cc; deadline = tt };
+  new = λ config capacity room. record { number = omega arith; above_zero = λ x h other. cc; deadline = tt };
   later = near_all;
 }
 

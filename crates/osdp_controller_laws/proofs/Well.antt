@@ -1,5 +1,5 @@
 -- What holds of each controller is kept by each call.
-use Rattle.std.proofs.Common.{◌≡◌, ℕ, ◌+◌, ◌<◌, ◌≤◌, Bool, true, false, List, [], ◌∷◌, length, Option, Some, None, refl, arith, rules}
+use Rattle.std.proofs.Common.{◌≡◌, ℕ, ◌+◌, ◌-◌, ◌<◌, ◌≤◌, ◌&&◌, Bool, true, false, List, [], ◌∷◌, length, Option, Some, None, refl, arith, rules}
 use Rattle.std.specs.Prelude.{◌≢◌, if◌then◌else◌, All, drop, nat_lt, nat_le}
 use Rattle.std.proofs.lemmas.Bool.{ltb-true}
 use Rattle.std.proofs.lemmas.List.{length_push}
@@ -14,14 +14,14 @@ use Rattle.osdp_controller.specs.declared.fault.ControllerFault.{ControllerFault
 use Rattle.osdp_controller.specs.declared.session.Session.{Session}
 use Rattle.osdp_controller.specs.declared.state.State.{State}
 use Rattle.osdp_controller.specs.declared.state.State.TheVariants.{Closed, Quiet, Idle, Waiting, Pausing}
-use Rattle.osdp_controller.specs.Machine.{IsMachine, IsOutstanding, IsState, IsSubmitted, Machine, after_begin, after_retarget, after_submit, after_withdraw, changed_unless, or_no_device, refused_unless_closed, retarget_refusal, submit_refusal}
+use Rattle.osdp_controller.specs.Machine.{IsMachine, IsOutstanding, IsState, IsSubmitted, Machine, after_begin, after_retarget, after_submit, after_withdraw, bytes_waiting, changed_unless, command_size, or_no_device, refused_unless_closed, retarget_refusal, submit_refusal}
 use Rattle.osdp_controller_laws.specs.Runs.{Call, Submit, Begin, Retarget, Withdraw, Tick, Hear, StaysWell, after_call, after_calls}
 use Rattle.osdp_controller.specs.Sessions.{seen}
 use Rattle.osdp_controller.specs.Settings.{IsConfig}
 use Rattle.osdp_controller.specs.States.{is_closed}
 use Rattle.osdp_controller.specs.Ticking.{Ticked, begins, gives_up, sends_frame, stays, ticks_in, tries_again}
 use Rattle.osdp_controller_laws.proofs.Bounded.{keeps_hears, keeps_tick}
-use Rattle.osdp_controller.proofs.Choices.{either_way}
+use Rattle.osdp_controller.proofs.Choices.{either_way, first_true}
 use Rattle.osdp_controller.proofs.Keeping.{keeps_seen}
 
 accepted : (fault : ControllerFault) (b : Bool) → (if b then None else Some fault) ≡ None → b ≡ true
@@ -30,9 +30,12 @@ accepted fault false h = cc
 
 -- submitting
 
-has_room : (command : Command) (m : Machine) → submit_refusal command m ≡ None → (command ≢ Poll) × (length m.waiting < m.capacity)
-has_room Poll m h = cc
-has_room _ m h = ((λ e. cc), ltb-true (length m.waiting) m.capacity (accepted _ (nat_lt (length m.waiting) m.capacity) h))
+finds_room : (command : Command) (m : Machine) → submit_refusal command m ≡ None → (command ≢ Poll) × (length m.waiting < m.capacity)
+finds_room Poll m h = cc
+finds_room command m h =
+    let place = nat_lt (length m.waiting) m.capacity in
+    let bytes = nat_le (command_size command) (m.room - bytes_waiting m.waiting) in
+    ((λ e. cc), ltb-true (length m.waiting) m.capacity (first_true place bytes (accepted _ (place && bytes) h)))
 
 keeps_submit : (f : Option ControllerFault) (command : Command) (m : Machine) → (f ≡ None → (command ≢ Poll) × (length m.waiting < m.capacity))
     → IsMachine m → IsMachine (changed_unless f m (after_submit command m))
@@ -134,7 +137,7 @@ wait_well capacity (Pausing until o) s w all room =
 -- each call
 
 pub keeps_each : (call : Call) (m : Machine) → IsMachine m → IsMachine (after_call call m)
-keeps_each (Submit command) m is = keeps_submit (submit_refusal command m) command m (has_room command m) is
+keeps_each (Submit command) m is = keeps_submit (submit_refusal command m) command m (finds_room command m) is
 keeps_each (Begin now) m is = keeps_begin now m.session.state m is
 keeps_each (Retarget address) m is =
     keeps_retarget (retarget_refusal address m) address m (is_device (refused_unless_closed m.session.state) address) is
@@ -160,7 +163,7 @@ keeps_all m (call ∷ calls) is = keeps_all (after_call call m) calls (keeps_eac
 
 pub stays_well : StaysWell
 stays_well = record {
-  new = λ config capacity settings. record {
+  new = λ config capacity room settings. record {
     session = record { config = settings.config_in_range; state = tt; opening = tt };
     capacity = (settings.room, settings.limit);
     waiting = All-nil IsSubmitted;

@@ -56,7 +56,7 @@ pub record IsInRange (s : Session) : Type 0 where
 
 -- these hold of a new controller, and after whatever is called
 pub record StaysInRange : Type 0 where
-  pub new : (config : ControllerConfig) (capacity : ℕ) → IsInRange (new_machine config capacity).session
+  pub new : (config : ControllerConfig) (capacity room : ℕ) → IsInRange (new_machine config capacity room).session
   pub later : (m : Machine) (calls : List Call) → IsInRange m.session → IsInRange (after_calls calls m).session
 
 -- then a tick that comes so much later is due, unless the controller is closed

@@ -100,5 +100,5 @@ SendsFew = (m : Machine) (call : Call) (p : Packet) (calls : List Call) → IsMa
 
 -- what holds of each controller: of a new one, and after whatever is called
 pub record StaysWell : Type 0 where
-  pub new : (config : ControllerConfig) (capacity : ℕ) → AreSettings config capacity → IsMachine (new_machine config capacity)
+  pub new : (config : ControllerConfig) (capacity room : ℕ) → AreSettings config capacity room → IsMachine (new_machine config capacity room)
   pub later : (m : Machine) (calls : List Call) → IsMachine m → IsMachine (after_calls calls m)

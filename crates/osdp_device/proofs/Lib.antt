@@ -5,6 +5,4 @@ pub mod Pieces
 pub mod Sets
 pub mod Staying
 pub mod Moments
-pub mod Unasked
-pub mod Whole
 pub mod Waiting

@@ -1,5 +1,7 @@
 -- A response says what the reader's table says.
-use Rattle.std.proofs.Common.{◌≡◌, ℕ, true, false, List, Option, Some, None, refl, ap, ◌∙◌}
+use Rattle.std.proofs.Common.{◌≡◌, ℕ, true, false, List, Option, Some, None, Result, Ok, Err, refl, sym, ap, ◌∙◌}
+use Rattle.std.specs.Result.{result_ok}
+use Rattle.osdp_msg.specs.declared.fault.MsgFault.{MsgFault}
 use Rattle.osdp_frame.specs.Packet.{Packet}
 use Rattle.osdp_frame.specs.Reading.{RunItem, PacketItem, SkippedItem, RefusedItem}
 use Rattle.osdp_frame.proofs.Spelled.{spelled_is}
@@ -7,14 +9,12 @@ use Rattle.osdp_msg.specs.declared.command.Command.{Command}
 use Rattle.osdp_reader.specs.declared.handler.Answer.{Answer}
 use Rattle.osdp_reader.specs.declared.kind.Kind.{Kind}
 use Rattle.osdp_reader.specs.declared.kind.Kind.TheVariants.{Silent, Secured, Zero, Repeat, Taken, Busy, Wrong}
-use Rattle.osdp_reader.specs.declared.heard.Heard.{Heard}
-use Rattle.osdp_reader.specs.declared.response.Response.{Response}
-use Rattle.osdp_reader.specs.Responses.{response_bytes, response_command, response_kind}
 use Rattle.osdp_reader.specs.Spelled.{IsSpelled}
 use Rattle.osdp_reader.specs.State.{ReaderState}
-use Rattle.osdp_reader.specs.Table.{hears, kind_of, outcome}
-use Rattle.osdp_device.specs.Lent.{heard_in}
-use Rattle.osdp_device.specs.Saying.{Said, after_item, bytes_of, is_answered, said_in, said_of, said_to, speaks, unless_silent}
+use Rattle.osdp_reader.specs.Table.{begun, command_in, hears, kind_of, outcome, taken}
+use Rattle.osdp_device.specs.Deciding.{acted_on}
+use Rattle.osdp_device.specs.Lent.{said_if}
+use Rattle.osdp_device.specs.Saying.{Said, after_item, bytes_of, is_answered, said_of, said_to, speaks, unless_silent}
 
 bytes_are : (o : Option Packet) (bytes : List ℕ) → IsSpelled o bytes → bytes ≡ bytes_of o
 bytes_are None bytes is = is
@@ -29,24 +29,33 @@ says Taken said speaks = refl
 says Busy said speaks = refl
 says Wrong said speaks = refl
 
-pub said_here : {H : Type 0} (answer_of : H → Command → Answer) (after : H → Command → H) (r : ReaderState H) (p : Packet) (response : Response)
-    → speaks (kind_of r p) ≡ true → response_kind response ≡ kind_of r p → response_command response ≡ (hears answer_of after r p).command
-    → IsSpelled (hears answer_of after r p).reply (response_bytes response)
-    → Some (said_in response) ≡ unless_silent (kind_of r p) (said_to answer_of after r p)
-said_here answer_of after r p response speaks kind command reply =
-    let bytes = bytes_are (hears answer_of after r p).reply (response_bytes response) reply in
-    let same : said_in response ≡ said_to answer_of after r p = (λ i. record { kind = kind i; command = command i; bytes = bytes i }) in
-    ap (λ s. Some s) same ∙ says (kind_of r p) (said_to answer_of after r p) speaks
+-- the command that is acted on is that of the packet, where its kind is one of those that act
+module _ {H : Type 0} (answer_of : H → Command → Answer) (after : H → Command → H) where
+  by_zero : (read : Result Command MsgFault) (r : ReaderState H) (p : Packet) → (begun answer_of after read r p).command ≡ result_ok read
+  by_zero (Err fault) r p = refl
+  by_zero (Ok command) r p = refl
 
--- so it is with what stands in a place of the caller's
-pub heard_here : {H : Type 0} (answer_of : H → Command → Answer) (after : H → Command → H) (r : ReaderState H) (p : Packet) (heard : Heard)
-    → speaks (kind_of r p) ≡ true → heard.kind ≡ kind_of r p → heard.command ≡ (hears answer_of after r p).command
-    → IsSpelled (hears answer_of after r p).reply heard.burst.items
-    → Some (heard_in heard) ≡ unless_silent (kind_of r p) (said_to answer_of after r p)
-heard_here answer_of after r p heard speaks kind command reply =
-    let bytes = bytes_are (hears answer_of after r p).reply heard.burst.items reply in
-    let same : heard_in heard ≡ said_to answer_of after r p = (λ i. record { kind = kind i; command = command i; bytes = bytes i }) in
-    ap (λ s. Some s) same ∙ says (kind_of r p) (said_to answer_of after r p) speaks
+  by_next : (read : Result Command MsgFault) (r : ReaderState H) (p : Packet) → (taken answer_of after read r p).command ≡ result_ok read
+  by_next (Err fault) r p = refl
+  by_next (Ok command) r p = refl
+
+  acts_on : (k : Kind) (r : ReaderState H) (p : Packet) → (outcome answer_of after k r p).command ≡ acted_on k (result_ok (command_in p))
+  acts_on Silent r p = refl
+  acts_on Secured r p = refl
+  acts_on Zero r p = by_zero (command_in p) r p
+  acts_on Repeat r p = refl
+  acts_on Taken r p = by_next (command_in p) r p
+  acts_on Busy r p = refl
+  acts_on Wrong r p = refl
+
+pub said_here : {H : Type 0} (answer_of : H → Command → Answer) (after : H → Command → H) (r : ReaderState H) (p : Packet) (k : Kind) (sent : List ℕ)
+    → speaks (kind_of r p) ≡ true → k ≡ kind_of r p → IsSpelled (hears answer_of after r p).reply sent
+    → said_if (Some k) (acted_on k (result_ok (command_in p))) sent ≡ unless_silent (kind_of r p) (said_to answer_of after r p)
+said_here answer_of after r p k sent speaks kind reply =
+    let bytes = bytes_are (hears answer_of after r p).reply sent reply in
+    let command : acted_on k (result_ok (command_in p)) ≡ (hears answer_of after r p).command =
+    ap (λ (x : Kind). acted_on x (result_ok (command_in p))) kind ∙ sym (acts_on answer_of after (kind_of r p) r p) in
+    (λ i. said_if (Some (kind i)) (command i) (bytes i)) ∙ says (kind_of r p) (said_to answer_of after r p) speaks
 
 -- A silent reader says nothing, and stays as it is.
 says_nothing : (k : Kind) (said : Said) → speaks k ≡ false → None ≡ unless_silent k said

@@ -1,10 +1,12 @@
 -- The moments of the events that wait.
-use Rattle.std.proofs.Common.{◌≡◌, ◌≢◌, ◌+◌, ◌-◌, ◌≤◌, ◌⊎◌, ℕ, zero, suc, Bool, true, false, cond, List, [], ◌∷◌, ◌++◌, drop, take, length, map, Option, Some, None, refl, ap, sym, ◌∙◌, inl, inr, option_map, slice_get, arith, length-append, length-drop, length-take}
+use Rattle.std.proofs.Common.{◌≡◌, ◌+◌, ◌-◌, ◌<◌, ◌≤◌, ◌&&◌, ltb, leb, ℕ, zero, suc, Bool, true, false, cond, List, [], ◌∷◌, ◌++◌, drop, take, length, map, refl, ap, sym, ◌∙◌, option_map, slice_get, arith, length-append, length-drop, length-take}
 use Rattle.std.proofs.lemmas.List.{drop-map, drop_all, length-map, map-append}
+use Rattle.std.proofs.lemmas.Bool.{ltb-true}
 use Rattle.std.proofs.Math.Seq.{drop-drop}
 use Rattle.osdp_msg.specs.declared.event.Event.{Event}
-use Rattle.osdp_reader.specs.State.{ReaderState, after_submit, after_withdraw_event}
-use Rattle.osdp_device.specs.Ages.{AgesState, after_arrival, after_expiry, after_removal, last_of, waiting_moments}
+use Rattle.osdp_reader.specs.Queue.{Queue, bytes_waiting, event_size, has_room}
+use Rattle.osdp_reader.specs.State.{ReaderState, after_withdraw_event}
+use Rattle.osdp_device.specs.Ages.{AgesState, after_expiry, after_removal, last_of, waiting_moments}
 use Rattle.osdp_device.specs.AgesLaws.{ArrivesWithItsMoment, Came, LeavesWithItsMoment, TellsAge, TellsAges, Waits}
 
 -- no more than so many
@@ -118,15 +120,24 @@ module _ {H : Type 0} where
         oldest = λ first later is now. ap (age now) (w.moments ∙ ap (map moment_of) is);
       }
 
+first_true : (a b : Bool) → (a && b) ≡ true → a ≡ true
+first_true true b e = cc
+first_true false b e = absurd cc
+
+has_place : (event : Event) (q : Queue) → has_room event q ≡ true → length q.events < q.capacity
+has_place event q fits =
+    ltb-true (length q.events) q.capacity (first_true (ltb (length q.events) q.capacity) (leb (event_size event) (q.room - bytes_waiting q.events)) fits)
+
 pub tells_ages : (H : Type 0) → TellsAges H
 tells_ages H = tells_age
 
 pub arrives : (H : Type 0) → ArrivesWithItsMoment H
-arrives H came r a event now w free =
+arrives H came r a event now w fits =
     let n = length r.queue.events in
     let all = waiting_moments n a ++ now ∷ [] in
     let size = size_is came r a w in
     let within = w.within in
+    let free = has_place event r.queue fits in
     let room = w.room in
     let long : length all ≡ n + 1 = length-append (waiting_moments n a) (now ∷ []) ∙ ap (λ (k : ℕ). k + 1) size in
     let next : length (r.queue.events ++ event ∷ []) ≡ n + 1 = length-append r.queue.events (event ∷ []) in

@@ -29,6 +29,11 @@ waiting_moments waiting a = last_of waiting a.moments
 abbrev pub after_arrival : ℕ → ℕ → AgesState → AgesState
 after_arrival now waiting a = record a { moments = last_of a.room (waiting_moments waiting a ++ (now ∷ [])) }
 
+-- .. or didn't, since it has no room
+abbrev pub after_arrival_if : Bool → ℕ → ℕ → AgesState → AgesState
+after_arrival_if true now waiting a = after_arrival now waiting a
+after_arrival_if false now waiting a = a
+
 -- after the oldest event left that way, or the one after it
 abbrev pub after_removal : Bool → ℕ → AgesState → AgesState
 after_removal second waiting a =

@@ -1,10 +1,12 @@
 -- Each event that waits keeps the moment at which it came.
-use Rattle.std.specs.Prelude.{◌≡◌, ◌≢◌, ◌-◌, ◌≤◌, ◌⊎◌, ◌++◌, ◌∷◌, ℕ, List, [], false, drop, take, length, map, Some, None, if◌then◌else◌}
+use Rattle.std.specs.Prelude.{◌≡◌, ◌-◌, ◌≤◌, ◌⊎◌, ◌++◌, ◌∷◌, ℕ, List, [], true, false, drop, take, length, map, Some, None, if◌then◌else◌}
 use Rattle.osdp_frame.specs.Packet.{Packet}
 use Rattle.osdp_msg.specs.declared.command.Command.{Command}
 use Rattle.osdp_msg.specs.declared.event.Event.{Event}
+use Rattle.osdp_msg.specs.declared.limits.Room.{Room}
 use Rattle.osdp_reader.specs.declared.config.ReaderConfig.{ReaderConfig}
 use Rattle.osdp_reader.specs.declared.handler.Answer.{Answer}
+use Rattle.osdp_reader.specs.Queue.{has_room}
 use Rattle.osdp_reader.specs.State.{ReaderState, after_submit, after_withdraw_event, new_reader}
 use Rattle.osdp_reader.specs.Table.{hears}
 use Rattle.osdp_device.specs.Ages.{AgesState, after_arrival, after_expiry, after_removal, no_ages, oldest_age, waiting_moments}
@@ -31,12 +33,12 @@ TellsAges H = (came : List Came) (r : ReaderState H) (a : AgesState) → Waits c
 
 -- in a new device none waits
 abbrev pub BeginsWithNone : Type 0 → Type 0
-BeginsWithNone H = (config : ReaderConfig) (handler : H) (capacity : ℕ) → Waits [] (new_reader config handler capacity) (no_ages capacity)
+BeginsWithNone H = (config : ReaderConfig) (handler : H) (room : Room) → Waits [] (new_reader config handler room) (no_ages room.messages)
 
 -- an event that comes waits after the others, with its moment
 abbrev pub ArrivesWithItsMoment : Type 0 → Type 0
 ArrivesWithItsMoment H = (came : List Came) (r : ReaderState H) (a : AgesState) (event : Event) (now : ℕ)
-    → Waits came r a → length r.queue.events ≢ r.queue.capacity
+    → Waits came r a → has_room event r.queue ≡ true
     → Waits (came ++ (event, now) ∷ []) (after_submit event r) (after_arrival now (length r.queue.events) a)
 
 -- an event that the device takes off goes with its moment: the one that was never offered, or the oldest

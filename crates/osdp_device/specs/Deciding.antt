@@ -15,8 +15,8 @@ use Rattle.osdp_device.specs.Program.{program_after, program_answer}
 use Rattle.osdp_device.specs.Saying.{Said, is_answered}
 use Rattle.osdp_device.specs.Telling.{Told, items_of, next_told}
 use Rattle.osdp_device.specs.declared.program.ProgramAnswers.{ProgramAnswers}
-use Rattle.osdp_device.specs.declared.program.Question.{Question}
-use Rattle.osdp_device.specs.declared.program.Question.TheVariants.{NotAsked, Asked, Answered}
+use Rattle.osdp_device.specs.declared.question.Question.{Question}
+use Rattle.osdp_device.specs.declared.question.Question.TheVariants.{NotAsked, Asked, Answered}
 
 -- a command that the reader doesn't answer by itself
 abbrev pub unless_own : Option Reply → Command → Option Command
@@ -71,6 +71,11 @@ pub record Turned : Type 0 where
 -- the program has been asked so far
 abbrev pub with_question : Question → ReaderState ProgramAnswers → ReaderState ProgramAnswers
 with_question question r = after_set_handler (record r.handler { question = question }) r
+
+-- .. or no more than before
+abbrev pub with_question_if : Bool → Question → ReaderState ProgramAnswers → ReaderState ProgramAnswers
+with_question_if true question r = with_question question r
+with_question_if false question r = r
 
 -- it stops before the command, and nothing is said
 abbrev pub stops : Command → ReaderState ProgramAnswers → Held → Turned

@@ -17,8 +17,8 @@ use Rattle.osdp_device.specs.Saying.{Said, bytes_of}
 use Rattle.osdp_device.specs.Status.{status_answer}
 use Rattle.osdp_device.specs.Telling.{next_told}
 use Rattle.osdp_device.specs.declared.program.ProgramAnswers.{ProgramAnswers}
-use Rattle.osdp_device.specs.declared.program.Question.{Question}
-use Rattle.osdp_device.specs.declared.program.Question.TheVariants.{NotAsked, Asked, Answered}
+use Rattle.osdp_device.specs.declared.question.Question.{Question}
+use Rattle.osdp_device.specs.declared.question.Question.TheVariants.{NotAsked, Asked, Answered}
 
 -- something is said to this command, and it is this reply: its packet, at whatever address and number
 pub record IsSaidTo (command : Command) (reply : Reply) (told : Option Said) : Type 0 where

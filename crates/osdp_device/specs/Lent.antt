@@ -1,39 +1,34 @@
--- What stands in a place of the caller's.
-use Rattle.std.specs.Prelude.{Bool, true, false, Option, Some, None}
+-- What a call of a device tells, whose command and bytes stand elsewhere.
+use Rattle.std.specs.Prelude.{ℕ, Bool, true, false, List, Option, Some, None}
 use Rattle.osdp_msg.specs.declared.command.Command.{Command}
 use Rattle.osdp_reader.specs.declared.heard.Heard.{Heard}
+use Rattle.osdp_reader.specs.declared.kind.Kind.{Kind}
 use Rattle.osdp_device.specs.Saying.{Said}
-use Rattle.osdp_device.specs.declared.lent.Settled.{Settled}
-use Rattle.osdp_device.specs.declared.lent.Settled.TheVariants.{Nothing, Pending, Said as said}
+use Rattle.osdp_device.specs.declared.settled.Settled.{Settled}
+use Rattle.osdp_device.specs.declared.settled.Settled.TheVariants.{Nothing, Pending, Said as said}
 
--- what a reader says, as it stands there
-abbrev pub heard_in : Heard → Said
-heard_in h = record { kind = h.kind; command = h.command; bytes = h.burst.items }
+-- what was heard and the bytes that are sent back
+abbrev pub said_by : Heard → List ℕ → Said
+said_by h bytes = record { kind = h.kind; command = h.command; bytes = bytes }
 
--- .. where it says something
-abbrev pub heard_if : Bool → Heard → Option Said
-heard_if true h = Some (heard_in h)
-heard_if false h = None
+-- .. where a packet of this kind was answered
+abbrev pub said_if : Option Kind → Option Command → List ℕ → Option Said
+said_if (Some kind) command bytes = Some (record { kind = kind; command = command; bytes = bytes })
+said_if None command bytes = None
 
--- the command that stands there, where one is pending
+-- the command, where one is pending
 abbrev pub pending_if : Bool → Option Command → Option Command
 pending_if true command = command
 pending_if false command = None
 
 -- what a turn comes to: the command before which it stops
-abbrev pub settled_pending : Settled → Heard → Option Command
-settled_pending Pending h = h.command
-settled_pending Nothing h = None
-settled_pending said h = None
+abbrev pub settled_pending : Settled → Option Command → Option Command
+settled_pending Pending command = command
+settled_pending Nothing command = None
+settled_pending (said kind) command = None
 
--- .. or else what is said
-abbrev pub settled_said : Settled → Heard → Option Said
-settled_said said h = Some (heard_in h)
-settled_said Nothing h = None
-settled_said Pending h = None
-
--- .. and whether something is
-abbrev pub is_said : Settled → Bool
-is_said said = true
-is_said Nothing = false
-is_said Pending = false
+-- .. or else the kind of the packet that is answered
+abbrev pub settled_kind : Settled → Option Kind
+settled_kind (said kind) = Some kind
+settled_kind Nothing = None
+settled_kind Pending = None

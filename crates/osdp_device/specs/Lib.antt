@@ -7,7 +7,8 @@ pub mod AgesLaws
 pub mod Program
 pub mod Moments
 pub mod Lent
+pub mod Device
+pub mod Keeping
 pub mod Deciding
-pub mod Sending
 pub mod Orders
 pub mod DecidingLaws

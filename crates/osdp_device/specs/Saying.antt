@@ -8,11 +8,14 @@ use Rattle.osdp_msg.specs.declared.command.Command.TheVariants.{Poll}
 use Rattle.osdp_reader.specs.declared.handler.Answer.{Answer}
 use Rattle.osdp_reader.specs.declared.kind.Kind.{Kind}
 use Rattle.osdp_reader.specs.declared.kind.Kind.TheVariants.{Silent, Zero, Taken}
-use Rattle.osdp_reader.specs.declared.response.Response.{Response}
-pub use Rattle.osdp_reader.specs.Responses.{Said, said_in}
-use Rattle.osdp_reader.specs.Responses.{response_command, response_kind}
 use Rattle.osdp_reader.specs.State.{ReaderState}
 use Rattle.osdp_reader.specs.Table.{hears, kind_of}
+
+-- the line of the table that answered, the command that was acted on and could be read, and the bytes that are sent back
+pub record Said : Type 0 where
+  pub kind : Kind
+  pub command : Option Command
+  pub bytes : List ℕ
 
 abbrev pub bytes_of : Option Packet → List ℕ
 bytes_of None = []
@@ -42,12 +45,6 @@ taken_by _ command = None
 abbrev pub again_by : Kind → Option Command → Option Command
 again_by Zero command = but_poll command
 again_by _ command = None
-
-abbrev pub taken_in : Response → Option Command
-taken_in response = taken_by (response_kind response) (response_command response)
-
-abbrev pub again_in : Response → Option Command
-again_in response = again_by (response_kind response) (response_command response)
 
 module _ {H : Type 0} where
   -- whether something is said to an item: to a packet that isn't for another device, or from one

@@ -1,26 +1,24 @@
 //! A reader on a serial line.
 
-ghost use Rattle.std.specs.Prelude.{◌≡◌, ◌↔◌, true, false, is_some, IfOk, IfSome, IsErrOf, IsSome, None, Some};
+ghost use Rattle.std.specs.Prelude.{◌≡◌, ◌↔◌, is_some, IfOk, IfSome, IsErrOf, IsSome, None};
 ghost use Rattle.std.specs.Borrow.{Lends, sem};
 ghost use Rattle.osdp_device.specs.Ages.{after_saying, no_ages};
 ghost use Rattle.osdp_device.specs.contracts.device.Device.{the_row};
+ghost use Rattle.osdp_device.specs.Deciding.{passed, pending_of};
+ghost use Rattle.osdp_device.specs.Lent.{pending_if, said_if};
+ghost use Rattle.osdp_device.specs.Telling.{next_told};
+ghost use Rattle.osdp_frame.specs.Receiving.{IsReceived, after_silence, after_take, after_tick, count_taken, new_line};
+ghost use Rattle.osdp_frame.specs.Times.{IsTime};
 ghost use Rattle.osdp_reader.specs.State.{after_set_busy, after_set_handler};
 ghost use Rattle.osdp_reader.specs.declared.fault.ReaderFault.TheVariants.{OutOfRange};
-ghost use Rattle.std.specs.Option.{option_copied, option_map};
-ghost use Rattle.osdp_frame.specs.Held.{decided};
-ghost use Rattle.osdp_frame.specs.Reading.{PacketItem};
-ghost use Rattle.osdp_frame.specs.Shown.{item_of};
-ghost use Rattle.osdp_device.specs.Deciding.{passed, pending_of};
-ghost use Rattle.osdp_frame.specs.Times.{IsTime};
-ghost use Rattle.osdp_frame.specs.Receiving.{IsReceived, after_silence, after_take, after_tick, count_taken, new_line};
-ghost use Rattle.osdp_device.specs.Saying.{after_item, again_in, answers_first, but_poll, is_answered, said_in, said_of, taken_in};
-ghost use Rattle.osdp_device.specs.Telling.{next_told};
 
 use crate::ages::Ages;
-use osdp_frame::{FrameView, Item, Receiver, is_time};
+use crate::first::{First, answer_first, first_command, is_first_pending, pass_over, take_off};
+use osdp_frame::{Burst, Receiver, is_time};
 use osdp_msg::Command;
-use osdp_reader::{Handler, Kind, Reader, ReaderFault, Response};
+use osdp_reader::{Handler, Heard, Kind, Reader, ReaderFault};
 use std::alloc::Global;
+use std::marker::Model;
 
 /// A reader, what has come on its line, and how long its events have waited.
 ///
@@ -32,9 +30,20 @@ pub struct Device<H: Handler> {
     /// keeps its moment.
     pub(crate) reader: Reader<H>,
     /// The bytes that have come and aren't read yet.
-    pub line: Receiver,
+    line: Receiver,
+    /// What became of the packet that stands first there.
+    first: First,
     /// When the events came, and the last packet.
     pub(crate) ages: Ages,
+}
+
+impl<H: Handler> Model for Device<H> {
+    ghost use Rattle.osdp_frame.specs.Held.{decided};
+    ghost use Rattle.osdp_device.specs.Device.{DeviceState, first_command, line_after};
+
+    ghost Value = { DeviceState H };
+
+    ghost view = { λ d. record { reader = d.reader; line = line_after d.first d.line; ages = d.ages; command = first_command d.first (decided d.line.held.ended d.line.held.bytes) } };
 }
 
 impl<H: Handler> Device<H> {
@@ -49,12 +58,13 @@ impl<H: Handler> Device<H> {
         if !is_time(gap) {
             return Err(ReaderFault::OutOfRange);
         }
-        let Ok(ages) = Ages::new(alloc, reader.capacity()) else {
+        let Ok(ages) = Ages::new(alloc, reader.room().messages) else {
             return Err(ReaderFault::NoMemory);
         };
         Ok(Device {
             reader,
             line: Receiver::new(gap),
+            first: First::Unread,
             ages,
         })
     }
@@ -67,12 +77,13 @@ impl<H: Handler> Device<H> {
         ensures line { IfSome result (λ d. d.line ≡ new_line gap) }
         ensures ages { IfSome result (λ d. d.ages ≡ ages) }
     {
-        if !is_time(gap) || ages.room() != reader.capacity() {
+        if !is_time(gap) || ages.room() != reader.room().messages {
             return None;
         }
         Some(Device {
             reader,
             line: Receiver::new(gap),
+            first: First::Unread,
             ages,
         })
     }
@@ -86,9 +97,7 @@ impl<H: Handler> Device<H> {
 
     /// Sets whether the reader is busy. A busy reader takes nothing, but repeats its last reply.
     pub fn set_busy(&mut self, busy: bool)
-        ensures reader { self.new.reader ≡ after_set_busy busy self.old.reader }
-        ensures line { self.new.line ≡ self.old.line }
-        ensures ages { self.new.ages ≡ self.old.ages }
+        ensures { self.new ≡ record self.old { reader = after_set_busy busy self.old.reader } }
     {
         self.reader.set_busy(busy);
     }
@@ -96,9 +105,7 @@ impl<H: Handler> Device<H> {
     /// Sets another handler, and gives back the one before, as the reader does.
     pub fn set_handler(&mut self, handler: H) -> H
         ensures back { result ≡ self.old.reader.handler }
-        ensures reader { self.new.reader ≡ after_set_handler handler self.old.reader }
-        ensures line { self.new.line ≡ self.old.line }
-        ensures ages { self.new.ages ≡ self.old.ages }
+        ensures device { self.new ≡ record self.old { reader = after_set_handler handler self.old.reader } }
     {
         self.reader.set_handler(handler)
     }
@@ -112,138 +119,89 @@ impl<H: Handler> Device<H> {
         self.reader.handler_mut()
     }
 
+    /// The command before which the last call stopped (`pending`, `settle`, `turn`), or that was acted on where the last call answered a packet. It lies
+    /// on the line until the next call.
+    pub fn command(&self) -> Option<Command<'_>>
+        ensures { result ≡ self.now.command }
+    {
+        first_command(self.first, &self.line)
+    }
+
+    /// What was heard, where the last call answered a packet of this kind.
+    pub fn heard(&self, kind: Kind) -> Heard<'_>
+        ensures kind { result.kind ≡ kind }
+        ensures command { result.command ≡ self.now.command }
+    {
+        Heard {
+            kind,
+            command: self.command(),
+        }
+    }
+
     /// Takes bytes that have come up to a moment, and tells how many. Where it is fewer than there are, `next` makes room
     /// for the others. No bytes change no run.
     pub fn take(&mut self, bytes: &[u8], now: u64) -> usize
         ensures count { result ≡ count_taken bytes.now now self.old.line }
-        ensures line { self.new.line ≡ after_take bytes.now now self.old.line }
-        ensures ages { self.new.ages ≡ self.old.ages }
-        ensures reader { self.new.reader ≡ self.old.reader }
+        ensures device { self.new ≡ record self.old { line = after_take bytes.now now self.old.line; command = None } }
         ensures received { IsReceived self.old.line }
     {
+        take_off(&mut self.first, &mut self.line);
         self.line.take(bytes, now)
     }
 
     /// Up to a moment no bytes have come: a run after which it was silent for the gap is over.
     pub fn tick(&mut self, now: u64)
-        ensures line { self.new.line ≡ after_tick now self.old.line }
-        ensures ages { self.new.ages ≡ self.old.ages }
-        ensures reader { self.new.reader ≡ self.old.reader }
+        ensures device { self.new ≡ record self.old { line = after_tick now self.old.line; command = None } }
         ensures received { IsReceived self.old.line }
     {
+        take_off(&mut self.first, &mut self.line);
         self.line.tick(now);
     }
 
     /// The caller saw the line silent: the run is over.
     pub fn silence(&mut self, now: u64)
-        ensures line { self.new.line ≡ after_silence now self.old.line }
-        ensures ages { self.new.ages ≡ self.old.ages }
-        ensures reader { self.new.reader ≡ self.old.reader }
+        ensures device { self.new ≡ record self.old { line = after_silence now self.old.line; command = None } }
         ensures received { IsReceived self.old.line }
     {
+        take_off(&mut self.first, &mut self.line);
         self.line.silence(now);
     }
 
-    /// Hands the packets that have come whole to the reader, in their order, up to and including the first that it answers.
-    /// None where none of them is left.
-    #[tactic(auto, using(crate::proofs::Taking::taking))]
-    pub fn next(&mut self) -> Option<Response>
-        ensures said { option_map said_in result ≡ (next_told H.answer_of H.after self.old.reader self.old.line.held).said }
+    /// Hands the packets that have come whole to the reader, in their order, up to and including the first that it answers: the kind of that
+    /// one. The answer is put in place of what stands in `out`. None where none of them is left.
+    pub fn next(&mut self, out: &mut Burst) -> Option<Kind>
+        ensures said { said_if result self.new.command out.new.items ≡ (next_told H.answer_of H.after self.old.reader self.old.line.held).said }
         ensures reader { self.new.reader ≡ (next_told H.answer_of H.after self.old.reader self.old.line.held).reader }
         ensures line { self.new.line ≡ record self.old.line { held = (next_told H.answer_of H.after self.old.reader self.old.line.held).held } }
         ensures ages { self.new.ages ≡ after_saying (is_some result) self.old.line.greatest self.old.ages }
     {
-        if !self.pass_over() {
+        take_off(&mut self.first, &mut self.line);
+        if !pass_over(&self.reader, &mut self.line) {
             return None;
         }
-        let Some(Item::Packet(packet)) = self.line.next() else {
-            unreachable!();
-        };
-        let response = answer(&mut self.reader, &packet);
-        self.line.advance();
-        self.ages.hear(self.line.greatest());
-        Some(response)
+        let kind = answer_first(&mut self.reader, &self.line, &mut self.ages, out);
+        self.first = First::Answered(kind);
+        Some(kind)
     }
 
-    /// Takes off what the reader doesn't answer, and tells whether a packet that it answers stands first then.
-    #[tactic(auto, using(crate::proofs::Taking::taking))]
-    pub(crate) fn pass_over(&mut self) -> bool
-        ensures told { next_told H.answer_of H.after self.new.reader self.new.line.held ≡ next_told H.answer_of H.after self.old.reader self.old.line.held }
+    /// Whether the next packet will have a command acted on that the reader doesn't answer by itself (POLL, ID, CAP and COMSET): `command` has it. None
+    /// is while the reader is busy. What the reader doesn't answer is taken off before it.
+    pub fn pending(&mut self) -> bool
+        ensures some { result ≡ is_some (pending_of self.old.reader self.old.line.held) }
+        ensures pending { pending_if result self.new.command ≡ pending_of self.old.reader self.old.line.held }
         ensures reader { self.new.reader ≡ self.old.reader }
-        ensures line { self.new.line ≡ record self.old.line { held = self.new.line.held } }
+        ensures line { self.new.line ≡ record self.old.line { held = passed self.old.reader self.old.line.held } }
         ensures ages { self.new.ages ≡ self.old.ages }
-        ensures pending { pending_of self.new.reader self.new.line.held ≡ pending_of self.old.reader self.old.line.held }
-        ensures passed { self.new.line.held ≡ passed self.old.reader self.old.line.held }
-        ensures first { result ≡ answers_first self.new.reader (decided self.new.line.held.ended self.new.line.held.bytes) }
-        ensures none { result ≡ false → decided self.new.line.held.ended self.new.line.held.bytes ≡ None }
+        ensures told { next_told H.answer_of H.after self.old.reader (passed self.old.reader self.old.line.held) ≡ next_told H.answer_of H.after self.old.reader self.old.line.held }
     {
-        'items: while let Some(item) = self.line.next() {
-            if is_answered(&self.reader, &item) {
-                return true;
-            }
-            self.line.advance();
+        take_off(&mut self.first, &mut self.line);
+        if !pass_over(&self.reader, &mut self.line) {
+            return false;
         }
-        false
+        if !is_first_pending(&self.reader, &self.line) {
+            return false;
+        }
+        self.first = First::Pending;
+        true
     }
-}
-
-/// Whether a reader answers an item.
-fn is_answered<H: Handler>(reader: &Reader<H>, item: &Item<'_>) -> bool
-    ensures { result ≡ is_answered reader.now (item_of item.now) }
-{
-    match item {
-        Item::Packet(packet) => reader.kind(packet) != Kind::Silent,
-        Item::Skipped(_) | Item::Refused(_) => false,
-    }
-}
-
-/// What a reader says to a packet that it answers.
-#[tactic(auto, using(crate::proofs::Sayings::said_here))]
-fn answer<H: Handler>(reader: &mut Reader<H>, packet: &FrameView) -> Response
-    requires { is_answered reader.old (PacketItem packet.now) ≡ true }
-    ensures said { Some (said_in result) ≡ said_of H.answer_of H.after (PacketItem packet.now) reader.old }
-    ensures reader { reader.new ≡ after_item H.answer_of H.after (PacketItem packet.now) reader.old }
-{
-    reader.on_frame(packet)
-}
-
-/// A command that is read, but POLL.
-pub(crate) fn but_poll(command: &Option<Command>) -> Option<&Command>
-    ensures { option_copied result ≡ but_poll command.now }
-{
-    match command {
-        Some(Command::Poll) | None => None,
-        Some(command) => Some(command),
-    }
-}
-
-/// The command that was taken, and the one that was acted on at number 0, but POLL.
-fn acted_on(response: &Response) -> (Option<&Command>, Option<&Command>)
-    ensures taken { option_copied result.0 ≡ taken_in response.now }
-    ensures again { option_copied result.1 ≡ again_in response.now }
-{
-    match response {
-        Response::Taken(command, _) => (but_poll(command), None),
-        Response::Zero(command, _) => (None, but_poll(command)),
-        Response::Silent
-        | Response::Secured(_)
-        | Response::Repeat(_)
-        | Response::Busy(_)
-        | Response::Wrong(_) => (None, None),
-    }
-}
-
-/// The command that was taken, but POLL: the device does it, once, unless the answer is a NAK, whose code, 0x41, is the sixth byte. None
-/// where none was taken, or it couldn't be read.
-pub fn taken(response: &Response) -> Option<&Command>
-    ensures { option_copied result ≡ taken_in response.now }
-{
-    acted_on(response).0
-}
-
-/// The command that was acted on at number 0, but POLL. The same order may come once more.
-pub fn again(response: &Response) -> Option<&Command>
-    ensures { option_copied result ≡ again_in response.now }
-{
-    acted_on(response).1
 }

@@ -13,7 +13,7 @@ ghost use Rattle.osdp_frame.specs.Receiving.{IsAllRead, IsReceived, Received};
 ghost use Rattle.osdp_device.specs.Saying.{said_to};
 ghost use Rattle.osdp_device.specs.Telling.{TellsInTurn, next_told};
 ghost use Rattle.osdp_device.specs.declared.program.ProgramAnswers.{ProgramAnswers};
-ghost use Rattle.osdp_device.specs.declared.program.Question.TheVariants.{NotAsked};
+ghost use Rattle.osdp_device.specs.declared.question.Question.TheVariants.{NotAsked};
 ghost use Rattle.osdp_msg.specs.declared.command.Command.{Command};
 ghost use Rattle.osdp_msg.specs.declared.reply.Reply.{Reply};
 ghost use Rattle.osdp_frame.specs.Packet.{Packet};

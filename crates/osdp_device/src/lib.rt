@@ -6,25 +6,27 @@
 //! silent. None of it takes memory, but `Reader::new` and `Device::new`.
 //!
 //! ```text
-//! let reader = Reader::new(alloc, config, DeviceStatus::new(), 64)?;
+//! let reader = Reader::new(alloc, config, DeviceStatus::new(), Room::of(64))?;
 //! let mut device = Device::new(alloc, reader, 20)?;
+//! let mut out = Burst::new();
 //! loop {
 //!     .. the port is read, for some milliseconds at most ..
 //!     let now = clock.now();
 //!     let mut at = 0;
 //!     loop {
 //!         at += device.take(&bytes[at..], now);
-//!         while let Some(response) = device.next() {
-//!             .. response.bytes() goes out ..
-//!             if let Some(command) = taken(&response) { .. the device does it, unless the answer is a NAK ..  }
-//!             if let Some(setting) = response.comset() { .. the port is set to setting.baud_rate .. }
+//!         while let Some(kind) = device.next(&mut out) {
+//!             .. out.as_slice() goes out ..
+//!             let heard = device.heard(kind);
+//!             if let Some(command) = taken(&heard) { .. the device does it, unless the answer is a NAK ..  }
+//!             if let Some(setting) = heard.comset() { .. the port is set to setting.baud_rate .. }
 //!         }
 //!         if at == bytes.len() { break }
 //!     }
 //!     device.tick(now);
-//!     while let Some(response) = device.next() { .. the same .. }
+//!     while let Some(kind) = device.next(&mut out) { .. the same .. }
 //!     .. device.submit_event(.., now), device.handler_mut().outputs = .. ..
-//!     while let Some(expired) = device.expire_event(now, 30_000) { .. the event is told to nobody any more .. }
+//!     while device.expire_event(now, 30_000) { .. the event is told to nobody any more .. }
 //! }
 //! ```
 //!
@@ -32,28 +34,31 @@
 #![tactic(auto)]
 
 mod ages;
-mod deciding;
 mod device;
 mod events;
+mod first;
 pub mod laws;
-mod lent;
 mod order;
 mod program;
+mod question;
+mod settled;
 mod status;
+mod turns;
 mod unsent;
 
 pub use ages::Ages;
-pub use deciding::Turn;
-pub use device::{Device, again, taken};
+pub use device::Device;
 pub use events::{Expired, OFFLINE_AFTER};
-pub use lent::Settled;
-pub use order::{Order, order_of, order_of_heard, ordered, ordered_heard};
+pub use order::{Order, again, order_of, ordered, taken};
 pub use osdp_frame::{Address, Burst, Receiver};
 pub use osdp_msg::{
     Buzzer, Capability, Command, Communication, Event, Formatted, Keypad, LedRecord, Leds,
-    LocalState, MAX_DATA, MakerMessage, NakReason, OutputRecord, Outputs, PdCap, PdId, Raw, Text,
+    LocalState, MAX_DATA, MakerMessage, NakReason, OutputRecord, Outputs, PdCap, PdId, Raw, Room,
+    Spelling, States, Text,
 };
-pub use osdp_reader::{Answer, Handler, Heard, Kind, Reader, ReaderConfig, ReaderFault, Response};
-pub use program::{ProgramAnswers, Question};
+pub use osdp_reader::{Answer, Handler, Heard, Kind, Reader, ReaderConfig, ReaderFault};
+pub use program::ProgramAnswers;
+pub use question::{KeptQuestion, Question};
+pub use settled::{Settled, Turn};
 pub use status::DeviceStatus;
 pub use unsent::Unsent;

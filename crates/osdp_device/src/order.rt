@@ -1,14 +1,13 @@
 //! What a device does with a command.
 
-ghost use Rattle.std.specs.Prelude.{◌≡◌};
+ghost use Rattle.std.specs.Prelude.{◌≡◌, []};
 ghost use Rattle.std.specs.Option.{option_copied};
-ghost use Rattle.osdp_device.specs.Lent.{heard_in};
+ghost use Rattle.osdp_device.specs.Lent.{said_by};
 ghost use Rattle.osdp_device.specs.Orders.{is_nak, order_by, order_of, ordered_in};
-ghost use Rattle.osdp_device.specs.Saying.{again_by, said_in, taken_by};
+ghost use Rattle.osdp_device.specs.Saying.{again_by, but_poll, taken_by};
 
-use crate::device::{again, but_poll, taken};
 use osdp_msg::Command;
-use osdp_reader::{Heard, Kind, Response};
+use osdp_reader::{Heard, Kind};
 
 /// What a device does with the command that was acted on.
 #[derive(Clone, Copy, Debug, PartialEq, Eq)]
@@ -31,7 +30,7 @@ fn is_nak(bytes: &[u8]) -> bool
 }
 
 /// What the device does with a command that was taken, or acted on at number 0.
-fn order_by(refused: bool, taken: Option<&Command>, again: Option<&Command>) -> Order
+fn order_by(refused: bool, taken: Option<&Command<'_>>, again: Option<&Command<'_>>) -> Order
     ensures { result ≡ order_by refused (option_copied taken.entry) (option_copied again.entry) }
 {
     match (taken, again) {
@@ -45,49 +44,52 @@ fn order_by(refused: bool, taken: Option<&Command>, again: Option<&Command>) -> 
     }
 }
 
-/// What the device does with the command of a response.
-pub fn order_of(response: &Response) -> Order
-    ensures { result ≡ order_of (said_in response.now) }
+/// A command that is read, but POLL.
+fn but_poll<'h, 'p>(command: &'h Option<Command<'p>>) -> Option<&'h Command<'p>>
+    ensures { option_copied result ≡ but_poll command.now }
 {
-    order_by(is_nak(response.bytes()), taken(response), again(response))
+    match command {
+        Some(Command::Poll) | None => None,
+        Some(command) => Some(command),
+    }
+}
+
+/// The command that was taken, but POLL: the device does it, once, unless the answer is a NAK, whose code, 0x41, is the sixth byte. None
+/// where none was taken, or it couldn't be read.
+pub fn taken<'h, 'p>(heard: &'h Heard<'p>) -> Option<&'h Command<'p>>
+    ensures { option_copied result ≡ taken_by heard.now.kind heard.now.command }
+{
+    match heard.kind {
+        Kind::Taken => but_poll(&heard.command),
+        Kind::Silent | Kind::Secured | Kind::Zero | Kind::Repeat | Kind::Busy | Kind::Wrong => None,
+    }
+}
+
+/// The command that was acted on at number 0, but POLL. The same order may come once more.
+pub fn again<'h, 'p>(heard: &'h Heard<'p>) -> Option<&'h Command<'p>>
+    ensures { option_copied result ≡ again_by heard.now.kind heard.now.command }
+{
+    match heard.kind {
+        Kind::Zero => but_poll(&heard.command),
+        Kind::Silent | Kind::Secured | Kind::Taken | Kind::Repeat | Kind::Busy | Kind::Wrong => {
+            None
+        }
+    }
+}
+
+/// What the device does with the command that was heard, to which these bytes are sent back.
+pub fn order_of(heard: &Heard<'_>, bytes: &[u8]) -> Order
+    ensures { result ≡ order_of (said_by heard.now bytes.now) }
+{
+    order_by(is_nak(bytes), taken(heard), again(heard))
 }
 
 /// The command that the order is about.
-pub fn ordered(response: &Response) -> Option<&Command>
-    ensures { option_copied result ≡ ordered_in (said_in response.now) }
+pub fn ordered<'h, 'p>(heard: &'h Heard<'p>) -> Option<&'h Command<'p>>
+    ensures { option_copied result ≡ ordered_in (said_by heard.now []) }
 {
-    match taken(response) {
+    match taken(heard) {
         Some(command) => Some(command),
-        None => again(response),
-    }
-}
-
-/// The command that was taken, and the one that was acted on at number 0, but POLL.
-fn heard_commands(heard: &Heard) -> (Option<&Command>, Option<&Command>)
-    ensures taken { option_copied result.0 ≡ taken_by heard.now.kind heard.now.command }
-    ensures again { option_copied result.1 ≡ again_by heard.now.kind heard.now.command }
-{
-    match heard.kind {
-        Kind::Taken => (but_poll(&heard.command), None),
-        Kind::Zero => (None, but_poll(&heard.command)),
-        Kind::Silent | Kind::Secured | Kind::Repeat | Kind::Busy | Kind::Wrong => (None, None),
-    }
-}
-
-/// What the device does with the command of what was heard, as `order_of` tells it of a response.
-pub fn order_of_heard(heard: &Heard) -> Order
-    ensures { result ≡ order_of (heard_in heard.now) }
-{
-    let (taken, again) = heard_commands(heard);
-    order_by(is_nak(heard.bytes()), taken, again)
-}
-
-/// The command that this order is about.
-pub fn ordered_heard(heard: &Heard) -> Option<&Command>
-    ensures { option_copied result ≡ ordered_in (heard_in heard.now) }
-{
-    match heard_commands(heard) {
-        (Some(command), _) => Some(command),
-        (None, again) => again,
+        None => again(heard),
     }
 }

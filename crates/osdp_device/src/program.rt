@@ -3,21 +3,10 @@
 ghost use Rattle.std.specs.Prelude.{◌≡◌};
 ghost use Rattle.osdp_device.specs.Program.{new_program};
 
+use crate::question::KeptQuestion;
 use crate::status::DeviceStatus;
-use osdp_msg::Command;
+use osdp_msg::{Command, Spelling};
 use osdp_reader::{Answer, Handler};
-use std::mem::replace;
-
-/// How far a device's program has decided what is said to the next command.
-#[derive(Debug, Drop, PartialEq)]
-pub enum Question {
-    /// It hasn't been asked.
-    NotAsked,
-    /// It has been asked, and has set nothing: its status answers.
-    Asked,
-    /// It has set this answer.
-    Answered(Answer),
-}
 
 /// What there is at a device, and what its program says to the command that it was asked about.
 #[derive(Debug, Drop)]
@@ -25,7 +14,7 @@ pub struct ProgramAnswers {
     /// What answers where the program says nothing.
     pub status: DeviceStatus,
     /// What the program was asked, and what it says.
-    pub question: Question,
+    pub question: KeptQuestion,
 }
 
 impl ProgramAnswers {
@@ -35,7 +24,7 @@ impl ProgramAnswers {
     {
         ProgramAnswers {
             status: DeviceStatus::new(),
-            question: Question::NotAsked,
+            question: KeptQuestion::new(),
         }
     }
 }
@@ -47,10 +36,13 @@ impl Handler for ProgramAnswers {
 
     ghost after = { program_after };
 
-    fn answer(&mut self, command: &Command) -> Answer {
-        match replace(&mut self.question, Question::NotAsked) {
-            Question::Answered(answer) => answer,
-            Question::NotAsked | Question::Asked => self.status.answer(command),
+    fn answer<'a>(&mut self, command: &Command<'_>, place: &'a mut Spelling) -> Answer<'a> {
+        if !self.question.is_set() {
+            self.question.forget();
+            return self.status.answer(command, place);
         }
+        let answer = self.question.answer(place);
+        self.question.forget();
+        answer
     }
 }

@@ -4,8 +4,8 @@ ghost use Rattle.std.specs.Prelude.{◌≡◌};
 ghost use Rattle.osdp_device.specs.Status.{are_there, new_status, status_answer};
 
 use arrayvec::ArrayVec;
-use osdp_msg::{Command, MAX_DATA, NakReason, OutputRecord};
-use osdp_reader::{Answer, Handler};
+use osdp_msg::{Command, MAX_DATA, NakReason, OutputRecord, Records, Spelling};
+use osdp_reader::{Answer, Handler, lend};
 
 /// What there is at a device, as its program has set it: by `Reader::handler_mut` between two packets.
 ///
@@ -39,15 +39,15 @@ impl DeviceStatus {
         }
     }
 
-    /// What is told of a command. It changes nothing.
-    fn told(&self, command: &Command) -> Answer
+    /// What is told of a command; its bytes are put into `place`. It changes nothing.
+    fn told<'a>(&self, command: &Command<'_>, place: &'a mut Spelling) -> Answer<'a>
         ensures { result ≡ status_answer self.now command.now }
     {
         match command {
             Command::LocalStatus => Answer::Local(self.tamper, self.power),
-            Command::InputStatus => Answer::list(self.inputs.as_slice()),
-            Command::OutputStatus => Answer::list(self.outputs.as_slice()),
-            Command::ReaderStatus => Answer::list(self.readers.as_slice()),
+            Command::InputStatus => Answer::list(lend(self.inputs.as_slice(), place)),
+            Command::OutputStatus => Answer::list(lend(self.outputs.as_slice(), place)),
+            Command::ReaderStatus => Answer::list(lend(self.readers.as_slice(), place)),
             Command::Output(outputs) => {
                 if are_there(self.outputs.len(), outputs.records()) {
                     Answer::Done
@@ -62,10 +62,11 @@ impl DeviceStatus {
 }
 
 /// Whether each record is of an output that there is.
-fn are_there(count: usize, records: &[OutputRecord]) -> bool
-    ensures { result ≡ are_there count records.now }
+fn are_there(count: usize, records: Records<'_, OutputRecord>) -> bool
+    ensures { result ≡ are_there count records.entry }
 {
-    for record in records {
+    let mut left = records;
+    'records: while let Some(record) = left.next() {
         if usize::from(record.output) >= count {
             return false;
         }
@@ -80,7 +81,7 @@ impl Handler for DeviceStatus {
 
     ghost after = { status_after };
 
-    fn answer(&mut self, command: &Command) -> Answer {
-        self.told(command)
+    fn answer<'a>(&mut self, command: &Command<'_>, place: &'a mut Spelling) -> Answer<'a> {
+        self.told(command, place)
     }
 }

@@ -1,15 +1,17 @@
 //! The door.
 
-ghost use Rattle.std.specs.Prelude.{◌≡◌, ◌↔◌, ◌<◌, ◌≤◌, IfOk, IsErrOf, length, map};
+ghost use Rattle.std.specs.Prelude.{◌≡◌, ◌↔◌, ◌<◌, ◌≤◌, ◌*◌, IfOk, IsErrOf, length, map};
+ghost use Rattle.osdp_reader.specs.declared.handler.Answer.TheVariants as answer;
 ghost use Rattle.osdp_reader.specs.State.{new_reader};
 ghost use Rattle.osdp_reader.specs.declared.fault.ReaderFault.TheVariants.{OutOfRange};
 ghost use Rattle.osdp_door.specs.DoorRules.{after_time, bit, closed_door, color_after, door_after, door_answer, outputs_after, switched, with_input};
 ghost use Rattle.osdp_door.specs.Outputs.{is_on};
 
 use crate::output::DoorOutput;
-use arrayvec::ArrayVec;
-use osdp_msg::{Command, LedRecord, MAX_DATA, NakReason, OutputRecord};
-use osdp_reader::{Answer, Handler, Reader, ReaderConfig, ReaderFault};
+use osdp_msg::{
+    Command, LedRecord, MAX_DATA, MAX_MESSAGE, NakReason, OutputRecord, Records, Room, Spelling,
+};
+use osdp_reader::{Answer, Handler, Reader, ReaderConfig, ReaderFault, lend};
 use osdp_script::are_known;
 use std::alloc::Global;
 
@@ -83,11 +85,12 @@ impl Door {
     }
 
     /// Does what the records tell the outputs, in their order.
-    fn switch(&mut self, records: &[OutputRecord])
-        ensures { self.new ≡ record self.old { outputs = outputs_after self.old.outputs records.now } }
+    fn switch(&mut self, records: Records<'_, OutputRecord>)
+        ensures { self.new ≡ record self.old { outputs = outputs_after self.old.outputs records.entry } }
     {
-        for record in records {
-            self.outputs = switch_one(self.outputs, *record);
+        let mut left = records;
+        'records: while let Some(record) = left.next() {
+            self.outputs = switch_one(self.outputs, record);
         }
     }
 }
@@ -104,10 +107,11 @@ fn switch_one(mut outputs: [DoorOutput; 8], change: OutputRecord) -> [DoorOutput
 }
 
 /// The LED's color after the records: the last one that sets it counts.
-fn color_of(mut color: u8, records: &[LedRecord]) -> u8
-    ensures { result ≡ color_after color records.now }
+fn color_of(mut color: u8, records: Records<'_, LedRecord>) -> u8
+    ensures { result ≡ color_after color records.entry }
 {
-    for record in records {
+    let mut left = records;
+    'records: while let Some(record) = left.next() {
         if record.permanent_control == 1 {
             color = record.permanent_on_color;
         }
@@ -122,16 +126,24 @@ fn bit(is_so: bool) -> u8
     u8::from(is_so)
 }
 
-/// For each output the byte that tells whether it is on.
-fn states(outputs: &[DoorOutput]) -> ArrayVec<u8, MAX_DATA>
+/// For each output the byte that tells whether it is on, put in place of what stands in `place`.
+fn put_states(outputs: &[DoorOutput], place: &mut Spelling)
     requires { length outputs.now ≤ MAX_DATA }
-    ensures { result.items ≡ map (λ o. bit (is_on o)) outputs.now }
+    ensures { place.new.items ≡ map (λ o. bit (is_on o)) outputs.now }
 {
-    let mut states = ArrayVec::new();
+    place.clear();
     for output in outputs {
-        states.push(bit(output.is_on()));
+        place.push(bit(output.is_on()));
     }
-    states
+}
+
+/// The answer that tells it.
+fn tell_states<'a>(outputs: &[DoorOutput], place: &'a mut Spelling) -> Answer<'a>
+    requires { length outputs.now ≤ MAX_DATA }
+    ensures { result ≡ answer.List (record { items = map (λ o. bit (is_on o)) outputs.now }) }
+{
+    put_states(outputs, place);
+    Answer::list(place.as_slice())
 }
 
 impl Handler for Door {
@@ -139,11 +151,11 @@ impl Handler for Door {
 
     ghost after = { door_after };
 
-    fn answer(&mut self, command: &Command) -> Answer {
+    fn answer<'a>(&mut self, command: &Command<'_>, place: &'a mut Spelling) -> Answer<'a> {
         match command {
             Command::LocalStatus => Answer::Local(bit(self.is_tampered), bit(self.has_no_power)),
-            Command::InputStatus => Answer::list(&self.inputs),
-            Command::OutputStatus => Answer::List(states(&self.outputs)),
+            Command::InputStatus => Answer::list(lend(&self.inputs, place)),
+            Command::OutputStatus => tell_states(&self.outputs, place),
             Command::ReaderStatus => Answer::list(&[0]),
             Command::Output(outputs) => {
                 if !are_known(outputs.records()) {
@@ -167,8 +179,8 @@ impl Handler for Door {
 
 /// A reader at a door, as a device makes it once.
 pub fn new_reader(alloc: Global, config: ReaderConfig) -> Result<Reader<Door>, ReaderFault>
-    ensures made { IfOk result (λ r. r ≡ new_reader config closed_door 64) }
+    ensures made { IfOk result (λ r. r ≡ new_reader config closed_door (record { messages = 64; bytes = 64 * MAX_MESSAGE })) }
     ensures range { IsErrOf result OutOfRange ↔ (126 < config.address) }
 {
-    Reader::new(alloc, config, Door::new(), EVENTS)
+    Reader::new(alloc, config, Door::new(), Room::of(EVENTS))
 }

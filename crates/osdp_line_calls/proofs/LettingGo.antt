@@ -5,6 +5,7 @@ use Rattle.std.proofs.lemmas.List.{drop_all}
 use Rattle.osdp_msg.specs.declared.event.Event.{Event}
 use Rattle.osdp_reader.specs.State.{ReaderState, after_lapse_event, after_withdraw_event}
 use Rattle.osdp_device.specs.Ages.{AgesState, after_expiry, after_removal, expired, expired_front, expires, is_offline, is_past}
+use Rattle.osdp_device.specs.Device.{DeviceState}
 use Rattle.osdp_device.specs.declared.events.Expired.{Expired}
 use Rattle.osdp_device.specs.declared.status.DeviceStatus.{DeviceStatus}
 use Rattle.osdp_line_calls.specs.ReaderAbsence.{LetGo, goes_first, keeps_all, lets_go, lets_some_go}
@@ -26,7 +27,7 @@ front_gone r = by_ever r.queue.ever_offered refl
   where
     by_ever : (ever : Bool) → r.queue.ever_offered ≡ ever → (cond ever (after_lapse_event r) (after_withdraw_event r)).queue.events ≡ drop 1 r.queue.events
     by_ever true is =
-        ap (λ b. (cond b (record { events = drop 1 r.queue.events; capacity = r.queue.capacity; offered = false; ever_offered = false }) r.queue).events) is
+        ap (λ b. (cond b (record { events = drop 1 r.queue.events; capacity = r.queue.capacity; room = r.queue.room; offered = false; ever_offered = false }) r.queue).events) is
     by_ever false is = ap (λ b. cond b (take 1 r.queue.events ++ drop 2 r.queue.events) (drop 1 r.queue.events)) is
 
 -- none leaves where none waits
@@ -59,22 +60,6 @@ all_stay : (n now limit : ℕ) (r : Reader) (a : AgesState) → leaves now limit
 all_stay zero now limit r a stays = refl
 all_stay (suc n) now limit r a stays =
     ap (λ b. cond b (goes_first (expired_front r.queue) (lets_some_go n now limit (after_expiry r) (removed r a))) (keeps_all r a)) stays
-
--- what a call of the device that tells none leaves
-pub record Stays (now limit : ℕ) (r q : Reader) (a b : AgesState) : Type 0 where
-  pub none : lets_go now limit r a ≡ keeps_all r a
-  pub reader : q ≡ r
-  pub ages : b ≡ a
-
-pub stays : (now limit : ℕ) (r q : Reader) (a b : AgesState) → None ≡ cond (leaves now limit r a) (expired_front r.queue) None
-    → q ≡ cond (leaves now limit r a) (after_expiry r) r → b ≡ cond (leaves now limit r a) (removed r a) a → Stays now limit r q a b
-stays now limit r q a b none reader ages =
-    let still = none_left now limit r a none in
-    record {
-      none = all_stay (length r.queue.events) now limit r a still;
-      reader = reader ∙ ap (λ t. cond t (after_expiry r) r) still;
-      ages = ages ∙ ap (λ t. cond t (removed r a) a) still;
-    }
 
 -- what a call of the device that tells one leaves: that one goes first, and then those that go of the others, which are one less
 pub record Goes (now limit : ℕ) (e : Expired) (r q : Reader) (a b : AgesState) : Type 0 where
@@ -116,6 +101,24 @@ goes now limit e r q a b some reader ages = by_events r.queue.events refl
               ∙ (λ i. goes_first (sym front i) (lets_some_go (length q.queue.events) now limit (sym q_is i) (sym b_is i)));
           fewer = fewer;
         }
+
+-- what a call leaves of a device that changes or stays, part by part
+pub reader_of : (test : Bool) (changed same next : DeviceState DeviceStatus) → next ≡ cond test changed same → next.reader ≡ cond test changed.reader same.reader
+reader_of true changed same next is = ap (λ d. d.reader) is
+reader_of false changed same next is = ap (λ d. d.reader) is
+
+pub ages_of : (test : Bool) (changed same next : DeviceState DeviceStatus) → next ≡ cond test changed same → next.ages ≡ cond test changed.ages same.ages
+ages_of true changed same next is = ap (λ d. d.ages) is
+ages_of false changed same next is = ap (λ d. d.ages) is
+
+-- a call that changes neither line nor command
+pub line_of : (test : Bool) (changed same next : DeviceState DeviceStatus) → changed.line ≡ same.line → next ≡ cond test changed same → next.line ≡ same.line
+line_of true changed same next alike is = ap (λ d. d.line) is ∙ alike
+line_of false changed same next alike is = ap (λ d. d.line) is
+
+-- where nothing is told, all stay
+pub none_goes : (now limit : ℕ) (r : Reader) (a : AgesState) → None ≡ cond (leaves now limit r a) (expired_front r.queue) None → lets_go now limit r a ≡ keeps_all r a
+none_goes now limit r a none = all_stay (length r.queue.events) now limit r a (none_left now limit r a none)
 
 -- the event was written
 pub wrote_one : (text next start : List ℕ) (e : Expired) (later all : LetGo) → next ≡ text ++ expired_line e → all ≡ goes_first (Some e) later

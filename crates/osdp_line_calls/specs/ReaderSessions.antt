@@ -1,13 +1,16 @@
 -- What a call comes to.
-use Rattle.std.specs.Prelude.{◌≡◌, ℕ, ◌==◌, Bool, true, false, List, [], ◌∷◌, ◌++◌, length, if◌then◌else◌}
+use Rattle.std.specs.Prelude.{◌≡◌, ℕ, ◌+◌, ◌*◌, Bool, true, false, List, [], ◌∷◌, ◌++◌, length, if◌then◌else◌}
+use Rattle.osdp_msg.specs.Limits.{most_data}
 use Rattle.osdp_msg.specs.declared.event.Event.{Event}
-use Rattle.osdp_device.specs.Ages.{AgesState, after_arrival, after_saying, is_offline, no_ages}
+use Rattle.osdp_msg.specs.declared.limits.Room.{Room}
+use Rattle.osdp_device.specs.Ages.{AgesState, after_arrival_if, after_saying, is_offline, no_ages}
 use Rattle.osdp_device.specs.Hearing.{Heard, hears_bytes, hears_silence, hears_tick}
 use Rattle.osdp_frame.specs.Receiving.{IsAllRead, Received, new_line}
 use Rattle.osdp_device.specs.Saying.{Said}
 use Rattle.osdp_device.specs.Status.{new_status, status_after, status_answer}
 use Rattle.osdp_device.specs.declared.status.DeviceStatus.{DeviceStatus}
-use Rattle.osdp_reader.specs.State.{ReaderState, after_set_busy, after_set_handler, after_submit, new_reader}
+use Rattle.osdp_reader.specs.Queue.{has_room}
+use Rattle.osdp_reader.specs.State.{ReaderState, after_set_busy, after_set_handler, after_submit_if, new_reader}
 use Rattle.osdp_reader.specs.declared.config.ReaderConfig.{ReaderConfig}
 use Rattle.osdp_line_calls.specs.LineAnswers.{CalledIn}
 use Rattle.osdp_line_calls.specs.ReaderAbsence.{LetGo, lets_go}
@@ -29,10 +32,14 @@ pub record Session : Type 0 where
 abbrev pub Called : Type 0
 Called = CalledIn Session
 
+-- room for so many events, however long each is
+abbrev pub room_for : ℕ → Room
+room_for capacity = record { messages = capacity; bytes = capacity * (1 + most_data) }
+
 -- a device to whose line nothing has come, at moment 0: no panel has been there yet
 abbrev pub new_session : ReaderConfig → ℕ → ℕ → Absence → Session
 new_session config capacity gap absence = record {
-  reader = new_reader config new_status capacity;
+  reader = new_reader config new_status (room_for capacity);
   line = new_line gap;
   ages = no_ages capacity;
   now = 0;
@@ -78,17 +85,14 @@ abbrev pub sets : ReaderState DeviceStatus → Session → Called
 sets r s = record { text = []; session = record s { reader = r } }
 
 -- an event is refused where there is no room for it
-abbrev pub is_full : ReaderState DeviceStatus → Bool
-is_full r = length r.queue.events == r.queue.capacity
-
-abbrev pub submit_text : ReaderState DeviceStatus → List ℕ
-submit_text r = if is_full r then full_line else []
+abbrev pub submit_text : Event → ReaderState DeviceStatus → List ℕ
+submit_text event r = if has_room event r.queue then [] else full_line
 
 abbrev pub after_event : Event → ReaderState DeviceStatus → ReaderState DeviceStatus
-after_event event r = if is_full r then r else after_submit event r
+after_event event r = after_submit_if (has_room event r.queue) event r
 
-abbrev pub ages_submitted : ℕ → ReaderState DeviceStatus → AgesState → AgesState
-ages_submitted now r a = if is_full r then a else after_arrival now (length r.queue.events) a
+abbrev pub ages_submitted : ℕ → Event → ReaderState DeviceStatus → AgesState → AgesState
+ages_submitted now event r a = after_arrival_if (has_room event r.queue) now (length r.queue.events) a
 
 abbrev pub does : ReaderCall → Session → Called
 does (call.At now) s = looks (record s { now = now })
@@ -96,7 +100,7 @@ does (call.Bytes list) s = then_does (heard (hears_bytes status_answer status_af
 does call.Silence s = then_does (heard (hears_silence status_answer status_after s.now s.reader s.line) s) tells_presence
 does call.Tick s = then_does (heard (hears_tick status_answer status_after s.now s.reader s.line) s) tells_presence
 does (call.Event event) s =
-    record { text = submit_text s.reader; session = record s { reader = after_event event s.reader; ages = ages_submitted s.now s.reader s.ages } }
+    record { text = submit_text event s.reader; session = record s { reader = after_event event s.reader; ages = ages_submitted s.now event s.reader s.ages } }
 does (call.Busy busy) s = sets (after_set_busy busy s.reader) s
 does (call.Inputs list) s = sets (after_set_handler (record s.reader.handler { inputs = list }) s.reader) s
 does (call.Outputs list) s = sets (after_set_handler (record s.reader.handler { outputs = list }) s.reader) s

@@ -1,8 +1,9 @@
 -- The settings of a reader: their words, and what each sets.
 use Rattle.std.specs.Prelude.{ℕ, ◌<◌, ◌≤◌, false, ◌^◌, List, [], ◌∷◌, ◌++◌, codes, length, replicate, nat_lt, if◌then◌else◌, slice_index, Option, Some, None}
+use Rattle.arrayvec.specs.ArrayVec.{ArrayVec}
 use Rattle.osdp_frame.specs.Times.{IsTime, longest_time}
 use Rattle.osdp_msg.specs.Limits.{IsRoom}
-use Rattle.osdp_msg.specs.declared.reply_fields.PdCap.{PdCap}
+use Rattle.osdp_msg.specs.declared.capability.Capability.{Capability}
 use Rattle.osdp_msg.specs.declared.reply_fields.PdId.{PdId}
 use Rattle.osdp_msg.specs.ReplyFields.{capability_at, pd_id_at}
 use Rattle.osdp_words.specs.Word.{bytes, number, numbers}
@@ -37,13 +38,13 @@ abbrev pub with_firmware : List ℕ → PdId → PdId
 with_firmware ns id = record id { firmware_major = slice_index ns 0; firmware_minor = slice_index ns 1; firmware_build = slice_index ns 2 }
 
 -- one capability more
-abbrev pub with_capability : List ℕ → PdCap → PdCap
-with_capability ns caps = record { capabilities = record { items = caps.capabilities.items ++ capability_at ns ∷ [] } }
+abbrev pub with_capability : List ℕ → ArrayVec Capability → ArrayVec Capability
+with_capability ns caps = record { items = caps.items ++ capability_at ns ∷ [] }
 
 -- a reply has room for so many capabilities
 abbrev pub put_capability : List ℕ → ReaderSettings → Option ReaderSettings
 put_capability ns r =
-    if nat_lt (length r.config.caps.capabilities.items) 477 then Some (record r { config = record r.config { caps = with_capability ns r.config.caps } })
+    if nat_lt (length r.config.caps.items) 477 then Some (record r { config = record r.config { caps = with_capability ns r.config.caps } })
     else None
 
 abbrev pub put : ReaderSetting → ReaderSettings → Option ReaderSettings
@@ -66,7 +67,7 @@ defaults = record {
   config = record {
     address = 0;
     id = pd_id_at (replicate 12 0);
-    caps = record { capabilities = record { items = [] } };
+    caps = record { items = [] };
   };
   room = 64;
   gap = 20;

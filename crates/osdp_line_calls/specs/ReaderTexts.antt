@@ -5,7 +5,7 @@ use Rattle.osdp_msg.specs.declared.command.Command.{Command}
 use Rattle.osdp_msg.specs.declared.command_fields.Communication.{Communication}
 use Rattle.osdp_msg.specs.CommandText.{command_text}
 use Rattle.osdp_msg.specs.Events.{event_text}
-use Rattle.osdp_reader.specs.Responses.{accepted_comset}
+use Rattle.osdp_reader.specs.Heard.{accepted_comset}
 use Rattle.osdp_words.specs.Word.{bytes, printed}
 use Rattle.osdp_device.specs.Saying.{Said, again_by, taken_by}
 use Rattle.osdp_device.specs.declared.events.Expired.{Expired}

@@ -32,6 +32,7 @@
 
 mod answering;
 mod call;
+mod kept;
 pub mod laws;
 mod lines;
 mod listener;

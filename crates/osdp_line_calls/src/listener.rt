@@ -76,7 +76,7 @@ fn set_open(opened: &mut [bool; 16], entry: Entry, is: bool)
 }
 
 /// What a report says of its session: whether it is open from now on.
-fn opened_told(report: &Report) -> Option<bool>
+fn opened_told(report: &Report<'_>) -> Option<bool>
     ensures { result ≡ opened_told report.now }
 {
     match report {
@@ -246,7 +246,7 @@ impl Listener {
     }
 
     /// A report was told, which may say that a session is open, or isn't any more.
-    pub(crate) fn hear_report(&mut self, report: &Option<(Entry, Report)>)
+    pub(crate) fn hear_report(&mut self, report: &Option<(Entry, Report<'_>)>)
         ensures { self.new ≡ record self.old { opened = opened_by report.now self.old.opened } }
     {
         let Some((entry, report)) = report else {

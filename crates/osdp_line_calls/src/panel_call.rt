@@ -8,15 +8,15 @@ ghost use Rattle.osdp_words.specs.Reading.{Reads, ReadsWords};
 ghost use Rattle.osdp_words.specs.Word.{number, texts};
 ghost use Rattle.osdp_line_calls.specs.PanelCalls.{CallFits, IsAddress, IsEntry, call_words, entry_word};
 
+use crate::kept::KeptCommand;
 use crate::words::{one_list, one_moment, one_word};
 use arrayvec::ArrayVec;
 use osdp_bus::Entry;
 use osdp_frame::Address;
-use osdp_msg::Command;
 use osdp_words::{number_u8, number_u32};
 
 /// What a line orders. An entry is that of the bus, which counts from 0; the line's word for it counts from 1.
-#[derive(Debug, Drop, PartialEq)]
+#[derive(Debug, Drop)]
 pub enum PanelCall {
     /// The moment of the calls to come, in milliseconds.
     At(u64),
@@ -25,7 +25,7 @@ pub enum PanelCall {
     /// A session of the entry's device begins.
     Begin(Entry),
     /// A command waits for the entry's device.
-    Submit(Entry, Command),
+    Submit(Entry, KeptCommand),
     /// The command that has waited longest for the entry's device is taken back.
     Withdraw(Entry),
     /// The entry's device is at this address from now on.
@@ -70,17 +70,14 @@ fn one_entry(words: &[&str]) -> Option<Entry>
 }
 
 /// An entry, and the words of a command.
-fn entry_and_command(words: &[&str]) -> Option<(Entry, Command)>
+fn entry_and_command(words: &[&str]) -> Option<(Entry, KeptCommand)>
     ensures { ReadsWords (λ (x : ℕ × Ordered). entry_word x.0 ∷ command_words x.1) (λ (x : ℕ × Ordered). IsEntry x.0 × CommandFits x.1) (texts words.now) result }
 {
     let [entry, rest @ ..] = words else {
         return None;
     };
     let entry = parse_entry(entry)?;
-    match Command::parse(rest) {
-        Ok(command) => Some((entry, command)),
-        Err(_) => None,
-    }
+    Some((entry, KeptCommand::parse(rest)?))
 }
 
 /// Two words, and no others: an entry and an address.

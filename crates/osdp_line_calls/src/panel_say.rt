@@ -1,30 +1,30 @@
 //! The lines that answer a call.
 
-ghost use Rattle.std.specs.Prelude.{◌≡◌, ◌<◌, ◌^◌, ◌++◌, [], IfSome, OnOk, Option, Some, codes, string_bytes};
-ghost use Rattle.osdp_bus.specs.Sending.{IsSentAs};
+ghost use Rattle.std.specs.Prelude.{◌≡◌, ◌<◌, ◌^◌, ◌++◌, ℕ, List, [], IfSome, OnOk, Option, Some, codes, is_some, string_bytes};
+ghost use Rattle.osdp_controller.specs.Lent.{IsWritten};
 ghost use Rattle.osdp_frame.specs.Packet.{Packet};
 ghost use Rattle.osdp_line_calls.specs.PanelTexts.{due_line, event_name, fault_name, refusal_line, report_line, send_line, told_line, with_command, withdrawal_line};
 
 use osdp_bus::{BusFault, Entry};
 use osdp_controller::Report;
-use osdp_frame::Burst;
 use osdp_msg::{Command, Reply};
 use osdp_words::ByteList;
 use std::alloc::AllocError;
 
-/// Writes the burst that goes out, where there is one.
-pub(crate) fn push_sent(text: &mut String, burst: Option<Burst>) -> Result<(), AllocError>
-    ensures { OnOk result ((sent : Option Packet) → IsSentAs sent burst → string_bytes text.new ≡ string_bytes text.old ++ send_line sent) }
+/// Writes the bytes that go out, where some do.
+pub(crate) fn push_sent(text: &mut String, is_sent: bool, bytes: &[u8]) -> Result<(), AllocError>
+    ensures { OnOk result ((sent : Option Packet) (before : List ℕ) → is_sent ≡ is_some sent → IsWritten sent before bytes.now
+        → string_bytes text.new ≡ string_bytes text.old ++ send_line sent) }
 {
-    let Some(burst) = burst else {
+    if !is_sent {
         return Ok(());
-    };
-    writeln!(text, "send {}", ByteList(burst.as_slice()))
+    }
+    writeln!(text, "send {}", ByteList(bytes))
 }
 
 /// Ends a line with the command that it tells of, where there is one.
-fn push_command(text: &mut String, command: Option<Command>) -> Result<(), AllocError>
-    ensures { OnOk result (string_bytes text.new ≡ string_bytes text.old ++ (with_command [] command ++ codes "\n")) }
+fn push_command(text: &mut String, command: &Option<Command<'_>>) -> Result<(), AllocError>
+    ensures { OnOk result (string_bytes text.new ≡ string_bytes text.old ++ (with_command [] command.now ++ codes "\n")) }
 {
     match command {
         None => text.push_str("\n"),
@@ -44,19 +44,19 @@ fn push_told(
     text: &mut String,
     entry: Entry,
     maybe_again: bool,
-    report: Report,
+    report: &Report<'_>,
 ) -> Result<(), AllocError>
-    ensures { OnOk result (string_bytes text.new ≡ string_bytes text.old ++ told_line entry maybe_again report) }
+    ensures { OnOk result (string_bytes text.new ≡ string_bytes text.old ++ told_line entry maybe_again report.now) }
 {
     let number = entry as u128 + 1;
     match report {
         Report::Opened(id) => {
-            let reply = Reply::PdId(id);
+            let reply = Reply::PdId(*id);
             writeln!(text, "opened {number} {reply}")
         }
         Report::Settled(command, reply) => writeln!(text, "settled {number} {command} = {reply}"),
         Report::Moved(command, answered) => {
-            let reply = Reply::Com(answered);
+            let reply = Reply::Com(*answered);
             writeln!(text, "moved {number} {command} = {reply}")
         }
         Report::Event(event) => {
@@ -65,7 +65,7 @@ fn push_told(
         }
         Report::PollAnswered(reply) => writeln!(text, "answered {number} {reply}"),
         Report::Unread(command, code) => {
-            let bytes = [code];
+            let bytes = [*code];
             write!(text, "unread {number} code {}", ByteList(&bytes))?;
             push_command(text, command)
         }
@@ -80,14 +80,14 @@ fn push_told(
 /// Writes the report that was taken, where there is one, and whether it is an event that may have been reported before.
 pub(crate) fn push_report(
     text: &mut String,
-    report: Option<(Entry, Report)>,
+    report: &Option<(Entry, Report<'_>)>,
     maybe_again: bool,
 ) -> Result<(), AllocError>
-    ensures { OnOk result (string_bytes text.new ≡ string_bytes text.old ++ report_line report maybe_again) }
+    ensures { OnOk result (string_bytes text.new ≡ string_bytes text.old ++ report_line report.now maybe_again) }
 {
     match report {
         None => Ok(()),
-        Some((entry, report)) => push_told(text, entry, maybe_again, report),
+        Some((entry, report)) => push_told(text, *entry, maybe_again, report),
     }
 }
 
@@ -121,15 +121,15 @@ pub(crate) fn push_refusal(text: &mut String, fault: BusFault) -> Result<(), All
 pub(crate) fn push_withdrawal(
     text: &mut String,
     entry: Entry,
-    taken: Result<Option<Command>, BusFault>,
+    taken: &Result<Option<Command<'_>>, BusFault>,
 ) -> Result<(), AllocError>
-    ensures { OnOk result (string_bytes text.new ≡ string_bytes text.old ++ withdrawal_line entry taken) }
+    ensures { OnOk result (string_bytes text.new ≡ string_bytes text.old ++ withdrawal_line entry taken.now) }
 {
     let number = entry as u128 + 1;
     match taken {
         Ok(None) => Ok(()),
         Ok(Some(command)) => writeln!(text, "withdrawn {number} {command}"),
-        Err(fault) => push_refusal(text, fault),
+        Err(fault) => push_refusal(text, *fault),
     }
 }
 

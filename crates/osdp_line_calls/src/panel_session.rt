@@ -12,7 +12,7 @@ use crate::listener::Listener;
 use crate::panel_call::PanelCall;
 use crate::panel_say::{push_due, push_refusal, push_report, push_sent, push_withdrawal};
 use osdp_bus::{Bus, BusConfig, BusFault, Entry};
-use osdp_frame::Address;
+use osdp_frame::{Address, Burst};
 use std::alloc::{AllocError, Global};
 use std::marker::Model;
 
@@ -45,10 +45,11 @@ fn add(bus: &mut Bus, address: Address, text: &mut String) -> Result<(), AllocEr
 /// Takes back a command, and writes which, or why the call is refused.
 fn withdraw(bus: &mut Bus, entry: Entry, text: &mut String) -> Result<(), AllocError>
     ensures text { OnOk result (string_bytes text.new ≡ string_bytes text.old ++ withdrawal_line entry (withdrawal_at entry bus.old)) }
-    ensures bus { bus.new ≡ after_withdraw_at entry bus.old }
+    ensures bus { OnOk result (bus.new ≡ after_withdraw_at entry bus.old) }
 {
-    let taken = bus.withdraw(entry);
-    push_withdrawal(text, entry, taken)
+    push_withdrawal(text, entry, &bus.withdrawable(entry))?;
+    let _ = bus.withdraw(entry);
+    Ok(())
 }
 
 /// Ticks at a moment, and writes what goes out.
@@ -56,8 +57,9 @@ fn tick(bus: &mut Bus, now: u64, text: &mut String) -> Result<(), AllocError>
     ensures text { OnOk result (string_bytes text.new ≡ string_bytes text.old ++ send_line (bus_ticks now bus.old).sent) }
     ensures bus { bus.new ≡ (bus_ticks now bus.old).bus }
 {
-    let burst = bus.tick(now);
-    push_sent(text, burst)
+    let mut out = Burst::new();
+    let is_sent = bus.tick(now, &mut out);
+    push_sent(text, is_sent, out.as_slice())
 }
 
 impl LinePanel {
@@ -123,7 +125,7 @@ impl LinePanel {
                 }
             }
             PanelCall::Submit(entry, command) => {
-                if let Err((fault, _)) = self.bus.submit(entry, command) {
+                if let Err(fault) = self.bus.submit(entry, &command.command()) {
                     return push_refusal(text, fault);
                 }
             }
@@ -145,9 +147,11 @@ impl LinePanel {
         ensures { (before : List ℕ) (c : Called) → OnOk result (Comes before (string_bytes text.old) self.old c → Comes before (string_bytes text.new) self.new (then_reports c)) }
     {
         let maybe_again = self.bus.is_maybe_again();
-        let report = self.bus.next_report();
+        let report = self.bus.report();
         self.listener.hear_report(&report);
-        push_report(text, report, maybe_again)
+        push_report(text, &report, maybe_again)?;
+        self.bus.settle();
+        Ok(())
     }
 
     /// Writes the moment of the next tick, which ends an answer.
@@ -162,7 +166,7 @@ impl LinePanel {
     /// Answers a call: writes what is passed over, does what it orders, writes the lines that tell what came of it, and the one that ends the answer.
     ///
     /// After an error, which is one of memory, the text has a beginning of the answer; what the call changed stays so, and a report that was
-    /// taken is lost.
+    /// being written still waits.
     pub fn answer(&mut self, call: PanelCall, text: &mut String) -> Result<(), AllocError>
         ensures { OnOk result ((c : Called) × Ends (answered call self.old) c × Comes (string_bytes text.old) (string_bytes text.new) self.new c) }
     {

@@ -12,12 +12,12 @@ use osdp_words::ByteList;
 use std::alloc::AllocError;
 
 /// Whether an opening acts on a reply: PDID opens the session, BUSY has it wait, after NAK 1 the ID is sent again, and NAK 4 ends the session.
-fn acts_on(reply: &Reply) -> bool
+fn acts_on(reply: &Reply<'_>) -> bool
     ensures { result ≡ acts_on reply.now }
 {
     match reply {
         Reply::PdId(_) | Reply::Busy => true,
-        Reply::Nak(nak) => match nak.reason {
+        Reply::Nak(nak) => match nak.reason() {
             NakReason::CheckCharacters | NakReason::UnexpectedSequence => true,
             _ => false,
         },
@@ -26,7 +26,7 @@ fn acts_on(reply: &Reply) -> bool
 }
 
 /// Whether an opening acts on a reply with this number: an opening has number 0.
-fn opening_acts_on(number: u8, reply: &Reply) -> bool
+fn opening_acts_on(number: u8, reply: &Reply<'_>) -> bool
     ensures { result ≡ opening_acts_on number reply.now }
 {
     number == 0 && acts_on(reply)
@@ -57,7 +57,7 @@ fn push_reading(
     entry: Entry,
     number: u8,
     code: u8,
-    reading: Result<Reply, MsgFault>,
+    reading: Result<Reply<'_>, MsgFault>,
 ) -> Result<(), AllocError>
     ensures { OnOk result (string_bytes text.new ≡ string_bytes text.old ++ passed_line entry number (passed_reading number code reading)) }
 {

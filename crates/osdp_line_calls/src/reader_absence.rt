@@ -30,8 +30,9 @@ pub(crate) fn let_go(
     ensures ages { OnOk result (device.new.ages ≡ (lets_go now limit device.old.reader device.old.ages).ages) }
     ensures line { OnOk result (device.new.line ≡ device.old.line) }
 {
-    'events: while let Some(expired) = device.expire_event(now, limit as u64) {
+    'events: while let Some(expired) = device.expiring(now, limit as u64) {
         push_expired(text, &expired)?;
+        device.expire_event(now, limit as u64);
     }
     Ok(())
 }

@@ -1,11 +1,11 @@
 //! What a line may order.
 
 ghost use Rattle.std.specs.Prelude.{◌<◌, ◌^◌, ◌∷◌, ℕ, []};
-ghost use Rattle.osdp_msg.specs.Events.{EventFits, event_words};
 ghost use Rattle.osdp_words.specs.Reading.{ReadsWords};
 ghost use Rattle.osdp_words.specs.Word.{bytes, number, texts};
 ghost use Rattle.osdp_line_calls.specs.ReaderCalls.{AreStates, CallFits, call_words, switch_word};
 
+use crate::kept::KeptEvent;
 use crate::values::switch;
 use crate::words::{one_list, one_moment, one_word};
 use arrayvec::ArrayVec;
@@ -13,7 +13,7 @@ use osdp_msg::MAX_DATA;
 use osdp_words::{byte_list, number_u8};
 
 /// What a line orders.
-#[derive(Debug, Drop, PartialEq)]
+#[derive(Debug, Drop)]
 pub enum ReaderCall {
     /// The moment of the calls to come, in milliseconds.
     At(u64),
@@ -24,7 +24,7 @@ pub enum ReaderCall {
     /// No bytes have come up to now.
     Tick,
     /// An event for the controller.
-    Event(osdp_msg::Event),
+    Event(KeptEvent),
     /// Whether the reader is busy from now on.
     Busy(bool),
     /// A byte for each input, from now on.
@@ -54,13 +54,6 @@ fn parse_local(words: &[&str]) -> Option<(u8, u8)>
     Some((number_u8(tamper)?, number_u8(power)?))
 }
 
-/// The words of an event.
-fn parse_event(words: &[&str]) -> Option<osdp_msg::Event>
-    ensures { ReadsWords event_words EventFits (texts words.now) result }
-{
-    osdp_msg::Event::parse(words).ok()
-}
-
 /// One word, and no other: `on` or `off`.
 fn parse_switch(words: &[&str]) -> Option<bool>
     ensures { ReadsWords (λ busy. switch_word busy ∷ []) (λ busy. Unit {0}) (texts words.now) result }
@@ -77,7 +70,7 @@ pub(crate) fn parse_row(name: &str, words: &[&str]) -> Option<ReaderCall>
         "bytes" => Some(ReaderCall::Bytes(one_list(words)?)),
         "silence" => words.is_empty().then_some(ReaderCall::Silence),
         "tick" => words.is_empty().then_some(ReaderCall::Tick),
-        "event" => Some(ReaderCall::Event(parse_event(words)?)),
+        "event" => Some(ReaderCall::Event(KeptEvent::parse(words)?)),
         "busy" => Some(ReaderCall::Busy(parse_switch(words)?)),
         "inputs" => Some(ReaderCall::Inputs(parse_states(words)?)),
         "outputs" => Some(ReaderCall::Outputs(parse_states(words)?)),

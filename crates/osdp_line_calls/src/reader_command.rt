@@ -17,7 +17,7 @@ use crate::values::{device_address, limit, room, switch, time, triple};
 use crate::wrong::WrongSetting;
 use arrayvec::ArrayVec;
 use osdp_frame::Address;
-use osdp_msg::{Capability, PdCap, PdId};
+use osdp_msg::{Capability, PdId};
 use osdp_reader::ReaderConfig;
 use osdp_tool_streams::ToolFault;
 use osdp_words::{number_u8, number_u32, vendor};
@@ -122,7 +122,7 @@ fn add_capability(settings: ReaderSettings, numbers: [u8; 3]) -> Option<ReaderSe
         level,
         count,
     };
-    match settings.config.caps.capabilities.try_push(capability) {
+    match settings.config.caps.try_push(capability) {
         Ok(()) => Some(settings),
         Err(_) => None,
     }
@@ -142,14 +142,11 @@ fn default_settings() -> ReaderSettings
         firmware_minor: 0,
         firmware_build: 0,
     };
-    let caps = PdCap {
-        capabilities: ArrayVec::new(),
-    };
     ReaderSettings {
         config: ReaderConfig {
             address: Address::new(0).unwrap(),
             id,
-            caps,
+            caps: ArrayVec::new(),
         },
         room: 64,
         gap: 20,

@@ -2,12 +2,12 @@
 
 ghost use Rattle.std.specs.Prelude.{◌≡◌, ◌++◌, OnOk, codes, string_bytes};
 ghost use Rattle.std.specs.Option.{option_copied};
-ghost use Rattle.osdp_device.specs.Saying.{said_in};
+ghost use Rattle.osdp_device.specs.Lent.{said_by};
 ghost use Rattle.osdp_line_calls.specs.ReaderTexts.{command_line, expired_line, moved_line, presence_text, said_lines, send_line, waiting_line};
 
 use osdp_device::{Expired, again, taken};
 use osdp_msg::{Command, Communication};
-use osdp_reader::Response;
+use osdp_reader::Heard;
 use osdp_words::ByteList;
 use std::alloc::AllocError;
 
@@ -19,7 +19,11 @@ fn push_sent(text: &mut String, sent: &[u8]) -> Result<(), AllocError>
 }
 
 /// Writes a command, where there is one, after what became of it.
-fn push_command(text: &mut String, name: &str, command: Option<&Command>) -> Result<(), AllocError>
+fn push_command(
+    text: &mut String,
+    name: &str,
+    command: Option<&Command<'_>>,
+) -> Result<(), AllocError>
     ensures { OnOk result (string_bytes text.new ≡ string_bytes text.old ++ command_line name.now (option_copied command.entry)) }
 {
     let Some(command) = command else {
@@ -38,14 +42,18 @@ fn push_moved(text: &mut String, setting: Option<Communication>) -> Result<(), A
     writeln!(text, "moved {} {}", setting.address, setting.baud_rate)
 }
 
-/// Writes what a response says.
-pub(crate) fn push_response(text: &mut String, response: &Response) -> Result<(), AllocError>
-    ensures { OnOk result (string_bytes text.new ≡ string_bytes text.old ++ said_lines (said_in response.now)) }
+/// Writes what is said to what was heard: these bytes are sent back.
+pub(crate) fn push_said(
+    text: &mut String,
+    heard: &Heard<'_>,
+    bytes: &[u8],
+) -> Result<(), AllocError>
+    ensures { OnOk result (string_bytes text.new ≡ string_bytes text.old ++ said_lines (said_by heard.now bytes.now)) }
 {
-    push_sent(text, response.bytes())?;
-    push_command(text, "taken", taken(response))?;
-    push_command(text, "again", again(response))?;
-    push_moved(text, response.comset())
+    push_sent(text, bytes)?;
+    push_command(text, "taken", taken(heard))?;
+    push_command(text, "again", again(heard))?;
+    push_moved(text, heard.comset())
 }
 
 /// Writes that the panel went, or that it came, by whether it was gone before and whether it is now.
@@ -60,7 +68,7 @@ pub(crate) fn push_presence(text: &mut String, before: bool, now: bool) -> Resul
 }
 
 /// Writes an event that was too old, and whether the panel may have it.
-pub(crate) fn push_expired(text: &mut String, expired: &Expired) -> Result<(), AllocError>
+pub(crate) fn push_expired(text: &mut String, expired: &Expired<'_>) -> Result<(), AllocError>
     ensures { OnOk result (string_bytes text.new ≡ string_bytes text.old ++ expired_line expired.now) }
 {
     match expired {

@@ -15,10 +15,10 @@ ghost use Rattle.osdp_line_calls.specs.ReaderTexts.{all_lines, waiting_line};
 
 use crate::reader_absence::{Absence, let_go};
 use crate::reader_call::ReaderCall;
-use crate::reader_say::{push_presence, push_response, push_waiting};
+use crate::reader_say::{push_presence, push_said, push_waiting};
 use osdp_device::{Device, DeviceStatus};
-use osdp_frame::is_time;
-use osdp_msg::{Event, is_room};
+use osdp_frame::{Burst, is_time};
+use osdp_msg::{Event, Room, is_room};
 use osdp_reader::{Reader, ReaderConfig, ReaderFault};
 use std::alloc::{AllocError, Global};
 use std::marker::Model;
@@ -46,8 +46,9 @@ fn say_all(device: &mut Device<DeviceStatus>, text: &mut String) -> Result<(), A
     ensures line { OnOk result (device.new.line ≡ (reads_all status_answer status_after device.old.reader device.old.line).line) }
     ensures ages { OnOk result (device.new.ages ≡ after_saying (is_any (reads_all status_answer status_after device.old.reader device.old.line).said) device.old.line.greatest device.old.ages) }
 {
-    'responses: while let Some(response) = device.next() {
-        push_response(text, &response)?;
+    let mut out = Burst::new();
+    'responses: while let Some(kind) = device.next(&mut out) {
+        push_said(text, &device.heard(kind), out.as_slice())?;
     }
     Ok(())
 }
@@ -76,19 +77,19 @@ fn hear(
 /// Puts an event that came at a moment after those that wait, or writes that there is no room for it.
 fn submit(
     device: &mut Device<DeviceStatus>,
-    event: Event,
+    event: &Event<'_>,
     now: u64,
     text: &mut String,
 ) -> Result<(), AllocError>
-    ensures text { OnOk result (string_bytes text.new ≡ string_bytes text.old ++ submit_text device.old.reader) }
-    ensures reader { OnOk result (device.new.reader ≡ after_event event device.old.reader) }
-    ensures ages { OnOk result (device.new.ages ≡ ages_submitted now device.old.reader device.old.ages) }
+    ensures text { OnOk result (string_bytes text.new ≡ string_bytes text.old ++ submit_text event.now device.old.reader) }
+    ensures reader { OnOk result (device.new.reader ≡ after_event event.now device.old.reader) }
+    ensures ages { OnOk result (device.new.ages ≡ ages_submitted now event.now device.old.reader device.old.ages) }
     ensures line { device.new.line ≡ device.old.line }
 {
-    match device.submit_event(event, now) {
-        Ok(()) => Ok(()),
-        Err(_) => text.push_str("refused N2\n"),
+    if device.submit_event(event, now) {
+        return Ok(());
     }
+    text.push_str("refused N2\n")
 }
 
 impl LineDevice {
@@ -115,7 +116,7 @@ impl LineDevice {
         if !is_time(gap) {
             return Err(ReaderFault::OutOfRange);
         }
-        let reader = Reader::new(alloc, config, DeviceStatus::new(), capacity)?;
+        let reader = Reader::new(alloc, config, DeviceStatus::new(), Room::of(capacity))?;
         let device = Device::new(alloc, reader, gap)?;
         Ok(LineDevice {
             device,
@@ -212,7 +213,9 @@ impl LineDevice {
                 self.tick(text)?;
                 return self.tell_presence(text);
             }
-            ReaderCall::Event(event) => return submit(&mut self.device, event, self.now, text),
+            ReaderCall::Event(event) => {
+                return submit(&mut self.device, &event.event(), self.now, text);
+            }
             ReaderCall::Busy(busy) => self.device.set_busy(busy),
             ReaderCall::Inputs(list) => self.device.handler_mut().inputs = list,
             ReaderCall::Outputs(list) => self.device.handler_mut().outputs = list,

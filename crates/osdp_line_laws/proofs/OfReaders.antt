@@ -195,7 +195,7 @@ call_steps Silence s =
 call_steps Tick s =
     heard_steps Tick s (reads_all status_answer status_after s.reader (after_tick s.now s.line)) (hears_held (after_tick s.now s.line))
     (all_read s.reader (after_tick s.now s.line)) refl refl
-call_steps (Event event) s = record { reader = refl; text = sym (append-nil (submit_text s.reader)) }
+call_steps (Event event) s = record { reader = refl; text = sym (append-nil (submit_text event s.reader)) }
 call_steps (Busy busy) s = record { reader = refl; text = refl }
 call_steps (Inputs list) s = record { reader = refl; text = refl }
 call_steps (Outputs list) s = record { reader = refl; text = refl }

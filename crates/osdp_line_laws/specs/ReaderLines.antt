@@ -24,7 +24,7 @@ use Rattle.osdp_line_calls.specs.declared.reader_call.ReaderCall.{ReaderCall}
 use Rattle.osdp_line_calls.specs.declared.reader_call.ReaderCall.TheVariants as line
 use Rattle.osdp_line_calls.specs.ReaderCalls.{CallFits, call_words}
 use Rattle.osdp_line_calls.specs.ReaderLines.{Answers}
-use Rattle.osdp_line_calls.specs.ReaderSessions.{Session, after_event, heard, new_session, submit_text}
+use Rattle.osdp_line_calls.specs.ReaderSessions.{Session, after_event, heard, new_session, room_for, submit_text}
 use Rattle.osdp_line_calls.specs.ReaderTexts.{all_lines, expired_line, no_line, presence_text, waiting_line}
 use Rattle.osdp_line_calls.specs.declared.reader_absence.Absence.{Absence}
 
@@ -60,7 +60,7 @@ left_text (Some expired) = expired_line expired
 -- what is told of a step: what the reader's table says to the packet, or that there is no room for the event, or which event has left
 abbrev pub step_text : Step → ReaderState DeviceStatus → List ℕ
 step_text (Hears packet) r = all_lines (listed (unless_silent (kind_of r packet) (said_to status_answer status_after r packet)))
-step_text (Submits event) r = submit_text r
+step_text (Submits event) r = submit_text event r
 step_text (SetsBusy busy) r = []
 step_text (SetsStatus status) r = []
 step_text Withdraws r = left_text (option_map Withdrawn (never_offered r.queue))
@@ -148,4 +148,4 @@ IsStepsOrNone = (s : Session) (given text : List ℕ) (next : Session) → Answe
 abbrev pub ComesOfSteps : Type 0
 ComesOfSteps = (config : ReaderConfig) (capacity gap : ℕ) (absence : Absence) (lines : List (List ℕ)) (text : List ℕ) (last : Session)
     → Speaks Answers (new_session config capacity gap absence) lines text last
-    → (steps : List Step) × (last.reader ≡ after_steps steps (new_reader config new_status capacity))
+    → (steps : List Step) × (last.reader ≡ after_steps steps (new_reader config new_status (room_for capacity)))

@@ -92,18 +92,18 @@ module _ (fixed : ControllerConfig) {H : Type 0} where
       (record r { config = record r.config { address = address }; last = None; stored = None }) here (elsewhere address)
 
   -- a POLL: the front is told and offered, or nothing is
-  pub polled : (events : List Event) (capacity : ℕ) (ever : Bool) (answer_of : H → Command → Answer) (after : H → Command → H) (config : ReaderConfig) (handler : H)
+  pub polled : (events : List Event) (capacity room : ℕ) (ever : Bool) (answer_of : H → Command → Answer) (after : H → Command → H) (config : ReaderConfig) (handler : H)
       → let told = event_for command.Poll events in
       let a = event_or_answer answer_of after told config handler command.Poll in
-      Offers Polling a.reply (record { events = events; capacity = capacity; offered = is_some told; ever_offered = is_some told || ever }) × (a.handler ≡ handler)
-  polled [] capacity ever answer_of after config handler = (refl, refl)
-  polled (event.LocalState s ∷ rest) capacity ever answer_of after config handler = ((refl, refl, (rest, refl)), refl)
-  polled (event.Inputs s ∷ rest) capacity ever answer_of after config handler = ((refl, refl, (rest, refl)), refl)
-  polled (event.Outputs s ∷ rest) capacity ever answer_of after config handler = ((refl, refl, (rest, refl)), refl)
-  polled (event.Readers s ∷ rest) capacity ever answer_of after config handler = ((refl, refl, (rest, refl)), refl)
-  polled (event.Raw s ∷ rest) capacity ever answer_of after config handler = ((refl, refl, (rest, refl)), refl)
-  polled (event.Formatted s ∷ rest) capacity ever answer_of after config handler = ((refl, refl, (rest, refl)), refl)
-  polled (event.Keypad s ∷ rest) capacity ever answer_of after config handler = ((refl, refl, (rest, refl)), refl)
+      Offers Polling a.reply (record { events = events; capacity = capacity; room = room; offered = is_some told; ever_offered = is_some told || ever }) × (a.handler ≡ handler)
+  polled [] capacity room ever answer_of after config handler = (refl, refl)
+  polled (event.LocalState s ∷ rest) capacity room ever answer_of after config handler = ((refl, refl, (rest, refl)), refl)
+  polled (event.Inputs s ∷ rest) capacity room ever answer_of after config handler = ((refl, refl, (rest, refl)), refl)
+  polled (event.Outputs s ∷ rest) capacity room ever answer_of after config handler = ((refl, refl, (rest, refl)), refl)
+  polled (event.Readers s ∷ rest) capacity room ever answer_of after config handler = ((refl, refl, (rest, refl)), refl)
+  polled (event.Raw s ∷ rest) capacity room ever answer_of after config handler = ((refl, refl, (rest, refl)), refl)
+  polled (event.Formatted s ∷ rest) capacity room ever answer_of after config handler = ((refl, refl, (rest, refl)), refl)
+  polled (event.Keypad s ∷ rest) capacity room ever answer_of after config handler = ((refl, refl, (rest, refl)), refl)
 
   -- the event that its answer tells is the front
   pub polled_front : (events : List Event) (answer_of : H → Command → Answer) (after : H → Command → H) (config : ReaderConfig) (handler : H)

@@ -31,6 +31,7 @@ use Rattle.osdp_reader.specs.State.{ReaderState}
 use Rattle.osdp_reader.specs.declared.handler.Answer.{Answer}
 use Rattle.osdp_reader.specs.declared.kind.Kind.{Kind}
 use Rattle.osdp_reader.specs.declared.kind.Kind.TheVariants as kind
+use Rattle.osdp_reader.specs.Queue.{lacks_room}
 use Rattle.osdp_link_laws.specs.Headline.{MovesFit, MoveFits, MaySubmit}
 use Rattle.osdp_link_laws.specs.Link as link
 use Rattle.osdp_link_laws.specs.Link.{Delivered, Delivery, Link, Lost, Move, Queue as QueueEvent, Reopen, Repeated, RestartController, RestartReader, Retarget, SetBusy, SetHandler, Submit, Tick, ToController, ToReader, Withdraw, WithdrawEvent, after_move, run, LoseToReader, LoseToController, lost_at}
@@ -285,7 +286,7 @@ module _ {H : Type 0} (answer_of : H → Command → Answer) (after : H → Comm
         → Keeps (after_move answer_of after move l)
     move_keeps (Submit c) l fits none same h =
         let refusal = controllers.submit_refusal c l.controller in submits_keeps refusal c l (accepted_kept refusal c fits none) h
-    move_keeps (QueueEvent e) l fits none same h = queues_keeps (length l.reader.queue.events == l.reader.queue.capacity) e l h
+    move_keeps (QueueEvent e) l fits none same h = queues_keeps (lacks_room e l.reader.queue) e l h
     move_keeps WithdrawEvent l fits none same h = record { waiting = h.waiting; controller = h.controller; line = h.line; reader = h.reader }
     move_keeps (SetBusy busy) l fits none same h = record { waiting = h.waiting; controller = h.controller; line = h.line; reader = h.reader }
     move_keeps (Tick now) l fits none same h = ticked_keeps now l h

@@ -146,7 +146,7 @@ module _ (fixed : ControllerConfig) {H : Type 0} (answer_of : H → Command → 
       let events = (released l.reader.queue).events in
       let told = event_for command.Poll events in
       let a = event_or_answer answer_of after told l.reader.config l.reader.handler command.Poll in
-      let poll = polled fixed events l.reader.queue.capacity (released l.reader.queue).ever_offered answer_of after l.reader.config l.reader.handler in
+      let poll = polled fixed events l.reader.queue.capacity l.reader.queue.room (released l.reader.queue).ever_offered answer_of after l.reader.config l.reader.handler in
       subst (λ c. IfSome (taken answer_of after c l.reader p).said ReplyFits → IfSome (taken answer_of after c l.reader p).said IsPlain
       → Holding (taken_link c p l)) (sym reads)
       (λ fits plain. (

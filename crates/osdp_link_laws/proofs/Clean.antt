@@ -16,7 +16,7 @@ use Rattle.osdp_controller.specs.declared.session.Session.{Session}
 use Rattle.osdp_controller.specs.declared.state.State.TheVariants.{Quiet, Idle}
 use Rattle.osdp_frame.specs.Packet.{next_sequence}
 use Rattle.osdp_controller.specs.Exchanges.{exchange_command}
-use Rattle.osdp_reader.specs.Queue.{Queue, event_for, offering, queued, released}
+use Rattle.osdp_reader.specs.Queue.{Queue, event_for, offering, queued, released, lacks_room}
 use Rattle.osdp_reader.specs.State.{ReaderState}
 use Rattle.osdp_reader.specs.Table.{answer_to}
 use Rattle.osdp_reader.specs.declared.config.ReaderConfig.{ReaderConfig}
@@ -136,13 +136,13 @@ module _ (fixed : ControllerConfig) {H : Type 0} (answer_of : H → Command → 
     queued = made.queued;
   }
 
-  left_is : (waiting : List Command) (events : List Event) (capacity : ℕ) (ever : Bool) → Each MaySubmit waiting
-      → (released (offering (event_for (exchange_command (next_exchange waiting)) events) (record { events = events; capacity = capacity; offered = false; ever_offered = ever }))).events
+  left_is : (waiting : List Command) (events : List Event) (capacity room : ℕ) (ever : Bool) → Each MaySubmit waiting
+      → (released (offering (event_for (exchange_command (next_exchange waiting)) events) (record { events = events; capacity = capacity; room = room; offered = false; ever_offered = ever }))).events
       ≡ left_by waiting events
-  left_is [] [] capacity ever may = refl
-  left_is [] (e ∷ events) capacity ever may = refl
-  left_is (c ∷ waiting) events capacity ever may =
-      ap (λ o. (released (offering o (record { events = events; capacity = capacity; offered = false; ever_offered = ever }))).events) (no_event c events may.0.no_poll)
+  left_is [] [] capacity room ever may = refl
+  left_is [] (e ∷ events) capacity room ever may = refl
+  left_is (c ∷ waiting) events capacity room ever may =
+      ap (λ o. (released (offering o (record { events = events; capacity = capacity; room = room; offered = false; ever_offered = ever }))).events) (no_event c events may.0.no_poll)
 
   -- each round is an exchange from rest
   rounds_make : Given → (wait interval : ℕ) → interval ≤ wait → (moments : List ℕ) (l : Link H) → IsBetween interval l → AreSpaced answer_of after wait moments l
@@ -164,7 +164,7 @@ module _ (fixed : ControllerConfig) {H : Type 0} (answer_of : H → Command → 
       let last = run answer_of after (rounds later) m in
       let rest = rounds_make given wait interval short later m next spaced.1 fits.1.1.1 in
       let afterwards = subst (λ k. Made (length later) k.controller.waiting (unreported k) k.account last.account) is rest.1 in
-      let left = left_is w (unreported l) l.reader.queue.capacity (released l.reader.queue).ever_offered b.holds.2.waiting in (
+      let left = left_is w (unreported l) l.reader.queue.capacity l.reader.queue.room (released l.reader.queue).ever_offered b.holds.2.waiting in (
         rest.0,
         made_more (length later) w (unreported l) l.reader l.account last.account
             (subst (λ es. Made (length later) (drop 1 w) es (accounted answer_of after w (unreported l) l.reader l.account) last.account) left afterwards),
@@ -257,7 +257,7 @@ module _ (fixed : ControllerConfig) {H : Type 0} (answer_of : H → Command → 
       orders_ready s orders (link.submits refusal c l) all.1 fits.1
       (submits_ready s refusal c l (λ e. record { no_poll = not_poll c l.controller e; fits = fits.0 }) h)
   orders_ready s (QueueEvent e ∷ orders) l all fits h =
-      let full = length l.reader.queue.events == l.reader.queue.capacity in
+      let full = lacks_room e l.reader.queue in
       orders_ready s orders (link.queues full e l) all.1 fits.1 (queues_ready s full e l h)
   orders_ready s (WithdrawEvent ∷ orders) l all fits h = absurd all.0
   orders_ready s (SetBusy busy ∷ orders) l all fits h = absurd all.0

@@ -11,6 +11,7 @@ use Rattle.osdp_controller.specs.declared.fault.ControllerFault.{ControllerFault
 use Rattle.osdp_controller.specs.declared.state.State.TheVariants.{Closed}
 use Rattle.osdp_reader.specs.Table as reader
 use Rattle.osdp_reader.specs.declared.handler.Answer.{Answer}
+use Rattle.osdp_reader.specs.Queue.{lacks_room}
 use Rattle.osdp_link_laws.specs.Link as link
 use Rattle.osdp_link_laws.specs.Link.{Account, Delivered, Delivery, Link, Lost, Move, Queue as QueueEvent, Reopen, Repeated, RestartController, RestartReader, Retarget, SetBusy, SetHandler, Submit, Tick, ToController, ToReader, Withdraw, WithdrawEvent, after_move, after_report, LoseToReader, LoseToController}
 use Rattle.osdp_link_laws.proofs.Growing.{taken_takes}
@@ -59,7 +60,7 @@ module _ {H : Type 0} (answer_of : H → Command → Answer) (after : H → Comm
 
   inside_over : (move : Move H) (l : Link H) → IsInside move → l.controller.session.state ≡ Closed → IsOver l (after_move answer_of after move l)
   inside_over (Submit c) l on closed = submits_over (submit_refusal c l.controller) c l closed
-  inside_over (QueueEvent e) l on closed = queues_over (length l.reader.queue.events == l.reader.queue.capacity) e l closed
+  inside_over (QueueEvent e) l on closed = queues_over (lacks_room e l.reader.queue) e l closed
   inside_over (SetBusy busy) l on closed = (refl, closed)
   inside_over WithdrawEvent l on closed = (refl, closed)
   inside_over (Tick now) l on closed = tick_over now l closed

@@ -2,6 +2,7 @@
 use Rattle.std.proofs.Common.{◌≡◌, ℕ, Bool, true, false, List, [], ◌∷◌, length, Option, Some, None, refl}
 use Rattle.std.specs.Prelude.{◌==◌}
 use Rattle.osdp_frame.specs.Packet.{Packet}
+use Rattle.osdp_msg.specs.declared.limits.Room.{Room}
 use Rattle.osdp_msg.specs.declared.command.Command.{Command}
 use Rattle.osdp_msg.specs.declared.event.Event.{Event}
 use Rattle.osdp_controller.specs.Hearing.{hears}
@@ -12,6 +13,7 @@ use Rattle.osdp_controller.specs.Ticking.{ticks}
 use Rattle.osdp_controller.specs.declared.fault.ControllerFault.{ControllerFault}
 use Rattle.osdp_controller.specs.declared.session.Session.{Session}
 use Rattle.osdp_reader.specs.declared.handler.Answer.{Answer}
+use Rattle.osdp_reader.specs.Queue.{lacks_room}
 use Rattle.osdp_link_laws.specs.Link as link
 use Rattle.osdp_link_laws.specs.Link.{Delivered, Delivery, Link, Lost, Move, Queue as QueueEvent, Reopen, Repeated, RestartController, RestartReader, Retarget, SetBusy, SetHandler, Submit, Tick, ToController, ToReader, Withdraw, WithdrawEvent, after_move, run, LoseToReader, LoseToController}
 use Rattle.osdp_link_laws.specs.Headline.{MoveFits, MovesFit}
@@ -26,7 +28,7 @@ pub record IsKept (P : Session → Type 0) : Type 0 where
 pub record IsKeptOutside (P : Session → Type 0) : Type 0 where
   pub begin : (now : ℕ) (m : Machine) → begin_refusal m ≡ None → P m.session → P (after_begin now m).session
   pub target : (address : ℕ) (m : Machine) → retarget_refusal address m ≡ None → P m.session → P (after_retarget address m).session
-  pub restart : (config : ControllerConfig) (room : ℕ) → AreSettings config room → P (new_session config)
+  pub restart : (config : ControllerConfig) (room : Room) → AreSettings config room.messages room.bytes → P (new_session config)
 
 module _ {H : Type 0} (answer_of : H → Command → Answer) (after : H → Command → H) (P : Session → Type 0) where
   abbrev Has : Link H → Type 0
@@ -67,7 +69,7 @@ module _ {H : Type 0} (answer_of : H → Command → Answer) (after : H → Comm
   -- a move that leaves the controller where it is
   pub inside_keeps : IsKept P → (move : Move H) (l : Link H) → IsInside move → Has l → Has (after_move answer_of after move l)
   inside_keeps kept (Submit c) l on is = submits_keep (submit_refusal c l.controller) c l is
-  inside_keeps kept (QueueEvent e) l on is = queues_keep (length l.reader.queue.events == l.reader.queue.capacity) e l is
+  inside_keeps kept (QueueEvent e) l on is = queues_keep (lacks_room e l.reader.queue) e l is
   inside_keeps kept (SetBusy busy) l on is = is
   inside_keeps kept WithdrawEvent l on is = is
   inside_keeps kept (Tick now) l on is = kept.tick now l.controller is

@@ -3,6 +3,7 @@ use Rattle.std.proofs.Common.{◌≡◌, ◌≤◌, ℕ, List, [], ◌∷◌, �
 use Rattle.std.proofs.lemmas.List.{append-nil, append_cancel_right}
 use Rattle.std.specs.Prelude.{option_to_list}
 use Rattle.osdp_msg.specs.Events.{event_in}
+use Rattle.osdp_msg.specs.declared.limits.Room.{Room}
 use Rattle.osdp_msg.specs.declared.command.Command.{Command}
 use Rattle.osdp_msg.specs.declared.event.Event.{Event}
 use Rattle.osdp_msg.specs.declared.reply.Reply.{Reply}
@@ -88,7 +89,7 @@ module _ (fixed : ControllerConfig) {H : Type 0} (answer_of : H → Command → 
     kept = are.kept ∙ ap (λ es. es ++ r.queue.events) (sym are.reported);
   }
 
-  costs : (address : ℕ) (handler : H) (room : ℕ) (l : Link H) → Goes fixed answer_of after settings l
+  costs : (address : ℕ) (handler : H) (room : Room) (l : Link H) → Goes fixed answer_of after settings l
       → ReaderCosts l (after_move answer_of after (RestartReader address handler room) l)
   costs address handler room l h =
       let at = h.holds.1 in

@@ -15,6 +15,7 @@ use Rattle.osdp_controller.specs.declared.report.Report.TheVariants as report
 use Rattle.osdp_reader.specs.Table as reader
 use Rattle.osdp_reader.specs.declared.handler.Answer.{Answer}
 use Rattle.osdp_reader.specs.declared.kind.Kind.{Kind}
+use Rattle.osdp_reader.specs.Queue.{lacks_room}
 use Rattle.osdp_link_laws.specs.Effects.{CountsRestarts, restarts_in}
 use Rattle.osdp_link_laws.specs.Link as link
 use Rattle.osdp_link_laws.specs.Link.{Account, Delivered, Delivery, Link, LoseToController, LoseToReader, Lost, Move, Queue as QueueEvent, Reopen, Repeated, RestartController, RestartReader, Retarget, SetBusy, SetHandler, Submit, Tick, ToController, ToReader, Withdraw, WithdrawEvent, after_move, after_report, run}
@@ -103,7 +104,7 @@ module _ {H : Type 0} (answer_of : H → Command → Answer) (after : H → Comm
   keeps : (move : Move H) (l : Link H) → KeepsReader move → length (after_move answer_of after move l).earlier ≡ length l.earlier
       → Keeps l.account (after_move answer_of after move l).account
   keeps (Submit c) l reads same = submits_keeps (controllers.submit_refusal c l.controller) c l
-  keeps (QueueEvent e) l reads same = queues_keeps (length l.reader.queue.events == l.reader.queue.capacity) e l
+  keeps (QueueEvent e) l reads same = queues_keeps (lacks_room e l.reader.queue) e l
   keeps (SetBusy busy) l reads same = refl
   keeps WithdrawEvent l reads same = refl
   keeps (Tick now) l reads same = told_keeps (ticks now l.controller.session l.controller.waiting).step.report l.account

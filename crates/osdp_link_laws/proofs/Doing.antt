@@ -4,6 +4,7 @@ use Rattle.std.proofs.lemmas.Bool.{le-ltb, lt-ltb}
 use Rattle.std.proofs.lemmas.List.{append-nil}
 use Rattle.std.specs.Prelude.{◌-◌, ◌||◌, if◌then◌else◌, not, option_to_list}
 use Rattle.osdp_frame.specs.Packet.{Packet}
+use Rattle.osdp_msg.specs.declared.limits.Room.{Room}
 use Rattle.osdp_msg.specs.declared.command.Command.{Command}
 use Rattle.osdp_msg.specs.declared.event.Event.{Event}
 use Rattle.osdp_msg.specs.declared.nak.NakReason.TheVariants.{UnexpectedSequence}
@@ -86,7 +87,7 @@ module _ {H : Type 0} where
         ap (λ es. record t { kept = t.offered; thrown_away = t.thrown_away ++ es; restarts = t.restarts + 1 })
         (ap (drop (length t.offered)) is ∙ drop_front t.offered gone)
 
-    restarts_reader : (l : Link H) (address : ℕ) (handler : H) (room : ℕ)
+    restarts_reader : (l : Link H) (address : ℕ) (handler : H) (room : Room)
         → HasNewReader answer_of after address handler room l (after_move answer_of after (RestartReader address handler room) l)
     restarts_reader l address handler room = record {
       others = refl;
@@ -95,11 +96,11 @@ module _ {H : Type 0} where
       account = λ gone is. throws_away gone l.account is;
     }
 
-    pub restarts_controller : (l : Link H) (config : ControllerConfig) (room : ℕ)
+    pub restarts_controller : (l : Link H) (config : ControllerConfig) (room : Room)
         → HasNewController config room l (after_move answer_of after (RestartController config room) l)
     restarts_controller l config room = record {
       others = refl;
-      controller = record { state = refl; config = refl; number = refl; greatest = refl; waiting = refl; capacity = refl };
+      controller = record { state = refl; config = refl; number = refl; greatest = refl; waiting = refl; capacity = refl; room = refl };
       account = refl;
     }
 
@@ -124,23 +125,23 @@ none_back (Pausing until o) all why = (refl, refl)
 
 -- ---- an event is withdrawn
 
-withdrawn_by : (capacity : ℕ) (offered ever : Bool) (front : List Event) (event : Event) (rest : List Event) → length front ≡ (if ever then 1 else 0)
-    → let q : EventQueue = record { events = front ++ event ∷ rest; capacity = capacity; offered = offered; ever_offered = ever } in
+withdrawn_by : (capacity room : ℕ) (offered ever : Bool) (front : List Event) (event : Event) (rest : List Event) → length front ≡ (if ever then 1 else 0)
+    → let q : EventQueue = record { events = front ++ event ∷ rest; capacity = capacity; room = room; offered = offered; ever_offered = ever } in
     ((withdrawn q).events ≡ front ++ rest) × (never_offered q ≡ Some event) × (unoffered_in q ≡ event ∷ rest)
-withdrawn_by capacity offered false [] event rest few = (refl, refl, refl)
-withdrawn_by capacity offered false (f ∷ front) event rest few = absurd (omega (arith, few))
-withdrawn_by capacity offered true [] event rest few = absurd (omega (arith, few))
-withdrawn_by capacity offered true (f ∷ []) event rest few = (refl, refl, refl)
-withdrawn_by capacity offered true (f ∷ g ∷ front) event rest few = absurd (omega (arith, few))
+withdrawn_by capacity room offered false [] event rest few = (refl, refl, refl)
+withdrawn_by capacity room offered false (f ∷ front) event rest few = absurd (omega (arith, few))
+withdrawn_by capacity room offered true [] event rest few = absurd (omega (arith, few))
+withdrawn_by capacity room offered true (f ∷ []) event rest few = (refl, refl, refl)
+withdrawn_by capacity room offered true (f ∷ g ∷ front) event rest few = absurd (omega (arith, few))
 
-none_by : (events : List Event) (capacity : ℕ) (offered ever : Bool) → length events ≤ (if ever then 1 else 0)
-    → let q : EventQueue = record { events = events; capacity = capacity; offered = offered; ever_offered = ever } in
+none_by : (events : List Event) (capacity room : ℕ) (offered ever : Bool) → length events ≤ (if ever then 1 else 0)
+    → let q : EventQueue = record { events = events; capacity = capacity; room = room; offered = offered; ever_offered = ever } in
     ((withdrawn q).events ≡ events) × (never_offered q ≡ None) × (unoffered_in q ≡ [])
-none_by [] capacity offered false few = (refl, refl, refl)
-none_by (e ∷ events) capacity offered false few = absurd (omega (arith, few))
-none_by [] capacity offered true few = (refl, refl, refl)
-none_by (e ∷ []) capacity offered true few = (refl, refl, refl)
-none_by (e ∷ f ∷ events) capacity offered true few = absurd (omega (arith, few))
+none_by [] capacity room offered false few = (refl, refl, refl)
+none_by (e ∷ events) capacity room offered false few = absurd (omega (arith, few))
+none_by [] capacity room offered true few = (refl, refl, refl)
+none_by (e ∷ []) capacity room offered true few = (refl, refl, refl)
+none_by (e ∷ f ∷ events) capacity room offered true few = absurd (omega (arith, few))
 
 -- ---- an address is set
 
@@ -183,6 +184,7 @@ module _ {H : Type 0} (answer_of : H → Command → Answer) (after : H → Comm
       session = refl;
       waiting = back.0;
       capacity = refl;
+      room = refl;
       account = ap (λ o. record l.account { removed = l.account.removed ++ map Withdrawn (option_to_list o) }) back.1;
     };
     none = λ l why. let back = none_back l.controller.session.state l.controller.waiting why in
@@ -197,7 +199,7 @@ module _ {H : Type 0} (answer_of : H → Command → Answer) (after : H → Comm
   withdraws_events : WithdrawsEvents answer_of after
   withdraws_events = record {
     first = λ l front event rest is few. taken l front event rest is few;
-    none = λ l few. nothing l (none_by l.reader.queue.events l.reader.queue.capacity l.reader.queue.offered l.reader.queue.ever_offered few);
+    none = λ l few. nothing l (none_by l.reader.queue.events l.reader.queue.capacity l.reader.queue.room l.reader.queue.offered l.reader.queue.ever_offered few);
   }
     where
       all_but : (all before : List Event) (q : EventQueue) (front : List Event) (event : Event) (rest : List Event) → q.events ≡ front ++ event ∷ rest
@@ -214,7 +216,7 @@ module _ {H : Type 0} (answer_of : H → Command → Answer) (after : H → Comm
       taken l front event rest is few =
           let q = l.reader.queue in
           let by = subst (λ es. ((withdrawn (record q { events = es })).events ≡ front ++ rest) × (never_offered (record q { events = es }) ≡ Some event)
-          × (unoffered_in (record q { events = es }) ≡ event ∷ rest)) (sym is) (withdrawn_by q.capacity q.offered q.ever_offered front event rest few) in
+          × (unoffered_in (record q { events = es }) ≡ event ∷ rest)) (sym is) (withdrawn_by q.capacity q.room q.offered q.ever_offered front event rest few) in
           record {
             others = refl;
             reader = ap (λ es. record l.reader { queue = record q { events = es } }) by.0;
@@ -244,7 +246,7 @@ module _ {H : Type 0} (answer_of : H → Command → Answer) (after : H → Comm
   retargets = record {
     set = λ l address closed small.
         subst (λ fault. HasAddress address l (link.retargets fault address l)) (sym (may_set l.controller.session.state address closed small))
-        (record { others = refl; address = refl; config = refl; state = closed; number = refl; greatest = refl; waiting = refl; capacity = refl; account = refl });
+        (record { others = refl; address = refl; config = refl; state = closed; number = refl; greatest = refl; waiting = refl; capacity = refl; room = refl; account = refl });
     refused = λ l address why. ap (λ fault. link.retargets fault address l) (may_not l.controller.session.state address why).1;
   }
 

@@ -15,6 +15,7 @@ use Rattle.osdp_controller.specs.declared.session.Session.{Session}
 use Rattle.osdp_controller_laws.specs.Commands.{TellsEnds, tells_end}
 use Rattle.osdp_controller_laws.proofs.Closed.{silent_frame, silent_tick, was_closed}
 use Rattle.osdp_reader.specs.declared.handler.Answer.{Answer as HandlerAnswer}
+use Rattle.osdp_reader.specs.Queue.{lacks_room}
 use Rattle.osdp_link_laws.specs.Ends.{EndOnce, count, ends_in, lasting, untold, untold_by}
 use Rattle.osdp_link_laws.specs.Link as link
 use Rattle.osdp_link_laws.specs.Link.{Delivered, Delivery, Link, Lost, Move, Queue as QueueEvent, Reopen, Repeated, RestartController, RestartReader, Retarget, SetBusy, SetHandler, Submit, Tick, ToController, ToReader, Withdraw, WithdrawEvent, after_move, run, LoseToReader, LoseToController}
@@ -88,7 +89,7 @@ module _ {H : Type 0} (answer_of : H → Command → HandlerAnswer) (after : H �
 
     counts : (move : Move H) (l : Link H) → Counts (count (tells_end (told_by move l)) + untold_by move l) l (after_move answer_of after move l)
     counts (Submit c) l = submitting (controllers.submit_refusal c l.controller) c l
-    counts (QueueEvent e) l = queueing (length l.reader.queue.events == l.reader.queue.capacity) e l
+    counts (QueueEvent e) l = queueing (lacks_room e l.reader.queue) e l
     counts (SetBusy busy) l = omega arith
     counts WithdrawEvent l = omega arith
     counts (Tick now) l =

@@ -13,7 +13,7 @@ use Rattle.osdp_controller.specs.Ticking.{ticks}
 use Rattle.osdp_controller.specs.declared.fault.ControllerFault.{ControllerFault}
 use Rattle.osdp_controller.specs.declared.report.Report.{Report}
 use Rattle.osdp_controller.specs.declared.report.Report.TheVariants as report
-use Rattle.osdp_reader.specs.Queue.{event_for, released}
+use Rattle.osdp_reader.specs.Queue.{event_for, released, lacks_room}
 use Rattle.osdp_reader.specs.State.{ReaderState}
 use Rattle.osdp_reader.specs.Table as reader
 use Rattle.osdp_reader.specs.Table.{answer_to, command_in, event_or_answer, outcome, taken}
@@ -105,7 +105,7 @@ module _ {H : Type 0} (answer_of : H → Command → Answer) (after : H → Comm
 
   pub move_given : (move : Move H) (l : Link H) → AreAnswers l.account → AreAnswers (after_move answer_of after move l).account
   move_given (Submit c) l are = submits_given (controllers.submit_refusal c l.controller) c l are
-  move_given (QueueEvent e) l are = queues_given (length l.reader.queue.events == l.reader.queue.capacity) e l are
+  move_given (QueueEvent e) l are = queues_given (lacks_room e l.reader.queue) e l are
   move_given (SetBusy busy) l are = are
   move_given WithdrawEvent l are = are
   move_given (Tick now) l are = subst (Each IsAnswerOf) (sym (told_gives (ticks now l.controller.session l.controller.waiting).step.report l.account)) are

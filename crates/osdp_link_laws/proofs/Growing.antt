@@ -17,6 +17,7 @@ use Rattle.osdp_reader.specs.declared.handler.Answer.{Answer}
 use Rattle.osdp_reader.specs.declared.kind.Kind.{Kind}
 use Rattle.osdp_reader.specs.declared.kind.Kind.TheVariants as kind
 use Rattle.osdp_reader.specs.Table as reader
+use Rattle.osdp_reader.specs.Queue.{lacks_room}
 use Rattle.osdp_link_laws.specs.Link as link
 use Rattle.osdp_link_laws.specs.Link.{Account, Delivered, Delivery, Link, Lost, Move, Queue as QueueEvent, Reopen, Repeated, RestartController, RestartReader, Retarget, SetBusy, SetHandler, Submit, Tick, ToController, ToReader, Withdraw, WithdrawEvent, after_move, after_report, LoseToReader, LoseToController}
 use Rattle.osdp_link_laws.specs.Sessions.{accepted, queued, unless_full, submitted}
@@ -105,7 +106,7 @@ module _ {H : Type 0} (answer_of : H → Command → Answer) (after : H → Comm
 
   pub inside_on : (move : Move H) (l : Link H) → IsInside move → SameSession (submitted move l) (queued move l) l (after_move answer_of after move l)
   inside_on (Submit c) l on = submits_on (controllers.submit_refusal c l.controller) c l
-  inside_on (QueueEvent e) l on = queues_on (length l.reader.queue.events == l.reader.queue.capacity) e l
+  inside_on (QueueEvent e) l on = queues_on (lacks_room e l.reader.queue) e l
   inside_on WithdrawEvent l on = (all_before l.account (link.withdraws_event l).account refl refl refl refl, refl)
   inside_on (SetBusy busy) l on = (all_before l.account l.account refl refl refl refl, refl)
   inside_on (Tick now) l on = (told_keeps (ticks now l.controller.session l.controller.waiting).step.report l.account, refl)

@@ -1,12 +1,13 @@
 -- A link whose device lets an event lapse, beside the same link without the lapse.
-use Rattle.std.proofs.Common.{◌≡◌, ◌≢◌, ◌<◌, ◌⊎◌, ℕ, suc, Bool, true, false, List, [], ◌∷◌, ◌++◌, length, Option, Some, None, Ok, Err, refl, sym, subst, ap, inl, inr, arith}
-use Rattle.std.specs.Prelude.{◌==◌}
+use Rattle.std.proofs.Common.{◌≡◌, ◌≢◌, ◌<◌, ◌≤◌, ◌+◌, ◌-◌, ◌&&◌, ◌⊎◌, ltb, leb, not, ℕ, suc, Bool, true, false, List, [], ◌∷◌, ◌++◌, length, Option, Some, None, Ok, Err, refl, sym, subst, ap, inl, inr, arith}
+use Rattle.std.proofs.lemmas.Bool.{and_from, leb-true, le-leb, lt-ltb, ltb-true}
 use Rattle.osdp_frame.specs.Packet.{Packet}
 use Rattle.osdp_msg.specs.declared.command.Command.{Command}
 use Rattle.osdp_msg.specs.declared.event.Event.{Event}
+use Rattle.osdp_msg.specs.declared.limits.Room.{Room}
 use Rattle.osdp_controller.specs.Machine as controllers
 use Rattle.osdp_controller.specs.declared.fault.ControllerFault.{ControllerFault}
-use Rattle.osdp_reader.specs.Queue.{Queue}
+use Rattle.osdp_reader.specs.Queue.{Queue, bytes_waiting, event_size, has_room, lacks_room}
 use Rattle.osdp_reader.specs.State.{ReaderState}
 use Rattle.osdp_reader.specs.Table.{kind_of, outcome}
 use Rattle.osdp_reader.specs.declared.handler.Answer.{Answer}
@@ -20,37 +21,54 @@ use Rattle.osdp_link_laws.specs.Headline.{Begins, MaySubmit}
 use Rattle.osdp_link_laws.specs.Peers.{ReadEachOther}
 use Rattle.osdp_link_laws.proofs.InARow.{stands}
 use Rattle.osdp_link_laws.proofs.Lines.{each_all, each_rest}
-use Rattle.osdp_link_laws.proofs.Numbers.{is_false}
 use Rattle.osdp_link_laws.proofs.PastOpening.{IsNoReopen, IsNumbered, NoneOfferedOrPast, OpeningIsPast, numbered_goes_on, opening_is_past, past_on}
 use Rattle.osdp_link_laws.proofs.Removed.{gone}
 use Rattle.osdp_link_laws.proofs.Stages.{Each}
 
 -- a queue whose front is offered
-abbrev offered_queue : Event → List Event → ℕ → Queue
-offered_queue event rest room = record { events = event ∷ rest; capacity = room; offered = true; ever_offered = true }
+abbrev offered_queue : Event → List Event → Room → Queue
+offered_queue event rest room = record { events = event ∷ rest; capacity = room.messages; room = room.bytes; offered = true; ever_offered = true }
+
+-- the room of a queue
+abbrev pub room_of : Queue → Room
+room_of q = record { messages = q.capacity; bytes = q.room }
 
 -- where there is room beside it, there is room without it
-has_room : (event : Event) (rest : List Event) (room : ℕ) → length (event ∷ rest) < room → ((length (event ∷ rest) == room) ≡ false) × ((length rest == room) ≡ false)
-has_room event rest room less = (
-  is_false (length (event ∷ rest)) room (λ same. absurd (omega (arith, less, same))),
-  is_false (length rest) room (λ same. absurd (let longer : length (event ∷ rest) ≡ suc (length rest) = refl in omega (arith, less, same, longer))),
-)
+both_true : (a b : Bool) → (a && b) ≡ true → (a ≡ true) × (b ≡ true)
+both_true true true e = (cc, cc)
+both_true true false e = absurd cc
+both_true false b e = absurd cc
+
+pub room_without : (e event : Event) (q : Queue) → has_room e (record q { events = event ∷ q.events }) ≡ true → has_room e q ≡ true
+room_without e event q fits =
+    let both = both_true (ltb (length (event ∷ q.events)) q.capacity) (leb (event_size e) (q.room - bytes_waiting (event ∷ q.events))) fits in
+    let place = ltb-true (length (event ∷ q.events)) q.capacity both.0 in
+    let bytes = leb-true (event_size e) (q.room - bytes_waiting (event ∷ q.events)) both.1 in
+    let longer : length (event ∷ q.events) ≡ suc (length q.events) = refl in
+    let more : bytes_waiting (event ∷ q.events) ≡ event_size event + bytes_waiting q.events = refl in
+    and_from (ltb (length q.events) q.capacity) (leb (event_size e) (q.room - bytes_waiting q.events))
+    (lt-ltb (length q.events) q.capacity (omega (arith, place, longer)))
+    (le-leb (event_size e) (q.room - bytes_waiting q.events) (omega (arith, bytes, more)))
+
+lacks_none : (e : Event) (q : Queue) → has_room e q ≡ true → lacks_room e q ≡ false
+lacks_none e q fits = ap not fits
 
 module _ {H : Type 0} where
   -- a link with this in its queue
-  abbrev pub off : Event → List Event → ℕ → Link H → Link H
+  abbrev pub off : Event → List Event → Room → Link H → Link H
   off event rest room l = record l { reader = record l.reader { queue = offered_queue event rest room } }
 
-  offers_it : (event : Event) (rest : List Event) (room : ℕ) (l : Link H) → Offers event rest (off event rest room l)
+  offers_it : (event : Event) (rest : List Event) (room : Room) (l : Link H) → Offers event rest (off event rest room l)
   offers_it event rest room l = record { events = refl; offered = refl; ever_offered = refl }
 
   -- it is such a link already
-  pub is_off : (event : Event) (rest : List Event) (l : Link H) → Offers event rest l → off event rest l.reader.queue.capacity l ≡ l
+  pub is_off : (event : Event) (rest : List Event) (l : Link H) → Offers event rest l → off event rest (room_of l.reader.queue) l ≡ l
   is_off event rest l is = λ i. record l {
     reader = record l.reader {
       queue = record {
         events = sym is.events i;
         capacity = l.reader.queue.capacity;
+        room = l.reader.queue.room;
         offered = sym is.offered i;
         ever_offered = sym is.ever_offered i;
       };
@@ -63,24 +81,24 @@ module _ {H : Type 0} where
 
   module _ (event : Event) where
     -- what is without the lapse offers the event yet
-    yet : (rest : List Event) (room : ℕ) (l : Link H) → DifferFor event (lapses (off event rest room l)) (off event rest room l)
+    yet : (rest : List Event) (room : Room) (l : Link H) → DifferFor event (lapses (off event rest room l)) (off event rest room l)
     yet rest room l = inr (rest, offers_it event rest room l, refl)
 
     module _ (answer_of : H → Command → Answer) (after : H → Command → H) where
       abbrev With : Move H → Link H → Type 0
       With move l = DifferFor event (after_move answer_of after move (lapses l)) (after_move answer_of after move l)
 
-      submits_so : (refusal : Option ControllerFault) (c : Command) (rest : List Event) (room : ℕ) (l : Link H)
+      submits_so : (refusal : Option ControllerFault) (c : Command) (rest : List Event) (room : Room) (l : Link H)
           → DifferFor event (link.submits refusal c (lapses (off event rest room l))) (link.submits refusal c (off event rest room l))
       submits_so (Some fault) c rest room l = yet rest room l
       submits_so None c rest room l = yet rest room (link.submits None c l)
 
-      retargets_so : (refusal : Option ControllerFault) (address : ℕ) (rest : List Event) (room : ℕ) (l : Link H)
+      retargets_so : (refusal : Option ControllerFault) (address : ℕ) (rest : List Event) (room : Room) (l : Link H)
           → DifferFor event (link.retargets refusal address (lapses (off event rest room l))) (link.retargets refusal address (off event rest room l))
       retargets_so (Some fault) address rest room l = yet rest room l
       retargets_so None address rest room l = yet rest room (link.retargets None address l)
 
-      queues_so : (one two : Bool) (e : Event) (rest : List Event) (room : ℕ) (l : Link H) → one ≡ false → two ≡ false
+      queues_so : (one two : Bool) (e : Event) (rest : List Event) (room : Room) (l : Link H) → one ≡ false → two ≡ false
           → DifferFor event (link.queues two e (lapses (off event rest room l))) (link.queues one e (off event rest room l))
       queues_so false false e rest room l a b = yet (rest ++ e ∷ []) room (record l {
         account = record l.account {
@@ -102,7 +120,7 @@ module _ {H : Type 0} where
             account = link.taken kind o.command o.said (link.front_of l.reader) l.account;
           }
 
-      taken_so : (p : Packet) (rest : List Event) (room : ℕ) (l : Link H)
+      taken_so : (p : Packet) (rest : List Event) (room : Room) (l : Link H)
           → gets_by Taken p (lapses (off event rest room l)) ≡ gets_by Taken p (off event rest room l)
       taken_so p rest room l = by_command (Rattle.osdp_reader.specs.Table.command_in p)
         where
@@ -122,7 +140,7 @@ module _ {H : Type 0} where
           by_command (Ok c) = refl
           by_command (Err fault) = refl
 
-      gets_so : (kind : Kind) (p : Packet) (rest : List Event) (room : ℕ) (l : Link H) → kind ≢ Zero
+      gets_so : (kind : Kind) (p : Packet) (rest : List Event) (room : Room) (l : Link H) → kind ≢ Zero
           → DifferFor event (gets_by kind p (lapses (off event rest room l))) (gets_by kind p (off event rest room l))
       gets_so Silent p rest room l differs = yet rest room (gets_by Silent p l)
       gets_so Secured p rest room l differs = yet rest room (gets_by Secured p l)
@@ -132,7 +150,7 @@ module _ {H : Type 0} where
       gets_so Busy p rest room l differs = yet rest room (gets_by Busy p l)
       gets_so Wrong p rest room l differs = yet rest room (gets_by Wrong p l)
 
-      to_reader_so : (how : Delivery) (ps : List Packet) (rest : List Event) (room : ℕ) (l : Link H)
+      to_reader_so : (how : Delivery) (ps : List Packet) (rest : List Event) (room : Room) (l : Link H)
           → IsNotZeroIf how ps (off event rest room l).reader
           → DifferFor event (link.to_reader answer_of after ps how (lapses (off event rest room l))) (link.to_reader answer_of after ps how (off event rest room l))
       to_reader_so how [] rest room l differs = yet rest room l
@@ -140,18 +158,19 @@ module _ {H : Type 0} where
       to_reader_so Lost (p ∷ ps) rest room l differs = yet rest room (record l { to_reader = ps })
       to_reader_so Repeated (p ∷ ps) rest room l differs = gets_so (kind_of l.reader p) p rest room l differs
 
-      to_controller_so : (how : Delivery) (now : ℕ) (ps : List Packet) (rest : List Event) (room : ℕ) (l : Link H)
+      to_controller_so : (how : Delivery) (now : ℕ) (ps : List Packet) (rest : List Event) (room : Room) (l : Link H)
           → DifferFor event (link.to_controller ps how now (lapses (off event rest room l))) (link.to_controller ps how now (off event rest room l))
       to_controller_so how now [] rest room l = yet rest room l
       to_controller_so Delivered now (p ∷ ps) rest room l = yet rest room (link.controller_gets p now (record l { to_controller = ps }))
       to_controller_so Lost now (p ∷ ps) rest room l = yet rest room (record l { to_controller = ps })
       to_controller_so Repeated now (p ∷ ps) rest room l = yet rest room (link.controller_gets p now l)
 
-      moves_so : (move : Move H) (rest : List Event) (room : ℕ) (l : Link H) → StaysInSession move (off event rest room l) → With move (off event rest room l)
+      moves_so : (move : Move H) (rest : List Event) (room : Room) (l : Link H) → StaysInSession move (off event rest room l) → With move (off event rest room l)
       moves_so (Submit c) rest room l stays = submits_so (controllers.submit_refusal c l.controller) c rest room l
       moves_so (QueueEvent e) rest room l stays =
-          let room_for = has_room event rest room stays in
-          queues_so (length (event ∷ rest) == room) (length rest == room) e rest room l room_for.0 room_for.1
+          let before = offered_queue event rest room in
+          let without : Queue = record { events = rest; capacity = room.messages; room = room.bytes; offered = false; ever_offered = false } in
+          queues_so (lacks_room e before) (lacks_room e without) e rest room l (lacks_none e before stays) (lacks_none e without (room_without e event without stays))
       moves_so (SetBusy busy) rest room l stays = yet rest room (after_move answer_of after (SetBusy busy) l)
       moves_so (Tick now) rest room l stays = yet rest room (after_move answer_of after (Tick now) l)
       moves_so (ToReader how) rest room l stays = to_reader_so how l.to_reader rest room l stays
@@ -173,7 +192,7 @@ module _ {H : Type 0} where
     move_for move l event rest is stays =
         let same = is_off event rest l is in
         subst (λ (m : Link H). DifferFor event (after_move answer_of after move (lapses m)) (after_move answer_of after move m)) same
-        (moves_so event answer_of after move rest l.reader.queue.capacity l (subst (StaysInSession move) (sym same) stays))
+        (moves_so event answer_of after move rest (room_of l.reader.queue) l (subst (StaysInSession move) (sym same) stays))
 
     differ_so : (event : Event) (m l : Link H) → DifferFor event m l → DifferByLapse m l
     differ_so event m l (inl same) = inl same
@@ -204,10 +223,10 @@ module _ {H : Type 0} where
     pub lapses_are_unheard : LapsesAreUnheard answer_of after
     lapses_are_unheard = record {
       leaves = λ l event rest is. subst (λ (m : Link H). (lapses m).reader.queue
-          ≡ record { events = rest; capacity = m.reader.queue.capacity; offered = false; ever_offered = false }) (is_off event rest l is) refl;
+          ≡ record { events = rest; capacity = m.reader.queue.capacity; room = m.reader.queue.room; offered = false; ever_offered = false }) (is_off event rest l is) refl;
       session = λ l event rest moves is stay. all_so moves l event rest is stay;
       taken = λ l event rest p is kind.
-          let room = l.reader.queue.capacity in
+          let room = room_of l.reader.queue in
           subst (λ (m : Link H). link.reader_gets answer_of after p (lapses m) ≡ link.reader_gets answer_of after p m) (is_off event rest l is)
           (subst (λ k. gets_by event answer_of after k p (lapses (off event rest room l)) ≡ gets_by event answer_of after k p (off event rest room l))
           (sym kind) (taken_so event answer_of after p rest room l));
@@ -215,7 +234,7 @@ module _ {H : Type 0} where
 
     -- ---- where the session ends
 
-    next_with : (refusal : Option ControllerFault) (ps qs : List Packet) (now : ℕ) (event : Event) (rest : List Event) (room : ℕ) (l : Link H)
+    next_with : (refusal : Option ControllerFault) (ps qs : List Packet) (now : ℕ) (event : Event) (rest : List Event) (room : Room) (l : Link H)
         → l.controller.session.config.address < 127 → Each MaySubmit l.controller.waiting
         → refusal ≡ None → ps ≡ [] → qs ≡ [] → l.to_reader ≡ [] → l.to_controller ≡ []
         → let next = link.reopens refusal ps qs now (lapses (off event rest room l)) in
@@ -240,7 +259,7 @@ module _ {H : Type 0} where
     pub next_begins_without : ReadEachOther answer_of after → NextBeginsWithout answer_of after
     next_begins_without peers first moves event rest now begin fits is may there here =
         let l = run answer_of after moves first in
-        let room = l.reader.queue.capacity in
+        let room = room_of l.reader.queue in
         let s = stands answer_of after peers first moves begin fits in
         subst (λ (m : Link H). let next = after_move answer_of after (Reopen now) (lapses m) in
         Begins (record next { earlier = [] }) × (next.account.queued ≡ rest) × (next.earlier ≡ l.account ∷ l.earlier)) (is_off event rest l is)

@@ -1,11 +1,12 @@
 -- Lists of moves with lapses: beside each link stands the one in which the event that has lapsed is offered yet, and what holds of a session holds of that.
-use Rattle.std.proofs.Common.{◌≡◌, ◌≢◌, ◌<◌, ◌⊎◌, ℕ, suc, false, cond, List, [], ◌∷◌, ◌++◌, length, Option, Some, None, Result, Ok, Err, refl, sym, subst, ap, ◌∙◌, inl, inr, arith}
+use Rattle.std.proofs.Common.{◌≡◌, ◌≢◌, ◌⊎◌, ℕ, false, cond, List, [], ◌∷◌, ◌++◌, Option, Some, None, Result, Ok, Err, refl, sym, subst, ap, ◌∙◌, inl, inr}
 use Rattle.std.proofs.lemmas.List.{append-nil}
 use Rattle.std.specs.Prelude.{IfSome, option_to_list}
 use Rattle.osdp_frame.specs.Packet.{Packet}
 use Rattle.osdp_msg.specs.ReplyTable.{ReplyFits}
 use Rattle.osdp_msg.specs.declared.command.Command.{Command}
 use Rattle.osdp_msg.specs.declared.event.Event.{Event}
+use Rattle.osdp_msg.specs.declared.limits.Room.{Room}
 use Rattle.osdp_controller.specs.Machine as controllers
 use Rattle.osdp_controller.specs.declared.config.ControllerConfig.{ControllerConfig}
 use Rattle.osdp_controller.specs.declared.fault.ControllerFault.{ControllerFault}
@@ -27,7 +28,7 @@ use Rattle.osdp_link_laws.specs.Sessions.{Leaves, queued, submitted}
 use Rattle.osdp_link_laws.proofs.Devices.{IsDevice, move_there}
 use Rattle.osdp_link_laws.proofs.Growing.{GoesOn, Grows, goes_on}
 use Rattle.osdp_link_laws.proofs.InARow.{Assumed, StaysApart, apart_on, assumed_of, begins as begins_so, begins_apart, begins_more, begins_on, begun_again, stays_whole}
-use Rattle.osdp_link_laws.proofs.Lapsing.{DifferFor, is_off, move_for, not_zero_if, off}
+use Rattle.osdp_link_laws.proofs.Lapsing.{DifferFor, is_off, move_for, not_zero_if, off, room_of}
 use Rattle.osdp_link_laws.proofs.Lines.{each_rest}
 use Rattle.osdp_link_laws.proofs.Once.{Goes, fresh, is_once, moving}
 use Rattle.osdp_link_laws.proofs.PastOpening.{IsNoReopen, IsNumbered, NoneOfferedOrPast, OpeningIsPast, numbered_goes_on, one_past, past_on}
@@ -50,12 +51,12 @@ row_on t u cs es (before ∷ earlier) (events ∷ lapsed) grows (inr (waiting, e
 module _ {H : Type 0} (answer_of : H → Command → Answer) (after : H → Command → H) where
   -- ---- what is said is the same with the lapse and without, but at number 0
 
-  said_taken : (c : Result Command _) (event : Event) (rest : List Event) (room : ℕ) (l : Link H) (p : Packet)
+  said_taken : (c : Result Command _) (event : Event) (rest : List Event) (room : Room) (l : Link H) (p : Packet)
       → (table.taken answer_of after c (lapses (off event rest room l)).reader p).said ≡ (table.taken answer_of after c (off event rest room l).reader p).said
   said_taken (Ok c) event rest room l p = refl
   said_taken (Err fault) event rest room l p = refl
 
-  said_by : (kind : Kind) (event : Event) (rest : List Event) (room : ℕ) (l : Link H) (p : Packet) → kind ≢ Zero
+  said_by : (kind : Kind) (event : Event) (rest : List Event) (room : Room) (l : Link H) (p : Packet) → kind ≢ Zero
       → (outcome answer_of after kind (lapses (off event rest room l)).reader p).said ≡ (outcome answer_of after kind (off event rest room l).reader p).said
   said_by Silent event rest room l p differs = refl
   said_by Secured event rest room l p differs = refl
@@ -65,13 +66,13 @@ module _ {H : Type 0} (answer_of : H → Command → Answer) (after : H → Comm
   said_by Busy event rest room l p differs = refl
   said_by Wrong event rest room l p differs = refl
 
-  fits_front : (ps : List Packet) (event : Event) (rest : List Event) (room : ℕ) (l : Link H) → Each IsNumbered ps
+  fits_front : (ps : List Packet) (event : Event) (rest : List Event) (room : Room) (l : Link H) → Each IsNumbered ps
       → SaysWhatFitsIf answer_of after Delivered ps (lapses (off event rest room l)).reader → SaysWhatFitsIf answer_of after Delivered ps (off event rest room l).reader
   fits_front [] event rest room l all fits = tt
   fits_front (p ∷ ps) event rest room l all fits =
       subst (λ o. IfSome o ReplyFits) (said_by (kind_of l.reader p) event rest room l p (numbered_goes_on l.reader p all.0)) fits
 
-  fits_if : (how : Delivery) (ps : List Packet) (event : Event) (rest : List Event) (room : ℕ) (l : Link H) → Each IsNumbered ps
+  fits_if : (how : Delivery) (ps : List Packet) (event : Event) (rest : List Event) (room : Room) (l : Link H) → Each IsNumbered ps
       → SaysWhatFitsIf answer_of after how ps (lapses (off event rest room l)).reader → SaysWhatFitsIf answer_of after how ps (off event rest room l).reader
   fits_if Delivered ps event rest room l all fits = fits_front ps event rest room l all fits
   fits_if Lost ps event rest room l all fits = tt
@@ -81,35 +82,36 @@ module _ {H : Type 0} (answer_of : H → Command → Answer) (after : H → Comm
   abbrev Asked : Move H → Link H → Type 0
   Asked move l = MoveFits answer_of after move l × StaysInSession move l × IsNoReopen move
 
-  asked_off : (move : Move H) (event : Event) (rest : List Event) (room : ℕ) (l : Link H) → Each IsNumbered l.to_reader → IsNoReopen move
-      → MoveFits answer_of after move (lapses (off event rest room l)) → LeavesRoom answer_of after move (lapses (off event rest room l))
+  asked_off : (move : Move H) (event : Event) (rest : List Event) (room : Room) (l : Link H) → Each IsNumbered l.to_reader → IsNoReopen move
+      → (lapsed told : List Event) → lapsed ≡ told ++ event ∷ []
+      → MoveFits answer_of after move (lapses (off event rest room l)) → LeavesRoom answer_of after lapsed move (lapses (off event rest room l))
       → Asked move (off event rest room l)
-  asked_off (QueueEvent e) event rest room l all on fits leaves_room =
-      (tt, (let longer : length (event ∷ rest) ≡ suc (length rest) = refl in omega (arith, leaves_room, longer)), tt)
-  asked_off (ToReader how) event rest room l all on fits leaves_room =
+  asked_off (QueueEvent e) event rest room l all on lapsed told tells fits leaves_room = (tt, leaves_room told event tells, tt)
+  asked_off (ToReader how) event rest room l all on lapsed told tells fits leaves_room =
       (fits_if how l.to_reader event rest room l all fits, not_zero_if answer_of after how l.to_reader (off event rest room l).reader all, tt)
-  asked_off (Reopen now) event rest room l all on fits leaves_room = absurd on
-  asked_off (Submit c) event rest room l all on fits leaves_room = (fits, tt, tt)
-  asked_off (SetBusy busy) event rest room l all on fits leaves_room = (tt, tt, tt)
-  asked_off (Tick now) event rest room l all on fits leaves_room = (tt, tt, tt)
-  asked_off (ToController how now) event rest room l all on fits leaves_room = (tt, tt, tt)
-  asked_off (SetHandler handler) event rest room l all on fits leaves_room = (tt, tt, tt)
-  asked_off Withdraw event rest room l all on fits leaves_room = (tt, tt, tt)
-  asked_off (Retarget address) event rest room l all on fits leaves_room = (tt, tt, tt)
-  asked_off WithdrawEvent event rest room l all on fits leaves_room = (tt, tt, tt)
-  asked_off (RestartReader address handler many) event rest room l all on fits leaves_room = (fits, tt, tt)
-  asked_off (RestartController config many) event rest room l all on fits leaves_room = (fits, tt, tt)
-  asked_off (LoseToReader place) event rest room l all on fits leaves_room = (tt, tt, tt)
-  asked_off (LoseToController place) event rest room l all on fits leaves_room = (tt, tt, tt)
+  asked_off (Reopen now) event rest room l all on lapsed told tells fits leaves_room = absurd on
+  asked_off (Submit c) event rest room l all on lapsed told tells fits leaves_room = (fits, tt, tt)
+  asked_off (SetBusy busy) event rest room l all on lapsed told tells fits leaves_room = (tt, tt, tt)
+  asked_off (Tick now) event rest room l all on lapsed told tells fits leaves_room = (tt, tt, tt)
+  asked_off (ToController how now) event rest room l all on lapsed told tells fits leaves_room = (tt, tt, tt)
+  asked_off (SetHandler handler) event rest room l all on lapsed told tells fits leaves_room = (tt, tt, tt)
+  asked_off Withdraw event rest room l all on lapsed told tells fits leaves_room = (tt, tt, tt)
+  asked_off (Retarget address) event rest room l all on lapsed told tells fits leaves_room = (tt, tt, tt)
+  asked_off WithdrawEvent event rest room l all on lapsed told tells fits leaves_room = (tt, tt, tt)
+  asked_off (RestartReader address handler many) event rest room l all on lapsed told tells fits leaves_room = (fits, tt, tt)
+  asked_off (RestartController config many) event rest room l all on lapsed told tells fits leaves_room = (fits, tt, tt)
+  asked_off (LoseToReader place) event rest room l all on lapsed told tells fits leaves_room = (tt, tt, tt)
+  asked_off (LoseToController place) event rest room l all on lapsed told tells fits leaves_room = (tt, tt, tt)
 
   asked_without : (move : Move H) (event : Event) (rest : List Event) (l : Link H) → Offers event rest l → Each IsNumbered l.to_reader → IsNoReopen move
-      → MoveFits answer_of after move (lapses l) → LeavesRoom answer_of after move (lapses l) → Asked move l
-  asked_without move event rest l is all on fits leaves_room =
+      → (lapsed told : List Event) → lapsed ≡ told ++ event ∷ []
+      → MoveFits answer_of after move (lapses l) → LeavesRoom answer_of after lapsed move (lapses l) → Asked move l
+  asked_without move event rest l is all on lapsed told tells fits leaves_room =
       let same = is_off event rest l is in
-      let room = l.reader.queue.capacity in
-      subst (Asked move) same (asked_off move event rest room l all on
+      let room = room_of l.reader.queue in
+      subst (Asked move) same (asked_off move event rest room l all on lapsed told tells
       (subst (λ (m : Link H). MoveFits answer_of after move (lapses m)) (sym same) fits)
-      (subst (λ (m : Link H). LeavesRoom answer_of after move (lapses m)) (sym same) leaves_room))
+      (subst (λ (m : Link H). LeavesRoom answer_of after lapsed move (lapses m)) (sym same) leaves_room))
 
   module _ (settings : ReaderConfig) where
     -- ---- the session of a link in which nothing has lapsed yet
@@ -188,7 +190,7 @@ module _ {H : Type 0} (answer_of : H → Command → Answer) (after : H → Comm
     }
 
     -- .. after a lapse: without the event
-    reopens_lapsed : (refusal : Option ControllerFault) (ps qs : List Packet) (now : ℕ) (event : Event) (rest : List Event) (room : ℕ) (v : Link H) (d : Doubtful H)
+    reopens_lapsed : (refusal : Option ControllerFault) (ps qs : List Packet) (now : ℕ) (event : Event) (rest : List Event) (room : Room) (v : Link H) (d : Doubtful H)
         → controllers.begin_refusal v.controller ≡ refusal → v.to_reader ≡ ps → v.to_controller ≡ qs
         → OpeningIsPast (off event rest room v) → Lasts (off event rest room v) d.lapsed_before → (told : List Event) → d.lapsed ≡ told ++ event ∷ []
         → Held (after_reopen answer_of after refusal ps qs (link.reopens refusal ps qs now (lapses (off event rest room v))) d)
@@ -254,7 +256,7 @@ module _ {H : Type 0} (answer_of : H → Command → Answer) (after : H → Comm
             (reopens_so (controllers.begin_refusal v.controller) v.to_reader v.to_controller now v (record d { link = v }) refl refl refl h.lasts)
         by_rel (inr (event, rest, offers, past, same, told, tells)) =
             let v = h.without in
-            let room = v.reader.queue.capacity in
+            let room = room_of v.reader.queue in
             let is = is_off event rest v offers in
             subst (λ (m : Link H). Held (after_lapsing answer_of after (Moves (Reopen now)) (record d { link = m }))) (sym same)
             (subst (λ (m : Link H). Held (after_lapsing answer_of after (Moves (Reopen now)) (record d { link = lapses m }))) is
@@ -265,7 +267,7 @@ module _ {H : Type 0} (answer_of : H → Command → Answer) (after : H → Comm
     -- ---- a move within the session
 
     moves_held : Assumed answer_of after settings → (move : Move H) (l : Link H) (lapsed : List Event) (before : List (List Event)) → GoesOn move → IsNoReopen move
-        → MoveFits answer_of after move l → LeavesRoom answer_of after move l → HeldWith l lapsed before
+        → MoveFits answer_of after move l → LeavesRoom answer_of after lapsed move l → HeldWith l lapsed before
         → HeldWith (after_move answer_of after move l) lapsed before
     moves_held given move l lapsed before on same_session fits leaves_room h = by_rel h.stands_for
       where
@@ -284,8 +286,8 @@ module _ {H : Type 0} (answer_of : H → Command → Answer) (after : H → Comm
             })
         by_rel (inr (event, rest, offers, past, same, told, tells)) =
             let v = h.without in
-            let asked = asked_without move event rest v offers past.frames same_session (subst (MoveFits answer_of after move) same fits)
-            (subst (LeavesRoom answer_of after move) same leaves_room) in
+            let asked = asked_without move event rest v offers past.frames same_session lapsed told tells (subst (MoveFits answer_of after move) same fits)
+            (subst (LeavesRoom answer_of after lapsed move) same leaves_room) in
             let next = after_move answer_of after move v in
             let later = past_on answer_of after move v same_session past in
             subst (λ (m : Link H). HeldWith (after_move answer_of after move m) lapsed before) (sym same) (record {
@@ -304,6 +306,7 @@ module _ {H : Type 0} (answer_of : H → Command → Answer) (after : H → Comm
             queue = cond b (record {
               events = Rattle.std.specs.Prelude.drop 1 l.reader.queue.events;
               capacity = l.reader.queue.capacity;
+              room = l.reader.queue.room;
               offered = false;
               ever_offered = false;
             }) l.reader.queue;
@@ -316,7 +319,7 @@ module _ {H : Type 0} (answer_of : H → Command → Answer) (after : H → Comm
         subst (λ (m : Link H). (lapses (lapses m) ≡ lapses m) × (option_to_list (in_doubt (lapses m).reader.queue) ≡ [])
         × (option_to_list (in_doubt m.reader.queue) ≡ event ∷ [])) (is_off event rest v offers) (refl, refl, refl)
 
-    lapse_held : (d : Doubtful H) → LapsingFits answer_of after Lapse d.link → Held d → Held (after_lapsing answer_of after Lapse d)
+    lapse_held : (d : Doubtful H) → LapsingFits answer_of after Lapse d.lapsed d.link → Held d → Held (after_lapsing answer_of after Lapse d)
     lapse_held d fits h = by_rel h.stands_for
       where
         v : Link H
@@ -328,7 +331,7 @@ module _ {H : Type 0} (answer_of : H → Command → Answer) (after : H → Comm
         by_past event rest offers some (inr past) =
             inr (event, rest, offers, past, refl, d.lapsed, ap (λ es. d.lapsed ++ es) (lapses_twice event rest v offers).2)
 
-        by_fits : LapsingFits answer_of after Lapse v → StandsFor v (lapses v) (d.lapsed ++ option_to_list (in_doubt v.reader.queue))
+        by_fits : LapsingFits answer_of after Lapse d.lapsed v → StandsFor v (lapses v) (d.lapsed ++ option_to_list (in_doubt v.reader.queue))
         by_fits (inl never) = inl (nothing_lapses v never)
         by_fits (inr (event, rest, offers, some)) = by_past event rest offers some h.lasts.past
 
@@ -337,7 +340,7 @@ module _ {H : Type 0} (answer_of : H → Command → Answer) (after : H → Comm
             subst (λ (m : Link H). HeldWith (lapses m) (d.lapsed ++ option_to_list (in_doubt m.reader.queue)) d.lapsed_before) (sym same) (record {
               without = v;
               lasts = h.lasts;
-              stands_for = by_fits (subst (LapsingFits answer_of after Lapse) same fits);
+              stands_for = by_fits (subst (LapsingFits answer_of after Lapse d.lapsed) same fits);
             })
         by_rel (inr (event, rest, offers, past, same, told, tells)) =
             let twice = lapses_twice event rest v offers in
@@ -357,7 +360,7 @@ module _ {H : Type 0} (answer_of : H → Command → Answer) (after : H → Comm
 
     -- ---- all moves
 
-    one_held : Assumed answer_of after settings → (move : LapsingMove H) (d : Doubtful H) → LapsingFits answer_of after move d.link → Held d
+    one_held : Assumed answer_of after settings → (move : LapsingMove H) (d : Doubtful H) → LapsingFits answer_of after move d.lapsed d.link → Held d
         → Held (after_lapsing answer_of after move d)
     one_held given Lapse d fits h = lapse_held d fits h
     one_held given (Moves (Reopen now)) d fits h = reopens_held now d h

@@ -2,6 +2,7 @@
 use Rattle.std.proofs.Common.{◌≡◌, ◌≤◌, ℕ, List, [], ◌∷◌, ◌++◌, length, map, Option, Some, None, refl, sym, subst, ap, ◌∙◌, inl, inr, arith, append_assoc}
 use Rattle.std.proofs.lemmas.List.{append-nil, map-append}
 use Rattle.std.specs.Prelude.{option_to_list}
+use Rattle.osdp_msg.specs.declared.limits.Room.{Room}
 use Rattle.osdp_msg.specs.declared.command.Command.{Command}
 use Rattle.osdp_msg.specs.declared.event.Event.{Event}
 use Rattle.osdp_msg.specs.declared.reply.Reply.{Reply}
@@ -284,13 +285,13 @@ module _ (fixed : ControllerConfig) {H : Type 0} (answer_of : H → Command → 
 
   -- ---- the controller restarts
 
-  going_restarts : (config : ControllerConfig) (room : ℕ) (l : Link H) → Goes l → Goes (link.restarts_controller config room l)
+  going_restarts : (config : ControllerConfig) (room : Room) (l : Link H) → Goes l → Goes (link.restarts_controller config room l)
   going_restarts config room l h =
       let t = l.account in
       let ws = l.controller.waiting in
       let forgotten = t.forgotten ++ option_to_list (outstanding_command l.controller.session.state) in
       record {
-        holds = changing l (controllers.new_machine config room) (t.removed ++ map ThrownAway ws) forgotten
+        holds = changing l (controllers.new_machine config room.messages room.bytes) (t.removed ++ map ThrownAway ws) forgotten
             (append-nil (map removed_command (t.removed ++ map ThrownAway ws))
             ∙ map-append removed_command t.removed (map ThrownAway ws) ∙ ap (λ cs. gone t ++ cs) (thrown_are ws))
             (λ at is. closed_at at (new_session config) refl)

@@ -17,7 +17,7 @@ use Rattle.osdp_controller.specs.declared.exchange.Exchange.TheVariants.{Opening
 use Rattle.osdp_controller.specs.declared.fault.ControllerFault.{ControllerFault}
 use Rattle.osdp_controller.specs.declared.report.Report.{Report}
 use Rattle.osdp_controller.specs.declared.report.Report.TheVariants as report
-use Rattle.osdp_reader.specs.Queue.{event_for, offering, released}
+use Rattle.osdp_reader.specs.Queue.{event_for, offering, released, lacks_room}
 use Rattle.osdp_reader.specs.Replies.{reply_packet}
 use Rattle.osdp_reader.specs.State.{ReaderState}
 use Rattle.osdp_reader.specs.Table.{answer_to, begun, command_in, event_or_answer, kind_by_number, kind_of, moved, new_address, outcome, taken}
@@ -101,7 +101,7 @@ module _ {H : Type 0} (answer_of : H → Command → Answer) (after : H → Comm
             IsAnswered first (taken_command d (Some a.reply) front t) a.handler) (sym poll)
             (same_answered first t (record t { offered = t.offered ++ front }) r.handler
             (event_or_answer answer_of after (event_for command.Poll events) r.config r.handler command.Poll).handler refl refl
-            (polled fixed events r.queue.capacity false answer_of after r.config r.handler).1 is)
+            (polled fixed events r.queue.capacity r.queue.room false answer_of after r.config r.handler).1 is)
         | inr other ↦
             let a = answer_to answer_of after r.config r.handler c in
             let later = handler_after_commands answer_of after settings first t.taken in
@@ -253,7 +253,7 @@ module _ {H : Type 0} (answer_of : H → Command → Answer) (after : H → Comm
   move_answered : Assumed answer_of after settings → (start : H) (move : Move H) (l : Link H) → KeepsHandler move l → Stands answer_of after settings l
       → AllAnswered start l → AllAnswered start (after_move answer_of after move l)
   move_answered given start (Submit c) l keeps s is = submits_answered start (controllers.submit_refusal c l.controller) c l is
-  move_answered given start (QueueEvent e) l keeps s is = queues_answered start (length l.reader.queue.events == l.reader.queue.capacity) e l is
+  move_answered given start (QueueEvent e) l keeps s is = queues_answered start (lacks_room e l.reader.queue) e l is
   move_answered given start (SetBusy busy) l keeps s is = is
   move_answered given start WithdrawEvent l keeps s is = others_answered start l (link.withdraws_event l).account l.reader.handler refl refl refl is
   move_answered given start (LoseToReader place) l keeps s is = is

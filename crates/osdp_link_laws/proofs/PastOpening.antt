@@ -31,6 +31,7 @@ use Rattle.osdp_reader.specs.declared.config.ReaderConfig.{ReaderConfig}
 use Rattle.osdp_reader.specs.declared.handler.Answer.{Answer}
 use Rattle.osdp_reader.specs.declared.kind.Kind.{Kind}
 use Rattle.osdp_reader.specs.declared.kind.Kind.TheVariants.{Silent, Secured, Zero, Repeat, Taken, Busy, Wrong}
+use Rattle.osdp_reader.specs.Queue.{lacks_room}
 use Rattle.osdp_link_laws.specs.Headline.{Begins, MovesFit}
 use Rattle.osdp_link_laws.specs.Link as link
 use Rattle.osdp_link_laws.specs.Link.{Account, Delivered, Delivery, Link, LoseToController, LoseToReader, Lost, Move, Queue as QueueEvent, Reopen, Repeated, RestartController, RestartReader, Retarget, SetBusy, SetHandler, Submit, Tick, ToController, ToReader, Withdraw, WithdrawEvent, after_move, after_report, run}
@@ -213,7 +214,7 @@ module _ {H : Type 0} where
 
     pub past_on : (move : Move H) (l : Link H) → IsNoReopen move → OpeningIsPast l → OpeningIsPast (after_move answer_of after move l)
     past_on (Submit c) l on is = submits_past (controllers.submit_refusal c l.controller) c l is
-    past_on (QueueEvent e) l on is = queues_past (Rattle.std.specs.Prelude.length l.reader.queue.events == l.reader.queue.capacity) e l is
+    past_on (QueueEvent e) l on is = queues_past (lacks_room e l.reader.queue) e l is
     past_on (SetBusy busy) l on is = record { frames = is.frames; controller = is.controller }
     past_on (Tick now) l on is =
         let t = tick_on l.controller.session.state (seen now l.controller.session) l.controller.waiting refl is.controller in
@@ -415,7 +416,7 @@ module _ {H : Type 0} where
       one_past (Submit c) l h is =
           as_none l (after_move answer_of after (Submit c) l) (submits_offers (controllers.submit_refusal c l.controller) c l) (past_on answer_of after (Submit c) l tt) is
       one_past (QueueEvent e) l h is =
-          as_none l (after_move answer_of after (QueueEvent e) l) (queues_offers (Rattle.std.specs.Prelude.length l.reader.queue.events == l.reader.queue.capacity) e l)
+          as_none l (after_move answer_of after (QueueEvent e) l) (queues_offers (lacks_room e l.reader.queue) e l)
           (past_on answer_of after (QueueEvent e) l tt) is
       one_past (SetBusy busy) l h is = as_none l (after_move answer_of after (SetBusy busy) l) refl (past_on answer_of after (SetBusy busy) l tt) is
       one_past (Tick now) l h is =

@@ -21,6 +21,7 @@ use Rattle.osdp_reader.specs.declared.handler.Answer.{Answer}
 use Rattle.osdp_reader.specs.declared.kind.Kind.{Kind}
 use Rattle.osdp_reader.specs.declared.kind.Kind.TheVariants as kind
 use Rattle.osdp_reader.specs.Table as reader
+use Rattle.osdp_reader.specs.Queue.{lacks_room}
 use Rattle.osdp_link_laws.specs.Headline.{MoveFits}
 use Rattle.osdp_link_laws.specs.Link as link
 use Rattle.osdp_link_laws.specs.Link.{Account, Delivered, Delivery, Link, Lost, Move, Queue as QueueEvent, Removal, Reopen, Repeated, RestartController, RestartReader, Retarget, SetBusy, SetHandler, Submit, ThrownAway, Tick, ToController, ToReader, Withdraw, WithdrawEvent, Withdrawn, after_move, outstanding_command, after_report, LoseToReader, LoseToController}
@@ -101,7 +102,7 @@ module _ (fixed : ControllerConfig) {H : Type 0} (answer_of : H → Command → 
         (λ e. record { no_poll = not_poll c l.controller e; fits = fits }) h,
   )
   moving_inside given (QueueEvent e) l on fits (s, at, h) =
-      (s, at, queueing fixed answer_of after settings s (length l.reader.queue.events == l.reader.queue.capacity) e at l h)
+      (s, at, queueing fixed answer_of after settings s (lacks_room e l.reader.queue) e at l h)
   moving_inside given WithdrawEvent l on fits (s, at, h) = (s, at, withdrawing fixed answer_of after settings s at l h)
   moving_inside given (SetBusy busy) l on fits (s, at, h) = (s, at, being_otherwise fixed answer_of after settings s busy l.reader.handler at l h)
   moving_inside given (Tick now) l on fits (s, at, h) = staying (ticking fixed answer_of after settings s at now l h)
@@ -188,7 +189,7 @@ module _ (fixed : ControllerConfig) {H : Type 0} (answer_of : H → Command → 
             (λ e. record { no_poll = not_poll c l.controller e; fits = fits }) h,
       )
   closed_inside given w u (QueueEvent e) l on fits closed h =
-      queues_as w u (length l.reader.queue.events == l.reader.queue.capacity) e l (moving_inside given (QueueEvent e) (as_if w u l) tt tt h)
+      queues_as w u (lacks_room e l.reader.queue) e l (moving_inside given (QueueEvent e) (as_if w u l) tt tt h)
   closed_inside given w u WithdrawEvent l on fits closed h = moving_inside given WithdrawEvent (as_if w u l) tt tt h
   closed_inside given w u (SetBusy busy) l on fits closed h = moving_inside given (SetBusy busy) (as_if w u l) tt tt h
   closed_inside given w u (Tick now) l on fits closed h = tick_as w u now l closed (moving_inside given (Tick now) (as_if w u l) tt tt h)

@@ -3,6 +3,7 @@ use Rattle.std.proofs.Common.{◌≡◌, ℕ, List, [], ◌∷◌, ◌++◌, len
 use Rattle.std.proofs.lemmas.List.{append-nil}
 use Rattle.std.specs.Prelude.{option_to_list}
 use Rattle.osdp_msg.specs.Events.{event_in}
+use Rattle.osdp_msg.specs.declared.limits.Room.{Room}
 use Rattle.osdp_msg.specs.declared.command.Command.{Command}
 use Rattle.osdp_msg.specs.declared.event.Event.{Event}
 use Rattle.osdp_msg.specs.declared.reply.Reply.{Reply}
@@ -121,7 +122,7 @@ module _ (fixed : ControllerConfig) {H : Type 0} (answer_of : H → Command → 
       gone_before Before (shown_at at) (unreported_at at) l.reader.queue.events l.account tt (front_at fixed Before at l.reader tt h.reader) h.account.offered h.account.told
   gone Now at l h = gone_now l.account l.reader.queue.events (any_front (shown_at at) [] l.reader.queue.events l.account h.account.told)
 
-  pub restarting_reader : (address : ℕ) (handler : H) (room : ℕ) (since : Restarted) (at : Stage) (l : Link H) → At fixed answer_of after settings since at l
+  pub restarting_reader : (address : ℕ) (handler : H) (room : Room) (since : Restarted) (at : Stage) (l : Link H) → At fixed answer_of after settings since at l
       → At fixed answer_of after settings Now at (link.restarts_reader address handler room l)
   restarting_reader address handler room since at l h = record {
     stage = h.stage;

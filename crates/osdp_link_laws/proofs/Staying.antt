@@ -13,7 +13,7 @@ use Rattle.osdp_controller.specs.Ticking.{ticks}
 use Rattle.osdp_controller.specs.declared.fault.ControllerFault.{ControllerFault}
 use Rattle.osdp_controller.specs.declared.report.Report.{Report}
 use Rattle.osdp_controller.specs.declared.report.Report.TheVariants as report
-use Rattle.osdp_reader.specs.Queue.{Queue, event_for, never_offered, offering, released, withdrawn}
+use Rattle.osdp_reader.specs.Queue.{Queue, event_for, never_offered, offering, released, withdrawn, lacks_room}
 use Rattle.osdp_reader.specs.State.{ReaderState}
 use Rattle.osdp_reader.specs.Table as reader
 use Rattle.osdp_reader.specs.Table.{command_in, new_address}
@@ -40,25 +40,25 @@ fewer_still : (old new last : List Event) → Fewer old new → Fewer new last �
 fewer_still old new last (more, is) (others, later) =
     (more ++ others, is ∙ ap (λ l. more ++ l) later ∙ sym (append_assoc more others last))
 
-released_by : (events : List Event) (capacity : ℕ) (offered ever : Bool)
-    → let q : Queue = record { events = events; capacity = capacity; offered = offered; ever_offered = ever } in Fewer (unoffered_in q) (unoffered_in (released q))
-released_by events capacity false ever = ([], refl)
-released_by events capacity true true = ([], refl)
-released_by [] capacity true false = ([], refl)
-released_by (e ∷ events) capacity true false = (e ∷ [], refl)
+released_by : (events : List Event) (capacity room : ℕ) (offered ever : Bool)
+    → let q : Queue = record { events = events; capacity = capacity; room = room; offered = offered; ever_offered = ever } in Fewer (unoffered_in q) (unoffered_in (released q))
+released_by events capacity room false ever = ([], refl)
+released_by events capacity room true true = ([], refl)
+released_by [] capacity room true false = ([], refl)
+released_by (e ∷ events) capacity room true false = (e ∷ [], refl)
 
 released_tail : (q : Queue) → Fewer (unoffered_in q) (unoffered_in (released q))
-released_tail q = released_by q.events q.capacity q.offered q.ever_offered
+released_tail q = released_by q.events q.capacity q.room q.offered q.ever_offered
 
-offering_by : (told : Option Reply) (events : List Event) (capacity : ℕ) (offered ever : Bool)
-    → let q : Queue = record { events = events; capacity = capacity; offered = offered; ever_offered = ever } in Fewer (unoffered_in q) (unoffered_in (offering told q))
-offering_by None events capacity offered ever = ([], refl)
-offering_by (Some a) events capacity offered true = ([], refl)
-offering_by (Some a) [] capacity offered false = ([], refl)
-offering_by (Some a) (e ∷ events) capacity offered false = (e ∷ [], refl)
+offering_by : (told : Option Reply) (events : List Event) (capacity room : ℕ) (offered ever : Bool)
+    → let q : Queue = record { events = events; capacity = capacity; room = room; offered = offered; ever_offered = ever } in Fewer (unoffered_in q) (unoffered_in (offering told q))
+offering_by None events capacity room offered ever = ([], refl)
+offering_by (Some a) events capacity room offered true = ([], refl)
+offering_by (Some a) [] capacity room offered false = ([], refl)
+offering_by (Some a) (e ∷ events) capacity room offered false = (e ∷ [], refl)
 
 offering_tail : (told : Option Reply) (q : Queue) → Fewer (unoffered_in q) (unoffered_in (offering told q))
-offering_tail told q = offering_by told q.events q.capacity q.offered q.ever_offered
+offering_tail told q = offering_by told q.events q.capacity q.room q.offered q.ever_offered
 
 -- one more at the end
 queued_by : (e : Event) (events : List Event) (ever : Bool)
@@ -225,7 +225,7 @@ module _ {H : Type 0} (answer_of : H → Command → Answer) (after : H → Comm
 
   pub events_go : (move : Move H) (l : Link H) → GoesOn move → Going (KeepsReader move) (queued move l) l (after_move answer_of after move l)
   events_go (Submit c) l on = submits_go (controllers.submit_refusal c l.controller) c l
-  events_go (QueueEvent e) l on = queues_go (length l.reader.queue.events == l.reader.queue.capacity) e l
+  events_go (QueueEvent e) l on = queues_go (lacks_room e l.reader.queue) e l
   events_go (SetBusy busy) l on = unchanged l
   events_go (Tick now) l on = tells (ticks now l.controller.session l.controller.waiting).step.report l
   events_go (ToReader how) l on = to_reader_go how l.to_reader l

@@ -4,6 +4,7 @@ use Rattle.std.proofs.lemmas.List.{append-nil, length-append, length-map}
 use Rattle.std.proofs.Math.Seq.{take-append_seam}
 use Rattle.std.specs.Prelude.{◌-◌, if◌then◌else◌, nat_le, nat_lt, option_to_list}
 use Rattle.osdp_frame.specs.Packet.{Packet, next_sequence}
+use Rattle.osdp_msg.specs.declared.limits.Room.{Room}
 use Rattle.osdp_msg.specs.declared.command.Command.{Command}
 use Rattle.osdp_msg.specs.declared.command.Command.TheVariants as command
 use Rattle.osdp_msg.specs.declared.event.Event.{Event}
@@ -24,7 +25,7 @@ use Rattle.osdp_controller.specs.declared.session.Session.{Session}
 use Rattle.osdp_controller.specs.declared.state.State.{State}
 use Rattle.osdp_controller.specs.declared.state.State.TheVariants.{Closed, Quiet, Idle, Waiting, Pausing}
 use Rattle.osdp_reader.specs.Table as reader
-use Rattle.osdp_reader.specs.Queue.{Queue as EventQueue, released}
+use Rattle.osdp_reader.specs.Queue.{Queue as EventQueue, released, lacks_room}
 use Rattle.osdp_reader.specs.State.{ReaderState}
 use Rattle.osdp_reader.specs.declared.config.ReaderConfig.{ReaderConfig}
 use Rattle.osdp_reader.specs.declared.handler.Answer.{Answer}
@@ -317,7 +318,7 @@ module _ {H : Type 0} (answer_of : H → Command → Answer) (after : H → Comm
   reopens None (p ∷ ps) qs now l = inl refl
   reopens (Some fault) ps qs now l = inl refl
 
-  restarts_would : (address : ℕ) (handler : H) (room : ℕ) (t : Account) → Offers t → Would {H = H} (RestartReader address handler room) t (link.reader_restarted t)
+  restarts_would : (address : ℕ) (handler : H) (room : Room) (t : Account) → Offers t → Would {H = H} (RestartReader address handler room) t (link.reader_restarted t)
   restarts_would address handler room t o =
       inr (ThrowAway, tt, tt, ap (λ es. record (two_lists t) { queued = es }) (is_front t.offered t.kept o.offered.0 o.offered.1))
 
@@ -353,7 +354,7 @@ module _ {H : Type 0} (answer_of : H → Command → Answer) (after : H → Comm
   one_or_none (Submit c) l apart offers before later =
       is_one (Submit c) l.account (after_move answer_of after (Submit c) l).account before later (submits_would (controllers.submit_refusal c l.controller) c l)
   one_or_none (QueueEvent e) l apart offers before later =
-      is_one (QueueEvent e) l.account (after_move answer_of after (QueueEvent e) l).account before later (queues_would (length l.reader.queue.events == l.reader.queue.capacity) e l)
+      is_one (QueueEvent e) l.account (after_move answer_of after (QueueEvent e) l).account before later (queues_would (lacks_room e l.reader.queue) e l)
   one_or_none WithdrawEvent l apart offers before later = withdraws_one l.reader.queue (splits l.reader.queue) l.account apart
   one_or_none (SetBusy busy) l apart offers before later = inl refl
   one_or_none (Tick now) l apart offers before later =

@@ -29,9 +29,9 @@ pub record Splits (q : Queue) : Type 0 where
   pub new_tail : unoffered_in (withdrawn q) ≡ rest
   pub few : IsOneOrEmpty one rest
 
-splits_by : (events : List Event) (capacity : ℕ) (offered ever : Bool)
-    → Splits (record { events = events; capacity = capacity; offered = offered; ever_offered = ever })
-splits_by [] capacity offered false = record {
+splits_by : (events : List Event) (capacity room : ℕ) (offered ever : Bool)
+    → Splits (record { events = events; capacity = capacity; room = room; offered = offered; ever_offered = ever })
+splits_by [] capacity room offered false = record {
   one = [];
   rest = [];
   events = refl;
@@ -41,7 +41,7 @@ splits_by [] capacity offered false = record {
   new_tail = refl;
   few = inr (refl, refl);
 }
-splits_by (e ∷ rest) capacity offered false = record {
+splits_by (e ∷ rest) capacity room offered false = record {
   one = e ∷ [];
   rest = rest;
   events = refl;
@@ -51,7 +51,7 @@ splits_by (e ∷ rest) capacity offered false = record {
   new_tail = refl;
   few = inl (e, refl);
 }
-splits_by [] capacity offered true = record {
+splits_by [] capacity room offered true = record {
   one = [];
   rest = [];
   events = refl;
@@ -61,7 +61,7 @@ splits_by [] capacity offered true = record {
   new_tail = refl;
   few = inr (refl, refl);
 }
-splits_by (f ∷ []) capacity offered true = record {
+splits_by (f ∷ []) capacity room offered true = record {
   one = [];
   rest = [];
   events = refl;
@@ -71,7 +71,7 @@ splits_by (f ∷ []) capacity offered true = record {
   new_tail = refl;
   few = inr (refl, refl);
 }
-splits_by (f ∷ e ∷ rest) capacity offered true = record {
+splits_by (f ∷ e ∷ rest) capacity room offered true = record {
   one = e ∷ [];
   rest = rest;
   events = refl;
@@ -83,7 +83,7 @@ splits_by (f ∷ e ∷ rest) capacity offered true = record {
 }
 
 pub splits : (q : Queue) → Splits q
-splits q = splits_by q.events q.capacity q.offered q.ever_offered
+splits q = splits_by q.events q.capacity q.room q.offered q.ever_offered
 
 -- ---- lists that end with it
 

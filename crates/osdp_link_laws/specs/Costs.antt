@@ -1,5 +1,6 @@
 -- What a restart costs, exactly.
 use Rattle.std.specs.Prelude.{◌≡◌, ◌≤◌, ℕ, All, List, [], ◌∷◌, ◌++◌, length}
+use Rattle.osdp_msg.specs.declared.limits.Room.{Room}
 use Rattle.osdp_msg.specs.declared.command.Command.{Command}
 use Rattle.osdp_msg.specs.declared.event.Event.{Event}
 use Rattle.osdp_controller.specs.Machine.{AreSettings}
@@ -48,7 +49,7 @@ module _ {H : Type 0} where
     -- what may be reported in this session after the restart: what was offered before it, and what is queued after it, but those of these that
     -- are withdrawn. Whatever was thrown away is none of these.
     abbrev pub ReportsNoMore : Type 0
-    ReportsNoMore = (l : Link H) (moves : List (Move H)) (address : ℕ) (handler : H) (room : ℕ) (more : List (Move H)) → Begins l
+    ReportsNoMore = (l : Link H) (moves : List (Move H)) (address : ℕ) (handler : H) (room : Room) (more : List (Move H)) → Begins l
         → MovesFit answer_of after moves l
         → let before = run answer_of after moves l in
         let next = after_move answer_of after (RestartReader address handler room) before in
@@ -58,13 +59,13 @@ module _ {H : Type 0} where
         → ReportsOnly before.account.offered (all_queued answer_of after more next) next.account last.account
 
     abbrev pub ReaderRestartCosts : Type 0
-    ReaderRestartCosts = (l : Link H) (moves : List (Move H)) (address : ℕ) (handler : H) (room : ℕ) → Begins l
+    ReaderRestartCosts = (l : Link H) (moves : List (Move H)) (address : ℕ) (handler : H) (room : Room) → Begins l
         → MovesFit answer_of after moves l
         → let before = run answer_of after moves l in
         ReaderCosts before (after_move answer_of after (RestartReader address handler room) before)
 
     abbrev pub ControllerRestartCosts : Type 0
-    ControllerRestartCosts = (l : Link H) (moves : List (Move H)) (config : ControllerConfig) (room : ℕ) → Begins l
-        → MovesFit answer_of after moves l → AreSettings config room
+    ControllerRestartCosts = (l : Link H) (moves : List (Move H)) (config : ControllerConfig) (room : Room) → Begins l
+        → MovesFit answer_of after moves l → AreSettings config room.messages room.bytes
         → let before = run answer_of after moves l in
         ControllerCosts before (after_move answer_of after (RestartController config room) before)

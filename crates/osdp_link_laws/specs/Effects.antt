@@ -5,6 +5,7 @@ use Rattle.osdp_frame.specs.Packet.{Packet}
 use Rattle.osdp_msg.specs.declared.command.Command.{Command}
 use Rattle.osdp_msg.specs.declared.command.Command.TheVariants.{Poll}
 use Rattle.osdp_msg.specs.declared.event.Event.{Event}
+use Rattle.osdp_msg.specs.declared.limits.Room.{Room}
 use Rattle.osdp_msg.specs.declared.nak.NakReason.TheVariants.{UnexpectedSequence}
 use Rattle.osdp_controller.specs.Machine.{Machine}
 use Rattle.osdp_controller.specs.declared.config.ControllerConfig.{ControllerConfig}
@@ -55,13 +56,14 @@ WithdrawsIt event stayed kept queue t u = u ≡ record t { withdrawn = t.withdra
 -- ---- machines
 
 -- the controller is closed, with these settings and this room; nothing waits, nothing is outstanding, no number was sent and no moment seen
-pub record IsNewController (settings : ControllerConfig) (room : ℕ) (m : Machine) : Type 0 where
+pub record IsNewController (settings : ControllerConfig) (room : Room) (m : Machine) : Type 0 where
   pub state : m.session.state ≡ Closed
   pub config : m.session.config ≡ settings
   pub number : m.session.number ≡ 0
   pub greatest : m.session.greatest ≡ 0
   pub waiting : m.waiting ≡ []
-  pub capacity : m.capacity ≡ room
+  pub capacity : m.capacity ≡ room.messages
+  pub room : m.room ≡ room.bytes
 
 -- ---- the line
 
@@ -74,11 +76,11 @@ LosesOne {A} place old new =
 module _ {H : Type 0} where
   -- the same device at this address, with this handler and this room: nothing was taken and nothing is stored, no event waits, and it isn't
   -- busy
-  pub record IsNewReader (here : ℕ) (answering : H) (room : ℕ) (old new : ReaderState H) : Type 0 where
+  pub record IsNewReader (here : ℕ) (answering : H) (room : Room) (old new : ReaderState H) : Type 0 where
     pub config : new.config ≡ record old.config { address = here }
     pub last : new.last ≡ None
     pub stored : new.stored ≡ None
-    pub queue : new.queue ≡ record { events = []; capacity = room; offered = false; ever_offered = false }
+    pub queue : new.queue ≡ record { events = []; capacity = room.messages; room = room.bytes; offered = false; ever_offered = false }
     pub busy : new.busy ≡ false
     pub handler : new.handler ≡ answering
 
@@ -106,6 +108,7 @@ module _ {H : Type 0} where
     pub session : next.controller.session ≡ l.controller.session
     pub waiting : next.controller.waiting ≡ left
     pub capacity : next.controller.capacity ≡ l.controller.capacity
+    pub room : next.controller.room ≡ l.controller.room
     pub account : TakesBack command l.account next.account
 
   -- this event alone has left the queue, from between these; what is offered is so still, and what is stored stays
@@ -125,10 +128,11 @@ module _ {H : Type 0} where
     pub greatest : next.controller.session.greatest ≡ l.controller.session.greatest
     pub waiting : next.controller.waiting ≡ l.controller.waiting
     pub capacity : next.controller.capacity ≡ l.controller.capacity
+    pub room : next.controller.room ≡ l.controller.room
     pub account : next.account ≡ l.account
 
   -- the controller is new, and nobody is told of the session that it had
-  pub record HasNewController (config : ControllerConfig) (room : ℕ) (l next : Link H) : Type 0 where
+  pub record HasNewController (config : ControllerConfig) (room : Room) (l next : Link H) : Type 0 where
     pub others : SameButController l next
     pub controller : IsNewController config room next.controller
     pub account : Forgets (outstanding_command l.controller.session.state) l.controller.waiting l.account next.account
@@ -156,7 +160,7 @@ module _ {H : Type 0} where
         × ((hears answer_of after new p).reader ≡ new)
 
     -- the reader is new, and what its queue held and it had not offered in the session is thrown away
-    pub record HasNewReader (address : ℕ) (handler : H) (room : ℕ) (l next : Link H) : Type 0 where
+    pub record HasNewReader (address : ℕ) (handler : H) (room : Room) (l next : Link H) : Type 0 where
       pub others : SameButReader l next
       pub reader : IsNewReader address handler room l.reader next.reader
       pub refuses : RefusesNumbers next.reader
@@ -205,9 +209,9 @@ module _ {H : Type 0} where
       pub withdraw : Withdraws
       pub event : WithdrawsEvents
       pub retarget : Retargets
-      pub reader : (l : Link H) (address : ℕ) (handler : H) (room : ℕ)
+      pub reader : (l : Link H) (address : ℕ) (handler : H) (room : Room)
           → HasNewReader address handler room l (after_move answer_of after (RestartReader address handler room) l)
-      pub controller : (l : Link H) (config : ControllerConfig) (room : ℕ)
+      pub controller : (l : Link H) (config : ControllerConfig) (room : Room)
           → HasNewController config room l (after_move answer_of after (RestartController config room) l)
       pub losses : Loses
       pub restarts : CountsRestarts

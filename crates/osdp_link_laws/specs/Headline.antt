@@ -3,7 +3,7 @@
 use Rattle.std.specs.Prelude.{◌≡◌, ◌≢◌, ◌≤◌, ◌<◌, ◌⊎◌, ℕ, List, [], ◌∷◌, ◌++◌, length, map, All, IfSome}
 use Rattle.osdp_frame.specs.Packet.{Packet}
 use Rattle.osdp_msg.specs.CommandTable.{CommandFits}
-use Rattle.osdp_msg.specs.Limits.{IsRoom}
+use Rattle.osdp_msg.specs.Limits.{AreRoom}
 use Rattle.osdp_msg.specs.ReplyTable.{ReplyFits}
 use Rattle.osdp_msg.specs.declared.command.Command.{Command}
 use Rattle.osdp_msg.specs.declared.command.Command.TheVariants.{Poll}
@@ -85,8 +85,8 @@ module _ {H : Type 0} where
     MoveFits Withdraw l = Unit {0}
     MoveFits (Retarget address) l = Unit {0}
     MoveFits WithdrawEvent l = Unit {0}
-    MoveFits (RestartReader address handler room) l = (address < 127) × IsRoom room
-    MoveFits (RestartController config room) l = AreSettings config room
+    MoveFits (RestartReader address handler room) l = (address < 127) × AreRoom room.messages room.bytes
+    MoveFits (RestartController config room) l = AreSettings config room.messages room.bytes
     MoveFits (LoseToReader place) l = Unit {0}
     MoveFits (LoseToController place) l = Unit {0}
 

@@ -1,10 +1,11 @@
 -- An event lapses: the front of the queue, which is offered and whose answer may be lost, leaves it as in doubt. As long as the session lasts nobody
 -- hears that: the line, the controller and the account are as without it, and from the next command on that the reader takes it is too.
-use Rattle.std.specs.Prelude.{◌≡◌, ◌≢◌, ◌⊎◌, ◌<◌, ℕ, true, false, List, [], ◌∷◌, length, None}
+use Rattle.std.specs.Prelude.{◌≡◌, ◌≢◌, ◌⊎◌, ℕ, true, false, List, [], ◌∷◌, None}
 use Rattle.osdp_frame.specs.Packet.{Packet}
 use Rattle.osdp_msg.specs.declared.command.Command.{Command}
 use Rattle.osdp_msg.specs.declared.event.Event.{Event}
 use Rattle.osdp_controller.specs.Machine.{begin_refusal}
+use Rattle.osdp_reader.specs.Queue.{has_room}
 use Rattle.osdp_reader.specs.State.{ReaderState, after_lapse_event}
 use Rattle.osdp_reader.specs.Table.{kind_of}
 use Rattle.osdp_reader.specs.declared.handler.Answer.{Answer}
@@ -35,7 +36,7 @@ module _ {H : Type 0} where
 
   -- the session lasts, and an event that is queued finds room
   abbrev pub StaysInSession : Move H → Link H → Type 0
-  StaysInSession (Queue event) l = length l.reader.queue.events < l.reader.queue.capacity
+  StaysInSession (Queue event) l = has_room event l.reader.queue ≡ true
   StaysInSession (ToReader how) l = IsNotZeroIf how l.to_reader l.reader
   StaysInSession (Reopen now) l = ⊥
   StaysInSession _ l = Unit {0}
@@ -52,7 +53,7 @@ module _ {H : Type 0} where
     pub record LapsesAreUnheard : Type 0 where
       -- the event waits no more, and the one after it was never offered
       pub leaves : (l : Link H) (event : Event) (rest : List Event) → Offers event rest l
-          → (lapses l).reader.queue ≡ record { events = rest; capacity = l.reader.queue.capacity; offered = false; ever_offered = false }
+          → (lapses l).reader.queue ≡ record { events = rest; capacity = l.reader.queue.capacity; room = l.reader.queue.room; offered = false; ever_offered = false }
       -- whatever happens then in this session, its report and its loss among it
       pub session : (l : Link H) (event : Event) (rest : List Event) (moves : List (Move H)) → Offers event rest l → StayInSession moves l
           → DifferByLapse (run answer_of after moves (lapses l)) (run answer_of after moves l)
@@ -72,7 +73,7 @@ module _ {H : Type 0} where
 
     -- no session begins, and an event that is queued finds room
     abbrev pub KeepsSession : Move H → Link H → Type 0
-    KeepsSession (Queue event) l = length l.reader.queue.events < l.reader.queue.capacity
+    KeepsSession (Queue event) l = has_room event l.reader.queue ≡ true
     KeepsSession (Reopen now) l = ⊥
     KeepsSession _ l = Unit {0}
 

@@ -1,11 +1,11 @@
 -- Lists of moves among which the device lets events lapse that it has offered in their session.
-use Rattle.std.specs.Prelude.{◌≡◌, ◌≢◌, ◌⊎◌, ◌<◌, ◌+◌, false, List, [], ◌∷◌, length, ◌++◌, Option, None, option_to_list}
+use Rattle.std.specs.Prelude.{◌≡◌, ◌≢◌, ◌⊎◌, true, false, List, [], ◌∷◌, ◌++◌, Option, None, option_to_list}
 use Rattle.osdp_msg.specs.declared.command.Command.{Command}
 use Rattle.osdp_msg.specs.declared.event.Event.{Event}
 use Rattle.osdp_frame.specs.Packet.{Packet}
 use Rattle.osdp_controller.specs.Machine.{begin_refusal}
 use Rattle.osdp_controller.specs.declared.fault.ControllerFault.{ControllerFault}
-use Rattle.osdp_reader.specs.Queue.{in_doubt}
+use Rattle.osdp_reader.specs.Queue.{has_room, in_doubt}
 use Rattle.osdp_reader.specs.declared.handler.Answer.{Answer}
 use Rattle.osdp_link_laws.specs.Headline.{Begins, EachIsOnce, IsBeginning, MoveFits}
 use Rattle.osdp_link_laws.specs.Lapses.{Offers, lapses}
@@ -55,21 +55,22 @@ module _ {H : Type 0} (answer_of : H → Command → Answer) (after : H → Comm
   run_lapsing [] d = d
   run_lapsing (move ∷ moves) d = run_lapsing moves (after_lapsing move d)
 
-  -- an event that is queued leaves room for one more
-  abbrev pub LeavesRoom : Move H → Link H → Type 0
-  LeavesRoom (Queue event) l = length l.reader.queue.events + 1 < l.reader.queue.capacity
-  LeavesRoom _ l = Unit {0}
+  -- an event that is queued would find room too if the one that lapsed last in this session still waited
+  abbrev pub LeavesRoom : List Event → Move H → Link H → Type 0
+  LeavesRoom lapsed (Queue event) l = (told : List Event) (last : Event) → lapsed ≡ told ++ last ∷ []
+      → has_room event (record l.reader.queue { events = last ∷ l.reader.queue.events }) ≡ true
+  LeavesRoom lapsed _ l = Unit {0}
 
   -- what is asked: of each move what is asked of it anyway, and room; and what is in doubt where an event lapses was offered in this session
-  abbrev pub LapsingFits : LapsingMove H → Link H → Type 0
-  LapsingFits (Moves move) l = MoveFits answer_of after move l × LeavesRoom move l
-  LapsingFits Lapse l =
+  abbrev pub LapsingFits : LapsingMove H → List Event → Link H → Type 0
+  LapsingFits (Moves move) lapsed l = MoveFits answer_of after move l × LeavesRoom lapsed move l
+  LapsingFits Lapse lapsed l =
       (l.reader.queue.ever_offered ≡ false)
       ⊎ ((event : Event) × (rest : List Event) × Offers event rest l × (l.account.offered ≢ []))
 
   abbrev pub AllFit : List (LapsingMove H) → Doubtful H → Type 0
   AllFit [] d = Unit {0}
-  AllFit (move ∷ moves) d = LapsingFits move d.link × AllFit moves (after_lapsing move d)
+  AllFit (move ∷ moves) d = LapsingFits move d.lapsed d.link × AllFit moves (after_lapsing move d)
 
   -- each session is once and in order, and they are in a row but for what has lapsed: so an event that has lapsed is told once as in doubt, is reported
   -- once in its session at most, and in none after it

@@ -4,6 +4,7 @@ use Rattle.osdp_frame.specs.Packet.{Packet}
 use Rattle.osdp_msg.specs.declared.command.Command.{Command}
 use Rattle.osdp_msg.specs.declared.command.Command.TheVariants.{Poll}
 use Rattle.osdp_msg.specs.declared.event.Event.{Event}
+use Rattle.osdp_msg.specs.declared.limits.Room.{Room}
 use Rattle.osdp_msg.specs.declared.reply.Reply.{Reply}
 use Rattle.osdp_msg.specs.declared.reply.Reply.TheVariants as reply
 use Rattle.osdp_controller.specs.declared.config.ControllerConfig.{ControllerConfig}
@@ -20,7 +21,7 @@ use Rattle.osdp_controller.specs.Ticking.{Ticked, ticks}
 use Rattle.osdp_reader.specs.declared.handler.Answer.{Answer}
 use Rattle.osdp_reader.specs.declared.kind.Kind.{Kind}
 use Rattle.osdp_reader.specs.declared.kind.Kind.TheVariants as kind
-use Rattle.osdp_reader.specs.Queue.{Queue as EventQueue, never_offered, released}
+use Rattle.osdp_reader.specs.Queue.{Queue as EventQueue, lacks_room, never_offered, released}
 use Rattle.osdp_reader.specs.State as readers
 use Rattle.osdp_reader.specs.State.{ReaderState}
 use Rattle.osdp_reader.specs.Table as reader
@@ -109,8 +110,8 @@ pub data Move (H : Type 0) : Type 0 where
   Withdraw : Move H
   Retarget : ℕ → Move H
   WithdrawEvent : Move H
-  RestartReader : ℕ → H → ℕ → Move H
-  RestartController : ControllerConfig → ℕ → Move H
+  RestartReader : ℕ → H → Room → Move H
+  RestartController : ControllerConfig → Room → Move H
   LoseToReader : ℕ → Move H
   LoseToController : ℕ → Move H
 
@@ -247,16 +248,16 @@ module _ {H : Type 0} where
   withdraws_event l = record l { reader = readers.after_withdraw_event l.reader; account = event_withdrawn l.reader.queue l.account }
 
   -- the same device, with nothing taken, nothing stored and no event
-  abbrev pub restarts_reader : ℕ → H → ℕ → Link H → Link H
+  abbrev pub restarts_reader : ℕ → H → Room → Link H → Link H
   restarts_reader address handler room l = record l {
     reader = readers.new_reader (record l.reader.config { address = address }) handler room;
     account = reader_restarted l.account;
   }
 
   -- closed, with nothing waiting and no moment seen: a session that lasted has ended, and nobody is told
-  abbrev pub restarts_controller : ControllerConfig → ℕ → Link H → Link H
+  abbrev pub restarts_controller : ControllerConfig → Room → Link H → Link H
   restarts_controller config room l = record l {
-    controller = controllers.new_machine config room;
+    controller = controllers.new_machine config room.messages room.bytes;
     account = controller_restarted l.controller l.account;
   }
 
@@ -285,7 +286,7 @@ module _ {H : Type 0} where
 
     abbrev pub after_move : Move H → Link H → Link H
     after_move (Submit command) l = submits (controllers.submit_refusal command l.controller) command l
-    after_move (Queue event) l = queues (length l.reader.queue.events == l.reader.queue.capacity) event l
+    after_move (Queue event) l = queues (lacks_room event l.reader.queue) event l
     after_move (SetBusy busy) l = record l { reader = readers.after_set_busy busy l.reader }
     after_move (Tick now) l = ticked (ticks now l.controller.session l.controller.waiting) l
     after_move (ToReader how) l = to_reader l.to_reader how l

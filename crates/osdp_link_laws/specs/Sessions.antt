@@ -8,6 +8,7 @@ use Rattle.osdp_controller.specs.declared.fault.ControllerFault.{ControllerFault
 use Rattle.osdp_controller.specs.declared.state.State.{State}
 use Rattle.osdp_controller.specs.declared.state.State.TheVariants.{Closed}
 use Rattle.osdp_reader.specs.declared.handler.Answer.{Answer}
+use Rattle.osdp_reader.specs.Queue.{lacks_room}
 use Rattle.osdp_link_laws.specs.Headline.{MovesFit, Begins, IsBeginning, IsWithout, asked}
 use Rattle.osdp_link_laws.specs.Link.{Account, Link, Move, Queue, Removal, Submit, ThrownAway, Withdrawn, after_move, run}
 
@@ -109,7 +110,7 @@ module _ {H : Type 0} where
   submitted _ l = []
 
   abbrev pub queued : Move H → Link H → List Event
-  queued (Queue event) l = unless_full (length l.reader.queue.events == l.reader.queue.capacity) event
+  queued (Queue event) l = unless_full (lacks_room event l.reader.queue) event
   queued _ l = []
 
   -- while the last session lasts it has told no command unsettled, and none is forgotten or removed; where it has ended it leaves what a

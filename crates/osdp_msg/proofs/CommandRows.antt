@@ -10,7 +10,7 @@ use Rattle.osdp_msg.specs.declared.command_fields.Text.{Text}
 use Rattle.osdp_msg.specs.declared.leds.LedRecord.{LedRecord}
 use Rattle.osdp_msg.specs.CommandFields.{OutputFits, output_data, output_at, LedFits, led_data, led_at, BuzzerFits, buzzer_data, buzzer_at, TextFits, text_data, text_at, CommunicationFits, communication_data, communication_at, MakerFits, maker_data, maker_at}
 use Rattle.osdp_msg.proofs.Bytes.{IsBytes-append, IsBytes-cells, IsBytes-cons, IsBytes-counted, IsBytes-drop, IsBytes-each, IsBytes-little_2, IsBytes-little_4, IsBytes-take, all_cells, bytes_2, bytes_4, cells, number_2_at, number_2_bound, number_4_at, number_4_bound}
-use Rattle.osdp_msg.proofs.RecordLists.{IsRecord}
+use Rattle.osdp_msg.specs.Records.{IsRecord}
 
 -- outputs
 

@@ -9,11 +9,11 @@ use Rattle.osdp_msg.specs.declared.command.Command.TheVariants.{Poll, Id, Cap, L
 use Rattle.osdp_msg.specs.declared.fault.MsgFault.{MsgFault}
 use Rattle.osdp_msg.specs.CommandFields.{LedFits, OutputFits, buzzer_at, communication_at, led_at, led_data, maker_at, maker_data, output_at, output_data, text_at, text_data}
 use Rattle.osdp_msg.specs.CommandTable.{CommandFits, IsCommand, command_at, command_code, command_counts_agree, command_data, command_fault, command_length_allowed}
-use Rattle.osdp_msg.specs.Records.{records_at}
+use Rattle.osdp_msg.specs.Records.{IsRecord, records_at}
 use Rattle.osdp_msg.specs.Refusal.{refusal}
 use Rattle.osdp_msg.proofs.Bytes.{all_cells}
 use Rattle.osdp_msg.proofs.CommandRows.{buzzer_takes, communication_again, communication_fits, communication_takes, leds, maker_again, maker_fits, maker_length, maker_takes, outputs, text_fits, text_takes}
-use Rattle.osdp_msg.proofs.RecordLists.{IsRecord, length-flat_map_size, length-records_from, records_again, records_fit, records_take}
+use Rattle.osdp_msg.proofs.RecordLists.{length-flat_map_size, length-records_from, records_again, records_fit, records_take}
 use Rattle.osdp_msg.proofs.Table.{IsTable, Takes, are_records, at_least, by_codes, counted, exactly, multiple_allowed, no_data, passed, passed_count, passed_least, table_of, unknown_faults}
 
 -- ---- records of one size: one at least, and no more than there is room for

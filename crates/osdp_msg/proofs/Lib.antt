@@ -1,3 +1,4 @@
+pub mod Keeping
 pub mod Bytes
 pub mod RecordLists
 pub mod Table

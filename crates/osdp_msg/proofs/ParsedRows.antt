@@ -1,6 +1,8 @@
 -- The values of rows, made of the parts of their texts.
-use Rattle.std.proofs.Common.{◌≡◌, ◌↔◌, ◌<◌, ◌≤◌, ◌+◌, ◌/◌, ◌^◌, ℕ, Bool, IsTrue, List, [], ◌∷◌, ◌++◌, length, map, get_or, Option, Some, None, refl, sym, ap, subst, ◌∙◌, arith}
+use Rattle.std.proofs.Common.{◌≡◌, ◌↔◌, ◌<◌, ◌≤◌, ◌+◌, ◌/◌, ◌==◌, ◌^◌, ℕ, Bool, true, false, IsTrue, List, [], ◌∷◌, ◌++◌, length, map, get_or, Option, Some, None, refl, sym, ap, subst, ◌∙◌, arith}
+use Rattle.std.specs.Prelude.{nat_le}
 use Rattle.std.specs.Bool.{then_some}
+use Rattle.std.proofs.lemmas.Bool.{eqb-false, eqb-true, le-leb}
 use Rattle.std.proofs.lemmas.List.{append-nil}
 use Rattle.arrayvec.specs.ArrayVec.{ArrayVec}
 use Rattle.hex.specs.Hex.{IsBytes}
@@ -8,8 +10,8 @@ use Rattle.osdp_words.specs.Reading.{ReadsWords, Takes}
 use Rattle.osdp_words.specs.Word.{AllStandFor, Word, bytes, number}
 use Rattle.osdp_words.proofs.Rows.{IsMadeOf, PairAllowed, front_missing, pair_taken, pair_words}
 use Rattle.osdp_msg.specs.declared.command_fields.Communication.{Communication}
-use Rattle.osdp_msg.specs.declared.reply_fields.Formatted.{Formatted}
-use Rattle.osdp_msg.specs.declared.reply_fields.Keypad.{Keypad}
+use Rattle.osdp_msg.specs.declared.event_fields.Formatted.{Formatted}
+use Rattle.osdp_msg.specs.declared.event_fields.Keypad.{Keypad}
 use Rattle.osdp_msg.specs.declared.command_fields.MakerMessage.{MakerMessage}
 use Rattle.osdp_msg.specs.declared.reply_fields.Nak.{Nak}
 use Rattle.osdp_msg.specs.declared.reply_fields.PdId.{PdId}
@@ -17,7 +19,7 @@ use Rattle.osdp_msg.specs.declared.command_fields.Text.{Text}
 use Rattle.osdp_msg.specs.declared.nak.NakReason.{NakReason}
 use Rattle.osdp_msg.specs.CommandFields.{BuzzerFits, buzzer_at, buzzer_data, buzzer_words, CommunicationFits, communication_words, MakerFits, maker_words, TextFits, text_words}
 use Rattle.osdp_msg.specs.NakReasons.{reason_number, reason_of}
-use Rattle.osdp_msg.specs.Raw.{RawCard}
+use Rattle.osdp_msg.specs.Raw.{RawCard, raw_card}
 use Rattle.osdp_msg.specs.ReplyFields.{FormattedFits, formatted_words, KeypadFits, keypad_words, LocalStateFits, local_state_at, local_state_data, local_state_words, NakFits, detail_words, nak_words, PdIdFits, pd_id_words, RawFits, raw_words}
 use Rattle.osdp_msg.specs.ReplyTable.{StatesFit}
 use Rattle.osdp_msg.proofs.Bytes.{IsBytes-cells, IsBytes-each, all_cells}
@@ -320,6 +322,26 @@ module _ (given : List (List ℕ)) where
     where
       raw_same : (raw : RawCard) (p : RawParts) → Some p ≡ Some (raw_parts raw) → Some (raw_from p) ≡ Some raw
       raw_same raw p e = let same : p ≡ raw_parts raw = cc e in ap (λ (q : RawParts). Some (raw_from q)) same
+
+  pub raw_made : (m1 m2 left : List (List ℕ)) (ns : List ℕ) (bits : ℕ) (list : ArrayVec ℕ) (lent : List ℕ) (r : Option RawCard) → Takes numbers_words (AreNumbers 2) given m1 (Some ns)
+      → Takes number_words (IsBelow (2 ^ 16)) m1 m2 (Some bits) → Takes list_words (IsList 1428) m2 left (Some list)
+      → left ≡ [] → lent ≡ list.items → r ≡ raw_card (get_or ns 0 0) (get_or ns 1 0) bits lent → ReadsWords raw_words RawFits given r
+  raw_made m1 m2 left ns bits list lent r t u w end is e = by_count (length lent == (bits + 7) / 8) refl
+    where
+      room : length list.items ≤ 1428
+      room = w.value.3.0
+
+      few : nat_le (length lent) 1428 ≡ true
+      few = le-leb (length lent) 1428 (omega (arith, room, ap length is))
+
+      by_count : (same : Bool) → (length lent == (bits + 7) / 8) ≡ same → ReadsWords raw_words RawFits given r
+      by_count true same =
+          let whole : raw_card (get_or ns 0 0) (get_or ns 1 0) bits lent ≡ Some (record { reader = get_or ns 0 0; format = get_or ns 1 0; bits = bits; bytes = lent }) = rw (few, same) refl in
+          let made = e ∙ whole ∙ ap (λ (xs : List ℕ). let card : RawCard = record { reader = get_or ns 0 0; format = get_or ns 1 0; bits = bits; bytes = xs } in Some card) is in
+          rw made (raw_whole m1 m2 left ns bits list t u w end (sym (ap length is) ∙ eqb-true (length lent) ((bits + 7) / 8) same))
+      by_count false same =
+          let none : raw_card (get_or ns 0 0) (get_or ns 1 0) bits lent ≡ None = rw (few, same) refl in
+          rw (e ∙ none) (raw_not_whole m1 m2 left ns bits list t u w (λ ended needed. eqb-false (length lent) ((bits + 7) / 8) same (ap length is ∙ needed)))
 
 -- NAK: a number, and a list where it isn't empty
 

@@ -1,13 +1,18 @@
 -- Lists of records of one size.
-use Rattle.std.proofs.Common.{◌≡◌, ◌<◌, ◌≤◌, ℕ, zero, suc, ◌+◌, ◌-◌, ◌*◌, ◌/◌, ◌%◌, List, [], ◌∷◌, ◌++◌, length, drop, refl, sym, ap, ◌∙◌, append_assoc, arith}
+use Rattle.std.proofs.Common.{◌≡◌, ◌<◌, ◌≤◌, inl, inr, ℕ, zero, suc, ◌+◌, ◌-◌, ◌*◌, ◌/◌, ◌%◌, List, [], ◌∷◌, ◌++◌, length, drop, refl, sym, ap, ◌∙◌, append_assoc, arith}
 use Rattle.std.specs.List.{All, flat_map}
 use Rattle.std.proofs.lemmas.List.{append-nil, drop_at, length-append, length-drop, nil_from_length}
 use Rattle.std.proofs.lemmas.List.Concat.{flat_map-cons}
-use Rattle.std.proofs.Math.Nat.{div-add-mod, div-lt_iff_lt-mul, mul-div-le, mul-div_cancel_left, mul-le-mul_left, mul-suc}
+use Rattle.std.proofs.Math.Nat.{add-div_left, div-add-mod, div-lt_iff_lt-mul, mul-div-le, mul-div_cancel_left, mul-le-mul_left, mul-mod_right, mul-suc}
+use Rattle.std.proofs.lemmas.Bool.{cases_lt}
 use Rattle.std.proofs.lemmas.List.Elements.{All-cons, All-head, All-nil, All-tail}
 use Rattle.hex.specs.Hex.{IsBytes}
+use Rattle.osdp_msg.specs.declared.lent.Lent.{Lent}
+use Rattle.osdp_msg.specs.declared.lent.Lent.TheVariants as lent
+use Rattle.osdp_msg.specs.Lending.{AreAtMost, lent_records}
 use Rattle.osdp_msg.proofs.Bytes.{IsBytes-append, IsBytes-drop, IsBytes-nil}
-use Rattle.osdp_msg.specs.Records.{records_at, records_from}
+use Rattle.osdp_msg.specs.ListedCommands.{AreWhole}
+use Rattle.osdp_msg.specs.Records.{IsRecord, records_at, records_from}
 
 -- a list of records of one size
 pub length-flat_map_size : {R : Type 0} (spelled : R → List ℕ) (size : ℕ) → ((r : R) → length (spelled r) ≡ size)
@@ -59,15 +64,6 @@ pub length-records_from : {R : Type 0} (first : List ℕ → R) (size n : ℕ) (
 length-records_from first size zero bs = refl
 length-records_from first size (suc n) bs = ap suc (length-records_from first size n (drop size bs))
 
--- What a kind of records needs: a record's bytes give it back, and bytes are those of the record in them.
-pub record IsRecord {R : Type 0} (size : ℕ) (spelled : R → List ℕ) (Fits : R → Type 0) (first : List ℕ → R) : Type 0 where
-  pub some : zero < size
-  pub len : (r : R) → length (spelled r) ≡ size
-  pub again : (r : R) (rest : List ℕ) → Fits r → first (spelled r ++ rest) ≡ r
-  pub takes : (bs : List ℕ) → size ≤ length bs → IsBytes bs → bs ≡ spelled (first bs) ++ drop size bs
-  pub fits : (bs : List ℕ) → IsBytes bs → Fits (first bs)
-  pub spells : (r : R) → Fits r → IsBytes (spelled r)
-
 module _ {R : Type 0} (size : ℕ) (spelled : R → List ℕ) (Fits : R → Type 0) (first : List ℕ → R) (kind : IsRecord size spelled Fits first) where
   again_from : (rs : List R) → All Fits rs → records_from first size (length rs) (flat_map spelled rs) ≡ rs
   again_from [] fits = refl
@@ -107,3 +103,69 @@ module _ {R : Type 0} (size : ℕ) (spelled : R → List ℕ) (Fits : R → Type
   pub records_spell : (rs : List R) → All Fits rs → IsBytes (flat_map spelled rs)
   records_spell [] fits = IsBytes-nil
   records_spell (r ∷ rs) fits = rw (flat_map-cons spelled r rs) (IsBytes-append (spelled r) (flat_map spelled rs) (kind.spells r (All-head Fits r rs fits)) (records_spell rs (All-tail Fits r rs fits)))
+
+-- ---- records that are lent
+
+few_records : (size most len : ℕ) → 0 < size → len < size * (most + 1) → len / size ≤ most
+few_records size most len some fits =
+    let few = (div-lt_iff_lt-mul {k = size} {x = len} {y = most + 1} some).1 (omega (arith, fits)) in
+    omega (arith, few)
+
+pub lent_few : {R : Type 0} (first : List ℕ → R) (size most : ℕ) (l : Lent R) → 0 < size → AreAtMost size most l → length (lent_records first size l) ≤ most
+lent_few first size most (lent.Records records) some few = few
+lent_few first size most (lent.Bytes bytes) some few =
+    let count = length-records_from first size (length bytes.now / size) bytes.now in
+    omega (arith, count, few_records size most (length bytes.now) some few.room)
+
+-- the first record, and those after it
+no_whole : (size len : ℕ) → 0 < size → len < size → len / size ≡ 0
+no_whole size len some short =
+    let few = (div-lt_iff_lt-mul {k = size} {x = len} {y = 1} some).1 (omega (arith, short)) in
+    omega (arith, few)
+
+pub records_none : {R : Type 0} (first : List ℕ → R) (size : ℕ) (bs : List ℕ) → 0 < size → length bs < size → records_at first size bs ≡ []
+records_none first size bs some short = ap (λ (k : ℕ). records_from first size k bs) (no_whole size (length bs) some short)
+
+add_one : (k : ℕ) → k + 1 ≡ suc k
+add_one k = omega arith
+
+one_less : (size len : ℕ) → 0 < size → size ≤ len → len / size ≡ suc ((len - size) / size)
+one_less size len some long =
+    let sum : size + (len - size) ≡ len = omega (arith, long) in
+    ap (λ (k : ℕ). k / size) (sym sum) ∙ add-div_left (len - size) some ∙ add_one ((len - size) / size)
+
+pub records_next : {R : Type 0} (first : List ℕ → R) (size : ℕ) (bs : List ℕ) → 0 < size → size ≤ length bs → records_at first size bs ≡ first bs ∷ records_at first size (drop size bs)
+records_next first size bs some long =
+    ap (λ (k : ℕ). records_from first size k bs) (one_less size (length bs) some long)
+    ∙ ap (λ (k : ℕ). first bs ∷ records_from first size (k / size) (drop size bs)) (sym (length-drop size bs))
+
+-- ---- records that are put one after the other
+
+pub put_full : (size most put len : ℕ) → 0 < size → len ≡ size * put → len ≡ size * most → put ≡ most
+put_full size most put len some is full =
+    sym (mul-div_cancel_left put some) ∙ ap (λ (k : ℕ). k / size) (sym is ∙ full) ∙ mul-div_cancel_left most some
+
+pub put_more : (size most put len : ℕ) → put ≤ most → len ≡ size * put → (len ≡ size * most → ⊥) → put + 1 ≤ most
+put_more size most put len few is not =
+    elim (cases_lt put most) [
+      | inl lt ↦ omega (arith, lt)
+      | inr le ↦ absurd (not (is ∙ ap (λ (k : ℕ). size * k) (omega (arith, few, le))))
+    ]
+
+pub put_room : (size most put len : ℕ) → put + 1 ≤ most → len ≡ size * put → size * most ≤ 1432 → len + size ≤ 1433
+put_room size most put len more is room =
+    let next : size * (put + 1) ≤ size * most = mul-le-mul_left size more in
+    omega (arith, next, is, room, mul-suc size put)
+
+module _ {R : Type 0} (size : ℕ) (spelled : R → List ℕ) (each : (r : R) → length (spelled r) ≡ size) (some : 0 < size) (most : ℕ) (rs : List R) where
+  pub put_length : (bytes : List ℕ) → bytes ≡ flat_map spelled rs → length bytes ≡ size * length rs
+  put_length bytes is = ap length is ∙ length-flat_map_size spelled size each rs
+
+  pub put_whole : (bytes : List ℕ) → bytes ≡ flat_map spelled rs → length rs ≤ most → AreWhole size most bytes
+  put_whole bytes is few =
+      let len = put_length bytes is in
+      let bound : size * length rs ≤ size * most = mul-le-mul_left size few in
+      record {
+        whole = ap (λ (k : ℕ). k % size) len ∙ mul-mod_right size (length rs);
+        room = omega (arith, len, bound, some, mul-suc size most);
+      }

@@ -4,7 +4,6 @@ use Rattle.std.specs.Prelude.{IfSome, option_map}
 use Rattle.std.specs.List.{All}
 use Rattle.std.proofs.lemmas.List.{append-nil, length-append, map_push}
 use Rattle.std.proofs.lemmas.List.Elements.{All-head, All-nil, All-push, All-tail}
-use Rattle.arrayvec.specs.ArrayVec.{ArrayVec}
 use Rattle.osdp_words.specs.Reading.{Reads, ReadsWords}
 use Rattle.osdp_words.specs.Word.{AllStandFor, AreWithin, StandsFor, Word}
 
@@ -61,11 +60,11 @@ module _ {R : Type 0} (word : R → Word) (Fits : R → Type 0) (given : List (L
     pub only : (a : List R) → All Fits a → AllStandFor (map word a) given
         → (rest : List R) × (a ≡ records ++ rest) × All Fits rest × AllStandFor (map word rest) left
 
-  abbrev pub list_word : ArrayVec R → List Word
-  list_word list = map word list.items
+  abbrev pub list_word : List R → List Word
+  list_word records = map word records
 
-  abbrev pub ListFits : ℕ → ArrayVec R → Type 0
-  ListFits room list = (length list.items ≤ room) × All Fits list.items
+  abbrev pub ListFits : ℕ → List R → Type 0
+  ListFits room records = (length records ≤ room) × All Fits records
 
   pub parsed_none : Parsed given []
   parsed_none = record { front = []; whole = refl; stands = tt; fits = All-nil Fits; only = λ a fits stands. (a, refl, fits, stands) }
@@ -105,7 +104,7 @@ module _ {R : Type 0} (word : R → Word) (Fits : R → Type 0) (given : List (L
   parsed_stuck room left more records w next reads so_far = record {
     value = tt;
     only = λ a fits stands.
-        let s = so_far.only a.items fits.1 stands in
+        let s = so_far.only a fits.1 stands in
         absurd (no_more w more s.0 reads s.2 (subst (λ (l : List (List ℕ)). AllStandFor (map word s.0) l) next s.3));
   }
 
@@ -118,7 +117,7 @@ module _ {R : Type 0} (word : R → Word) (Fits : R → Type 0) (given : List (L
   parsed_full room left more records w next full so_far = record {
     value = tt;
     only = λ a fits stands.
-        let s = so_far.only a.items fits.1 stands in
+        let s = so_far.only a fits.1 stands in
         let some = goes_on w more s.0 (subst (λ (l : List (List ℕ)). AllStandFor (map word s.0) l) next s.3) in
         let few = fits.0 in
         absurd (omega (arith, few, full, some, ap length s.1, length-append records s.0));
@@ -128,17 +127,17 @@ module _ {R : Type 0} (word : R → Word) (Fits : R → Type 0) (given : List (L
   no_others [] stands = refl
   no_others (y ∷ ys) stands = absurd stands
 
-  pub parsed_all : (room : ℕ) (left : List (List ℕ)) (list : ArrayVec R) → left ≡ [] → length list.items ≤ room → Parsed left list.items
+  pub parsed_all : (room : ℕ) (left : List (List ℕ)) (list : List R) → left ≡ [] → length list ≤ room → Parsed left list
       → ReadsWords list_word (ListFits room) given (Some list)
   parsed_all room left list end fits so_far =
       let whole : given ≡ so_far.front = so_far.whole ∙ ap (λ (l : List (List ℕ)). so_far.front ++ l) end ∙ append-nil so_far.front in
       record {
-        value = (subst (λ (l : List (List ℕ)). AllStandFor (map word list.items) l) (sym whole) so_far.stands, (fits, so_far.fits));
+        value = (subst (λ (l : List (List ℕ)). AllStandFor (map word list) l) (sym whole) so_far.stands, (fits, so_far.fits));
         only = λ a allowed stands.
-            let s = so_far.only a.items allowed.1 stands in
+            let s = so_far.only a allowed.1 stands in
             let none = no_others s.0 (subst (λ (l : List (List ℕ)). AllStandFor (map word s.0) l) end s.3) in
-            let same : a.items ≡ list.items = s.1 ∙ ap (λ (rest : List R). list.items ++ rest) none ∙ append-nil list.items in
-            ap (λ (xs : List R). let made : ArrayVec R = record { items = xs } in Some made) (sym same);
+            let same : a ≡ list = s.1 ∙ ap (λ (rest : List R). list ++ rest) none ∙ append-nil list in
+            ap Some (sym same);
       }
 
   -- ---- one record at least
@@ -147,29 +146,26 @@ module _ {R : Type 0} (word : R → Word) (Fits : R → Type 0) (given : List (L
   SomeFit room rs = (0 < length rs) × (length rs ≤ room) × All Fits rs
 
   pub some_none : (room : ℕ) (r : Option (List R)) → ReadsWords list_word (ListFits room) given None → r ≡ None
-      → ReadsWords (λ rs. map word rs) (SomeFit room) given r
+      → ReadsWords list_word (SomeFit room) given r
   some_none room r h e = rw e record {
     value = tt;
-    only = λ rs fits stands. let found = h.only (record { items = rs }) (fits.1, fits.2) stands in cc found;
+    only = λ rs fits stands. let found = h.only rs (fits.1, fits.2) stands in cc found;
   }
 
-  pub some_empty : (room : ℕ) (list : ArrayVec R) → length list.items ≡ 0 → ReadsWords list_word (ListFits room) given (Some list)
-      → ReadsWords (λ rs. map word rs) (SomeFit room) given None
+  pub some_empty : (room : ℕ) (list : List R) → length list ≡ 0 → ReadsWords list_word (ListFits room) given (Some list)
+      → ReadsWords list_word (SomeFit room) given None
   some_empty room list none h = record {
     value = tt;
     only = λ rs fits stands.
-        let found = h.only (record { items = rs }) (fits.1, fits.2) stands in
-        let same : list.items ≡ rs = same_items list (record { items = rs }) found in
+        let found = h.only rs (fits.1, fits.2) stands in
+        let same : list ≡ rs = cc found in
         let some = fits.0 in
         absurd (omega (arith, none, ap length same));
   }
-    where
-      same_items : (a b : ArrayVec R) → Some a ≡ Some b → a.items ≡ b.items
-      same_items a b e = cc
 
-  pub some_read : (room : ℕ) (list : ArrayVec R) → 0 < length list.items → ReadsWords list_word (ListFits room) given (Some list)
-      → ReadsWords (λ rs. map word rs) (SomeFit room) given (Some list.items)
+  pub some_read : (room : ℕ) (list : List R) → 0 < length list → ReadsWords list_word (ListFits room) given (Some list)
+      → ReadsWords list_word (SomeFit room) given (Some list)
   some_read room list some h = record {
     value = (h.value.0, (some, h.value.1.0, h.value.1.1));
-    only = λ rs fits stands. ap (option_map (λ (l : ArrayVec R). l.items)) (h.only (record { items = rs }) (fits.1, fits.2) stands);
+    only = λ rs fits stands. h.only rs (fits.1, fits.2) stands;
   }

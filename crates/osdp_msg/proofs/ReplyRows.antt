@@ -7,8 +7,8 @@ use Rattle.byteorder.specs.Endian.{little_bytes, little_number}
 use Rattle.hex.specs.Hex.{IsBytes}
 use Rattle.osdp_msg.specs.declared.nak.NakReason.{NakReason}
 use Rattle.osdp_msg.specs.declared.nak.NakReason.TheVariants.{Other}
-use Rattle.osdp_msg.specs.declared.reply_fields.Formatted.{Formatted}
-use Rattle.osdp_msg.specs.declared.reply_fields.Keypad.{Keypad}
+use Rattle.osdp_msg.specs.declared.event_fields.Formatted.{Formatted}
+use Rattle.osdp_msg.specs.declared.event_fields.Keypad.{Keypad}
 use Rattle.osdp_msg.specs.declared.reply_fields.LocalState.{LocalState}
 use Rattle.osdp_msg.specs.declared.reply_fields.Nak.{Nak}
 use Rattle.osdp_msg.specs.declared.reply_fields.PdId.{PdId}
@@ -17,7 +17,7 @@ use Rattle.osdp_msg.specs.OtherReasons.{IsOtherReason}
 use Rattle.osdp_msg.specs.Raw.{RawCard}
 use Rattle.osdp_msg.specs.ReplyFields.{NakFits, nak_data, nak_at, PdIdFits, pd_id_data, pd_id_at, CapabilityFits, capability_data, capability_at, LocalStateFits, local_state_data, local_state_at, RawFits, raw_data, raw_at, FormattedFits, formatted_data, formatted_at, KeypadFits, keypad_data, keypad_at}
 use Rattle.osdp_msg.proofs.Bytes.{IsBytes-append, IsBytes-cons, IsBytes-counted, IsBytes-drop, IsBytes-each, IsBytes-little_2, IsBytes-little_4, IsBytes-take, all_cells, bytes_2, bytes_4, cells, number_2_at, number_2_bound, number_4_at, number_4_bound}
-use Rattle.osdp_msg.proofs.RecordLists.{IsRecord}
+use Rattle.osdp_msg.specs.Records.{IsRecord}
 use Rattle.osdp_msg.proofs.Table.{by_codes}
 
 -- reasons

@@ -1,7 +1,8 @@
 -- Values read from words: what each part takes, put together.
-use Rattle.std.proofs.Common.{◌≡◌, ◌↔◌, ◌<◌, ◌≤◌, ℕ, Bool, true, false, IsTrue, List, [], ◌∷◌, length, map, Option, Some, None, refl, sym, ap, subst, ◌∙◌}
+use Rattle.std.proofs.Common.{◌≡◌, ◌↔◌, ◌<◌, ◌≤◌, ℕ, Bool, true, false, IsTrue, List, [], ◌∷◌, length, map, Option, Some, None, refl, sym, ap, subst, ◌∙◌, arith}
 use Rattle.std.specs.Bool.{then_some}
-use Rattle.std.specs.Prelude.{IfSome, option_map}
+use Rattle.std.proofs.lemmas.Bool.{le-leb}
+use Rattle.std.specs.Prelude.{IfSome, nat_le, option_map}
 use Rattle.arrayvec.specs.ArrayVec.{ArrayVec, array_vec_len}
 use Rattle.hex.specs.Hex.{IsBytes}
 use Rattle.osdp_words.specs.Reading.{ReadsWords, Takes}
@@ -98,3 +99,36 @@ module _ {A B C : Type 0} (front_words : A → List Word) (FrontAllowed : A → 
   two_no_front r front e =
       one_missing (pair_words front_words FrontAllowed back_words BackAllowed) (PairAllowed front_words FrontAllowed back_words BackAllowed) made_words Fits f g made given left r
       (front_missing front_words FrontAllowed back_words BackAllowed given left front) e
+
+-- ---- a list of fewer bytes than there is a place for
+
+module _ (big room : ℕ) (given left : List (List ℕ)) where
+  pub none_narrowed : room ≤ big → Takes list_words (IsList big) given left None → Takes list_words (IsList room) given left None
+  none_narrowed le h = record {
+    value = tt;
+    only = λ a first rest fits whole stands. let found = h.only a first rest (omega (arith, fits.0, le), fits.1) whole stands in absurd (cc found.0);
+  }
+
+  pub too_long : (list : ArrayVec ℕ) → room ≤ big → room < length list.items → Takes list_words (IsList big) given left (Some list) → Takes list_words (IsList room) given left None
+  too_long list le long h = record {
+    value = tt;
+    only = λ a first rest fits whole stands.
+        let found = h.only a first rest (omega (arith, fits.0, le), fits.1) whole stands in
+        let same : list ≡ a = cc found.0 in
+        let few : length a.items ≤ room = fits.0 in
+        absurd (omega (arith, few, long, ap (λ (l : ArrayVec ℕ). length l.items) same));
+  }
+
+  pub narrowed : (list : ArrayVec ℕ) → room ≤ big → length list.items ≤ room → Takes list_words (IsList big) given left (Some list) → Takes list_words (IsList room) given left (Some list)
+  narrowed list le few h = record {
+    value = (h.value.0, h.value.1, h.value.2, (few, h.value.3.1));
+    only = λ a first rest fits whole stands. h.only a first rest (omega (arith, fits.0, le), fits.1) whole stands;
+  }
+
+-- what is made of a list that was taken, where it has room
+pub within : {C : Type 0} (room : ℕ) (given left : List (List ℕ)) (list : ArrayVec ℕ) (lent : List ℕ) (make : ArrayVec ℕ → C) → Takes list_words (IsList room) given left (Some list)
+    → lent ≡ list.items → then_some (nat_le (length lent) room) (make (record { items = lent })) ≡ Some (make list)
+within room given left list lent make taken is =
+    let few : length list.items ≤ room = taken.value.3.0 in
+    let fits : nat_le (length lent) room ≡ true = le-leb (length lent) room (omega (arith, few, ap length is)) in
+    ap (λ (b : Bool). then_some b (make (record { items = lent }))) fits ∙ ap (λ (xs : List ℕ). Some (make (record { items = xs }))) is

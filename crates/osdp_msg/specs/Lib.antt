@@ -9,6 +9,9 @@ pub mod Refusal
 pub mod Messages
 pub mod CommandTable
 pub mod ListedCommands
+pub mod Kept
+pub mod Lending
+pub mod Values
 pub mod CommandText
 pub mod ReplyTable
 pub mod ReplyText

@@ -1,5 +1,5 @@
 -- How much a message holds at most, and how many may wait.
-use Rattle.std.specs.Prelude.{ℕ, ◌-◌, ◌≤◌}
+use Rattle.std.specs.Prelude.{ℕ, ◌+◌, ◌-◌, ◌*◌, ◌≤◌}
 
 -- the data after a code byte: with its code it fits into a packet of 1440 bytes with either check
 abbrev pub most_data : ℕ
@@ -24,3 +24,7 @@ most_waiting = 1024
 -- there is room for one, and for no more than may wait
 abbrev pub IsRoom : ℕ → Type 0
 IsRoom count = (1 ≤ count) × (count ≤ most_waiting)
+
+-- .. and for a byte of them together, and no more than they may have
+abbrev pub AreRoom : ℕ → ℕ → Type 0
+AreRoom count bytes = IsRoom count × (1 ≤ bytes) × (bytes ≤ most_waiting * (1 + most_data))

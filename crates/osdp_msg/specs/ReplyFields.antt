@@ -5,8 +5,8 @@ use Rattle.hex.specs.Hex.{IsBytes}
 use Rattle.osdp_words.specs.Word.{Word, bytes, number, numbers}
 use Rattle.osdp_msg.specs.Limits.{most_card_bytes, most_detail}
 use Rattle.osdp_msg.specs.declared.capability.Capability.{Capability}
-use Rattle.osdp_msg.specs.declared.reply_fields.Formatted.{Formatted}
-use Rattle.osdp_msg.specs.declared.reply_fields.Keypad.{Keypad}
+use Rattle.osdp_msg.specs.declared.event_fields.Formatted.{Formatted}
+use Rattle.osdp_msg.specs.declared.event_fields.Keypad.{Keypad}
 use Rattle.osdp_msg.specs.declared.reply_fields.LocalState.{LocalState}
 use Rattle.osdp_msg.specs.declared.reply_fields.Nak.{Nak}
 use Rattle.osdp_msg.specs.declared.reply_fields.PdId.{PdId}

@@ -5,28 +5,25 @@ ghost use Rattle.std.specs.Result.{result_ok};
 ghost use Rattle.osdp_words.specs.Reading.{ReadsWords};
 ghost use Rattle.osdp_words.specs.Word.{AllStandFor, texts, words_in};
 ghost use Rattle.osdp_msg.specs.CommandTable.{CommandFits, IsCommand, command_code, command_data, command_fault, command_of, command_at};
+ghost use Rattle.osdp_msg.specs.Kept.{command_kept};
 ghost use Rattle.osdp_msg.specs.CommandText.{command_words, command_text};
-ghost use Rattle.osdp_msg.specs.ListedCommands.{list_code};
 
 use crate::command_fields::{Buzzer, Communication, MakerMessage, Text};
 use crate::fault::{BadWords, MsgFault};
 use crate::leds::Leds;
 use crate::limits::MAX_MESSAGE;
-use crate::making::put_row;
 use crate::outputs::Outputs;
 use crate::parsing::{parse_byte, parse_nothing};
-use crate::placing::{copy_list, place_list};
 use crate::printing::{print_byte, print_records};
-use crate::records::put_records;
-use crate::spelling::{put_byte, put_code};
+use crate::spelling::{Spelling, put_byte, put_code};
 use crate::tabled::{Tabled, first_fault};
 use arrayvec::ArrayVec;
 use osdp_words::Fields;
 use std::fmt;
 
 /// A command. Each value has the lengths and counts of its row in the table of commands.
-#[derive(Debug, Drop, PartialEq)]
-pub enum Command {
+#[derive(Debug, Drop)]
+pub enum Command<'a> {
     /// Asks for the next event.
     Poll,
     /// Asks what the device is. The byte is kept as read.
@@ -42,20 +39,23 @@ pub enum Command {
     /// Asks for the states of the readers.
     ReaderStatus,
     /// Sets outputs.
-    Output(Outputs),
+    Output(Outputs<'a>),
     /// Sets LEDs of readers.
-    Led(Leds),
+    Led(Leds<'a>),
     /// Sounds the buzzer of a reader.
     Buzzer(Buzzer),
     /// Shows a text on a reader.
-    Text(Text),
+    Text(Text<'a>),
     /// Sets the device's address and baud rate.
     Comset(Communication),
     /// A command of the device's maker.
-    Maker(MakerMessage),
+    Maker(MakerMessage<'a>),
 }
 
-impl Tabled for Command {
+/// The table of commands.
+struct CommandRows;
+
+impl Tabled for CommandRows {
     ghost use Rattle.osdp_msg.specs.CommandTable.{command_counts_agree, command_length_allowed};
 
     ghost length_allowed = { command_length_allowed };
@@ -83,102 +83,95 @@ impl Tabled for Command {
     }
 }
 
-/// Puts the command that a code and data without a fault stand for in place of what stands in `command`.
+/// The command that a code and data without a fault stand for.
 #[tactic(auto, unfolding(crate::specs::CommandTable::command_at))]
-fn place(code: u8, bytes: &[u8], command: &mut Option<Command>)
+fn value_at(code: u8, bytes: &[u8]) -> Command<'_>
     requires { command_fault code bytes.now ≡ None }
-    ensures { command.new ≡ Some (command_at code bytes.now) }
+    ensures { result ≡ command_at code bytes.now }
 {
     match code {
-        0x61 => *command = Some(Command::Id(bytes[0])),
-        0x62 => *command = Some(Command::Cap(bytes[0])),
-        0x64 => *command = Some(Command::LocalStatus),
-        0x65 => *command = Some(Command::InputStatus),
-        0x66 => *command = Some(Command::OutputStatus),
-        0x67 => *command = Some(Command::ReaderStatus),
-        0x68 => place_list::<0x68>(bytes, command),
-        0x69 => place_list::<0x69>(bytes, command),
-        0x6A => *command = Some(Command::Buzzer(Buzzer::read(bytes))),
-        0x6B => place_list::<0x6B>(bytes, command),
-        0x6E => *command = Some(Command::Comset(Communication::read(bytes))),
-        0x80 => place_list::<0x80>(bytes, command),
-        _ => *command = Some(Command::Poll),
+        0x61 => Command::Id(bytes[0]),
+        0x62 => Command::Cap(bytes[0]),
+        0x64 => Command::LocalStatus,
+        0x65 => Command::InputStatus,
+        0x66 => Command::OutputStatus,
+        0x67 => Command::ReaderStatus,
+        0x68 => Command::Output(Outputs::read(bytes)),
+        0x69 => Command::Led(Leds::read(bytes)),
+        0x6A => Command::Buzzer(Buzzer::read(bytes)),
+        0x6B => Command::Text(Text::read(bytes)),
+        0x6E => Command::Comset(Communication::read(bytes)),
+        0x80 => Command::Maker(MakerMessage::read(bytes)),
+        _ => Command::Poll,
     }
+}
+
+/// The command whose text begins with a name and goes on with these fields. What it has of bytes stands in `place` then.
+#[tactic(auto, using(crate::proofs::CommandRows::outputs, crate::proofs::CommandRows::leds))]
+fn parse_row<'a>(name: &str, fields: Fields<'_>, place: &'a mut Spelling) -> Option<Command<'a>>
+    ensures { ReadsWords command_words CommandFits (name.now ∷ fields.entry) result }
+{
+    match name {
+        "POLL" => {
+            parse_nothing(fields)?;
+            Some(Command::Poll)
+        }
+        "ID" => Some(Command::Id(parse_byte(fields)?)),
+        "CAP" => Some(Command::Cap(parse_byte(fields)?)),
+        "LSTAT" => {
+            parse_nothing(fields)?;
+            Some(Command::LocalStatus)
+        }
+        "ISTAT" => {
+            parse_nothing(fields)?;
+            Some(Command::InputStatus)
+        }
+        "OSTAT" => {
+            parse_nothing(fields)?;
+            Some(Command::OutputStatus)
+        }
+        "RSTAT" => {
+            parse_nothing(fields)?;
+            Some(Command::ReaderStatus)
+        }
+        "OUT" => Some(Command::Output(Outputs::parse(fields, place)?)),
+        "LED" => Some(Command::Led(Leds::parse(fields, place)?)),
+        "BUZ" => Some(Command::Buzzer(Buzzer::parse(fields)?)),
+        "TEXT" => Some(Command::Text(Text::parse(fields, place)?)),
+        "COMSET" => Some(Command::Comset(Communication::parse(fields)?)),
+        "MFG" => Some(Command::Maker(MakerMessage::parse(fields, place)?)),
+        _ => None,
+    }
+}
+
+/// The command whose text has these words.
+fn parse_fields<'a>(mut fields: Fields<'_>, place: &'a mut Spelling) -> Option<Command<'a>>
+    ensures { ReadsWords command_words CommandFits fields.entry result }
+{
+    let name = fields.word()?;
+    parse_row(name, fields, place)
 }
 
 /// The first fault of a code and data, or the command that they stand for.
 #[tactic(auto, unfolding(crate::specs::CommandTable::command_of, crate::specs::CommandTable::command_fault))]
-fn decode(code: u8, bytes: &[u8]) -> Result<Command, MsgFault>
+fn decode(code: u8, bytes: &[u8]) -> Result<Command<'_>, MsgFault>
     ensures { result ≡ command_of code bytes.now }
 {
-    if let Some(fault) = first_fault::<Command>(code, bytes) {
-        return Err(fault);
-    }
-    let mut command = None;
-    place(code, bytes, &mut command);
-    Ok(command.unwrap())
-}
-
-/// Puts the command there whose text begins with a name and goes on with these fields, or none.
-fn parse_row(name: &str, fields: Fields<'_>, command: &mut Option<Command>)
-    ensures { ReadsWords command_words CommandFits (name.now ∷ fields.entry) command.new }
-{
-    match name {
-        "POLL" => put_row(parse_nothing, fields, |_| Command::Poll, command),
-        "ID" => put_row(parse_byte, fields, Command::Id, command),
-        "CAP" => put_row(parse_byte, fields, Command::Cap, command),
-        "LSTAT" => put_row(parse_nothing, fields, |_| Command::LocalStatus, command),
-        "ISTAT" => put_row(parse_nothing, fields, |_| Command::InputStatus, command),
-        "OSTAT" => put_row(parse_nothing, fields, |_| Command::OutputStatus, command),
-        "RSTAT" => put_row(parse_nothing, fields, |_| Command::ReaderStatus, command),
-        "OUT" => put_row(Outputs::parse, fields, Command::Output, command),
-        "LED" => put_row(Leds::parse, fields, Command::Led, command),
-        "BUZ" => put_row(Buzzer::parse, fields, Command::Buzzer, command),
-        "TEXT" => put_row(Text::parse, fields, Command::Text, command),
-        "COMSET" => put_row(Communication::parse, fields, Command::Comset, command),
-        "MFG" => put_row(MakerMessage::parse, fields, Command::Maker, command),
-        _ => *command = None,
+    match first_fault::<CommandRows>(code, bytes) {
+        Some(fault) => Err(fault),
+        None => Ok(value_at(code, bytes)),
     }
 }
 
-/// Puts the command there whose text has these words, or none.
-fn parse_fields(mut fields: Fields<'_>, command: &mut Option<Command>)
-    ensures { ReadsWords command_words CommandFits fields.entry command.new }
-{
-    match fields.word() {
-        Some(name) => parse_row(name, fields, command),
-        None => *command = None,
-    }
-}
-
-impl Command {
+impl<'a> Command<'a> {
     /// The command that a code and data stand for, or the first fault that holds.
-    pub fn read(code: u8, bytes: &[u8]) -> Result<Command, MsgFault>
+    pub fn read(code: u8, bytes: &'a [u8]) -> Result<Command<'a>, MsgFault>
         ensures value { IfOk result (IsCommand code bytes.now) }
         ensures fault { IfErr result (λ e. command_fault code bytes.now ≡ Some e) }
         ensures only { (m : Command) → IsCommand code bytes.now m → result ≡ Ok m }
         ensures function { result ≡ command_of code bytes.now }
     {
         decode(code, bytes)
-    }
-
-    /// Puts the command that a code and data stand for in place of what stands in `command`, or none, and tells the first fault
-    /// that holds. Outputs, LEDs, a text and a maker's message are written over those that stand there, so that a caller with one
-    /// place for command after command moves their bytes alone.
-    #[tactic(auto, unfolding(crate::specs::CommandTable::command_of, crate::specs::CommandTable::command_fault))]
-    pub fn read_into(code: u8, bytes: &[u8], command: &mut Option<Command>) -> Result<(), MsgFault>
-        ensures value { IfSome command.new (IsCommand code bytes.now) }
-        ensures some { IsOk result ↔ IsSome command.new }
-        ensures fault { IfErr result (λ e. command_fault code bytes.now ≡ Some e) }
-        ensures only { (m : Command) → IsCommand code bytes.now m → command.new ≡ Some m }
-        ensures function { command.new ≡ result_ok (command_of code bytes.now) }
-    {
-        if let Some(fault) = first_fault::<Command>(code, bytes) {
-            *command = None;
-            return Err(fault);
-        }
-        place(code, bytes, command);
-        Ok(())
     }
 
     /// The code and the data of the command.
@@ -194,6 +187,16 @@ impl Command {
     /// Puts the code and the data of the command in place of what stands in `spelling`.
     pub fn write_into(&self, spelling: &mut ArrayVec<u8, MAX_MESSAGE>)
         ensures spelled { spelling.new.items ≡ command_code self.now ∷ command_data self.now }
+        ensures kept { command_kept spelling.new.items ≡ self.now }
+        ensures fits { CommandFits self.now }
+    {
+        self.spell(spelling);
+    }
+
+    /// Puts its code and its data there.
+    #[tactic(auto, using(crate::proofs::CommandRows::outputs, crate::proofs::CommandRows::leds))]
+    fn spell(&self, spelling: &mut ArrayVec<u8, MAX_MESSAGE>)
+        ensures spelled { spelling.new.items ≡ command_code self.now ∷ command_data self.now }
         ensures fits { CommandFits self.now }
     {
         match self {
@@ -204,8 +207,8 @@ impl Command {
             Command::InputStatus => put_code(spelling, 0x65),
             Command::OutputStatus => put_code(spelling, 0x66),
             Command::ReaderStatus => put_code(spelling, 0x67),
-            Command::Output(outputs) => put_records(spelling, 0x68, outputs.records()),
-            Command::Led(leds) => put_records(spelling, 0x69, leds.records()),
+            Command::Output(outputs) => outputs.write_into(spelling, 0x68),
+            Command::Led(leds) => leds.write_into(spelling, 0x69),
             Command::Buzzer(buzzer) => buzzer.write_into(spelling),
             Command::Text(text) => text.write_into(spelling),
             Command::Comset(communication) => communication.write_into(spelling, 0x6E),
@@ -213,91 +216,52 @@ impl Command {
         }
     }
 
-    /// The command whose text has these words. The digits of byte lists may have either case.
-    pub fn parse(words: &[&str]) -> Result<Command, BadWords>
+    /// The command whose text has these words. The digits of byte lists may have either case. What the command has of bytes
+    /// stands in `place` then.
+    pub fn parse(
+        words: &[&str],
+        place: &'a mut ArrayVec<u8, MAX_MESSAGE>,
+    ) -> Result<Command<'a>, BadWords>
         ensures value { IfOk result (λ m. AllStandFor (command_words m) (texts words.now) × CommandFits m) }
         ensures only { (m : Command) → CommandFits m → AllStandFor (command_words m) (texts words.now) → result ≡ Ok m }
     {
-        let mut command = None;
-        parse_fields(Fields::new(words), &mut command);
-        command.ok_or(BadWords)
+        parse_fields(Fields::new(words), place).ok_or(BadWords)
     }
 
     /// The command whose text a line is. Its words have one or more spaces between each two.
-    pub fn parse_line(line: &str) -> Result<Command, BadWords>
+    pub fn parse_line(
+        line: &str,
+        place: &'a mut ArrayVec<u8, MAX_MESSAGE>,
+    ) -> Result<Command<'a>, BadWords>
         ensures value { IfOk result (λ m. AllStandFor (command_words m) (words_in line.now) × CommandFits m) }
         ensures only { (m : Command) → CommandFits m → AllStandFor (command_words m) (words_in line.now) → result ≡ Ok m }
     {
-        let mut command = None;
-        Command::parse_line_into(line, &mut command);
-        command.ok_or(BadWords)
+        parse_fields(Fields::of_line(line), place).ok_or(BadWords)
     }
 
-    /// Puts the command whose text a line is in place of what stands in `command`, or none.
-    pub fn parse_line_into(line: &str, command: &mut Option<Command>)
-        ensures value { IfSome command.new (λ m. AllStandFor (command_words m) (words_in line.now) × CommandFits m) }
-        ensures only { (m : Command) → CommandFits m → AllStandFor (command_words m) (words_in line.now) → command.new ≡ Some m }
-    {
-        parse_fields(Fields::of_line(line), command);
-    }
-
-    /// An equal command.
-    pub fn copy(&self) -> Command
+    /// The same command, lent again.
+    pub fn copy(&self) -> Command<'a>
         ensures { result ≡ self.now }
     {
-        let mut command = Command::Poll;
-        self.copy_into(&mut command);
-        command
-    }
-
-    /// Puts an equal command in place of what stands in `place`. Outputs, LEDs, a text and a maker's message are written over those that
-    /// stand there, so that a caller with one place for command after command moves their bytes alone.
-    pub fn copy_into(&self, place: &mut Command)
-        ensures { place.new ≡ self.now }
-    {
         match self {
-            Command::Output(_) => copy_list::<0x68>(self, place),
-            Command::Led(_) => copy_list::<0x69>(self, place),
-            Command::Text(_) => copy_list::<0x6B>(self, place),
-            Command::Maker(_) => copy_list::<0x80>(self, place),
-            Command::Poll
-            | Command::Id(_)
-            | Command::Cap(_)
-            | Command::LocalStatus
-            | Command::InputStatus
-            | Command::OutputStatus
-            | Command::ReaderStatus
-            | Command::Buzzer(_)
-            | Command::Comset(_) => self.copy_small(place),
-        }
-    }
-
-    /// Puts an equal command in place of what stands in `place`, where it has no list.
-    // It stands by itself, since what it writes has the size of the largest command.
-    #[inline(never)]
-    fn copy_small(&self, place: &mut Command)
-        requires { list_code self.now ≡ 0 }
-        ensures { place.new ≡ self.now }
-    {
-        match self {
-            Command::Id(kept) => *place = Command::Id(*kept),
-            Command::Cap(kept) => *place = Command::Cap(*kept),
-            Command::LocalStatus => *place = Command::LocalStatus,
-            Command::InputStatus => *place = Command::InputStatus,
-            Command::OutputStatus => *place = Command::OutputStatus,
-            Command::ReaderStatus => *place = Command::ReaderStatus,
-            Command::Buzzer(buzzer) => *place = Command::Buzzer(*buzzer),
-            Command::Comset(communication) => *place = Command::Comset(*communication),
-            Command::Poll
-            | Command::Output(_)
-            | Command::Led(_)
-            | Command::Text(_)
-            | Command::Maker(_) => *place = Command::Poll,
+            Command::Poll => Command::Poll,
+            Command::Id(kept) => Command::Id(*kept),
+            Command::Cap(kept) => Command::Cap(*kept),
+            Command::LocalStatus => Command::LocalStatus,
+            Command::InputStatus => Command::InputStatus,
+            Command::OutputStatus => Command::OutputStatus,
+            Command::ReaderStatus => Command::ReaderStatus,
+            Command::Output(outputs) => Command::Output(outputs.copy()),
+            Command::Led(leds) => Command::Led(leds.copy()),
+            Command::Buzzer(buzzer) => Command::Buzzer(*buzzer),
+            Command::Text(text) => Command::Text(text.copy()),
+            Command::Comset(communication) => Command::Comset(*communication),
+            Command::Maker(message) => Command::Maker(message.copy()),
         }
     }
 }
 
-impl fmt::Display for Command {
+impl<'a> fmt::Display for Command<'a> {
     ghost output = { λ m. Some (command_text m) };
 
     #[tactic(auto, unfolding(crate::specs::CommandText::command_text))]
@@ -310,8 +274,8 @@ impl fmt::Display for Command {
             Command::InputStatus => f.write_str("ISTAT"),
             Command::OutputStatus => f.write_str("OSTAT"),
             Command::ReaderStatus => f.write_str("RSTAT"),
-            Command::Output(outputs) => print_records(f, "OUT", outputs.records()),
-            Command::Led(leds) => print_records(f, "LED", leds.records()),
+            Command::Output(outputs) => outputs.print(f, "OUT"),
+            Command::Led(leds) => leds.print(f, "LED"),
             Command::Buzzer(buzzer) => buzzer.print(f),
             Command::Text(text) => text.print(f),
             Command::Comset(communication) => communication.print(f, "COMSET"),

@@ -1,6 +1,7 @@
 //! The fields of commands, and of the replies that have the same.
 
-ghost use Rattle.std.specs.Prelude.{◌≡◌, ◌≤◌, ◌∷◌, [], codes, length};
+ghost use Rattle.std.specs.Prelude.{◌≡◌, ◌≤◌, ◌∷◌, [], codes, length, nat_le};
+ghost use Rattle.std.specs.Bool.{then_some};
 ghost use Rattle.std.specs.Fmt.{WritesOnOk};
 ghost use Rattle.osdp_words.specs.Reading.{ReadsWords};
 ghost use Rattle.osdp_words.specs.Word.{plain, text_of};
@@ -8,14 +9,12 @@ ghost use Rattle.osdp_msg.specs.CommandFields.{BuzzerFits, buzzer_at, buzzer_dat
 ghost use Rattle.osdp_msg.specs.ListedCommands.{HasLength};
 
 use crate::limits::{MAX_DATA, MAX_MAKER_BYTES};
-use crate::parsing::{parse_numbers, parse_numbers_and_list, read_last_list};
-use crate::spelling::{
-    Spelling, append, append_u32, copy_over, list_of, put_byte, put_bytes, rest,
-};
-use arrayvec::ArrayVec;
+use crate::parsing::{parse_numbers, take_list};
+use crate::spelling::{Spelling, append, append_u32, put_byte, put_bytes, rest};
 use byteorder::{ByteOrder, LittleEndian};
 use osdp_words::{ByteList, Fields};
 use std::fmt;
+use std::marker::Model;
 
 /// How the buzzer of a reader sounds.
 #[derive(Clone, Copy, Debug, PartialEq, Eq)]
@@ -61,19 +60,7 @@ impl Buzzer {
         put_bytes(spelling, 0x6A, &data);
     }
 
-    pub(crate) fn print<W: fmt::Write>(self, f: &mut fmt::Formatter<W>) -> fmt::Result
-        ensures { WritesOnOk W.write_str_gives f.old result (text_of (plain (codes "BUZ") ∷ buzzer_words self)) f.new }
-    {
-        let Buzzer {
-            reader,
-            tone,
-            on_time,
-            off_time,
-            count,
-        } = self;
-        write!(f, "BUZ {reader} {tone} {on_time} {off_time} {count}")
-    }
-
+    /// The buzzer's message whose text has these words.
     pub(crate) fn parse(fields: Fields<'_>) -> Option<Buzzer>
         ensures { ReadsWords buzzer_words BuzzerFits fields.entry result }
     {
@@ -86,49 +73,145 @@ impl Buzzer {
             count,
         })
     }
+
+    pub(crate) fn print<W: fmt::Write>(self, f: &mut fmt::Formatter<W>) -> fmt::Result
+        ensures { WritesOnOk W.write_str_gives f.old result (text_of (plain (codes "BUZ") ∷ buzzer_words self)) f.new }
+    {
+        let Buzzer {
+            reader,
+            tone,
+            on_time,
+            off_time,
+            count,
+        } = self;
+        write!(f, "BUZ {reader} {tone} {on_time} {off_time} {count}")
+    }
 }
 
 /// What the display of a reader shows.
-#[derive(Debug, Drop, PartialEq)]
-pub struct Text {
-    /// The reader of the device, counted from 0.
-    pub reader: u8,
-    /// 1 permanent, 2 permanent with wrap, 3 temporary, 4 temporary with wrap.
-    pub command: u8,
-    /// In seconds, of a temporary text.
-    pub time: u8,
-    /// The row of the first character, counted from 1.
-    pub row: u8,
-    /// The column of the first character, counted from 1.
-    pub column: u8,
-    /// The characters, 0 to 255 bytes.
-    pub characters: ArrayVec<u8, 255>,
+#[derive(Debug, Drop)]
+pub struct Text<'a> {
+    reader: u8,
+    command: u8,
+    time: u8,
+    row: u8,
+    column: u8,
+    characters: &'a [u8],
 }
 
-impl Text {
-    /// A text without characters, whose numbers are all 0.
-    pub(crate) fn least() -> Text {
+impl<'a> Model for Text<'a> {
+    ghost use Rattle.std.specs.Prelude.{◌≤◌, length};
+    ghost use Rattle.osdp_msg.specs.Values.{TextValue};
+
+    ghost Value = { TextValue };
+
+    ghost view = { λ t. record { reader = t.reader; command = t.command; time = t.time; row = t.row; column = t.column; characters = record { items = t.characters.now } } };
+
+    ghost invariant = { λ t. length t.characters.now ≤ 255 };
+}
+
+impl<'a> Text<'a> {
+    /// A text of these characters, 0 to 255 bytes, at a place of a display. None where they are more.
+    pub fn new(
+        reader: u8,
+        command: u8,
+        time: u8,
+        row: u8,
+        column: u8,
+        characters: &'a [u8],
+    ) -> Option<Text<'a>>
+        ensures { result ≡ then_some (nat_le (length characters.now) 255) (record { reader = reader; command = command; time = time; row = row; column = column; characters = record { items = characters.now } }) }
+    {
+        if characters.len() > 255 {
+            return None;
+        }
+        Some(Text {
+            reader,
+            command,
+            time,
+            row,
+            column,
+            characters,
+        })
+    }
+
+    /// The reader of the device, counted from 0.
+    pub fn reader(&self) -> u8
+        ensures { result ≡ self.now.reader }
+    {
+        self.reader
+    }
+
+    /// 1 permanent, 2 permanent with wrap, 3 temporary, 4 temporary with wrap.
+    pub fn command(&self) -> u8
+        ensures { result ≡ self.now.command }
+    {
+        self.command
+    }
+
+    /// In seconds, of a temporary text.
+    pub fn time(&self) -> u8
+        ensures { result ≡ self.now.time }
+    {
+        self.time
+    }
+
+    /// The row of the first character, counted from 1.
+    pub fn row(&self) -> u8
+        ensures { result ≡ self.now.row }
+    {
+        self.row
+    }
+
+    /// The column of the first character, counted from 1.
+    pub fn column(&self) -> u8
+        ensures { result ≡ self.now.column }
+    {
+        self.column
+    }
+
+    /// The characters, 0 to 255 bytes.
+    pub fn characters(&self) -> &'a [u8]
+        ensures value { result.now ≡ self.now.characters.items }
+        ensures room { length self.now.characters.items ≤ 255 }
+    {
+        self.characters
+    }
+
+    pub(crate) fn read(bytes: &'a [u8]) -> Text<'a>
+        requires { HasLength 6 261 bytes.now }
+        ensures { result ≡ text_at bytes.now }
+    {
         Text {
-            reader: 0,
-            command: 0,
-            time: 0,
-            row: 0,
-            column: 0,
-            characters: ArrayVec::new(),
+            reader: bytes[0],
+            command: bytes[1],
+            time: bytes[2],
+            row: bytes[3],
+            column: bytes[4],
+            characters: rest(bytes, 6),
         }
     }
 
-    /// Puts the text that the bytes are in place of this.
-    pub(crate) fn read_over(&mut self, bytes: &[u8])
-        requires { HasLength 6 261 bytes.now }
-        ensures { self.new ≡ text_at bytes.now }
+    /// The same text, lent again.
+    pub fn copy(&self) -> Text<'a>
+        ensures { result ≡ self.now }
     {
-        self.reader = bytes[0];
-        self.command = bytes[1];
-        self.time = bytes[2];
-        self.row = bytes[3];
-        self.column = bytes[4];
-        copy_over(&mut self.characters, rest(bytes, 6));
+        let Text {
+            reader,
+            command,
+            time,
+            row,
+            column,
+            characters,
+        } = *self;
+        Text {
+            reader,
+            command,
+            time,
+            row,
+            column,
+            characters,
+        }
     }
 
     /// Puts the message in place of what stands in `spelling`.
@@ -146,19 +229,19 @@ impl Text {
             count,
         ];
         put_bytes(spelling, 0x6B, &front);
-        append(spelling, self.characters.as_slice());
+        append(spelling, self.characters);
     }
 
-    /// Puts another text in place of this.
-    pub(crate) fn copy_over(&mut self, other: &Text)
-        ensures { self.new ≡ other.now }
+    /// The text's message whose text has these words. Its characters stand in `place` then.
+    pub(crate) fn parse(mut fields: Fields<'_>, place: &'a mut Spelling) -> Option<Text<'a>>
+        ensures { ReadsWords text_words TextFits fields.entry result }
     {
-        self.reader = other.reader;
-        self.command = other.command;
-        self.time = other.time;
-        self.row = other.row;
-        self.column = other.column;
-        copy_over(&mut self.characters, other.characters.as_slice());
+        let [reader, command, time, row, column] = fields.numbers_u8::<5>()?;
+        let characters = take_list(&mut fields, 255, place)?;
+        if !fields.is_empty() {
+            return None;
+        }
+        Text::new(reader, command, time, row, column, characters.bytes())
     }
 
     pub(crate) fn print<W: fmt::Write>(&self, f: &mut fmt::Formatter<W>) -> fmt::Result
@@ -166,27 +249,11 @@ impl Text {
     {
         let (reader, command, time) = (self.reader, self.command, self.time);
         let (row, column) = (self.row, self.column);
-        let characters = ByteList(self.characters.as_slice());
+        let characters = ByteList(self.characters);
         write!(
             f,
             "TEXT {reader} {command} {time} {row} {column} {characters}"
         )
-    }
-
-    pub(crate) fn parse(fields: Fields<'_>) -> Option<Text>
-        ensures { ReadsWords text_words TextFits fields.entry result }
-    {
-        let ([reader, command, time, row, column], characters) = parse_numbers_and_list::<5, 255>(
-            fields,
-        )?;
-        Some(Text {
-            reader,
-            command,
-            time,
-            row,
-            column,
-            characters,
-        })
     }
 }
 
@@ -219,13 +286,7 @@ impl Communication {
         append_u32(spelling, self.baud_rate);
     }
 
-    pub(crate) fn print<W: fmt::Write>(self, f: &mut fmt::Formatter<W>, name: &str) -> fmt::Result
-        ensures { WritesOnOk W.write_str_gives f.old result (text_of (plain name.now ∷ communication_words self)) f.new }
-    {
-        let Communication { address, baud_rate } = self;
-        write!(f, "{name} {address} {baud_rate}")
-    }
-
+    /// The address and baud rate whose text has these words.
     pub(crate) fn parse(mut fields: Fields<'_>) -> Option<Communication>
         ensures { ReadsWords communication_words CommunicationFits fields.entry result }
     {
@@ -235,43 +296,68 @@ impl Communication {
             .is_empty()
             .then_some(Communication { address, baud_rate })
     }
+
+    pub(crate) fn print<W: fmt::Write>(self, f: &mut fmt::Formatter<W>, name: &str) -> fmt::Result
+        ensures { WritesOnOk W.write_str_gives f.old result (text_of (plain name.now ∷ communication_words self)) f.new }
+    {
+        let Communication { address, baud_rate } = self;
+        write!(f, "{name} {address} {baud_rate}")
+    }
 }
 
 /// A message of a device's maker, with the maker's code in front.
-#[derive(Debug, Drop, PartialEq)]
-pub struct MakerMessage {
-    /// The maker's code, three bytes.
-    pub vendor: [u8; 3],
-    /// What follows it, 0 to 1,429 bytes.
-    pub bytes: ArrayVec<u8, MAX_MAKER_BYTES>,
+#[derive(Debug, Drop)]
+pub struct MakerMessage<'a> {
+    vendor: [u8; 3],
+    bytes: &'a [u8],
 }
 
-impl MakerMessage {
-    pub(crate) fn read(bytes: &[u8]) -> MakerMessage
+impl<'a> Model for MakerMessage<'a> {
+    ghost use Rattle.std.specs.Prelude.{◌≤◌, length};
+    ghost use Rattle.osdp_msg.specs.Limits.{most_maker_bytes};
+    ghost use Rattle.osdp_msg.specs.Values.{MakerValue};
+
+    ghost Value = { MakerValue };
+
+    ghost view = { λ m. record { vendor = m.vendor; bytes = record { items = m.bytes.now } } };
+
+    ghost invariant = { λ m. length m.bytes.now ≤ most_maker_bytes };
+}
+
+impl<'a> MakerMessage<'a> {
+    /// A maker's message. None where it has more than 1,429 bytes.
+    pub fn new(vendor: [u8; 3], bytes: &'a [u8]) -> Option<MakerMessage<'a>>
+        ensures { result ≡ then_some (nat_le (length bytes.now) MAX_MAKER_BYTES) (record { vendor = vendor; bytes = record { items = bytes.now } }) }
+    {
+        if bytes.len() > MAX_MAKER_BYTES {
+            return None;
+        }
+        Some(MakerMessage { vendor, bytes })
+    }
+
+    /// The maker's code, three bytes.
+    pub fn vendor(&self) -> [u8; 3]
+        ensures { result ≡ self.now.vendor }
+    {
+        self.vendor
+    }
+
+    /// What follows it, 0 to 1,429 bytes.
+    pub fn bytes(&self) -> &'a [u8]
+        ensures value { result.now ≡ self.now.bytes.items }
+        ensures room { length self.now.bytes.items ≤ MAX_MAKER_BYTES }
+    {
+        self.bytes
+    }
+
+    pub(crate) fn read(bytes: &'a [u8]) -> MakerMessage<'a>
         requires { HasLength 3 MAX_DATA bytes.now }
         ensures { result ≡ maker_at bytes.now }
     {
         MakerMessage {
             vendor: [bytes[0], bytes[1], bytes[2]],
-            bytes: list_of(rest(bytes, 3)),
+            bytes: rest(bytes, 3),
         }
-    }
-
-    /// A message without bytes, of the maker 00 00 00.
-    pub(crate) fn least() -> MakerMessage {
-        MakerMessage {
-            vendor: [0; 3],
-            bytes: ArrayVec::new(),
-        }
-    }
-
-    /// Puts the message that the bytes are in place of this.
-    pub(crate) fn read_over(&mut self, bytes: &[u8])
-        requires { HasLength 3 MAX_DATA bytes.now }
-        ensures { self.new ≡ maker_at bytes.now }
-    {
-        self.vendor = [bytes[0], bytes[1], bytes[2]];
-        copy_over(&mut self.bytes, rest(bytes, 3));
     }
 
     /// Puts the message with this code in place of what stands in `spelling`.
@@ -280,24 +366,28 @@ impl MakerMessage {
         ensures fits { MakerFits self.now }
     {
         put_bytes(spelling, code, &self.vendor);
-        append(spelling, self.bytes.as_slice());
+        append(spelling, self.bytes);
     }
 
-    /// Puts another message in place of this.
-    pub(crate) fn copy_over(&mut self, other: &MakerMessage)
-        ensures { self.new ≡ other.now }
+    /// The maker's message whose text has these words. Its bytes stand in `place` then.
+    pub(crate) fn parse(mut fields: Fields<'_>, place: &'a mut Spelling) -> Option<MakerMessage<'a>>
+        ensures { ReadsWords maker_words MakerFits fields.entry result }
     {
-        self.vendor = other.vendor;
-        copy_over(&mut self.bytes, other.bytes.as_slice());
+        let vendor = fields.vendor()?;
+        let bytes = take_list(&mut fields, MAX_MAKER_BYTES, place)?;
+        if !fields.is_empty() {
+            return None;
+        }
+        MakerMessage::new(vendor, bytes.bytes())
     }
 
-    /// An equal value.
-    pub(crate) fn copy(&self) -> MakerMessage
+    /// The same message, lent again.
+    pub fn copy(&self) -> MakerMessage<'a>
         ensures { result ≡ self.now }
     {
         MakerMessage {
             vendor: self.vendor,
-            bytes: list_of(self.bytes.as_slice()),
+            bytes: self.bytes,
         }
     }
 
@@ -305,16 +395,7 @@ impl MakerMessage {
         ensures { WritesOnOk W.write_str_gives f.old result (text_of (plain name.now ∷ maker_words self.now)) f.new }
     {
         let vendor = ByteList(&self.vendor);
-        let bytes = ByteList(self.bytes.as_slice());
+        let bytes = ByteList(self.bytes);
         write!(f, "{name} {vendor} {bytes}")
-    }
-
-    pub(crate) fn parse(mut fields: Fields<'_>) -> Option<MakerMessage>
-        ensures { ReadsWords maker_words MakerFits fields.entry result }
-    {
-        let vendor = fields.vendor()?;
-        let mut bytes = ArrayVec::new();
-        read_last_list!(fields, bytes);
-        Some(MakerMessage { vendor, bytes })
     }
 }

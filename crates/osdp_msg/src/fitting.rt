@@ -7,7 +7,7 @@ use crate::command::Command;
 use crate::reply::Reply;
 
 /// Whether the reply is one that a reader may give to the command. NAK fits every command and BUSY none.
-pub fn fits(command: &Command, reply: &Reply) -> bool
+pub fn fits(command: &Command<'_>, reply: &Reply<'_>) -> bool
     ensures { result ≡ reply_fits command.now reply.now }
 {
     match command {
@@ -28,7 +28,7 @@ pub fn fits(command: &Command, reply: &Reply) -> bool
 }
 
 /// Whether the reply fits a POLL.
-fn fits_poll(reply: &Reply) -> bool
+fn fits_poll(reply: &Reply<'_>) -> bool
     ensures { (c : Command) → c ≡ Command.Poll → result ≡ reply_fits c reply.now }
 {
     match reply {

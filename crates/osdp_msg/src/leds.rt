@@ -153,4 +153,4 @@ impl Record for LedRecord {
 }
 
 /// One to 102 records of LEDs.
-pub type Leds = RecordList<LedRecord, 102>;
+pub type Leds<'a> = RecordList<'a, LedRecord, 102>;

@@ -1,7 +1,7 @@
 //! How much a message holds at most, and how many may wait.
 
-ghost use Rattle.std.specs.Prelude.{◌↔◌, IsTrue};
-ghost use Rattle.osdp_msg.specs.Limits.{IsRoom};
+ghost use Rattle.std.specs.Prelude.{◌≡◌, ◌≤◌, ◌*◌, ◌↔◌, IsTrue};
+ghost use Rattle.osdp_msg.specs.Limits.{AreRoom, IsRoom};
 
 /// How many bytes of data stand after a code byte at most. With its code such a message fits into a packet of 1440 bytes
 /// with either check.
@@ -27,4 +27,33 @@ pub fn is_room(count: usize) -> bool
     ensures { IsTrue result ↔ IsRoom count }
 {
     1 <= count && count <= MAX_WAITING
+}
+
+/// How much may wait in a queue of messages.
+#[derive(Clone, Copy, Debug, PartialEq, Eq)]
+pub struct Room {
+    /// How many messages, 1 to 1024.
+    pub messages: usize,
+    /// How many bytes of code and data all together, 1 to 1,467,392.
+    pub bytes: usize,
+}
+
+impl Room {
+    /// Room for so many messages, however long each is.
+    pub fn of(messages: usize) -> Room
+        ensures messages { result.messages ≡ messages }
+        ensures bytes { messages ≤ MAX_WAITING → result.bytes ≡ messages * MAX_MESSAGE }
+    {
+        Room {
+            messages,
+            bytes: messages.saturating_mul(MAX_MESSAGE),
+        }
+    }
+
+    /// Whether there may be such room.
+    pub fn is_right(self) -> bool
+        ensures { IsTrue result ↔ AreRoom self.messages self.bytes }
+    {
+        is_room(self.messages) && 1 <= self.bytes && self.bytes <= MAX_WAITING * MAX_MESSAGE
+    }
 }

@@ -81,4 +81,4 @@ impl Record for OutputRecord {
 }
 
 /// One to 358 records of outputs.
-pub type Outputs = RecordList<OutputRecord, 358>;
+pub type Outputs<'a> = RecordList<'a, OutputRecord, 358>;

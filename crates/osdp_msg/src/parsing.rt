@@ -1,30 +1,20 @@
 //! Words that several messages share.
 
-ghost use Rattle.std.specs.Prelude.{◌≡◌, ◌<◌, ◌≤◌, ◌^◌, ◌∷◌, ◌++◌, [], length, map};
+ghost use Rattle.std.specs.Prelude.{◌≡◌, ◌<◌, ◌≤◌, ◌*◌, ◌+◌, ◌^◌, ◌∷◌, [], length, map};
+ghost use Rattle.std.specs.Bool.{then_some};
 ghost use Rattle.std.specs.List.{All};
 ghost use Rattle.hex.specs.Hex.{IsBytes};
-ghost use Rattle.osdp_words.specs.Reading.{ReadsWords};
+ghost use Rattle.osdp_words.specs.Reading.{ReadsWords, Takes};
 ghost use Rattle.osdp_words.specs.Word.{bytes, number};
+ghost use Rattle.osdp_msg.specs.ListedCommands.{AreWhole};
+ghost use Rattle.osdp_msg.specs.Records.{IsRecord, records_at};
 ghost use Rattle.osdp_msg.specs.ReplyTable.{StatesFit};
 
+use crate::event_fields::States;
 use crate::limits::MAX_DATA;
 use crate::records::Record;
-use arrayvec::ArrayVec;
+use crate::spelling::Spelling;
 use osdp_words::Fields;
-
-/// Puts the byte list with which the fields end in place of `$list`; where they don't end with one, the function around it answers none.
-macro_rules! read_last_list {
-    ($fields:ident, $list:ident) => {
-        if !$fields.read_byte_list(&mut $list) {
-            return None;
-        }
-        if !$fields.is_empty() {
-            return None;
-        }
-    };
-}
-
-pub(crate) use read_last_list;
 
 /// No words.
 pub(crate) fn parse_nothing(fields: Fields<'_>) -> Option<()>
@@ -49,38 +39,56 @@ pub(crate) fn parse_numbers<const N: usize>(mut fields: Fields<'_>) -> Option<[u
     fields.is_empty().then_some(numbers)
 }
 
-/// `N` numbers from 0 to 255, and a list of `ROOM` bytes at most.
-pub(crate) fn parse_numbers_and_list<const N: usize, const ROOM: usize>(
-    mut fields: Fields<'_>,
-) -> Option<([u8; N], ArrayVec<u8, ROOM>)>
-    ensures { ReadsWords (λ p. map number p.0 ++ bytes p.1.items ∷ []) (λ p. ((length p.0 ≡ N) × IsBytes p.0) × ((length p.1.items ≤ ROOM) × IsBytes p.1.items)) fields.entry result }
+/// A list of at most `room` bytes, which stands in `place` then.
+pub(crate) fn take_list<'a>(
+    fields: &mut Fields<'_>,
+    room: usize,
+    place: &'a mut Spelling,
+) -> Option<States<'a>>
+    requires { room ≤ MAX_DATA }
+    ensures { Takes (λ list. bytes list.items ∷ []) (λ list. (length list.items ≤ room) × IsBytes list.items) fields.old fields.new result }
 {
-    let numbers = fields.numbers_u8::<N>()?;
-    let list = fields.byte_list()?;
-    fields.is_empty().then_some((numbers, list))
+    if !fields.read_byte_list(place) {
+        return None;
+    }
+    let list = place.as_slice();
+    if list.len() > room {
+        return None;
+    }
+    Some(States::read(list))
 }
 
-/// A byte for each input, output or reader.
-pub(crate) fn parse_states(mut fields: Fields<'_>) -> Option<ArrayVec<u8, MAX_DATA>>
+/// A byte for each input, output or reader, which stands in `place` then.
+pub(crate) fn parse_states<'a>(
+    mut fields: Fields<'_>,
+    place: &'a mut Spelling,
+) -> Option<States<'a>>
     ensures { ReadsWords (λ states. bytes states.items ∷ []) (λ states. StatesFit states.items) fields.entry result }
 {
-    let mut states = ArrayVec::new();
-    read_last_list!(fields, states);
-    Some(states)
+    let states = take_list(&mut fields, MAX_DATA, place)?;
+    fields.is_empty().then_some(states)
 }
 
-/// Records, each a word of its own.
-pub(crate) fn parse_records<R: Record, const N: usize>(
+/// Puts the bytes of the records that the words are, each a word of its own, in place of what stands in `place`. Whether they are records, and
+/// at most `MOST`; else some of them stand there.
+pub(crate) fn read_records<R: Record, const MOST: usize>(
     mut fields: Fields<'_>,
-) -> Option<ArrayVec<R, N>>
-    ensures { ReadsWords (λ records. map R.word records.items) (λ records. (length records.items ≤ N) × All R.fits records.items) fields.entry result }
+    place: &mut Spelling,
+) -> bool
+    requires kind { IsRecord R.SIZE R.spelled R.fits R.read_at }
+    requires room { R.SIZE * MOST ≤ MAX_DATA }
+    ensures parsed { ReadsWords (λ records. map R.word records) (λ records. (length records ≤ MOST) × All R.fits records) fields.entry (then_some result (records_at R.read_at R.SIZE place.new.items)) }
+    ensures whole { AreWhole R.SIZE MOST place.new.items }
 {
-    let mut records = ArrayVec::new();
+    place.clear();
     'words: while let Some(word) = fields.word() {
-        if records.is_full() {
-            return None;
+        if place.len() == R::SIZE * MOST {
+            return false;
         }
-        records.push(R::parse(word)?);
+        let Some(record) = R::parse(word) else {
+            return false;
+        };
+        record.append_to(place);
     }
-    Some(records)
+    true
 }

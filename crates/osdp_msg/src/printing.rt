@@ -2,8 +2,9 @@
 
 ghost use Rattle.std.specs.Prelude.{◌≡◌, ◌∷◌, [], map};
 ghost use Rattle.std.specs.Fmt.{WritesOnOk};
-ghost use Rattle.osdp_words.specs.Word.{bytes, number, plain, text_of};
+ghost use Rattle.osdp_words.specs.Word.{bytes, number, plain, printed, text_of};
 
+use crate::lent::Records;
 use crate::records::Record;
 use osdp_words::ByteList;
 use std::fmt;
@@ -35,13 +36,21 @@ pub(crate) fn print_bytes<W: fmt::Write>(
 pub(crate) fn print_records<R: Record, W: fmt::Write>(
     f: &mut fmt::Formatter<W>,
     name: &str,
-    records: &[R],
+    records: Records<'_, R>,
 ) -> fmt::Result
-    ensures { WritesOnOk W.write_str_gives f.old result (text_of (plain name.now ∷ map R.word records.now)) f.new }
+    ensures { WritesOnOk W.write_str_gives f.old result (text_of (plain name.now ∷ map R.word records.entry)) f.new }
 {
     write!(f, "{name}")?;
-    for record in records {
-        write!(f, " {record}")?;
+    let mut left = records;
+    'records: while let Some(record) = left.next() {
+        print_record(f, record)?;
     }
     Ok(())
+}
+
+/// A space and a record.
+fn print_record<R: Record, W: fmt::Write>(f: &mut fmt::Formatter<W>, one: R) -> fmt::Result
+    ensures { WritesOnOk W.write_str_gives f.old result (32 ∷ printed (R.word one)) f.new }
+{
+    write!(f, " {one}")
 }

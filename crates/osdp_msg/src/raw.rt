@@ -9,39 +9,35 @@ ghost use Rattle.osdp_msg.specs.Raw.{raw_card};
 ghost use Rattle.osdp_msg.specs.ReplyFields.{RawFits, raw_at, raw_data, raw_words};
 
 use crate::limits::{MAX_CARD_BYTES, MAX_DATA};
-use crate::parsing::read_last_list;
-use crate::spelling::{Spelling, append, append_u16, list_of, put_bytes, rest};
-use arrayvec::ArrayVec;
+use crate::parsing::take_list;
+use crate::spelling::{Spelling, append, append_u16, put_bytes, rest};
 use byteorder::{ByteOrder, LittleEndian};
 use osdp_words::{ByteList, Fields};
 use std::fmt;
 use std::marker::Model;
 
 /// The bits of a card, in as many bytes as they need. The unused bits of the last byte are kept as read.
-#[derive(Debug, Drop, PartialEq)]
-pub struct Raw {
+#[derive(Debug, Drop)]
+pub struct Raw<'a> {
     reader: u8,
     format: u8,
     bits: u16,
-    bytes: ArrayVec<u8, MAX_CARD_BYTES>,
+    bytes: &'a [u8],
 }
 
-impl Model for Raw {
-    ghost use Rattle.std.specs.Prelude.{◌≡◌, ◌+◌, ◌/◌, length};
-    ghost use Rattle.osdp_msg.specs.Raw.{RawCard};
+impl<'a> Model for Raw<'a> {
+    ghost use Rattle.osdp_msg.specs.Raw.{IsCard, RawCard};
 
     ghost Value = { RawCard };
 
-    ghost view = { λ r. record { reader = r.reader; format = r.format; bits = r.bits; bytes = r.bytes.items } };
+    ghost view = { λ r. record { reader = r.reader; format = r.format; bits = r.bits; bytes = r.bytes.now } };
 
-    ghost invariant = { λ r. length r.bytes.items ≡ (r.bits + 7) / 8 };
-
-    ghost inverse = { λ r. record { reader = r.reader; format = r.format; bits = r.bits; bytes = record { items = r.bytes } } };
+    ghost invariant = { λ r. IsCard r.bits r.bytes.now };
 }
 
-impl Raw {
+impl<'a> Raw<'a> {
     /// A card's bits, read at this reader of the device. None where the bytes aren't as many as the bits need, or are more than 1,428.
-    pub fn new(reader: u8, format: u8, bits: u16, bytes: &[u8]) -> Option<Raw>
+    pub fn new(reader: u8, format: u8, bits: u16, bytes: &'a [u8]) -> Option<Raw<'a>>
         ensures { result ≡ raw_card reader format bits bytes.now }
     {
         if bytes.len() > MAX_CARD_BYTES || bytes.len() != (usize::from(bits) + 7) / 8 {
@@ -51,7 +47,7 @@ impl Raw {
             reader,
             format,
             bits,
-            bytes: list_of(bytes),
+            bytes,
         })
     }
 
@@ -77,15 +73,15 @@ impl Raw {
     }
 
     /// The bits, the first in the highest place of the first byte.
-    pub fn bytes(&self) -> &[u8]
+    pub fn bytes(&self) -> &'a [u8]
         ensures value { result.now ≡ self.now.bytes }
         ensures len { length self.now.bytes ≡ (self.now.bits + 7) / 8 }
         ensures room { length self.now.bytes ≤ MAX_CARD_BYTES }
     {
-        self.bytes.as_slice()
+        self.bytes
     }
 
-    pub(crate) fn read(bytes: &[u8]) -> Raw
+    pub(crate) fn read(bytes: &'a [u8]) -> Raw<'a>
         requires some { 4 ≤ length bytes.now }
         requires room { length bytes.now ≤ MAX_DATA }
         requires needed { (little_number 2 (drop 2 bytes.now) + 7) / 8 ≡ length bytes.now - 4 }
@@ -95,7 +91,7 @@ impl Raw {
             reader: bytes[0],
             format: bytes[1],
             bits: LittleEndian::read_u16(rest(bytes, 2)),
-            bytes: list_of(rest(bytes, 4)),
+            bytes: rest(bytes, 4),
         }
     }
 
@@ -106,18 +102,31 @@ impl Raw {
     {
         put_bytes(spelling, 0x50, &[self.reader, self.format]);
         append_u16(spelling, self.bits);
-        append(spelling, self.bytes.as_slice());
+        append(spelling, self.bytes);
     }
 
-    /// An equal value.
-    pub(crate) fn copy(&self) -> Raw
+    /// The card whose text has these words. Its bytes stand in `place` then.
+    pub(crate) fn parse(mut fields: Fields<'_>, place: &'a mut Spelling) -> Option<Raw<'a>>
+        ensures { ReadsWords raw_words RawFits fields.entry result }
+    {
+        let [reader, format] = fields.numbers_u8::<2>()?;
+        let bits = fields.number_u16()?;
+        let bytes = take_list(&mut fields, MAX_CARD_BYTES, place)?;
+        if !fields.is_empty() {
+            return None;
+        }
+        Raw::new(reader, format, bits, bytes.bytes())
+    }
+
+    /// The same card, lent again.
+    pub fn copy(&self) -> Raw<'a>
         ensures { result ≡ self.now }
     {
         Raw {
             reader: self.reader,
             format: self.format,
             bits: self.bits,
-            bytes: list_of(self.bytes.as_slice()),
+            bytes: self.bytes,
         }
     }
 
@@ -125,25 +134,7 @@ impl Raw {
         ensures { WritesOnOk W.write_str_gives f.old result (text_of (plain (codes "RAW") ∷ raw_words self.now)) f.new }
     {
         let (reader, format, bits) = (self.reader, self.format, self.bits);
-        let bytes = ByteList(self.bytes.as_slice());
+        let bytes = ByteList(self.bytes);
         write!(f, "RAW {reader} {format} {bits} {bytes}")
-    }
-
-    pub(crate) fn parse(mut fields: Fields<'_>) -> Option<Raw>
-        ensures { ReadsWords raw_words RawFits fields.entry result }
-    {
-        let [reader, format] = fields.numbers_u8::<2>()?;
-        let bits = fields.number_u16()?;
-        let mut bytes = ArrayVec::new();
-        read_last_list!(fields, bytes);
-        if bytes.len() != (usize::from(bits) + 7) / 8 {
-            return None;
-        }
-        Some(Raw {
-            reader,
-            format,
-            bits,
-            bytes,
-        })
     }
 }

@@ -3,17 +3,19 @@
 ghost use Rattle.std.specs.Prelude.{◌≡◌, ◌<◌, ◌≤◌, ◌+◌, ◌*◌, ◌%◌, ℕ, ◌++◌, List, ◌∷◌, Some, length};
 ghost use Rattle.std.specs.List.{All, flat_map};
 ghost use Rattle.arrayvec.specs.ArrayVec.{array_vec_len};
+ghost use Rattle.hex.specs.Hex.{IsBytes};
 ghost use Rattle.osdp_words.specs.Reading.{Reads};
 ghost use Rattle.osdp_words.specs.Word.{Word, printed};
-ghost use Rattle.osdp_msg.specs.Records.{records_at};
+ghost use Rattle.osdp_msg.specs.Records.{IsRecord};
+ghost use Rattle.osdp_msg.specs.Lending.{AreAtMost, lent_records};
 
+use crate::lent::Lent;
 use crate::limits::{MAX_DATA, MAX_MESSAGE};
-use crate::spelling::{Spelling, put_code, rest};
-use arrayvec::ArrayVec;
+use crate::spelling::{Spelling, put_bytes, put_code};
 use std::fmt;
 
 /// A record of a fixed size in bytes.
-pub(crate) trait Record: Copy + Default + Drop + fmt::Display {
+pub trait Record: Copy + Default + Drop + fmt::Display {
     ghost SIZE: { ℕ };
 
     ghost spelled: { Self → List ℕ };
@@ -38,7 +40,7 @@ pub(crate) trait Record: Copy + Default + Drop + fmt::Display {
         ensures appended { spelling.new.items ≡ spelling.old.items ++ spelled self }
         ensures fits { fits self };
 
-    /// The record of a word.
+    /// The record that a word stands for.
     fn parse(given: &str) -> Option<Self>
         ensures { Reads word fits given.now result };
 
@@ -47,34 +49,6 @@ pub(crate) trait Record: Copy + Default + Drop + fmt::Display {
     ghost length_spelled: { (r : Self) → length (spelled r) ≡ SIZE };
 
     ghost prints: { (r : Self) → Self.output r ≡ Some (printed (word r)) };
-}
-
-/// The records that the bytes are.
-pub(crate) fn read_records<R: Record, const N: usize>(bytes: &[u8]) -> ArrayVec<R, N>
-    requires whole { length bytes.now % R.SIZE ≡ 0 }
-    requires room { length bytes.now < R.SIZE * (N + 1) }
-    ensures { result.items ≡ records_at R.read_at R.SIZE bytes.now }
-{
-    let mut records = ArrayVec::new();
-    read_records_over(&mut records, bytes);
-    records
-}
-
-/// Puts the records that the bytes are in place of those of a list.
-pub(crate) fn read_records_over<R: Record, const N: usize>(
-    records: &mut ArrayVec<R, N>,
-    bytes: &[u8],
-)
-    requires whole { length bytes.now % R.SIZE ≡ 0 }
-    requires room { length bytes.now < R.SIZE * (N + 1) }
-    ensures { records.new.items ≡ records_at R.read_at R.SIZE bytes.now }
-{
-    records.clear();
-    let mut left = bytes;
-    for _ in 0..bytes.len() / R::SIZE {
-        records.push(R::read(left));
-        left = rest(left, R::SIZE);
-    }
 }
 
 /// Puts a message of records in place of what stands in `spelling`.
@@ -86,5 +60,24 @@ pub(crate) fn put_records<R: Record>(spelling: &mut Spelling, code: u8, records:
     put_code(spelling, code);
     for record in records {
         record.append_to(spelling);
+    }
+}
+
+/// Puts a message of records that are lent in place of what stands in `spelling`.
+pub(crate) fn put_lent<R: Record, const MOST: usize>(
+    spelling: &mut Spelling,
+    code: u8,
+    records: Lent<'_, R>,
+)
+    requires kind { IsRecord R.SIZE R.spelled R.fits R.read_at }
+    requires most { AreAtMost R.SIZE MOST records }
+    requires room { R.SIZE * MOST ≤ MAX_DATA }
+    requires bound { MAX_DATA < R.SIZE * (MOST + 1) }
+    ensures spelled { spelling.new.items ≡ code ∷ flat_map R.spelled (lent_records R.read_at R.SIZE records.entry) }
+    ensures fits { All R.fits (lent_records R.read_at R.SIZE records.entry) }
+{
+    match records {
+        Lent::Records(records) => put_records(spelling, code, records),
+        Lent::Bytes(bytes) => put_bytes(spelling, code, bytes),
     }
 }

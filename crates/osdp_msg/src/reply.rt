@@ -4,18 +4,18 @@ ghost use Rattle.std.specs.Prelude.{◌≡◌, ◌∷◌, length, None, Some, Ok
 ghost use Rattle.osdp_words.specs.Reading.{ReadsWords};
 ghost use Rattle.osdp_words.specs.Word.{AllStandFor, texts, words_in};
 ghost use Rattle.osdp_msg.specs.ReplyTable.{ReplyFits, IsReply, reply_code, reply_data, reply_fault, reply_of, reply_at};
+ghost use Rattle.osdp_msg.specs.Kept.{reply_kept};
 ghost use Rattle.osdp_msg.specs.ReplyText.{reply_words, reply_text};
 
 use crate::command_fields::{Communication, MakerMessage};
+use crate::event_fields::{Formatted, Keypad, States};
 use crate::fault::{BadWords, MsgFault};
-use crate::limits::{MAX_DATA, MAX_MESSAGE};
-use crate::making::put_row;
-use crate::parsing::{parse_nothing, parse_records, parse_states};
-use crate::printing::{print_bytes, print_records};
+use crate::limits::MAX_MESSAGE;
+use crate::parsing::{parse_nothing, parse_states};
+use crate::printing::print_bytes;
 use crate::raw::Raw;
-use crate::records::{put_records, read_records};
-use crate::reply_fields::{Formatted, Keypad, LocalState, Nak, PdCap, PdId};
-use crate::spelling::{list_of, put_bytes, put_code, rest};
+use crate::reply_fields::{LocalState, Nak, PdCap, PdId};
+use crate::spelling::{Spelling, put_code, rest};
 use crate::tabled::{Tabled, first_fault};
 use arrayvec::ArrayVec;
 use byteorder::{ByteOrder, LittleEndian};
@@ -23,39 +23,42 @@ use osdp_words::Fields;
 use std::fmt;
 
 /// A reply. Each value has the lengths and counts of its row in the table of replies.
-#[derive(Debug, Drop, PartialEq)]
-pub enum Reply {
+#[derive(Debug, Drop)]
+pub enum Reply<'a> {
     /// Done, or nothing to tell.
     Ack,
     /// Not done.
-    Nak(Nak),
+    Nak(Nak<'a>),
     /// What the device is.
     PdId(PdId),
     /// What the device can do.
-    PdCap(PdCap),
+    PdCap(PdCap<'a>),
     /// The state of the device itself.
     LocalState(LocalState),
     /// A byte for each input.
-    Inputs(ArrayVec<u8, MAX_DATA>),
+    Inputs(States<'a>),
     /// A byte for each output.
-    Outputs(ArrayVec<u8, MAX_DATA>),
+    Outputs(States<'a>),
     /// A byte for each reader.
-    Readers(ArrayVec<u8, MAX_DATA>),
+    Readers(States<'a>),
     /// A card's bits.
-    Raw(Raw),
+    Raw(Raw<'a>),
     /// A card as the reader formatted it.
-    Formatted(Formatted),
+    Formatted(Formatted<'a>),
     /// Pressed keys.
-    Keypad(Keypad),
+    Keypad(Keypad<'a>),
     /// The address and baud rate from now on.
     Com(Communication),
     /// Not taken: to be sent again.
     Busy,
     /// A reply of the device's maker.
-    MakerReply(MakerMessage),
+    MakerReply(MakerMessage<'a>),
 }
 
-impl Tabled for Reply {
+/// The table of replies.
+struct ReplyRows;
+
+impl Tabled for ReplyRows {
     ghost use Rattle.osdp_msg.specs.ReplyTable.{reply_counts_agree, reply_length_allowed};
 
     ghost length_allowed = { reply_length_allowed };
@@ -93,20 +96,18 @@ impl Tabled for Reply {
 
 /// The reply that a code and data without a fault stand for.
 #[tactic(auto, unfolding(crate::specs::ReplyTable::reply_at))]
-fn value_at(code: u8, bytes: &[u8]) -> Reply
+fn value_at(code: u8, bytes: &[u8]) -> Reply<'_>
     requires { reply_fault code bytes.now ≡ None }
     ensures { result ≡ reply_at code bytes.now }
 {
     match code {
         0x41 => Reply::Nak(Nak::read(bytes)),
         0x45 => Reply::PdId(PdId::read(bytes)),
-        0x46 => Reply::PdCap(PdCap {
-            capabilities: read_records(bytes),
-        }),
+        0x46 => Reply::PdCap(PdCap::read(bytes)),
         0x48 => Reply::LocalState(LocalState::read(bytes)),
-        0x49 => Reply::Inputs(list_of(bytes)),
-        0x4A => Reply::Outputs(list_of(bytes)),
-        0x4B => Reply::Readers(list_of(bytes)),
+        0x49 => Reply::Inputs(States::read(bytes)),
+        0x4A => Reply::Outputs(States::read(bytes)),
+        0x4B => Reply::Readers(States::read(bytes)),
         0x50 => Reply::Raw(Raw::read(bytes)),
         0x51 => Reply::Formatted(Formatted::read(bytes)),
         0x53 => Reply::Keypad(Keypad::read(bytes)),
@@ -117,77 +118,57 @@ fn value_at(code: u8, bytes: &[u8]) -> Reply
     }
 }
 
+/// The reply whose text begins with a name and goes on with these fields. What it has of bytes stands in `place` then.
+fn parse_row<'a>(name: &str, fields: Fields<'_>, place: &'a mut Spelling) -> Option<Reply<'a>>
+    ensures { ReadsWords reply_words ReplyFits (name.now ∷ fields.entry) result }
+{
+    match name {
+        "ACK" => {
+            parse_nothing(fields)?;
+            Some(Reply::Ack)
+        }
+        "NAK" => Some(Reply::Nak(Nak::parse(fields, place)?)),
+        "PDID" => Some(Reply::PdId(PdId::parse(fields)?)),
+        "PDCAP" => Some(Reply::PdCap(PdCap::parse(fields, place)?)),
+        "LSTATR" => Some(Reply::LocalState(LocalState::parse(fields)?)),
+        "ISTATR" => Some(Reply::Inputs(parse_states(fields, place)?)),
+        "OSTATR" => Some(Reply::Outputs(parse_states(fields, place)?)),
+        "RSTATR" => Some(Reply::Readers(parse_states(fields, place)?)),
+        "RAW" => Some(Reply::Raw(Raw::parse(fields, place)?)),
+        "FMT" => Some(Reply::Formatted(Formatted::parse(fields, place)?)),
+        "KEYPAD" => Some(Reply::Keypad(Keypad::parse(fields, place)?)),
+        "COM" => Some(Reply::Com(Communication::parse(fields)?)),
+        "BUSY" => {
+            parse_nothing(fields)?;
+            Some(Reply::Busy)
+        }
+        "MFGREP" => Some(Reply::MakerReply(MakerMessage::parse(fields, place)?)),
+        _ => None,
+    }
+}
+
+/// The reply whose text has these words.
+pub(crate) fn parse_fields<'a>(mut fields: Fields<'_>, place: &'a mut Spelling) -> Option<Reply<'a>>
+    ensures { ReadsWords reply_words ReplyFits fields.entry result }
+{
+    let name = fields.word()?;
+    parse_row(name, fields, place)
+}
+
 /// The first fault of a code and data, or the reply that they stand for.
 #[tactic(auto, unfolding(crate::specs::ReplyTable::reply_of, crate::specs::ReplyTable::reply_fault))]
-fn decode(code: u8, bytes: &[u8]) -> Result<Reply, MsgFault>
+fn decode(code: u8, bytes: &[u8]) -> Result<Reply<'_>, MsgFault>
     ensures { result ≡ reply_of code bytes.now }
 {
-    match first_fault::<Reply>(code, bytes) {
+    match first_fault::<ReplyRows>(code, bytes) {
         Some(fault) => Err(fault),
         None => Ok(value_at(code, bytes)),
     }
 }
 
-/// Puts the reply there whose text begins with a name and goes on with these fields, or none.
-fn parse_row(name: &str, fields: Fields<'_>, reply: &mut Option<Reply>)
-    ensures { ReadsWords reply_words ReplyFits (name.now ∷ fields.entry) reply.new }
-{
-    match name {
-        "ACK" => put_row(parse_nothing, fields, |_| Reply::Ack, reply),
-        "NAK" => put_row(Nak::parse, fields, Reply::Nak, reply),
-        "PDID" => put_row(PdId::parse, fields, Reply::PdId, reply),
-        "PDCAP" => put_row(
-            parse_records,
-            fields,
-            |capabilities| Reply::PdCap(PdCap { capabilities }),
-            reply,
-        ),
-        "LSTATR" => put_row(LocalState::parse, fields, Reply::LocalState, reply),
-        "ISTATR" => put_row(parse_states, fields, Reply::Inputs, reply),
-        "OSTATR" => put_row(parse_states, fields, Reply::Outputs, reply),
-        "RSTATR" => put_row(parse_states, fields, Reply::Readers, reply),
-        "RAW" => put_row(Raw::parse, fields, Reply::Raw, reply),
-        "FMT" => put_row(Formatted::parse, fields, Reply::Formatted, reply),
-        "KEYPAD" => put_row(Keypad::parse, fields, Reply::Keypad, reply),
-        "COM" => put_row(Communication::parse, fields, Reply::Com, reply),
-        "BUSY" => put_row(parse_nothing, fields, |_| Reply::Busy, reply),
-        "MFGREP" => put_row(MakerMessage::parse, fields, Reply::MakerReply, reply),
-        _ => *reply = None,
-    }
-}
-
-/// Puts the reply there whose text has these words, or none.
-pub(crate) fn parse_fields(mut fields: Fields<'_>, reply: &mut Option<Reply>)
-    ensures { ReadsWords reply_words ReplyFits fields.entry reply.new }
-{
-    match fields.word() {
-        Some(name) => parse_row(name, fields, reply),
-        None => *reply = None,
-    }
-}
-
-/// Puts the code and the data of an event, or of the reply that tells it, in place of what stands in `$spelling`: both have the same
-/// names and fields. Rows for the other replies follow.
-macro_rules! write_told {
-    ($kind:ident, $message:expr, $spelling:expr $(, $others:pat => $write:expr)*) => {
-        match $message {
-            $kind::LocalState(state) => state.write_into($spelling),
-            $kind::Inputs(states) => put_bytes($spelling, 0x49, states.as_slice()),
-            $kind::Outputs(states) => put_bytes($spelling, 0x4A, states.as_slice()),
-            $kind::Readers(states) => put_bytes($spelling, 0x4B, states.as_slice()),
-            $kind::Raw(raw) => raw.write_into($spelling),
-            $kind::Formatted(formatted) => formatted.write_into($spelling),
-            $kind::Keypad(keypad) => keypad.write_into($spelling),
-            $($others => $write,)*
-        }
-    };
-}
-
-pub(crate) use write_told;
-
-impl Reply {
+impl<'a> Reply<'a> {
     /// The reply that a code and data stand for, or the first fault that holds.
-    pub fn read(code: u8, bytes: &[u8]) -> Result<Reply, MsgFault>
+    pub fn read(code: u8, bytes: &'a [u8]) -> Result<Reply<'a>, MsgFault>
         ensures value { IfOk result (IsReply code bytes.now) }
         ensures fault { IfErr result (λ e. reply_fault code bytes.now ≡ Some e) }
         ensures only { (m : Reply) → IsReply code bytes.now m → result ≡ Ok m }
@@ -209,44 +190,60 @@ impl Reply {
     /// Puts the code and the data of the reply in place of what stands in `spelling`.
     pub fn write_into(&self, spelling: &mut ArrayVec<u8, MAX_MESSAGE>)
         ensures spelled { spelling.new.items ≡ reply_code self.now ∷ reply_data self.now }
+        ensures kept { reply_kept spelling.new.items ≡ self.now }
         ensures fits { ReplyFits self.now }
     {
-        write_told!(
-            Reply,
-            self,
-            spelling,
+        self.spell(spelling);
+    }
+
+    /// Puts its code and its data there.
+    fn spell(&self, spelling: &mut ArrayVec<u8, MAX_MESSAGE>)
+        ensures spelled { spelling.new.items ≡ reply_code self.now ∷ reply_data self.now }
+        ensures fits { ReplyFits self.now }
+    {
+        match self {
             Reply::Ack => put_code(spelling, 0x40),
             Reply::Nak(nak) => nak.write_into(spelling),
             Reply::PdId(pd_id) => pd_id.write_into(spelling),
-            Reply::PdCap(pd_cap) => put_records(spelling, 0x46, pd_cap.capabilities.as_slice()),
+            Reply::PdCap(pd_cap) => pd_cap.write_into(spelling),
+            Reply::LocalState(state) => state.write_into(spelling),
+            Reply::Inputs(states) => states.write_into(spelling, 0x49),
+            Reply::Outputs(states) => states.write_into(spelling, 0x4A),
+            Reply::Readers(states) => states.write_into(spelling, 0x4B),
+            Reply::Raw(raw) => raw.write_into(spelling),
+            Reply::Formatted(formatted) => formatted.write_into(spelling),
+            Reply::Keypad(keypad) => keypad.write_into(spelling),
             Reply::Com(communication) => communication.write_into(spelling, 0x54),
             Reply::Busy => put_code(spelling, 0x79),
-            Reply::MakerReply(message) => message.write_into(spelling, 0x90)
-        )
+            Reply::MakerReply(message) => message.write_into(spelling, 0x90),
+        }
     }
 
-    /// The reply whose text has these words. The digits of byte lists may have either case.
-    pub fn parse(words: &[&str]) -> Result<Reply, BadWords>
+    /// The reply whose text has these words. The digits of byte lists may have either case. What the reply has of bytes
+    /// stands in `place` then.
+    pub fn parse(
+        words: &[&str],
+        place: &'a mut ArrayVec<u8, MAX_MESSAGE>,
+    ) -> Result<Reply<'a>, BadWords>
         ensures value { IfOk result (λ m. AllStandFor (reply_words m) (texts words.now) × ReplyFits m) }
         ensures only { (m : Reply) → ReplyFits m → AllStandFor (reply_words m) (texts words.now) → result ≡ Ok m }
     {
-        let mut reply = None;
-        parse_fields(Fields::new(words), &mut reply);
-        reply.ok_or(BadWords)
+        parse_fields(Fields::new(words), place).ok_or(BadWords)
     }
 
     /// The reply whose text a line is. Its words have one or more spaces between each two.
-    pub fn parse_line(line: &str) -> Result<Reply, BadWords>
+    pub fn parse_line(
+        line: &str,
+        place: &'a mut ArrayVec<u8, MAX_MESSAGE>,
+    ) -> Result<Reply<'a>, BadWords>
         ensures value { IfOk result (λ m. AllStandFor (reply_words m) (words_in line.now) × ReplyFits m) }
         ensures only { (m : Reply) → ReplyFits m → AllStandFor (reply_words m) (words_in line.now) → result ≡ Ok m }
     {
-        let mut reply = None;
-        parse_fields(Fields::of_line(line), &mut reply);
-        reply.ok_or(BadWords)
+        parse_fields(Fields::of_line(line), place).ok_or(BadWords)
     }
 
-    /// An equal reply.
-    pub fn copy(&self) -> Reply
+    /// The same reply, lent again.
+    pub fn copy(&self) -> Reply<'a>
         ensures { result ≡ self.now }
     {
         match self {
@@ -255,9 +252,9 @@ impl Reply {
             Reply::PdId(pd_id) => Reply::PdId(*pd_id),
             Reply::PdCap(pd_cap) => Reply::PdCap(pd_cap.copy()),
             Reply::LocalState(state) => Reply::LocalState(*state),
-            Reply::Inputs(states) => Reply::Inputs(list_of(states.as_slice())),
-            Reply::Outputs(states) => Reply::Outputs(list_of(states.as_slice())),
-            Reply::Readers(states) => Reply::Readers(list_of(states.as_slice())),
+            Reply::Inputs(states) => Reply::Inputs(states.copy()),
+            Reply::Outputs(states) => Reply::Outputs(states.copy()),
+            Reply::Readers(states) => Reply::Readers(states.copy()),
             Reply::Raw(raw) => Reply::Raw(raw.copy()),
             Reply::Formatted(formatted) => Reply::Formatted(formatted.copy()),
             Reply::Keypad(keypad) => Reply::Keypad(keypad.copy()),
@@ -268,7 +265,7 @@ impl Reply {
     }
 }
 
-impl fmt::Display for Reply {
+impl<'a> fmt::Display for Reply<'a> {
     ghost output = { λ m. Some (reply_text m) };
 
     #[tactic(auto, unfolding(crate::specs::ReplyText::reply_text))]
@@ -277,11 +274,11 @@ impl fmt::Display for Reply {
             Reply::Ack => f.write_str("ACK"),
             Reply::Nak(nak) => nak.print(f),
             Reply::PdId(pd_id) => pd_id.print(f),
-            Reply::PdCap(pd_cap) => print_records(f, "PDCAP", pd_cap.capabilities.as_slice()),
+            Reply::PdCap(pd_cap) => pd_cap.print(f),
             Reply::LocalState(state) => state.print(f),
-            Reply::Inputs(states) => print_bytes(f, "ISTATR", states.as_slice()),
-            Reply::Outputs(states) => print_bytes(f, "OSTATR", states.as_slice()),
-            Reply::Readers(states) => print_bytes(f, "RSTATR", states.as_slice()),
+            Reply::Inputs(states) => print_bytes(f, "ISTATR", states.bytes()),
+            Reply::Outputs(states) => print_bytes(f, "OSTATR", states.bytes()),
+            Reply::Readers(states) => print_bytes(f, "RSTATR", states.bytes()),
             Reply::Raw(raw) => raw.print(f),
             Reply::Formatted(formatted) => formatted.print(f),
             Reply::Keypad(keypad) => keypad.print(f),

@@ -1,39 +1,80 @@
 //! The fields of replies.
 
-ghost use Rattle.std.specs.Prelude.{◌≡◌, ◌≤◌, ◌∷◌, [], codes, length};
+ghost use Rattle.std.specs.Prelude.{◌≡◌, ◌≤◌, ◌∷◌, [], codes, length, map, nat_le};
+ghost use Rattle.std.specs.Bool.{then_some};
+ghost use Rattle.std.specs.List.{All, flat_map};
 ghost use Rattle.std.specs.Fmt.{WritesOnOk};
 ghost use Rattle.osdp_words.specs.Reading.{ReadsWords};
 ghost use Rattle.osdp_words.specs.Word.{plain, text_of};
-ghost use Rattle.osdp_msg.specs.ListedCommands.{HasLength};
-ghost use Rattle.osdp_msg.specs.ReplyFields.{NakFits, nak_at, nak_data, nak_words, PdIdFits, pd_id_at, pd_id_data, pd_id_words, LocalStateFits, local_state_at, local_state_data, local_state_words, FormattedFits, formatted_at, formatted_data, formatted_words, KeypadFits, keypad_at, keypad_data, keypad_words};
+ghost use Rattle.osdp_msg.specs.ListedCommands.{AreWhole, HasLength};
+ghost use Rattle.osdp_msg.specs.Records.{records_at};
+ghost use Rattle.osdp_msg.specs.ReplyFields.{CapabilityFits, capability_at, capability_data, capability_word, NakFits, nak_at, nak_data, nak_words, PdIdFits, pd_id_at, pd_id_data, pd_id_words, LocalStateFits, local_state_at, local_state_data, local_state_words};
 
 use crate::capability::Capability;
+use crate::lent::{Lent, Records};
 use crate::limits::{MAX_DATA, MAX_DETAIL};
 use crate::nak::NakReason;
-use crate::parsing::{parse_numbers, parse_numbers_and_list, read_last_list};
-use crate::spelling::{Spelling, append, append_u32, list_of, put_byte, put_bytes, rest};
-use arrayvec::ArrayVec;
+use crate::parsing::{parse_numbers, read_records, take_list};
+use crate::printing::print_records;
+use crate::records::put_lent;
+use crate::spelling::{Spelling, append, append_u32, put_byte, put_bytes, rest};
 use byteorder::{ByteOrder, LittleEndian};
 use osdp_words::{ByteList, Fields};
 use std::fmt;
+use std::marker::Model;
 
 /// Why a command wasn't done.
-#[derive(Debug, Drop, PartialEq)]
-pub struct Nak {
-    /// Why the command was not acted on.
-    pub reason: NakReason,
-    /// What follows the reason, 0 to 1,431 bytes.
-    pub detail: ArrayVec<u8, MAX_DETAIL>,
+#[derive(Debug, Drop)]
+pub struct Nak<'a> {
+    reason: NakReason,
+    detail: &'a [u8],
 }
 
-impl Nak {
-    pub(crate) fn read(bytes: &[u8]) -> Nak
+impl<'a> Model for Nak<'a> {
+    ghost use Rattle.std.specs.Prelude.{◌≤◌, length};
+    ghost use Rattle.osdp_msg.specs.Limits.{most_detail};
+    ghost use Rattle.osdp_msg.specs.Values.{NakValue};
+
+    ghost Value = { NakValue };
+
+    ghost view = { λ n. record { reason = n.reason; detail = record { items = n.detail.now } } };
+
+    ghost invariant = { λ n. length n.detail.now ≤ most_detail };
+}
+
+impl<'a> Nak<'a> {
+    /// A reason, and what follows it. None where that has more than 1,431 bytes.
+    pub fn new(reason: NakReason, detail: &'a [u8]) -> Option<Nak<'a>>
+        ensures { result ≡ then_some (nat_le (length detail.now) MAX_DETAIL) (record { reason = reason; detail = record { items = detail.now } }) }
+    {
+        if detail.len() > MAX_DETAIL {
+            return None;
+        }
+        Some(Nak { reason, detail })
+    }
+
+    /// Why the command was not acted on.
+    pub fn reason(&self) -> NakReason
+        ensures { result ≡ self.now.reason }
+    {
+        self.reason
+    }
+
+    /// What follows the reason, 0 to 1,431 bytes.
+    pub fn detail(&self) -> &'a [u8]
+        ensures value { result.now ≡ self.now.detail.items }
+        ensures room { length self.now.detail.items ≤ MAX_DETAIL }
+    {
+        self.detail
+    }
+
+    pub(crate) fn read(bytes: &'a [u8]) -> Nak<'a>
         requires { HasLength 1 MAX_DATA bytes.now }
         ensures { result ≡ nak_at bytes.now }
     {
         Nak {
             reason: NakReason::from(bytes[0]),
-            detail: list_of(rest(bytes, 1)),
+            detail: rest(bytes, 1),
         }
     }
 
@@ -43,16 +84,31 @@ impl Nak {
         ensures fits { NakFits self.now }
     {
         put_byte(spelling, 0x41, self.reason.number());
-        append(spelling, self.detail.as_slice());
+        append(spelling, self.detail);
     }
 
-    /// An equal value.
-    pub(crate) fn copy(&self) -> Nak
+    /// The reason and detail whose text has these words. The detail stands in `place` then.
+    pub(crate) fn parse(mut fields: Fields<'_>, place: &'a mut Spelling) -> Option<Nak<'a>>
+        ensures { ReadsWords nak_words NakFits fields.entry result }
+    {
+        let reason = NakReason::from(fields.number_u8()?);
+        if fields.is_empty() {
+            return Nak::new(reason, &[]);
+        }
+        let detail = take_list(&mut fields, MAX_DETAIL, place)?;
+        if !fields.is_empty() || detail.bytes().is_empty() {
+            return None;
+        }
+        Nak::new(reason, detail.bytes())
+    }
+
+    /// The same reason and detail, lent again.
+    pub fn copy(&self) -> Nak<'a>
         ensures { result ≡ self.now }
     {
         Nak {
             reason: self.reason,
-            detail: list_of(self.detail.as_slice()),
+            detail: self.detail,
         }
     }
 
@@ -64,26 +120,8 @@ impl Nak {
         if self.detail.is_empty() {
             return Ok(());
         }
-        let detail = ByteList(self.detail.as_slice());
+        let detail = ByteList(self.detail);
         write!(f, " {detail}")
-    }
-
-    pub(crate) fn parse(mut fields: Fields<'_>) -> Option<Nak>
-        ensures { ReadsWords nak_words NakFits fields.entry result }
-    {
-        let reason = NakReason::from(fields.number_u8()?);
-        if fields.is_empty() {
-            return Some(Nak {
-                reason,
-                detail: ArrayVec::new(),
-            });
-        }
-        let mut detail = ArrayVec::new();
-        read_last_list!(fields, detail);
-        if detail.is_empty() {
-            return None;
-        }
-        Some(Nak { reason, detail })
     }
 }
 
@@ -138,25 +176,7 @@ impl PdId {
         append(spelling, &firmware);
     }
 
-    pub(crate) fn print<W: fmt::Write>(self, f: &mut fmt::Formatter<W>) -> fmt::Result
-        ensures { WritesOnOk W.write_str_gives f.old result (text_of (plain (codes "PDID") ∷ pd_id_words self)) f.new }
-    {
-        let vendor = ByteList(&self.vendor);
-        let PdId {
-            model,
-            version,
-            serial,
-            ..
-        } = self;
-        write!(f, "PDID {vendor} {model} {version} {serial}")?;
-        let (major, minor, build) = (
-            self.firmware_major,
-            self.firmware_minor,
-            self.firmware_build,
-        );
-        write!(f, " {major} {minor} {build}")
-    }
-
+    /// What a device is, by these words of a text.
     pub(crate) fn parse(mut fields: Fields<'_>) -> Option<PdId>
         ensures { ReadsWords pd_id_words PdIdFits fields.entry result }
     {
@@ -175,22 +195,107 @@ impl PdId {
         };
         fields.is_empty().then_some(pd_id)
     }
+
+    pub(crate) fn print<W: fmt::Write>(self, f: &mut fmt::Formatter<W>) -> fmt::Result
+        ensures { WritesOnOk W.write_str_gives f.old result (text_of (plain (codes "PDID") ∷ pd_id_words self)) f.new }
+    {
+        let vendor = ByteList(&self.vendor);
+        let PdId {
+            model,
+            version,
+            serial,
+            ..
+        } = self;
+        write!(f, "PDID {vendor} {model} {version} {serial}")?;
+        let (major, minor, build) = (
+            self.firmware_major,
+            self.firmware_minor,
+            self.firmware_build,
+        );
+        write!(f, " {major} {minor} {build}")
+    }
 }
 
-/// What a device can do.
-#[derive(Debug, Drop, PartialEq)]
-pub struct PdCap {
+/// What a device can do: 0 to 477 records.
+#[derive(Debug, Drop)]
+pub struct PdCap<'a> {
+    capabilities: Lent<'a, Capability>,
+}
+
+impl<'a> Model for PdCap<'a> {
+    ghost use Rattle.osdp_msg.specs.Lending.{AreAtMost, lent_records};
+    ghost use Rattle.osdp_msg.specs.ReplyFields.{capability_at};
+    ghost use Rattle.osdp_msg.specs.Values.{PdCapValue};
+
+    ghost Value = { PdCapValue };
+
+    ghost view = { λ p. record { capabilities = record { items = lent_records capability_at 3 p.capabilities } } };
+
+    ghost invariant = { λ p. AreAtMost 3 477 p.capabilities };
+}
+
+impl<'a> PdCap<'a> {
+    /// These abilities. None where there are more than 477.
+    pub fn new(capabilities: &'a [Capability]) -> Option<PdCap<'a>>
+        ensures { result ≡ then_some (nat_le (length capabilities.now) 477) (record { capabilities = record { items = capabilities.now } }) }
+    {
+        if capabilities.len() > 477 {
+            return None;
+        }
+        Some(PdCap {
+            capabilities: Lent::Records(capabilities),
+        })
+    }
+
     /// What the device can do, 0 to 477 records.
-    pub capabilities: ArrayVec<Capability, 477>,
-}
+    pub fn capabilities(&self) -> Records<'a, Capability>
+        ensures value { result ≡ self.now.capabilities.items }
+        ensures room { length self.now.capabilities.items ≤ 477 }
+    {
+        Records::new(self.capabilities)
+    }
 
-impl PdCap {
-    /// An equal value.
-    pub fn copy(&self) -> PdCap
+    pub(crate) fn read(bytes: &'a [u8]) -> PdCap<'a>
+        requires { AreWhole 3 477 bytes.now }
+        ensures { result.capabilities.items ≡ records_at capability_at 3 bytes.now }
+    {
+        PdCap {
+            capabilities: Lent::Bytes(bytes),
+        }
+    }
+
+    /// Puts the message in place of what stands in `spelling`.
+    #[tactic(auto, using(crate::proofs::ReplyRows::capabilities))]
+    pub(crate) fn write_into(&self, spelling: &mut Spelling)
+        ensures spelled { spelling.new.items ≡ 0x46 ∷ flat_map capability_data self.now.capabilities.items }
+        ensures fits { (length self.now.capabilities.items ≤ 477) × All CapabilityFits self.now.capabilities.items }
+    {
+        put_lent::<Capability, 477>(spelling, 0x46, self.capabilities);
+    }
+
+    /// What the device can do, by these words of a text. The records stand in `place` then.
+    #[tactic(auto, using(crate::proofs::ReplyRows::capabilities))]
+    pub(crate) fn parse(fields: Fields<'_>, place: &'a mut Spelling) -> Option<PdCap<'a>>
+        ensures { ReadsWords (λ p. map capability_word p.capabilities.items) (λ p. (length p.capabilities.items ≤ 477) × All CapabilityFits p.capabilities.items) fields.entry result }
+    {
+        if !read_records::<Capability, 477>(fields, place) {
+            return None;
+        }
+        Some(PdCap::read(place.as_slice()))
+    }
+
+    pub(crate) fn print<W: fmt::Write>(&self, f: &mut fmt::Formatter<W>) -> fmt::Result
+        ensures { WritesOnOk W.write_str_gives f.old result (text_of (plain (codes "PDCAP") ∷ map capability_word self.now.capabilities.items)) f.new }
+    {
+        print_records(f, "PDCAP", self.capabilities())
+    }
+
+    /// The same records, lent again.
+    pub fn copy(&self) -> PdCap<'a>
         ensures { result ≡ self.now }
     {
         PdCap {
-            capabilities: list_of(self.capabilities.as_slice()),
+            capabilities: self.capabilities,
         }
     }
 }
@@ -229,137 +334,18 @@ impl LocalState {
         put_bytes(spelling, 0x48, &[self.tamper, self.power]);
     }
 
-    pub(crate) fn print<W: fmt::Write>(self, f: &mut fmt::Formatter<W>) -> fmt::Result
-        ensures { WritesOnOk W.write_str_gives f.old result (text_of (plain (codes "LSTATR") ∷ local_state_words self)) f.new }
-    {
-        let LocalState { tamper, power } = self;
-        write!(f, "LSTATR {tamper} {power}")
-    }
-
+    /// The state whose text has these words.
     pub(crate) fn parse(fields: Fields<'_>) -> Option<LocalState>
         ensures { ReadsWords local_state_words LocalStateFits fields.entry result }
     {
         let [tamper, power] = parse_numbers::<2>(fields)?;
         Some(LocalState { tamper, power })
     }
-}
 
-/// A card as the reader formatted it.
-#[derive(Debug, Drop, PartialEq)]
-pub struct Formatted {
-    /// The reader of the device, counted from 0.
-    pub reader: u8,
-    /// 0 forward, 1 backward.
-    pub direction: u8,
-    /// The characters of the card, 0 to 255 bytes.
-    pub digits: ArrayVec<u8, 255>,
-}
-
-impl Formatted {
-    pub(crate) fn read(bytes: &[u8]) -> Formatted
-        requires { HasLength 3 258 bytes.now }
-        ensures { result ≡ formatted_at bytes.now }
+    pub(crate) fn print<W: fmt::Write>(self, f: &mut fmt::Formatter<W>) -> fmt::Result
+        ensures { WritesOnOk W.write_str_gives f.old result (text_of (plain (codes "LSTATR") ∷ local_state_words self)) f.new }
     {
-        Formatted {
-            reader: bytes[0],
-            direction: bytes[1],
-            digits: list_of(rest(bytes, 3)),
-        }
-    }
-
-    /// Puts the message in place of what stands in `spelling`.
-    pub(crate) fn write_into(&self, spelling: &mut Spelling)
-        ensures spelled { spelling.new.items ≡ 0x51 ∷ formatted_data self.now }
-        ensures fits { FormattedFits self.now }
-    {
-        let count = self.digits.len() as u8;
-        put_bytes(spelling, 0x51, &[self.reader, self.direction, count]);
-        append(spelling, self.digits.as_slice());
-    }
-
-    /// An equal value.
-    pub(crate) fn copy(&self) -> Formatted
-        ensures { result ≡ self.now }
-    {
-        Formatted {
-            digits: list_of(self.digits.as_slice()),
-            ..*self
-        }
-    }
-
-    pub(crate) fn print<W: fmt::Write>(&self, f: &mut fmt::Formatter<W>) -> fmt::Result
-        ensures { WritesOnOk W.write_str_gives f.old result (text_of (plain (codes "FMT") ∷ formatted_words self.now)) f.new }
-    {
-        let (reader, direction) = (self.reader, self.direction);
-        let digits = ByteList(self.digits.as_slice());
-        write!(f, "FMT {reader} {direction} {digits}")
-    }
-
-    pub(crate) fn parse(fields: Fields<'_>) -> Option<Formatted>
-        ensures { ReadsWords formatted_words FormattedFits fields.entry result }
-    {
-        let ([reader, direction], digits) = parse_numbers_and_list::<2, 255>(fields)?;
-        Some(Formatted {
-            reader,
-            direction,
-            digits,
-        })
-    }
-}
-
-/// Keys that were pressed.
-#[derive(Debug, Drop, PartialEq)]
-pub struct Keypad {
-    /// The reader of the device, counted from 0.
-    pub reader: u8,
-    /// The keys in their order, 0 to 255 bytes.
-    pub digits: ArrayVec<u8, 255>,
-}
-
-impl Keypad {
-    pub(crate) fn read(bytes: &[u8]) -> Keypad
-        requires { HasLength 2 257 bytes.now }
-        ensures { result ≡ keypad_at bytes.now }
-    {
-        Keypad {
-            reader: bytes[0],
-            digits: list_of(rest(bytes, 2)),
-        }
-    }
-
-    /// Puts the message in place of what stands in `spelling`.
-    pub(crate) fn write_into(&self, spelling: &mut Spelling)
-        ensures spelled { spelling.new.items ≡ 0x53 ∷ keypad_data self.now }
-        ensures fits { KeypadFits self.now }
-    {
-        let count = self.digits.len() as u8;
-        put_bytes(spelling, 0x53, &[self.reader, count]);
-        append(spelling, self.digits.as_slice());
-    }
-
-    /// An equal value.
-    pub(crate) fn copy(&self) -> Keypad
-        ensures { result ≡ self.now }
-    {
-        Keypad {
-            reader: self.reader,
-            digits: list_of(self.digits.as_slice()),
-        }
-    }
-
-    pub(crate) fn print<W: fmt::Write>(&self, f: &mut fmt::Formatter<W>) -> fmt::Result
-        ensures { WritesOnOk W.write_str_gives f.old result (text_of (plain (codes "KEYPAD") ∷ keypad_words self.now)) f.new }
-    {
-        let reader = self.reader;
-        let digits = ByteList(self.digits.as_slice());
-        write!(f, "KEYPAD {reader} {digits}")
-    }
-
-    pub(crate) fn parse(mut fields: Fields<'_>) -> Option<Keypad>
-        ensures { ReadsWords keypad_words KeypadFits fields.entry result }
-    {
-        let reader = fields.number_u8()?;
-        let digits = fields.byte_list()?;
-        fields.is_empty().then_some(Keypad { reader, digits })
+        let LocalState { tamper, power } = self;
+        write!(f, "LSTATR {tamper} {power}")
     }
 }

@@ -9,7 +9,7 @@ use crate::limits::{MAX_DATA, MAX_MESSAGE};
 use arrayvec::ArrayVec;
 
 /// A message's code and data.
-pub(crate) type Spelling = ArrayVec<u8, MAX_MESSAGE>;
+pub type Spelling = ArrayVec<u8, MAX_MESSAGE>;
 
 /// The bytes from place `from` on.
 pub(crate) fn rest(bytes: &[u8], from: usize) -> &[u8]
@@ -17,28 +17,6 @@ pub(crate) fn rest(bytes: &[u8], from: usize) -> &[u8]
     ensures { result.now ≡ drop from bytes.now }
 {
     bytes.split_at(from).1
-}
-
-/// A list with these elements.
-pub(crate) fn list_of<T: Copy + Default + Drop, const N: usize>(items: &[T]) -> ArrayVec<T, N>
-    requires { length items.now ≤ N }
-    ensures { result.items ≡ items.now }
-{
-    let mut list = ArrayVec::new();
-    list.try_extend_from_slice(items).unwrap();
-    list
-}
-
-/// Puts these elements in place of those of a list.
-pub(crate) fn copy_over<T: Copy + Default + Drop, const N: usize>(
-    list: &mut ArrayVec<T, N>,
-    items: &[T],
-)
-    requires { length items.now ≤ N }
-    ensures { list.new.items ≡ items.now }
-{
-    list.clear();
-    list.try_extend_from_slice(items).unwrap();
 }
 
 /// Puts a message of a code alone in place of what stands in `spelling`.

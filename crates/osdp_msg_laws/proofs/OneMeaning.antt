@@ -14,8 +14,8 @@ use Rattle.osdp_msg.specs.declared.command_fields.Text.{Text}
 use Rattle.osdp_msg.specs.declared.leds.LedRecord.{LedRecord}
 use Rattle.osdp_msg.specs.declared.nak.NakReason.{NakReason}
 use Rattle.osdp_msg.specs.declared.outputs.OutputRecord.{OutputRecord}
-use Rattle.osdp_msg.specs.declared.reply_fields.Formatted.{Formatted}
-use Rattle.osdp_msg.specs.declared.reply_fields.Keypad.{Keypad}
+use Rattle.osdp_msg.specs.declared.event_fields.Formatted.{Formatted}
+use Rattle.osdp_msg.specs.declared.event_fields.Keypad.{Keypad}
 use Rattle.osdp_msg.specs.declared.reply_fields.LocalState.{LocalState}
 use Rattle.osdp_msg.specs.declared.reply_fields.Nak.{Nak}
 use Rattle.osdp_msg.specs.declared.reply_fields.PdId.{PdId}

@@ -1,10 +1,10 @@
 //! One turn of the loop of a panel that runs a bus on a serial line, as an example to start from. A panel with one reader runs a bus of one.
 //!
-//! The panel's program reads from its port, takes the moment after the read, and hands both to `Panel::turn`, or to `take_turn` with a bus of its own. No call reads or writes by itself,
+//! The panel's program reads from its port, takes the moment after the read, and hands both to `Panel::turn`. No call reads or writes by itself,
 //! and none but `Panel::new` and `Panel::add` takes memory.
 //!
 //! ```text
-//! let mut panel = Panel::new(alloc, BusConfig::new(CheckKind::Crc, 16))?;
+//! let mut panel = Panel::new(alloc, BusConfig::new(CheckKind::Crc, Room::of(16)))?;
 //! let door = panel.add(address)?;
 //! panel.begin(door, clock.now())?;
 //! let mut turn = Turn::new();
@@ -15,7 +15,7 @@
 //!     if let Some(unsent) = panel.turn(&buffer[..count], clock.now(), &mut turn) {
 //!         .. unsent.bytes(&turn) is written, all of it, and flushed ..
 //!     }
-//!     for (entry, report) in [&turn.heard, &turn.ticked].into_iter().flatten() { .. the panel's own code .. }
+//!     for told in [&turn.heard, &turn.ticked] { if let Some((entry, report)) = told.read() { .. the panel's own code .. } }
 //! }
 //! ```
 //!
@@ -29,19 +29,15 @@ pub mod laws;
 mod panel;
 mod unsent;
 
-ghost use Rattle.std.specs.Prelude.{◌≡◌, None, false};
-ghost use Rattle.osdp_bus.specs.Buses.{is_maybe_again};
-ghost use Rattle.osdp_bus.specs.Deadlines.{IsDeadline};
-ghost use Rattle.osdp_bus.specs.Sending.{IsSentAs};
-ghost use Rattle.osdp_panel.specs.Turns.{after_turn, heard_in, ticked_in};
+ghost use Rattle.std.specs.Prelude.{◌≡◌, [], None, false};
 
-pub use osdp_bus::{Bus, BusConfig, BusFault, Entry};
+pub use osdp_bus::{Bus, BusConfig, BusFault, Entry, Told};
 pub use osdp_controller::{LostCause, Report};
 pub use osdp_frame::{Address, Burst, CheckKind};
 pub use osdp_msg::{
     Buzzer, Capability, Command, Communication, Event, Formatted, Keypad, LedRecord, Leds,
     LocalState, MakerMessage, MsgFault, Nak, NakReason, OutputRecord, Outputs, PdCap, PdId, Raw,
-    Reply, Text,
+    Reply, Room, Text,
 };
 pub use panel::Panel;
 pub use unsent::Unsent;
@@ -50,14 +46,16 @@ pub use unsent::Unsent;
 #[derive(Debug, Drop)]
 pub struct Turn {
     /// What the bytes brought, with the entry of the device that it is about.
-    pub heard: Option<(Entry, Report)>,
+    pub heard: Told,
     /// Whether that is an event which may have been reported before, as the last one of its entry before the session under way. The card or key that it tells may be
     /// one that an order was given for already.
     pub maybe_again: bool,
-    /// What is to be written to the port.
-    pub burst: Option<Burst>,
+    /// Whether a burst is to be written to the port.
+    pub sends: bool,
+    /// That burst; else the one of a turn before.
+    pub burst: Burst,
     /// What the moment brought: where it is a report, nothing is to be written.
-    pub ticked: Option<(Entry, Report)>,
+    pub ticked: Told,
     /// The moment of the next turn, if no bytes come before; one that has passed already asks for it at once. None where nothing is to be
     /// done before bytes come or the panel's own code calls the bus.
     pub sleep_until: Option<u64>,
@@ -66,37 +64,15 @@ pub struct Turn {
 impl Turn {
     /// Nothing came of it, and nothing is to be done.
     pub fn new() -> Turn
-        ensures { result ≡ record { heard = None; maybe_again = false; burst = None; ticked = None; sleep_until = None } }
+        ensures { result ≡ record { heard = None; maybe_again = false; sends = false; burst = record { items = [] }; ticked = None; sleep_until = None } }
     {
         Turn {
-            heard: None,
+            heard: Told::new(),
             maybe_again: false,
-            burst: None,
-            ticked: None,
+            sends: false,
+            burst: Burst::new(),
+            ticked: Told::new(),
             sleep_until: None,
         }
-    }
-}
-
-/// One turn of the loop: hears what a read of the port gave, ticks at the moment after the read, and says what is to be done.
-pub fn take_turn(bus: &mut Bus, bytes: &[u8], now: u64) -> Turn
-    ensures bus { bus.new ≡ after_turn bytes.now now bus.old }
-    ensures heard { result.heard ≡ (heard_in bytes.now now bus.old).devices.report }
-    ensures maybe_again { result.maybe_again ≡ is_maybe_again (heard_in bytes.now now bus.old) }
-    ensures sent { IsSentAs (ticked_in bytes.now now bus.old).sent result.burst }
-    ensures ticked { result.ticked ≡ (ticked_in bytes.now now bus.old).bus.devices.report }
-    ensures sleep_until { IsDeadline bus.new result.sleep_until }
-{
-    bus.on_bytes(bytes, now);
-    let maybe_again = bus.is_maybe_again();
-    let heard = bus.next_report();
-    let burst = bus.tick(now);
-    let ticked = bus.next_report();
-    Turn {
-        heard,
-        maybe_again,
-        burst,
-        ticked,
-        sleep_until: bus.next_deadline(),
     }
 }

@@ -1,17 +1,17 @@
 //! A panel, whose turns write into what its program has.
 
-ghost use Rattle.std.specs.Prelude.{◌≡◌, ◌↔◌, IfErr, IsSome, None, OnOk, Some, length, option_map};
+ghost use Rattle.std.specs.Prelude.{◌≡◌, ◌↔◌, IfErr, IsSome, IsTrue, None, OnOk, Some, is_some, length, option_map};
 ghost use Rattle.osdp_bus.specs.Buses.{device_of, is_maybe_again};
 ghost use Rattle.osdp_bus.specs.Deadlines.{IsDeadline};
 ghost use Rattle.osdp_bus.specs.Devices.{address_of};
-ghost use Rattle.osdp_bus.specs.Machine.{AddEnds, NewEnds, after_begin_at, after_retarget_at, after_submit_at, after_withdraw_at, begin_refusal_at, changed_unless, order_refusal_at, retarget_refusal_at, unless_refused, withdrawal_at};
-ghost use Rattle.osdp_bus.specs.Sending.{IsSentAs};
+ghost use Rattle.osdp_bus.specs.Machine.{AddEnds, NewEnds, after_begin_at, after_retarget_at, after_submit_at, after_withdraw_at, after_next_report, begin_refusal_at, changed_unless, is_withdrawn_at, order_refusal_at, retarget_refusal_at, unless_refused, withdrawal_at};
+ghost use Rattle.osdp_controller.specs.Lent.{IsWritten};
 ghost use Rattle.osdp_controller.specs.States.{is_closed};
 ghost use Rattle.osdp_panel.specs.Turns.{after_turn, heard_in, ticked_in};
 
 use crate::Turn;
 use crate::unsent::Unsent;
-use osdp_bus::{Bus, BusConfig, BusFault, Entry};
+use osdp_bus::{Bus, BusConfig, BusFault, Entry, Told};
 use osdp_frame::Address;
 use osdp_msg::Command;
 use std::alloc::Global;
@@ -72,17 +72,24 @@ impl Panel {
         self.bus.begin(entry, now)
     }
 
-    /// Puts a command after those that wait for a device; a refused one comes back. The faults are those of `Bus::submit`.
-    pub fn submit(&mut self, entry: Entry, command: Command) -> Result<(), (BusFault, Command)>
-        ensures accepted { OnOk result ((order_refusal_at entry command self.old ≡ None) × (self.new ≡ after_submit_at entry command self.old)) }
-        ensures refused { IfErr result (λ e. (order_refusal_at entry command self.old ≡ Some e.0) × (e.1 ≡ command) × (self.new ≡ self.old)) }
+    /// Puts a command after those that wait for a device. The faults are those of `Bus::submit`.
+    pub fn submit(&mut self, entry: Entry, command: &Command<'_>) -> Result<(), BusFault>
+        ensures accepted { OnOk result ((order_refusal_at entry command.now self.old ≡ None) × (self.new ≡ after_submit_at entry command.now self.old)) }
+        ensures refused { IfErr result (λ fault. (order_refusal_at entry command.now self.old ≡ Some fault) × (self.new ≡ self.old)) }
     {
         self.bus.submit(entry, command)
     }
 
-    /// Takes back the command that has waited longest for a device. None where none waits, or where its session has begun.
-    pub fn withdraw(&mut self, entry: Entry) -> Result<Option<Command>, BusFault>
-        ensures result { result ≡ withdrawal_at entry self.old }
+    /// The command that may be withdrawn of a device: the one that has waited longest. None where none waits, or where its session has begun.
+    pub fn withdrawable(&self, entry: Entry) -> Result<Option<Command<'_>>, BusFault>
+        ensures { result ≡ withdrawal_at entry self.now }
+    {
+        self.bus.withdrawable(entry)
+    }
+
+    /// Takes that command back. Whether there was one; else nothing changes.
+    pub fn withdraw(&mut self, entry: Entry) -> Result<bool, BusFault>
+        ensures result { result ≡ is_withdrawn_at entry self.old }
         ensures panel { self.new ≡ after_withdraw_at entry self.old }
     {
         self.bus.withdraw(entry)
@@ -91,19 +98,20 @@ impl Panel {
     /// One turn of the loop: hears what a read of the port gave, ticks at the moment after the read, and puts what is to be done into `turn`, in
     /// place of what stands there. Where that is a burst, it is told as unsent: it goes out before the next turn.
     pub fn turn(&mut self, bytes: &[u8], now: u64, turn: &mut Turn) -> Option<Unsent>
-        ensures unsent { IsSome result ↔ IsSome turn.new.burst }
+        ensures unsent { IsSome result ↔ IsTrue turn.new.sends }
         ensures panel { self.new ≡ after_turn bytes.now now self.old }
         ensures heard { turn.new.heard ≡ (heard_in bytes.now now self.old).devices.report }
         ensures maybe_again { turn.new.maybe_again ≡ is_maybe_again (heard_in bytes.now now self.old) }
-        ensures sent { IsSentAs (ticked_in bytes.now now self.old).sent turn.new.burst }
+        ensures sent { turn.new.sends ≡ is_some (ticked_in bytes.now now self.old).sent }
+        ensures burst { IsWritten (ticked_in bytes.now now self.old).sent turn.old.burst.items turn.new.burst.items }
         ensures ticked { turn.new.ticked ≡ (ticked_in bytes.now now self.old).bus.devices.report }
         ensures sleep_until { IsDeadline self.new turn.new.sleep_until }
     {
         self.bus.on_bytes(bytes, now);
         turn.maybe_again = self.bus.is_maybe_again();
-        turn.heard = self.bus.next_report();
-        turn.burst = self.bus.tick(now);
-        turn.ticked = self.bus.next_report();
+        take_report(&mut self.bus, &mut turn.heard);
+        turn.sends = self.bus.tick(now, &mut turn.burst);
+        take_report(&mut self.bus, &mut turn.ticked);
         turn.sleep_until = self.bus.next_deadline();
         Unsent::of(turn)
     }
@@ -142,4 +150,16 @@ impl Panel {
     {
         self.bus.is_closed(entry)
     }
+}
+
+/// Takes the report of a bus that waits into a place of its own.
+fn take_report(bus: &mut Bus, place: &mut Told)
+    ensures report { place.new ≡ bus.old.devices.report }
+    ensures bus { bus.new ≡ after_next_report bus.old }
+{
+    match bus.report() {
+        Some((entry, report)) => place.keep(entry, &report),
+        None => place.clear(),
+    }
+    bus.settle();
 }

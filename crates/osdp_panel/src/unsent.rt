@@ -1,6 +1,6 @@
 //! What a turn has its program send.
 
-ghost use Rattle.std.specs.Prelude.{◌≡◌, ◌↔◌, IsSome};
+ghost use Rattle.std.specs.Prelude.{◌≡◌, ◌↔◌, IsSome, IsTrue};
 ghost use Rattle.osdp_panel.specs.Sending.{bytes_sent};
 
 use crate::Turn;
@@ -11,22 +11,20 @@ pub struct Unsent(());
 impl Unsent {
     /// What is to be sent of a turn. None where it has no burst.
     pub(crate) fn of(turn: &Turn) -> Option<Unsent>
-        ensures { IsSome result ↔ IsSome turn.now.burst }
+        ensures { IsSome result ↔ IsTrue turn.now.sends }
     {
-        match &turn.burst {
-            Some(_) => Some(Unsent(())),
-            None => None,
-        }
+        if turn.sends { Some(Unsent(())) } else { None }
     }
 
     /// The bytes that go out now, before the next turn: those of the turn's burst, and none where it has none.
     pub fn bytes(self, turn: &Turn) -> &[u8]
-        ensures { result.now ≡ bytes_sent turn.now.burst }
+        ensures { result.now ≡ bytes_sent turn.now.sends turn.now.burst }
     {
         let Unsent(()) = self;
-        match &turn.burst {
-            Some(burst) => burst.as_slice(),
-            None => &[],
+        if turn.sends {
+            turn.burst.as_slice()
+        } else {
+            &[]
         }
     }
 }

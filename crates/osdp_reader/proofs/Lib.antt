@@ -1,4 +1,3 @@
 pub mod Storing
-pub mod Polling
-pub mod Reading
 pub mod Answering
+pub mod Waiting

@@ -3,4 +3,4 @@ pub mod Queue
 pub mod Replies
 pub mod State
 pub mod Table
-pub mod Responses
+pub mod Heard

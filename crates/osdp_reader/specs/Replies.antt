@@ -6,6 +6,7 @@ use Rattle.std.specs.Prelude.{true, false}
 use Rattle.osdp_msg.specs.declared.command.Command.{Command}
 use Rattle.osdp_msg.specs.declared.command.Command.TheVariants.{Poll, Id, Cap, LocalStatus, InputStatus, OutputStatus, ReaderStatus, Output, Led, Buzzer, Text, Comset, Maker}
 use Rattle.osdp_msg.specs.declared.command_fields.Communication.{Communication}
+use Rattle.osdp_msg.specs.declared.command_fields.MakerMessage.{MakerMessage}
 use Rattle.osdp_msg.specs.declared.fault.MsgFault.{MsgFault}
 use Rattle.osdp_msg.specs.declared.fault.MsgFault.TheVariants.{UnknownCode, Length, Count}
 use Rattle.osdp_msg.specs.declared.nak.NakReason.{NakReason}
@@ -38,7 +39,7 @@ comset_reply c = if nat_le c.address 126 then reply.Com c else not_processed
 abbrev pub own_reply : ReaderConfig → Command → Option Reply
 own_reply config Poll = Some reply.Ack
 own_reply config (Id kept) = Some (reply.PdId config.id)
-own_reply config (Cap kept) = Some (reply.PdCap config.caps)
+own_reply config (Cap kept) = Some (reply.PdCap (record { capabilities = config.caps }))
 own_reply config (Comset c) = Some (comset_reply c)
 own_reply config _ = None
 
@@ -62,9 +63,9 @@ list_reply OutputStatus states = reply.Outputs (record { items = states })
 list_reply ReaderStatus states = reply.Readers (record { items = states })
 list_reply _ states = not_processed
 
-abbrev pub maker_reply : Command → List ℕ → List ℕ → Reply
-maker_reply (Maker m) vendor bytes = reply.MakerReply (record { vendor = vendor; bytes = record { items = bytes } })
-maker_reply _ vendor bytes = not_processed
+abbrev pub maker_reply : Command → MakerMessage → Reply
+maker_reply (Maker m) own = reply.MakerReply own
+maker_reply _ own = not_processed
 
 -- length and unknown command are told as such, and all other reasons as NAK 9
 abbrev pub refusal_reply : NakReason → Reply
@@ -77,7 +78,7 @@ reply_for answer.Done command = done_reply command
 reply_for (answer.Local tamper power) command = local_reply command tamper power
 reply_for (answer.List states) command = list_reply command states.items
 reply_for (answer.Refuse reason) command = refusal_reply reason
-reply_for (answer.Maker vendor bytes) command = maker_reply command vendor bytes.items
+reply_for (answer.Maker m) command = maker_reply command m
 
 -- the packet of a reply: the address and the kind of check that the command used, and no reserved bits
 abbrev pub reply_packet : Packet → ℕ → Reply → Packet

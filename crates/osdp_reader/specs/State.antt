@@ -3,7 +3,8 @@ use Rattle.std.specs.Prelude.{ℕ, Bool, false, Option, None}
 use Rattle.osdp_frame.specs.Packet.{Packet}
 use Rattle.osdp_reader.specs.declared.config.ReaderConfig.{ReaderConfig}
 use Rattle.osdp_msg.specs.declared.event.Event.{Event}
-use Rattle.osdp_reader.specs.Queue.{Queue, empty_queue, lapsed, queued, withdrawn}
+use Rattle.osdp_msg.specs.declared.limits.Room.{Room}
+use Rattle.osdp_reader.specs.Queue.{Queue, empty_queue, lapsed, queued, queued_if, withdrawn}
 
 pub record ReaderState (H : Type 0) : Type 0 where
   -- what it is, and the address that it has now
@@ -19,12 +20,12 @@ pub record ReaderState (H : Type 0) : Type 0 where
 
 module _ {H : Type 0} where
   -- it has taken no number yet, no reply is stored, no event waits, and it isn't busy
-  abbrev pub new_reader : ReaderConfig → H → ℕ → ReaderState H
-  new_reader config handler capacity = record {
+  abbrev pub new_reader : ReaderConfig → H → Room → ReaderState H
+  new_reader config handler room = record {
     config = config;
     last = None;
     stored = None;
-    queue = empty_queue capacity;
+    queue = empty_queue room.messages room.bytes;
     busy = false;
     handler = handler;
   }
@@ -32,6 +33,10 @@ module _ {H : Type 0} where
   -- after an event that was accepted
   abbrev pub after_submit : Event → ReaderState H → ReaderState H
   after_submit event r = record r { queue = queued event r.queue }
+
+  -- .. where it has room
+  abbrev pub after_submit_if : Bool → Event → ReaderState H → ReaderState H
+  after_submit_if fits event r = record r { queue = queued_if fits event r.queue }
 
   -- after an event that the device took back: the oldest that was never offered
   abbrev pub after_withdraw_event : ReaderState H → ReaderState H

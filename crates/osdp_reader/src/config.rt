@@ -2,8 +2,9 @@
 
 ghost use Rattle.std.specs.Prelude.{◌≡◌};
 
+use arrayvec::ArrayVec;
 use osdp_frame::Address;
-use osdp_msg::{PdCap, PdId};
+use osdp_msg::{Capability, PdId};
 
 /// What a reader is, and where it is to be found at first.
 #[derive(Debug, Drop)]
@@ -12,8 +13,8 @@ pub struct ReaderConfig {
     pub address: Address,
     /// What it answers to ID.
     pub id: PdId,
-    /// What it answers to CAP.
-    pub caps: PdCap,
+    /// What it answers to CAP, 0 to 477 records.
+    pub caps: ArrayVec<Capability, 477>,
 }
 
 impl ReaderConfig {
@@ -24,7 +25,7 @@ impl ReaderConfig {
         ReaderConfig {
             address: self.address,
             id: self.id,
-            caps: self.caps.copy(),
+            caps: ArrayVec::try_from(self.caps.as_slice()).unwrap(),
         }
     }
 }

@@ -1,19 +1,20 @@
 //! The events that wait until the controller has them.
 
-ghost use Rattle.std.specs.Prelude.{◌≡◌, ◌↔◌, ◌||◌, length, IfOk, IfErr, IsErr, OnOk};
-ghost use Rattle.std.specs.Option.{option_copied, option_map};
+ghost use Rattle.std.specs.Prelude.{◌≡◌, ◌||◌, length, IfOk, is_some};
+ghost use Rattle.std.specs.Option.{option_map};
 ghost use Rattle.osdp_msg.specs.Events.{event_reply};
-ghost use Rattle.osdp_reader.specs.Queue.{empty_queue, event_for, in_doubt, lapsed, never_offered, queued, released, unoffered, withdrawn};
+ghost use Rattle.osdp_reader.specs.Queue.{empty_queue, event_for, has_room, in_doubt, lapsed, never_offered, queued, queued_if, released, unoffered, withdrawn};
 
-use circular_buffer::HeapCircularBuffer;
-use osdp_msg::{Command, Event};
+use osdp_msg::{Command, Event, Room, Spelling};
+use osdp_ring::Ring;
 use std::alloc::{AllocError, Global};
 use std::marker::Model;
 
 /// Events from the oldest on. The front may have been offered: it stays until the controller has shown that it has it.
 #[derive(Drop)]
 pub struct EventQueue {
-    events: HeapCircularBuffer<Event>,
+    /// The code and the data of each.
+    events: Ring,
     /// Whether the front is offered in this session.
     offered: bool,
     /// Whether the front was ever offered, in this session or in one before.
@@ -21,19 +22,24 @@ pub struct EventQueue {
 }
 
 impl Model for EventQueue {
-    ghost use Rattle.osdp_reader.specs.Queue.{Queue};
+    ghost use Rattle.std.specs.Prelude.{map};
+    ghost use Rattle.std.specs.List.{All};
+    ghost use Rattle.osdp_msg.specs.Kept.{event_kept};
+    ghost use Rattle.osdp_reader.specs.Queue.{IsEvent, Queue};
 
     ghost Value = { Queue };
 
-    ghost view = { λ q. record { events = q.events.items; capacity = q.events.capacity; offered = q.offered; ever_offered = q.ever_offered } };
+    ghost view = { λ q. record { events = map event_kept q.events.items; capacity = q.events.capacity; room = q.events.room; offered = q.offered; ever_offered = q.ever_offered } };
+
+    ghost invariant = { λ q. All IsEvent q.events.items };
 }
 
 impl EventQueue {
     /// No event, and room for so many.
-    pub fn new(alloc: Global, capacity: usize) -> Result<EventQueue, AllocError>
-        ensures { IfOk result (λ q. q ≡ empty_queue capacity) }
+    pub fn new(alloc: Global, room: Room) -> Result<EventQueue, AllocError>
+        ensures { IfOk result (λ q. q ≡ empty_queue room.messages room.bytes) }
     {
-        let events = HeapCircularBuffer::with_capacity(alloc, capacity)?;
+        let events = Ring::new(alloc, room.messages, room.bytes)?;
         Ok(EventQueue {
             events,
             offered: false,
@@ -48,11 +54,14 @@ impl EventQueue {
         self.events.len()
     }
 
-    /// How many may wait.
-    pub fn capacity(&self) -> usize
-        ensures { result ≡ self.now.capacity }
+    /// How many may wait, and how many bytes of them together.
+    pub fn room(&self) -> Room
+        ensures { result ≡ record { messages = self.now.capacity; bytes = self.now.room } }
     {
-        self.events.capacity()
+        Room {
+            messages: self.events.capacity(),
+            bytes: self.events.room(),
+        }
     }
 
     /// Whether the front was ever offered, in this session or in one before.
@@ -62,28 +71,26 @@ impl EventQueue {
         self.ever_offered
     }
 
-    /// Puts an event after the others. A full queue gives it back, and nothing changes.
-    pub fn submit(&mut self, event: Event) -> Result<(), Event>
-        ensures ok { OnOk result (self.new ≡ queued event self.old) }
-        ensures full { IsErr result ↔ (length self.old.events ≡ self.old.capacity) }
-        ensures back { IfErr result (λ back. (back ≡ event) × (self.new ≡ self.old)) }
+    /// Puts an event after the others, where it has room. Whether it has; else nothing changes.
+    pub fn submit(&mut self, event: &Event<'_>) -> bool
+        ensures room { result ≡ has_room event.now self.old }
+        ensures queue { self.new ≡ queued_if result event.now self.old }
     {
-        if self.events.len() == self.events.capacity() {
-            return Err(event);
-        }
-        self.events.push_back(event);
-        Ok(())
+        let mut spelling = Spelling::new();
+        event.write_into(&mut spelling);
+        self.events.push(spelling.as_slice())
     }
 
     /// Lets an offered front go: the controller has it.
     pub fn release(&mut self)
         ensures { self.new ≡ released self.old }
     {
-        if self.offered {
-            let _ = self.events.pop_front();
+        if !self.offered {
+            return;
         }
-        self.ever_offered = !self.offered && self.ever_offered;
+        self.events.pop();
         self.offered = false;
+        self.ever_offered = false;
     }
 
     /// Offers nothing any more. All events stay.
@@ -93,46 +100,62 @@ impl EventQueue {
         self.offered = false;
     }
 
-    /// Takes back the oldest event that was never offered, if there is one.
-    pub fn withdraw(&mut self) -> Option<Event>
-        ensures event { result ≡ never_offered self.old }
-        ensures queue { self.new ≡ withdrawn self.old }
-    {
-        if !self.ever_offered {
-            return self.events.pop_front();
-        }
-        if self.events.len() < 2 {
-            return None;
-        }
-        let front = self.events.pop_front();
-        let second = self.events.pop_front();
-        if let Some(front) = front {
-            let _ = self.events.push_front(front);
-        }
-        second
-    }
-
-    /// Lets the front go where it was ever offered, and gives it back. Nothing is offered any more then.
-    pub fn lapse(&mut self) -> Option<Event>
-        ensures event { result ≡ in_doubt self.old }
-        ensures queue { self.new ≡ lapsed self.old }
+    /// The oldest event that was never offered, if there is one.
+    pub fn never_offered(&self) -> Option<Event<'_>>
+        ensures { result ≡ never_offered self.now }
     {
         if self.ever_offered {
-            self.stop_offering();
-            self.ever_offered = false;
-            return self.events.pop_front();
+            return Some(Event::kept(self.events.second()?));
         }
-        None
+        Some(Event::kept(self.events.front()?))
+    }
+
+    /// Takes it back. Whether there was one.
+    pub fn withdraw(&mut self) -> bool
+        ensures event { result ≡ is_some (never_offered self.old) }
+        ensures queue { self.new ≡ withdrawn self.old }
+    {
+        let count = self.events.len();
+        if self.ever_offered {
+            self.events.pop_second();
+            return 2 <= count;
+        }
+        self.events.pop();
+        1 <= count
+    }
+
+    /// The front, where it was ever offered.
+    pub fn in_doubt(&self) -> Option<Event<'_>>
+        ensures { result ≡ in_doubt self.now }
+    {
+        if !self.ever_offered {
+            return None;
+        }
+        Some(Event::kept(self.events.front()?))
+    }
+
+    /// Lets it go. Whether there was one. Nothing is offered any more then.
+    pub fn lapse(&mut self) -> bool
+        ensures event { result ≡ is_some (in_doubt self.old) }
+        ensures queue { self.new ≡ lapsed self.old }
+    {
+        if !self.ever_offered {
+            return false;
+        }
+        let some = 1 <= self.events.len();
+        self.stop_offering();
+        self.ever_offered = false;
+        self.events.pop();
+        some
     }
 
     /// The event that is told: the front, where the command is a POLL and an event waits.
-    pub fn told_event(&self, command: &Command) -> Option<&Event>
-        ensures { option_map event_reply (option_copied result) ≡ event_for command.now self.now.events }
+    pub fn told_event(&self, command: &Command<'_>) -> Option<Event<'_>>
+        ensures { option_map event_reply result ≡ event_for command.now self.now.events }
     {
-        if let Command::Poll = command {
-            self.events.front()
-        } else {
-            None
+        match command {
+            Command::Poll => Some(Event::kept(self.events.front()?)),
+            _ => None,
         }
     }
 

@@ -2,33 +2,32 @@
 
 ghost use Rattle.std.specs.Prelude.{◌≡◌, ◌≤◌, length};
 
-use arrayvec::ArrayVec;
-use osdp_msg::{Command, MAX_DATA, MAX_MAKER_BYTES, NakReason};
+use osdp_msg::{Command, MAX_DATA, MakerMessage, NakReason, Spelling, States};
 
 /// What a handler answers to a command. An answer that doesn't belong to the command is told as NAK 9.
-#[derive(Debug, Drop, PartialEq)]
-pub enum Answer {
+#[derive(Debug, Drop)]
+pub enum Answer<'a> {
     /// It is done: of OUT, LED, BUZ, TEXT and MFG.
     Done,
     /// The state of the device itself, tamper and power: of LSTAT.
     Local(u8, u8),
     /// A byte for each input, output or reader: of ISTAT, OSTAT and RSTAT.
-    List(ArrayVec<u8, MAX_DATA>),
+    List(States<'a>),
     /// It isn't done. Reasons 2, 3 and 9 are told as they are, all others as 9.
     Refuse(NakReason),
-    /// The maker's own reply, vendor and bytes: of MFG.
-    Maker([u8; 3], ArrayVec<u8, MAX_MAKER_BYTES>),
+    /// The maker's own reply: of MFG.
+    Maker(MakerMessage<'a>),
 }
 
-impl Answer {
+impl<'a> Answer<'a> {
     ghost use Rattle.osdp_reader.specs.declared.handler.Answer.TheVariants as answer;
 
     /// A byte for each input, output or reader, of a slice of at most 1,432 of them.
-    pub fn list(states: &[u8]) -> Answer
+    pub fn list(states: &'a [u8]) -> Answer<'a>
         requires { length states.now ≤ MAX_DATA }
         ensures { result ≡ answer.List (record { items = states.now }) }
     {
-        Answer::List(ArrayVec::try_from(states).unwrap())
+        Answer::List(States::new(states).unwrap())
     }
 }
 
@@ -45,8 +44,18 @@ pub trait Handler: Drop {
     /// The state after a command.
     ghost after: { Self → Command → Self };
 
-    /// Acts on a command.
-    fn answer(&mut self, command: &Command) -> Answer
+    /// Acts on a command. What the answer has of bytes may be written into `place`.
+    fn answer<'a>(&mut self, command: &Command<'_>, place: &'a mut Spelling) -> Answer<'a>
         ensures answer { result ≡ answer_of self.old command.now }
         ensures state { self.new ≡ after self.old command.now };
+}
+
+/// Puts these bytes in place of what stands in `place`, and lends them there: for a handler whose answer has bytes that it keeps itself.
+pub fn lend<'a>(bytes: &[u8], place: &'a mut Spelling) -> &'a [u8]
+    requires { length bytes.now ≤ MAX_DATA }
+    ensures { result.now ≡ bytes.now }
+{
+    place.clear();
+    place.try_extend_from_slice(bytes).unwrap();
+    place.as_slice()
 }

@@ -14,13 +14,11 @@ mod heard;
 mod kind;
 mod reader;
 mod reply;
-mod response;
 mod stored;
 
 pub use config::ReaderConfig;
 pub use fault::ReaderFault;
-pub use handler::{Answer, Handler};
+pub use handler::{Answer, Handler, lend};
 pub use heard::Heard;
 pub use kind::Kind;
-pub use reader::{Reader, read_command};
-pub use response::Response;
+pub use reader::Reader;

@@ -1,17 +1,16 @@
 //! The reader.
 
-ghost use Rattle.std.specs.Prelude.{◌≡◌, true, ◌↔◌, ◌<◌, ◌≤◌, ◌⊎◌, length, IfOk, IfErr, IfSome, IsErr, IsErrOf, IsOk, IsSome, None, Ok, Err, OnOk, Some};
+ghost use Rattle.std.specs.Prelude.{◌≡◌, ◌↔◌, ◌<◌, ◌⊎◌, length, is_some, IfOk, IfSome, IsErrOf};
 ghost use Rattle.std.specs.Borrow.{Lends, sem};
 ghost use Rattle.osdp_reader.specs.contracts.reader.Reader.{the_row};
-ghost use Rattle.osdp_msg.specs.Limits.{most_waiting};
+ghost use Rattle.osdp_msg.specs.Limits.{AreRoom};
 ghost use Rattle.osdp_msg.specs.ReplyTable.{ReplyFits};
 ghost use Rattle.osdp_reader.specs.Spelled.{IsSpelled};
-ghost use Rattle.osdp_reader.specs.State.{after_lapse_event, after_set_busy, after_set_handler, after_submit, after_withdraw_event, new_reader};
-ghost use Rattle.osdp_reader.specs.Queue.{in_doubt, never_offered};
+ghost use Rattle.osdp_reader.specs.State.{after_lapse_event, after_set_busy, after_set_handler, after_submit_if, after_withdraw_event, new_reader};
+ghost use Rattle.osdp_reader.specs.Queue.{has_room, in_doubt, never_offered};
 ghost use Rattle.osdp_reader.specs.Table.{begun, command_in, hears, kind_by_number, kind_of, moved, new_address, is_for_another, taken};
-ghost use Rattle.osdp_reader.specs.Responses.{response_bytes, response_command, response_kind};
 ghost use Rattle.osdp_reader.specs.declared.fault.ReaderFault.TheVariants.{OutOfRange};
-ghost use Rattle.osdp_msg.specs.declared.command.Command.TheVariants.{Poll};
+ghost use Rattle.osdp_reader.specs.declared.kind.Kind.TheVariants.{Taken, Zero};
 
 use crate::config::ReaderConfig;
 use crate::events::EventQueue;
@@ -20,10 +19,9 @@ use crate::handler::Handler;
 use crate::heard::Heard;
 use crate::kind::Kind;
 use crate::reply::{spell_answer, spell_busy, spell_event_or_answer, spell_nak, unread};
-use crate::response::Response;
 use crate::stored::StoredReply;
 use osdp_frame::{Address, Burst, FrameView, Seq};
-use osdp_msg::{Command, Event, MsgFault, NakReason, is_room};
+use osdp_msg::{Command, Event, MsgFault, NakReason, Room, Spelling};
 use std::alloc::Global;
 use std::marker::Model;
 use std::mem::replace;
@@ -36,6 +34,8 @@ pub struct Reader<H: Handler> {
     stored: StoredReply,
     queue: EventQueue,
     busy: bool,
+    /// Where the handler may write what its answer has of bytes.
+    place: Spelling,
     handler: H,
 }
 
@@ -48,21 +48,21 @@ impl<H: Handler> Model for Reader<H> {
 }
 
 impl<H: Handler> Reader<H> {
-    /// A reader that nothing has come to yet, with room for `capacity` events, 1 to 1024. N3: the address is above 126, or the room is
-    /// out of its range. N1: there is no memory for the events. N3 is decided first.
+    /// A reader that nothing has come to yet, with such room for events. N3: the address is above 126, or the room is out of its range. N1:
+    /// there is no memory for the events. N3 is decided first.
     pub fn new(
         alloc: Global,
         config: ReaderConfig,
         handler: H,
-        capacity: usize,
+        room: Room,
     ) -> Result<Reader<H>, ReaderFault>
-        ensures made { IfOk result (λ r. r ≡ new_reader config handler capacity) }
-        ensures range { IsErrOf result OutOfRange ↔ ((126 < config.address) ⊎ (capacity < 1) ⊎ (most_waiting < capacity)) }
+        ensures made { IfOk result (λ r. r ≡ new_reader config handler room) }
+        ensures range { IsErrOf result OutOfRange ↔ ((126 < config.address) ⊎ (AreRoom room.messages room.bytes → ⊥)) }
     {
-        if !config.address.is_device() || !is_room(capacity) {
+        if !config.address.is_device() || !room.is_right() {
             return Err(ReaderFault::OutOfRange);
         }
-        let Ok(queue) = EventQueue::new(alloc, capacity) else {
+        let Ok(queue) = EventQueue::new(alloc, room) else {
             return Err(ReaderFault::NoMemory);
         };
         Ok(Reader {
@@ -71,34 +71,46 @@ impl<H: Handler> Reader<H> {
             stored: StoredReply::none(),
             queue,
             busy: false,
+            place: Spelling::new(),
             handler,
         })
     }
 
-    /// Puts an event after those that wait. N2: where as many wait as there is room for, the event comes back, and nothing
-    /// changes.
-    pub fn submit_event(&mut self, event: Event) -> Result<(), Event>
-        ensures ok { OnOk result (self.new ≡ after_submit event self.old) }
-        ensures full { IsErr result ↔ (length self.old.queue.events ≡ self.old.queue.capacity) }
-        ensures back { IfErr result (λ back. (back ≡ event) × (self.new ≡ self.old)) }
+    /// Puts an event after those that wait, where it has room. Whether it has (N2 where not); else nothing changes.
+    pub fn submit_event(&mut self, event: &Event<'_>) -> bool
+        ensures room { result ≡ has_room event.now self.old.queue }
+        ensures reader { self.new ≡ after_submit_if result event.now self.old }
     {
         self.queue.submit(event)
     }
 
-    /// Takes back the oldest event that was never offered, in this session or in one before: it is never told then. None, and nothing
-    /// changes, where no such event waits.
-    pub fn withdraw_event(&mut self) -> Option<Event>
-        ensures event { result ≡ never_offered self.old.queue }
+    /// The oldest event that was never offered, in this session or in one before; None, where no such event waits.
+    pub fn never_offered(&self) -> Option<Event<'_>>
+        ensures { result ≡ never_offered self.now.queue }
+    {
+        self.queue.never_offered()
+    }
+
+    /// Takes it back: it is never told then. Whether there was one; else nothing changes.
+    pub fn withdraw_event(&mut self) -> bool
+        ensures event { result ≡ is_some (never_offered self.old.queue) }
         ensures reader { self.new ≡ after_withdraw_event self.old }
     {
         self.queue.withdraw()
     }
 
-    /// Lets the oldest event go where it was ever offered, in this session or in one before: its answer may be lost, so the panel may
-    /// have it or not. None, and nothing changes, where it was never offered. Nothing is offered any more then, but the stored reply stays:
-    /// a repeat still has it as its answer, so within this session the event may yet be told again.
-    pub fn lapse_event(&mut self) -> Option<Event>
-        ensures event { result ≡ in_doubt self.old.queue }
+    /// The oldest event, where it was ever offered, in this session or in one before: its answer may be lost, so the panel may have it or
+    /// not.
+    pub fn in_doubt(&self) -> Option<Event<'_>>
+        ensures { result ≡ in_doubt self.now.queue }
+    {
+        self.queue.in_doubt()
+    }
+
+    /// Lets it go. Whether there was one; else nothing changes. Nothing is offered any more then, but the stored reply stays: a repeat
+    /// still has it as its answer, so within this session the event may yet be told again.
+    pub fn lapse_event(&mut self) -> bool
+        ensures event { result ≡ is_some (in_doubt self.old.queue) }
         ensures reader { self.new ≡ after_lapse_event self.old }
     {
         self.queue.lapse()
@@ -125,11 +137,11 @@ impl<H: Handler> Reader<H> {
         self.queue.len()
     }
 
-    /// How many events may wait.
-    pub fn capacity(&self) -> usize
-        ensures { result ≡ self.now.queue.capacity }
+    /// How much may wait.
+    pub fn room(&self) -> Room
+        ensures { result ≡ record { messages = self.now.queue.capacity; bytes = self.now.queue.room } }
     {
-        self.queue.capacity()
+        self.queue.room()
     }
 
     /// Whether the oldest event was ever offered, in this session or in one before: its answer may be lost, so the panel may have it or
@@ -187,90 +199,41 @@ impl<H: Handler> Reader<H> {
         }
     }
 
-    /// Takes a packet of the line. What comes of it is the reader's table.
-    pub fn on_frame(&mut self, packet: &FrameView) -> Response
-        ensures kind { response_kind result ≡ kind_of self.old packet.now }
-        ensures command { response_command result ≡ (hears H.answer_of H.after self.old packet.now).command }
-        ensures reply { IsSpelled (hears H.answer_of H.after self.old packet.now).reply (response_bytes result) }
-        ensures reader { self.new ≡ (hears H.answer_of H.after self.old packet.now).reader }
-        ensures fits { IfSome (hears H.answer_of H.after self.old packet.now).said ReplyFits }
-    {
-        let mut response = Response::Repeat(Burst::new());
-        match self.kind(packet) {
-            Kind::Repeat => {}
-            Kind::Silent => response = Response::Silent,
-            Kind::Secured => response = Response::Secured(Burst::new()),
-            Kind::Zero => response = Response::Zero(Some(Command::Poll), Burst::new()),
-            Kind::Taken => response = Response::Taken(Some(Command::Poll), Burst::new()),
-            Kind::Busy => response = Response::Busy(Burst::new()),
-            Kind::Wrong => response = Response::Wrong(Burst::new()),
-        }
-        self.respond(packet, &mut response);
-        response
-    }
-
-    /// Takes a packet of the line, as `on_frame` does, and puts what comes of it in place of what stands in `heard`. A caller
-    /// that uses one `heard` for packet after packet moves only the bytes that are sent.
-    pub fn hear(&mut self, packet: &FrameView, heard: &mut Heard)
-        ensures kind { heard.new.kind ≡ kind_of self.old packet.now }
-        ensures command { heard.new.command ≡ (hears H.answer_of H.after self.old packet.now).command }
-        ensures reply { IsSpelled (hears H.answer_of H.after self.old packet.now).reply heard.new.burst.items }
+    /// Takes a packet of the line. What comes of it is the reader's table. The answer is put in place of what stands in `out`; no bytes,
+    /// where the reader is silent.
+    pub fn hear<'p>(&mut self, packet: &FrameView<'p>, out: &mut Burst) -> Heard<'p>
+        ensures kind { result.kind ≡ kind_of self.old packet.now }
+        ensures command { result.command ≡ (hears H.answer_of H.after self.old packet.now).command }
+        ensures reply { IsSpelled (hears H.answer_of H.after self.old packet.now).reply out.new.items }
         ensures reader { self.new ≡ (hears H.answer_of H.after self.old packet.now).reader }
         ensures fits { IfSome (hears H.answer_of H.after self.old packet.now).said ReplyFits }
     {
         let kind = self.kind(packet);
-        heard.kind = kind;
-        match kind {
-            Kind::Zero => self.begin(packet, &mut heard.command, &mut heard.burst),
-            Kind::Taken => self.take(packet, &mut heard.command, &mut heard.burst),
-            Kind::Silent => {
-                forget(&mut heard.command);
-                heard.burst.clear();
+        let command = match kind {
+            Kind::Zero => self.begin(packet, out),
+            Kind::Taken => self.take(packet, out),
+            Kind::Silent | Kind::Repeat | Kind::Secured | Kind::Busy | Kind::Wrong => {
+                self.put_reply(kind, packet, out);
+                None
             }
-            Kind::Repeat => {
-                forget(&mut heard.command);
-                self.stored.put(&mut heard.burst);
-            }
-            Kind::Secured => {
-                forget(&mut heard.command);
-                let reason = NakReason::SecurityBlock;
-                spell_nak(packet, packet.seq(), reason, &mut heard.burst);
-            }
-            Kind::Busy => {
-                forget(&mut heard.command);
-                spell_busy(packet, zero(), &mut heard.burst);
-            }
-            Kind::Wrong => {
-                forget(&mut heard.command);
-                let reason = NakReason::UnexpectedSequence;
-                spell_nak(packet, packet.seq(), reason, &mut heard.burst);
-            }
-        }
+        };
+        Heard { kind, command }
     }
 
-    /// Fills a response that was begun for the line of the table that a packet meets. It is filled where it stands, so neither its command
-    /// nor its bytes are moved.
-    #[inline(never)]
-    fn respond(&mut self, packet: &FrameView, response: &mut Response)
-        requires { response_kind response.old ≡ kind_of self.old packet.now }
-        ensures kind { response_kind response.new ≡ kind_of self.old packet.now }
-        ensures command { response_command response.new ≡ (hears H.answer_of H.after self.old packet.now).command }
-        ensures reply { IsSpelled (hears H.answer_of H.after self.old packet.now).reply (response_bytes response.new) }
-        ensures reader { self.new ≡ (hears H.answer_of H.after self.old packet.now).reader }
-        ensures fits { IfSome (hears H.answer_of H.after self.old packet.now).said ReplyFits }
+    /// Puts the answer to a packet there that isn't acted on.
+    fn put_reply(&self, kind: Kind, packet: &FrameView, out: &mut Burst)
+        requires kind { kind ≡ kind_of self.now packet.now }
+        requires not_zero { (kind ≡ Zero) → ⊥ }
+        requires not_taken { (kind ≡ Taken) → ⊥ }
+        ensures reply { IsSpelled (hears H.answer_of H.after self.now packet.now).reply out.new.items }
+        ensures fits { IfSome (hears H.answer_of H.after self.now packet.now).said ReplyFits }
     {
-        match response {
-            Response::Silent => {}
-            Response::Secured(out) => {
-                spell_nak(packet, packet.seq(), NakReason::SecurityBlock, out);
-            }
-            Response::Zero(command, out) => self.begin(packet, command, out),
-            Response::Repeat(out) => self.stored.put(out),
-            Response::Taken(command, out) => self.take(packet, command, out),
-            Response::Busy(out) => spell_busy(packet, zero(), out),
-            Response::Wrong(out) => {
-                spell_nak(packet, packet.seq(), NakReason::UnexpectedSequence, out);
-            }
+        match kind {
+            Kind::Repeat => self.stored.put(out),
+            Kind::Secured => spell_nak(packet, packet.seq(), NakReason::SecurityBlock, out),
+            Kind::Busy => spell_busy(packet, zero(), out),
+            Kind::Wrong => spell_nak(packet, packet.seq(), NakReason::UnexpectedSequence, out),
+            Kind::Silent | Kind::Zero | Kind::Taken => out.clear(),
         }
     }
 
@@ -284,55 +247,66 @@ impl<H: Handler> Reader<H> {
     }
 
     /// Acts on a packet with number 0.
-    fn begin(&mut self, packet: &FrameView, command: &mut Option<Command>, out: &mut Burst)
-        ensures command { command.new ≡ (begun H.answer_of H.after (command_in packet.now) self.old packet.now).command }
+    fn begin<'p>(&mut self, packet: &FrameView<'p>, out: &mut Burst) -> Option<Command<'p>>
+        ensures command { result ≡ (begun H.answer_of H.after (command_in packet.now) self.old packet.now).command }
         ensures reply { IsSpelled (begun H.answer_of H.after (command_in packet.now) self.old packet.now).reply out.new.items }
         ensures reader { self.new ≡ (begun H.answer_of H.after (command_in packet.now) self.old packet.now).reader }
         ensures fits { IfSome (begun H.answer_of H.after (command_in packet.now) self.old packet.now).said ReplyFits }
     {
         self.last = Some(zero());
         self.queue.stop_offering();
-        if let Err(fault) = read_command(packet, command) {
-            spell_nak(packet, zero(), unread(fault), out);
-            return;
-        }
-        let Some(command) = &*command else {
-            unreachable!();
+        let command = match read_command(packet) {
+            Ok(command) => command,
+            Err(fault) => {
+                spell_nak(packet, zero(), unread(fault), out);
+                return None;
+            }
         };
         spell_answer(
             packet,
             zero(),
             &self.config,
             &mut self.handler,
-            command,
+            &command,
+            &mut self.place,
             out,
         );
-        self.move_to(new_address(command));
+        self.move_to(new_address(&command));
+        Some(command)
     }
 
     /// Acts on a packet with the next number.
-    fn take(&mut self, packet: &FrameView, command: &mut Option<Command>, out: &mut Burst)
-        ensures command { command.new ≡ (taken H.answer_of H.after (command_in packet.now) self.old packet.now).command }
+    fn take<'p>(&mut self, packet: &FrameView<'p>, out: &mut Burst) -> Option<Command<'p>>
+        ensures command { result ≡ (taken H.answer_of H.after (command_in packet.now) self.old packet.now).command }
         ensures reply { IsSpelled (taken H.answer_of H.after (command_in packet.now) self.old packet.now).reply out.new.items }
         ensures reader { self.new ≡ (taken H.answer_of H.after (command_in packet.now) self.old packet.now).reader }
         ensures fits { IfSome (taken H.answer_of H.after (command_in packet.now) self.old packet.now).said ReplyFits }
     {
         self.last = Some(packet.seq());
         self.queue.release();
-        if let Err(fault) = read_command(packet, command) {
-            spell_nak(packet, packet.seq(), unread(fault), out);
-            self.stored.keep(out);
-            return;
-        }
-        let Some(command) = &*command else {
-            unreachable!();
+        let command = match read_command(packet) {
+            Ok(command) => command,
+            Err(fault) => {
+                spell_nak(packet, packet.seq(), unread(fault), out);
+                self.stored.keep(out);
+                return None;
+            }
         };
-        let event = self.queue.told_event(command);
+        let event = self.queue.told_event(&command);
         let told = event.is_some();
-        spell_event_or_answer(packet, event, &self.config, &mut self.handler, command, out);
+        spell_event_or_answer(
+            packet,
+            event,
+            &self.config,
+            &mut self.handler,
+            &command,
+            &mut self.place,
+            out,
+        );
         self.queue.offer(told);
         self.stored.keep(out);
-        self.move_to(new_address(command));
+        self.move_to(new_address(&command));
+        Some(command)
     }
 
     /// After an accepted COMSET: the reader is at that address, and where it is another one, nothing said before counts.
@@ -373,58 +347,15 @@ fn kind_by_number(last: Option<Seq>, seq: Seq, busy: bool) -> Kind
     }
 }
 
-/// Keeps no command any more.
-fn forget(command: &mut Option<Command>)
-    ensures { command.new ≡ None }
+/// The command that a packet is, or why it is none.
+fn read_command<'p>(packet: &FrameView<'p>) -> Result<Command<'p>, MsgFault>
+    ensures { result ≡ command_in packet.now }
 {
-    if command.is_some() {
-        *command = None;
-    }
-}
-
-/// Puts the command that a packet is in place of what stands in `command`, or tells why it is none. POLL, which comes most often,
-/// is written only where another command stands.
-pub fn read_command(packet: &FrameView, command: &mut Option<Command>) -> Result<(), MsgFault>
-    ensures command { IfSome command.new (λ read. command_in packet.now ≡ Ok read) }
-    ensures some { IsOk result ↔ IsSome command.new }
-    ensures fault { IfErr result (λ fault. command_in packet.now ≡ Err fault) }
-{
-    if is_poll(packet) {
-        set_poll(command);
-        return Ok(());
-    }
-    read_other(packet, command)
-}
-
-/// Whether a packet is a POLL.
-fn is_poll(packet: &FrameView) -> bool
-    ensures { result ≡ true → command_in packet.now ≡ Ok Poll }
-{
-    packet.code() == 0x60 && packet.payload().len() == 0
-}
-
-/// Puts POLL there.
-fn set_poll(command: &mut Option<Command>)
-    ensures { command.new ≡ Some Poll }
-{
-    if !matches!(command, Some(Command::Poll)) {
-        *command = Some(Command::Poll);
-    }
-}
-
-/// The same of any command.
-#[inline(never)]
-#[tactic(auto, using(crate::proofs::Reading::read_is, crate::proofs::Reading::faults_are))]
-fn read_other(packet: &FrameView, command: &mut Option<Command>) -> Result<(), MsgFault>
-    ensures command { IfSome command.new (λ read. command_in packet.now ≡ Ok read) }
-    ensures some { IsOk result ↔ IsSome command.new }
-    ensures fault { IfErr result (λ fault. command_in packet.now ≡ Err fault) }
-{
-    Command::read_into(packet.code(), packet.payload(), command)
+    Command::read(packet.code(), packet.payload())
 }
 
 /// Where an accepted COMSET sets it, the address.
-fn new_address(command: &Command) -> Option<Address>
+fn new_address(command: &Command<'_>) -> Option<Address>
     ensures { result ≡ new_address command.now }
 {
     match command {

@@ -4,8 +4,8 @@ ghost use Rattle.std.specs.Prelude.{◌≡◌, ◌<◌, ◌≤◌, true, false, 
 ghost use Rattle.osdp_frame.specs.Bytes.{AreBytes};
 ghost use Rattle.osdp_frame.specs.Packed.{packed};
 ghost use Rattle.osdp_frame.specs.Spelling.{Spells};
-ghost use Rattle.std.specs.Option.{option_copied, option_map};
-ghost use Rattle.osdp_msg.specs.declared.reply.Reply.TheVariants.{Ack, Busy, PdCap, PdId};
+ghost use Rattle.std.specs.Option.{option_map};
+ghost use Rattle.osdp_msg.specs.declared.reply.Reply.TheVariants as told;
 ghost use Rattle.osdp_msg.specs.Events.{event_reply};
 ghost use Rattle.osdp_msg.specs.ReplyTable.{ReplyFits};
 ghost use Rattle.osdp_reader.specs.Replies.{comset_reply, done_reply, list_reply, local_reply, maker_reply, not_processed, refusal_reply, refused, reply_for, reply_packet, unread_reason};
@@ -13,29 +13,11 @@ ghost use Rattle.osdp_reader.specs.Table.{answer_to, event_or_answer};
 
 use crate::config::ReaderConfig;
 use crate::handler::{Answer, Handler};
-use arrayvec::ArrayVec;
 use osdp_frame::{Address, Burst, FrameView, Header, Seq};
 use osdp_msg::{
-    Command, Communication, Event, LocalState, MAX_DATA, MAX_MAKER_BYTES, MAX_MESSAGE,
-    MakerMessage, MsgFault, Nak, NakReason, Reply,
+    Command, Communication, Event, LocalState, MAX_MESSAGE, MakerMessage, MsgFault, NakReason,
+    PdCap, Reply, Spelling, States,
 };
-
-/// A NAK with this reason.
-fn nak(reason: NakReason) -> Reply
-    ensures { result ≡ refused reason }
-{
-    Reply::Nak(Nak {
-        reason,
-        detail: ArrayVec::new(),
-    })
-}
-
-/// NAK 9: the command can't be processed.
-fn nak_9() -> Reply
-    ensures { result ≡ not_processed }
-{
-    nak(NakReason::RecordNotProcessed)
-}
 
 /// The reason of a packet that is no command.
 pub fn unread(fault: MsgFault) -> NakReason
@@ -48,7 +30,7 @@ pub fn unread(fault: MsgFault) -> NakReason
 }
 
 /// The bytes of what the handler has done: ACK to a command that a device does.
-fn spell_done(packet: &FrameView, seq: Seq, command: &Command, out: &mut Burst)
+fn spell_done(packet: &FrameView, seq: Seq, command: &Command<'_>, out: &mut Burst)
     ensures spelled { Spells (reply_packet packet.now seq (done_reply command.now)) out.new.items }
     ensures fits { ReplyFits (done_reply command.now) }
 {
@@ -63,11 +45,10 @@ fn spell_done(packet: &FrameView, seq: Seq, command: &Command, out: &mut Burst)
 }
 
 /// The bytes of the state of the device itself, tamper and power.
-#[inline(never)]
 fn spell_local(
     packet: &FrameView,
     seq: Seq,
-    command: &Command,
+    command: &Command<'_>,
     tamper: u8,
     power: u8,
     out: &mut Burst,
@@ -80,31 +61,6 @@ fn spell_local(
         spell(packet, seq, &Reply::LocalState(state), out);
     } else {
         spell_nak(packet, seq, NakReason::RecordNotProcessed, out);
-    }
-}
-
-/// The reply where the handler tells a byte for each input, output or reader.
-#[inline(never)]
-fn list(command: &Command, states: ArrayVec<u8, MAX_DATA>) -> Reply
-    ensures { result ≡ list_reply command.now states.items }
-{
-    match command {
-        Command::InputStatus => Reply::Inputs(states),
-        Command::OutputStatus => Reply::Outputs(states),
-        Command::ReaderStatus => Reply::Readers(states),
-        _ => nak_9(),
-    }
-}
-
-/// The reply where the handler gives the maker's own.
-#[inline(never)]
-fn maker(command: &Command, vendor: [u8; 3], bytes: ArrayVec<u8, MAX_MAKER_BYTES>) -> Reply
-    ensures { result ≡ maker_reply command.now vendor bytes.items }
-{
-    if let Command::Maker(_) = command {
-        Reply::MakerReply(MakerMessage { vendor, bytes })
-    } else {
-        nak_9()
     }
 }
 
@@ -127,47 +83,59 @@ fn told_reason(reason: NakReason) -> NakReason
 }
 
 /// The bytes of a byte for each input, output or reader.
-#[inline(never)]
 fn spell_list(
     packet: &FrameView,
     seq: Seq,
-    command: &Command,
-    states: ArrayVec<u8, MAX_DATA>,
+    command: &Command<'_>,
+    states: &States<'_>,
     out: &mut Burst,
 )
-    ensures spelled { Spells (reply_packet packet.now seq (list_reply command.now states.items)) out.new.items }
-    ensures fits { ReplyFits (list_reply command.now states.items) }
+    ensures spelled { Spells (reply_packet packet.now seq (list_reply command.now states.now.items)) out.new.items }
+    ensures fits { ReplyFits (list_reply command.now states.now.items) }
 {
-    spell(packet, seq, &list(command, states), out);
+    match command {
+        Command::InputStatus => spell(packet, seq, &Reply::Inputs(states.copy()), out),
+        Command::OutputStatus => spell(packet, seq, &Reply::Outputs(states.copy()), out),
+        Command::ReaderStatus => spell(packet, seq, &Reply::Readers(states.copy()), out),
+        _ => spell_nak(packet, seq, NakReason::RecordNotProcessed, out),
+    }
 }
 
 /// The bytes of the maker's own reply.
-#[inline(never)]
 fn spell_maker(
     packet: &FrameView,
     seq: Seq,
-    command: &Command,
-    vendor: [u8; 3],
-    bytes: ArrayVec<u8, MAX_MAKER_BYTES>,
+    command: &Command<'_>,
+    own: &MakerMessage<'_>,
     out: &mut Burst,
 )
-    ensures spelled { Spells (reply_packet packet.now seq (maker_reply command.now vendor bytes.items)) out.new.items }
-    ensures fits { ReplyFits (maker_reply command.now vendor bytes.items) }
+    ensures spelled { Spells (reply_packet packet.now seq (maker_reply command.now own.now)) out.new.items }
+    ensures fits { ReplyFits (maker_reply command.now own.now) }
 {
-    spell(packet, seq, &maker(command, vendor, bytes), out);
+    if let Command::Maker(_) = command {
+        spell(packet, seq, &Reply::MakerReply(own.copy()), out);
+    } else {
+        spell_nak(packet, seq, NakReason::RecordNotProcessed, out);
+    }
 }
 
 /// The bytes of a handler's answer to a command.
-fn spell_handled(packet: &FrameView, seq: Seq, answer: Answer, command: &Command, out: &mut Burst)
-    ensures spelled { Spells (reply_packet packet.now seq (reply_for answer command.now)) out.new.items }
-    ensures fits { ReplyFits (reply_for answer command.now) }
+fn spell_handled(
+    packet: &FrameView,
+    seq: Seq,
+    answer: &Answer<'_>,
+    command: &Command<'_>,
+    out: &mut Burst,
+)
+    ensures spelled { Spells (reply_packet packet.now seq (reply_for answer.now command.now)) out.new.items }
+    ensures fits { ReplyFits (reply_for answer.now command.now) }
 {
     match answer {
         Answer::Done => spell_done(packet, seq, command, out),
-        Answer::Local(tamper, power) => spell_local(packet, seq, command, tamper, power, out),
+        Answer::Local(tamper, power) => spell_local(packet, seq, command, *tamper, *power, out),
         Answer::List(states) => spell_list(packet, seq, command, states, out),
-        Answer::Refuse(reason) => spell_nak(packet, seq, told_reason(reason), out),
-        Answer::Maker(vendor, bytes) => spell_maker(packet, seq, command, vendor, bytes, out),
+        Answer::Refuse(reason) => spell_nak(packet, seq, told_reason(*reason), out),
+        Answer::Maker(own) => spell_maker(packet, seq, command, own, out),
     }
 }
 
@@ -192,26 +160,25 @@ fn spell_body(packet: &FrameView, seq: Seq, body: &[u8], out: &mut Burst)
 }
 
 /// The bytes of a reply to a packet, with this number.
-#[inline(never)]
-fn spell(packet: &FrameView, seq: Seq, reply: &Reply, out: &mut Burst)
+fn spell(packet: &FrameView, seq: Seq, reply: &Reply<'_>, out: &mut Burst)
     ensures spelled { Spells (reply_packet packet.now seq reply.now) out.new.items }
     ensures fits { ReplyFits reply.now }
 {
-    let mut body = ArrayVec::new();
+    let mut body = Spelling::new();
     reply.write_into(&mut body);
     spell_body(packet, seq, body.as_slice(), out);
 }
 
 /// The bytes of an ACK to a packet, with this number.
 fn spell_ack(packet: &FrameView, seq: Seq, out: &mut Burst)
-    ensures { Spells (reply_packet packet.now seq Ack) out.new.items }
+    ensures { Spells (reply_packet packet.now seq told.Ack) out.new.items }
 {
     spell_body(packet, seq, &[0x40], out);
 }
 
 /// The bytes of BUSY to a packet, with this number.
 pub fn spell_busy(packet: &FrameView, seq: Seq, out: &mut Burst)
-    ensures { Spells (reply_packet packet.now seq Busy) out.new.items }
+    ensures { Spells (reply_packet packet.now seq told.Busy) out.new.items }
 {
     spell_body(packet, seq, &[0x79], out);
 }
@@ -225,25 +192,23 @@ pub fn spell_nak(packet: &FrameView, seq: Seq, reason: NakReason, out: &mut Burs
 }
 
 /// The bytes of what the reader is, as the answer to ID.
-#[inline(never)]
 fn spell_id(packet: &FrameView, seq: Seq, config: &ReaderConfig, out: &mut Burst)
-    ensures spelled { Spells (reply_packet packet.now seq (PdId config.now.id)) out.new.items }
-    ensures fits { ReplyFits (PdId config.now.id) }
+    ensures spelled { Spells (reply_packet packet.now seq (told.PdId config.now.id)) out.new.items }
+    ensures fits { ReplyFits (told.PdId config.now.id) }
 {
     spell(packet, seq, &Reply::PdId(config.id), out);
 }
 
 /// The bytes of what the reader can do, as the answer to CAP.
-#[inline(never)]
 fn spell_caps(packet: &FrameView, seq: Seq, config: &ReaderConfig, out: &mut Burst)
-    ensures spelled { Spells (reply_packet packet.now seq (PdCap config.now.caps)) out.new.items }
-    ensures fits { ReplyFits (PdCap config.now.caps) }
+    ensures spelled { Spells (reply_packet packet.now seq (told.PdCap (record { capabilities = config.now.caps }))) out.new.items }
+    ensures fits { ReplyFits (told.PdCap (record { capabilities = config.now.caps })) }
 {
-    spell(packet, seq, &Reply::PdCap(config.caps.copy()), out);
+    let caps = PdCap::new(config.caps.as_slice()).unwrap();
+    spell(packet, seq, &Reply::PdCap(caps), out);
 }
 
 /// The bytes of the reply to a COMSET.
-#[inline(never)]
 fn spell_comset(packet: &FrameView, seq: Seq, communication: &Communication, out: &mut Burst)
     ensures spelled { Spells (reply_packet packet.now seq (comset_reply communication.now)) out.new.items }
     ensures fits { ReplyFits (comset_reply communication.now) }
@@ -256,12 +221,11 @@ fn spell_comset(packet: &FrameView, seq: Seq, communication: &Communication, out
 }
 
 /// The bytes of an event, as the answer to POLL.
-#[inline(never)]
-fn spell_event(packet: &FrameView, seq: Seq, event: &Event, out: &mut Burst)
+fn spell_event(packet: &FrameView, seq: Seq, event: &Event<'_>, out: &mut Burst)
     ensures spelled { Spells (reply_packet packet.now seq (event_reply event.now)) out.new.items }
     ensures fits { ReplyFits (event_reply event.now) }
 {
-    spell(packet, seq, &event.to_reply(), out);
+    spell(packet, seq, &event.reply(), out);
 }
 
 /// The bytes of what the reader answers to a command, with this number.
@@ -270,7 +234,8 @@ pub fn spell_answer<H: Handler>(
     seq: Seq,
     config: &ReaderConfig,
     handler: &mut H,
-    command: &Command,
+    command: &Command<'_>,
+    place: &mut Spelling,
     out: &mut Burst,
 )
     ensures reply { let answer = answer_to H.answer_of H.after config.now handler.old command.now in
@@ -292,7 +257,8 @@ pub fn spell_answer<H: Handler>(
         | Command::Buzzer(_)
         | Command::Text(_)
         | Command::Maker(_) => {
-            spell_handled(packet, seq, handler.answer(command), command, out);
+            let answer = handler.answer(command, place);
+            spell_handled(packet, seq, &answer, command, out);
         }
     }
 }
@@ -300,22 +266,23 @@ pub fn spell_answer<H: Handler>(
 /// The bytes of the event where there is one, or else of what the reader answers to the command.
 pub fn spell_event_or_answer<H: Handler>(
     packet: &FrameView,
-    event: Option<&Event>,
+    event: Option<Event<'_>>,
     config: &ReaderConfig,
     handler: &mut H,
-    command: &Command,
+    command: &Command<'_>,
+    place: &mut Spelling,
     out: &mut Burst,
 )
-    ensures reply { let told = option_map event_reply (option_copied event.entry) in
+    ensures reply { let told = option_map event_reply event.entry in
         let answer = event_or_answer H.answer_of H.after told config.now handler.old command.now in
         Spells (reply_packet packet.now packet.now.sequence answer.reply) out.new.items }
-    ensures handler { let told = option_map event_reply (option_copied event.entry) in
+    ensures handler { let told = option_map event_reply event.entry in
         handler.new ≡ (event_or_answer H.answer_of H.after told config.now handler.old command.now).handler }
-    ensures fits { let told = option_map event_reply (option_copied event.entry) in
+    ensures fits { let told = option_map event_reply event.entry in
         ReplyFits (event_or_answer H.answer_of H.after told config.now handler.old command.now).reply }
 {
     match event {
-        Some(event) => spell_event(packet, packet.seq(), event, out),
-        None => spell_answer(packet, packet.seq(), config, handler, command, out),
+        Some(event) => spell_event(packet, packet.seq(), &event, out),
+        None => spell_answer(packet, packet.seq(), config, handler, command, place, out),
     }
 }

@@ -1,6 +1,7 @@
 -- The replies to commands that are acted on fit them.
 use Rattle.std.proofs.Common.{◌≡◌, ◌⊎◌, subst, sym, refl, ℕ, Bool, true, false, cond, nat_le, List, Some, Result, Ok, inl, inr}
 use Rattle.osdp_frame.specs.Packet.{Packet}
+use Rattle.osdp_msg.specs.declared.command_fields.MakerMessage.{MakerMessage}
 use Rattle.osdp_msg.specs.declared.command.Command.{Command}
 use Rattle.osdp_msg.specs.declared.command.Command.TheVariants as command
 use Rattle.osdp_msg.specs.declared.command_fields.Communication.{Communication}
@@ -41,9 +42,9 @@ list_fits : (c : Command) (states : List ℕ) → reply_fits c (list_reply c sta
 list_fits command.Poll states = refl
 list_fits c states = refl
 
-maker_fits : (c : Command) (vendor bytes : List ℕ) → reply_fits c (maker_reply c vendor bytes) ≡ true
-maker_fits command.Poll vendor bytes = refl
-maker_fits c vendor bytes = refl
+maker_fits : (c : Command) (own : MakerMessage) → reply_fits c (maker_reply c own) ≡ true
+maker_fits command.Poll own = refl
+maker_fits c own = refl
 
 refusal_fits : (c : Command) (reason : NakReason) → reply_fits c (refusal_reply reason) ≡ true
 refusal_fits c CommandLength = refl
@@ -54,7 +55,7 @@ for_fits answer.Done c = done_fits c
 for_fits (answer.Local tamper power) c = local_fits c tamper power
 for_fits (answer.List states) c = list_fits c states.items
 for_fits (answer.Refuse reason) c = refusal_fits c reason
-for_fits (answer.Maker vendor bytes) c = maker_fits c vendor bytes.items
+for_fits (answer.Maker own) c = maker_fits c own
 
 -- ---- what the reader answers by itself
 

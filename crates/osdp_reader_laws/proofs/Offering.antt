@@ -80,7 +80,7 @@ module _ {H : Type 0} where
   lapse_offer r tells = by_ever r.queue.ever_offered
     where
       by_ever : (ever : Bool)
-          → TellsItsOffer (record r { queue = cond ever (record { events = drop 1 r.queue.events; capacity = r.queue.capacity; offered = false; ever_offered = false }) r.queue })
+          → TellsItsOffer (record r { queue = cond ever (record { events = drop 1 r.queue.events; capacity = r.queue.capacity; room = r.queue.room; offered = false; ever_offered = false }) r.queue })
       by_ever true = none_offered _ refl
       by_ever false = tells
 

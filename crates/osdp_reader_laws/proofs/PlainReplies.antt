@@ -4,6 +4,7 @@ use Rattle.std.proofs.lemmas.Bool.{false≢true}
 use Rattle.std.specs.Prelude.{slice_get}
 use Rattle.std.specs.Option.{option_map}
 use Rattle.osdp_frame.specs.Packet.{Packet}
+use Rattle.osdp_msg.specs.declared.command_fields.MakerMessage.{MakerMessage}
 use Rattle.osdp_msg.specs.declared.command.Command.{Command}
 use Rattle.osdp_msg.specs.declared.command.Command.TheVariants as command
 use Rattle.osdp_msg.specs.declared.event.Event.{Event}
@@ -54,9 +55,9 @@ list_plain : (c : Command) (states : List ℕ) → plainly (list_reply c states)
 list_plain command.Poll states = refl
 list_plain c states = refl
 
-maker_plain : (c : Command) (vendor bytes : List ℕ) → plainly (maker_reply c vendor bytes) ≡ true
-maker_plain command.Poll vendor bytes = refl
-maker_plain c vendor bytes = refl
+maker_plain : (c : Command) (own : MakerMessage) → plainly (maker_reply c own) ≡ true
+maker_plain command.Poll own = refl
+maker_plain c own = refl
 
 refusal_plain : (reason : NakReason) → plainly (refusal_reply reason) ≡ true
 refusal_plain CommandLength = refl
@@ -67,7 +68,7 @@ for_plain answer.Done c = done_plain c
 for_plain (answer.Local tamper power) c = local_plain c tamper power
 for_plain (answer.List states) c = list_plain c states.items
 for_plain (answer.Refuse reason) c = refusal_plain reason
-for_plain (answer.Maker vendor bytes) c = maker_plain c vendor bytes.items
+for_plain (answer.Maker own) c = maker_plain c own
 
 -- plain, where there is one
 abbrev pub IsPlainIf : Option Reply → Type 0

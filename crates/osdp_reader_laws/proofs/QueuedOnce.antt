@@ -124,7 +124,7 @@ past_withdrawn e true xs h = rest_withdrawn e xs h
 past_withdrawn e false xs h = none_drop e xs h
 
 pub past_lapsed : (e : Event) (q : Queue) (ever : Bool) → HasNone e (fresh ever q.events)
-    → let l = cond ever (record { events = drop 1 q.events; capacity = q.capacity; offered = false; ever_offered = false }) (record q { ever_offered = ever }) in
+    → let l = cond ever (record { events = drop 1 q.events; capacity = q.capacity; room = q.room; offered = false; ever_offered = false }) (record q { ever_offered = ever }) in
     HasNone e (fresh l.ever_offered l.events)
 past_lapsed e q true h = h
 past_lapsed e q false h = h
@@ -181,7 +181,7 @@ doubt_withdrawn e true [] is = is
 doubt_withdrawn e true (x ∷ xs) is = is
 
 pub doubt_lapsed : (e : Event) (ever : Bool) (q : Queue)
-    → in_doubt (cond ever (record { events = drop 1 q.events; capacity = q.capacity; offered = false; ever_offered = false }) q) ≡ Some e
+    → in_doubt (cond ever (record { events = drop 1 q.events; capacity = q.capacity; room = q.room; offered = false; ever_offered = false }) q) ≡ Some e
     → in_doubt q ≡ Some e
 doubt_lapsed e true q is = let none : None ≡ Some e = is in absurd cc
 doubt_lapsed e false q is = is
@@ -193,6 +193,6 @@ withdrawn_gone e true xs h is = gone_second e xs h is
 withdrawn_gone e false xs h is = gone_front e xs h is
 
 pub lapsed_gone : (e : Event) (ever : Bool) (q : Queue) → cond ever (slice_get q.events 0) None ≡ Some e → HasNone e (drop 1 q.events)
-    → HasNone e (cond ever (record { events = drop 1 q.events; capacity = q.capacity; offered = false; ever_offered = false }) q).events
+    → HasNone e (cond ever (record { events = drop 1 q.events; capacity = q.capacity; room = q.room; offered = false; ever_offered = false }) q).events
 lapsed_gone e true q is h = h
 lapsed_gone e false q is h = absurd cc

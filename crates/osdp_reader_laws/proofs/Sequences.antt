@@ -19,7 +19,7 @@ same_rest c d cs ds e = cc
 -- what is answered without the handler doesn't depend on the address
 pub same_own : (c d : ReaderConfig) (asked : Command) → c.id ≡ d.id → c.caps ≡ d.caps → own_reply c asked ≡ own_reply d asked
 same_own c d (command.Id kept) id caps = ap (λ i. Some (reply.PdId i)) id
-same_own c d (command.Cap kept) id caps = ap (λ k. Some (reply.PdCap k)) caps
+same_own c d (command.Cap kept) id caps = ap (λ k. Some (reply.PdCap (record { capabilities = k }))) caps
 same_own c d asked id caps = refl
 
 module _ {H : Type 0} (answer_of : H → Command → Answer) (after : H → Command → H) where

@@ -11,7 +11,7 @@ use Rattle.osdp_reader_laws.proofs.Outcomes.{IsKeptByEffects, outcome_keeps}
 module _ {H : Type 0} where
   abbrev HasSettingsOf : ReaderState H → ReaderState H → Type 0
   HasSettingsOf r s =
-      (s.busy ≡ r.busy) × (s.queue.capacity ≡ r.queue.capacity) × (s.config.id ≡ r.config.id) × (s.config.caps ≡ r.config.caps)
+      (s.busy ≡ r.busy) × (s.queue.capacity ≡ r.queue.capacity) × (s.queue.room ≡ r.queue.room) × (s.config.id ≡ r.config.id) × (s.config.caps ≡ r.config.caps)
 
   keeps_settings : (r : ReaderState H) → IsKeptByEffects (HasSettingsOf r)
   keeps_settings r = record {
@@ -23,4 +23,4 @@ module _ {H : Type 0} where
   pub outcome_settings : (answer_of : H → Command → Answer) (after : H → Command → H) (kind : Kind) (r : ReaderState H) (p : Packet)
       → HasSettingsOf r (outcome answer_of after kind r p).reader
   outcome_settings answer_of after kind r p =
-      outcome_keeps answer_of after (HasSettingsOf r) kind r p (keeps_settings r) (refl, refl, refl, refl)
+      outcome_keeps answer_of after (HasSettingsOf r) kind r p (keeps_settings r) (refl, refl, refl, refl, refl)

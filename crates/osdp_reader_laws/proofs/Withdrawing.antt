@@ -6,10 +6,11 @@ use Rattle.osdp_msg.specs.declared.command.Command.TheVariants as command
 use Rattle.osdp_msg.specs.declared.event.Event.{Event}
 use Rattle.osdp_msg.specs.declared.fault.MsgFault.{MsgFault}
 use Rattle.osdp_msg.specs.Events.{event_reply}
+use Rattle.osdp_msg.specs.declared.limits.Room.{Room}
 use Rattle.osdp_reader.specs.declared.handler.Answer.{Answer}
 use Rattle.osdp_reader.specs.declared.kind.Kind.{Kind}
 use Rattle.osdp_reader.specs.declared.kind.Kind.TheVariants.{Silent, Secured, Zero, Repeat, Taken, Busy, Wrong}
-use Rattle.osdp_reader.specs.Queue.{Queue, in_doubt, never_offered, offering, released}
+use Rattle.osdp_reader.specs.Queue.{Queue, has_room, in_doubt, never_offered, offering, released}
 use Rattle.osdp_reader.specs.Replies.{reply_packet}
 use Rattle.osdp_reader.specs.declared.config.ReaderConfig.{ReaderConfig}
 use Rattle.osdp_reader.specs.State.{ReaderState, after_lapse_event, after_submit, after_withdraw_event, new_reader}
@@ -63,7 +64,7 @@ module _ {H : Type 0} where
   pub lapse_knows : (r : ReaderState H) → KnowsItsOffer r → KnowsItsOffer (after_lapse_event r)
   lapse_knows r h =
       by_cond (λ (q : Queue). q.ever_offered ≡ true → (event : Event) × (slice_get q.events 0 ≡ Some event)) r.queue.ever_offered
-      (record { events = drop 1 r.queue.events; capacity = r.queue.capacity; offered = false; ever_offered = false }) r.queue (λ is. absurd cc) h
+      (record { events = drop 1 r.queue.events; capacity = r.queue.capacity; room = r.queue.room; offered = false; ever_offered = false }) r.queue (λ is. absurd cc) h
 
   -- ---- one call
 
@@ -83,7 +84,7 @@ module _ {H : Type 0} where
         → P (after_call answer_of after c r)
     call_keeps e P (Hear p) r kept none h = outcome_keeps answer_of after P (kind_of r p) r p kept.effects h
     call_keeps e P (SubmitEvent x) r kept none h =
-        by_cond P (length r.queue.events == r.queue.capacity) r (after_submit x r) h (kept.submits r x none.0 h)
+        by_cond P (has_room x r.queue) (after_submit x r) r (kept.submits r x none.0 h) h
     call_keeps e P WithdrawEvent r kept none h = kept.withdraws r h
     call_keeps e P LapseEvent r kept none h = kept.lapses r h
     call_keeps e P (SetBusy busy) r kept none h = kept.sets r busy r.handler h
@@ -249,7 +250,7 @@ module _ {H : Type 0} where
 
     call_knows : (c : ReaderCall H) (r : ReaderState H) → KnowsItsOffer r → KnowsItsOffer (after_call answer_of after c r)
     call_knows (Hear p) r h = outcome_knows (kind_of r p) r p h
-    call_knows (SubmitEvent x) r h = by_cond KnowsItsOffer (length r.queue.events == r.queue.capacity) r (after_submit x r) h (submit_knows r x h)
+    call_knows (SubmitEvent x) r h = by_cond KnowsItsOffer (has_room x r.queue) (after_submit x r) r (submit_knows r x h) h
     call_knows WithdrawEvent r h = withdraw_knows r h
     call_knows LapseEvent r h = lapse_knows r h
     call_knows (SetBusy busy) r h = h
@@ -296,14 +297,14 @@ module _ {H : Type 0} where
     outcome_doubt Busy r p e is = inl is
     outcome_doubt Wrong r p e is = inl is
 
-    submit_doubt : (full : Bool) (r : ReaderState H) (x e : Event) → KnowsItsOffer r → Doubts e (cond full r (after_submit x r)) → Doubts e r
-    submit_doubt true r x e h is = is
-    submit_doubt false r x e h is = doubt_queued e x r.queue.ever_offered r.queue.events h is
+    submit_doubt : (fits : Bool) (r : ReaderState H) (x e : Event) → KnowsItsOffer r → Doubts e (cond fits (after_submit x r) r) → Doubts e r
+    submit_doubt false r x e h is = is
+    submit_doubt true r x e h is = doubt_queued e x r.queue.ever_offered r.queue.events h is
 
     call_doubt : (c : ReaderCall H) (r : ReaderState H) (e : Event) → KnowsItsOffer r → Doubts e (after_call answer_of after c r)
         → Doubts e r ⊎ Tells answer_of after e c r
     call_doubt (Hear p) r e h is = outcome_doubt (kind_of r p) r p e is
-    call_doubt (SubmitEvent x) r e h is = inl (submit_doubt (length r.queue.events == r.queue.capacity) r x e h is)
+    call_doubt (SubmitEvent x) r e h is = inl (submit_doubt (has_room x r.queue) r x e h is)
     call_doubt WithdrawEvent r e h is = inl (doubt_withdrawn e r.queue.ever_offered r.queue.events is)
     call_doubt LapseEvent r e h is = inl (doubt_lapsed e r.queue.ever_offered r.queue is)
     call_doubt (SetBusy busy) r e h is = inl is
@@ -318,11 +319,11 @@ module _ {H : Type 0} where
           | inr later ↦ inr (inr later)
         ]
 
-    pub told_what_is_in_doubt : (config : ReaderConfig) (handler : H) (capacity : ℕ) (e : Event) (cs : List (ReaderCall H))
-        → in_doubt (after_calls answer_of after cs (new_reader config handler capacity)).queue ≡ Some e
-        → IsTold answer_of after e cs (new_reader config handler capacity)
-    told_what_is_in_doubt config handler capacity e cs is =
-        elim (calls_doubt cs (new_reader config handler capacity) e (λ never. absurd cc) is) [
+    pub told_what_is_in_doubt : (config : ReaderConfig) (handler : H) (room : Room) (e : Event) (cs : List (ReaderCall H))
+        → in_doubt (after_calls answer_of after cs (new_reader config handler room)).queue ≡ Some e
+        → IsTold answer_of after e cs (new_reader config handler room)
+    told_what_is_in_doubt config handler room e cs is =
+        elim (calls_doubt cs (new_reader config handler room) e (λ never. absurd cc) is) [
           | inl none ↦ let nothing : None ≡ Some e = none in absurd cc
           | inr told ↦ told
         ]
@@ -330,9 +331,9 @@ module _ {H : Type 0} where
     -- ---- the event that is put in once
 
     -- after it was put in, it waits once or the reader was full
-    submitted_once : (full : Bool) (r : ReaderState H) (e : Event) → HasNoSuch e r → HasOnce e (cond full r (after_submit e r))
-    submitted_once true r e h = once_none e r.queue.events h
-    submitted_once false r e h = once_last e e r.queue.events h
+    submitted_once : (fits : Bool) (r : ReaderState H) (e : Event) → HasNoSuch e r → HasOnce e (cond fits (after_submit e r) r)
+    submitted_once false r e h = once_none e r.queue.events h
+    submitted_once true r e h = once_last e e r.queue.events h
 
     module _ (r : ReaderState H) (e : Event) (first more : List (ReaderCall H)) (fresh_one : HasNoSuch e r) (none_first : SubmitsNone e first)
         (none_more : SubmitsNone e more) where
@@ -345,7 +346,7 @@ module _ {H : Type 0} where
       put_once : HasOnce e put
       put_once =
           let s = after_calls answer_of after first r in
-          submitted_once (length s.queue.events == s.queue.capacity) s e (calls_keep e (HasNoSuch e) first r (none_besides e) none_first fresh_one)
+          submitted_once (has_room e s.queue) s e (calls_keep e (HasNoSuch e) first r (none_besides e) none_first fresh_one)
 
       abbrev last : ReaderState H
       last = after_calls answer_of after more put
@@ -380,22 +381,22 @@ module _ {H : Type 0} where
             ]
           ]
 
-    pub never_tells : (config : ReaderConfig) (handler : H) (capacity : ℕ) (e : Event) (first more later : List (ReaderCall H))
+    pub never_tells : (config : ReaderConfig) (handler : H) (room : Room) (e : Event) (first more later : List (ReaderCall H))
         → SubmitsNone e first → SubmitsNone e more → SubmitsNone e later
-        → never_offered (after_calls answer_of after (first ++ SubmitEvent e ∷ more) (new_reader config handler capacity)).queue ≡ Some e
-        → IsTold answer_of after e ((first ++ SubmitEvent e ∷ more) ++ WithdrawEvent ∷ later) (new_reader config handler capacity) → ⊥
-    never_tells config handler capacity e first more later none_first none_more none is told =
-        let r = new_reader config handler capacity in
+        → never_offered (after_calls answer_of after (first ++ SubmitEvent e ∷ more) (new_reader config handler room)).queue ≡ Some e
+        → IsTold answer_of after e ((first ++ SubmitEvent e ∷ more) ++ WithdrawEvent ∷ later) (new_reader config handler room) → ⊥
+    never_tells config handler room e first more later none_first none_more none is told =
+        let r = new_reader config handler room in
         last_untold r e first more tt none_first none_more later none
         (subst (λ (s : ReaderState H). never_offered s.queue ≡ Some e) (last_is r e first more tt none_first none_more) is) told
 
-    pub doubts_what_it_told : (config : ReaderConfig) (handler : H) (capacity : ℕ) (e : Event) (first more : List (ReaderCall H)) (k : ℕ)
+    pub doubts_what_it_told : (config : ReaderConfig) (handler : H) (room : Room) (e : Event) (first more : List (ReaderCall H)) (k : ℕ)
         → SubmitsNone e first → SubmitsNone e more
-        → IsTold answer_of after e (first ++ SubmitEvent e ∷ more) (new_reader config handler capacity)
-        → let r = after_calls answer_of after (first ++ SubmitEvent e ∷ more) (new_reader config handler capacity) in
+        → IsTold answer_of after e (first ++ SubmitEvent e ∷ more) (new_reader config handler room)
+        → let r = after_calls answer_of after (first ++ SubmitEvent e ∷ more) (new_reader config handler room) in
         slice_get r.queue.events k ≡ Some e → in_doubt r.queue ≡ Some e
-    doubts_what_it_told config handler capacity e first more k none_first none_more told is =
-        let r = new_reader config handler capacity in
+    doubts_what_it_told config handler room e first more k none_first none_more told is =
+        let r = new_reader config handler room in
         let same = last_is r e first more tt none_first none_more in
         let past = subst (λ (s : ReaderState H). IsPast e s) (sym same) (last_past r e first more tt none_first none_more told) in
         let s = after_calls answer_of after (first ++ SubmitEvent e ∷ more) r in

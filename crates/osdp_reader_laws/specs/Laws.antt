@@ -10,6 +10,8 @@ use Rattle.osdp_msg.specs.declared.reply.Reply.TheVariants as reply
 use Rattle.osdp_msg.specs.Events.{event_reply}
 use Rattle.osdp_msg.specs.NakReasons.{reason_number}
 use Rattle.osdp_msg.specs.ReplyTable.{reply_code, reply_data}
+use Rattle.osdp_msg.specs.declared.limits.Room.{Room}
+use Rattle.osdp_reader.specs.Queue.{bytes_waiting, has_room}
 use Rattle.osdp_reader.specs.declared.config.ReaderConfig.{ReaderConfig}
 use Rattle.osdp_reader.specs.declared.handler.Answer.{Answer}
 use Rattle.osdp_reader.specs.declared.kind.Kind.TheVariants.{Zero, Taken}
@@ -71,7 +73,7 @@ module _ {H : Type 0} where
 
   -- no more events wait than there is room for
   abbrev pub HasRoom : ReaderState H → Type 0
-  HasRoom r = length r.queue.events ≤ r.queue.capacity
+  HasRoom r = (length r.queue.events ≤ r.queue.capacity) × (bytes_waiting r.queue.events ≤ r.queue.room)
 
   -- the front is this event, it counts as ever offered, and the stored reply, with the last number, is the packet that tells it
   pub record IsOffered (r : ReaderState H) (event : Event) (p : Packet) : Type 0 where
@@ -196,7 +198,7 @@ module _ {H : Type 0} where
     abbrev pub IsKeptByCalls : (ReaderState H → Type 0) → Type 0
     IsKeptByCalls P =
         ((r : ReaderState H) (p : Packet) → P r → P (hears answer_of after r p).reader)
-        × ((r : ReaderState H) (event : Event) → length r.queue.events ≢ r.queue.capacity → P r → P (after_submit event r))
+        × ((r : ReaderState H) (event : Event) → has_room event r.queue ≡ true → P r → P (after_submit event r))
         × ((r : ReaderState H) (busy : Bool) → P r → P (after_set_busy busy r))
         × ((r : ReaderState H) (handler : H) → P r → P (after_set_handler handler r))
         × ((r : ReaderState H) → P r → P (after_withdraw_event r))
@@ -205,13 +207,13 @@ module _ {H : Type 0} where
     -- it holds of each new reader too
     abbrev pub IsKept : (ReaderState H → Type 0) → Type 0
     IsKept P =
-        ((config : ReaderConfig) (handler : H) (capacity : ℕ) → P (new_reader config handler capacity)) × IsKeptByCalls P
+        ((config : ReaderConfig) (handler : H) (room : Room) → P (new_reader config handler room)) × IsKeptByCalls P
 
     -- a reader that was made with a device's address keeps to such
     abbrev pub StaysADevice : Type 0
     StaysADevice =
-        ((config : ReaderConfig) (handler : H) (capacity : ℕ) → config.address ≤ 126
-        → HasDeviceAddress (new_reader config handler capacity))
+        ((config : ReaderConfig) (handler : H) (room : Room) → config.address ≤ 126
+        → HasDeviceAddress (new_reader config handler room))
         × IsKeptByCalls HasDeviceAddress
 
     -- the answers to the first commands are the first answers, and the others come from the handler after those

@@ -5,6 +5,7 @@ use Rattle.osdp_msg.specs.declared.command.Command.{Command}
 use Rattle.osdp_msg.specs.declared.command.Command.TheVariants.{Poll}
 use Rattle.osdp_msg.specs.declared.event.Event.{Event}
 use Rattle.osdp_msg.specs.Events.{event_reply}
+use Rattle.osdp_reader.specs.Queue.{has_room}
 use Rattle.osdp_reader.specs.declared.handler.Answer.{Answer}
 use Rattle.osdp_reader.specs.State.{ReaderState, after_lapse_event, after_set_busy, after_set_handler, after_submit, after_withdraw_event}
 use Rattle.osdp_reader.specs.Table.{hears}
@@ -34,7 +35,7 @@ module _ {H : Type 0} where
     -- a full reader gives an event back, and nothing changes
     abbrev pub after_call : ReaderCall H → ReaderState H → ReaderState H
     after_call (Hear p) r = (hears answer_of after r p).reader
-    after_call (SubmitEvent event) r = if length r.queue.events == r.queue.capacity then r else after_submit event r
+    after_call (SubmitEvent event) r = if has_room event r.queue then after_submit event r else r
     after_call WithdrawEvent r = after_withdraw_event r
     after_call LapseEvent r = after_lapse_event r
     after_call (SetBusy busy) r = after_set_busy busy r

@@ -14,7 +14,7 @@ use Rattle.osdp_reader.specs.declared.config.ReaderConfig.{ReaderConfig}
 use Rattle.osdp_reader.specs.declared.handler.Answer.{Answer}
 use Rattle.osdp_reader.specs.declared.kind.Kind.TheVariants.{Zero, Taken}
 use Rattle.osdp_reader.specs.Replies.{refused, reply_packet, unread_reason}
-use Rattle.osdp_reader.specs.Responses.{accepted_comset}
+use Rattle.osdp_reader.specs.Heard.{accepted_comset}
 use Rattle.osdp_reader.specs.State.{ReaderState}
 use Rattle.osdp_reader.specs.Table.{answer_to, command_in, hears, kind_of}
 
@@ -87,11 +87,11 @@ module _ {H : Type 0} (answer_of : H → Command → Answer) (after : H → Comm
   OffersToPollsAlone = (r : ReaderState H) (p : Packet) → kind_of r p ≡ Taken → command_in p ≢ Ok Poll
       → (hears answer_of after r p).reader.queue.offered ≡ false
 
-  -- no packet changes whether the reader is busy, how many events there may be, or what it answers to ID and CAP
+  -- no packet changes whether the reader is busy, how many events there may be and how many bytes of them, or what it answers to ID and CAP
   abbrev pub KeepsItsSettings : Type 0
   KeepsItsSettings = (r : ReaderState H) (p : Packet)
       → let next = (hears answer_of after r p).reader in
-      (next.busy ≡ r.busy) × (next.queue.capacity ≡ r.queue.capacity)
+      (next.busy ≡ r.busy) × (next.queue.capacity ≡ r.queue.capacity) × (next.queue.room ≡ r.queue.room)
       × (next.config.id ≡ r.config.id) × (next.config.caps ≡ r.config.caps)
 
   -- the address changes by a COMSET to a device's address alone, and to that address

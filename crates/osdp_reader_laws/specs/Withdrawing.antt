@@ -2,6 +2,7 @@
 use Rattle.std.specs.Prelude.{◌≡◌, ◌⊎◌, ◌++◌, ◌∷◌, ℕ, true, List, drop, length, slice_get, Some, None, if◌then◌else◌}
 use Rattle.osdp_msg.specs.declared.command.Command.{Command}
 use Rattle.osdp_msg.specs.declared.event.Event.{Event}
+use Rattle.osdp_msg.specs.declared.limits.Room.{Room}
 use Rattle.osdp_reader.specs.declared.config.ReaderConfig.{ReaderConfig}
 use Rattle.osdp_reader.specs.declared.handler.Answer.{Answer}
 use Rattle.osdp_reader.specs.Queue.{in_doubt, never_offered}
@@ -25,26 +26,26 @@ module _ {H : Type 0} where
     -- an event that is put into a reader once, and taken back later, is told neither before nor afterwards
     abbrev pub NeverTellsWhatIsTakenBack : Type 0
     NeverTellsWhatIsTakenBack =
-        (config : ReaderConfig) (handler : H) (capacity : ℕ) (event : Event) (first more later : List (ReaderCall H))
+        (config : ReaderConfig) (handler : H) (room : Room) (event : Event) (first more later : List (ReaderCall H))
         → SubmitsNone event first → SubmitsNone event more → SubmitsNone event later
-        → never_offered (after_calls answer_of after (first ++ SubmitEvent event ∷ more) (new_reader config handler capacity)).queue
+        → never_offered (after_calls answer_of after (first ++ SubmitEvent event ∷ more) (new_reader config handler room)).queue
         ≡ Some event
-        → IsTold answer_of after event ((first ++ SubmitEvent event ∷ more) ++ WithdrawEvent ∷ later) (new_reader config handler capacity) → ⊥
+        → IsTold answer_of after event ((first ++ SubmitEvent event ∷ more) ++ WithdrawEvent ∷ later) (new_reader config handler room) → ⊥
 
     -- one that was told, and waits yet, is the one in doubt
     abbrev pub DoubtsWhatItTold : Type 0
     DoubtsWhatItTold =
-        (config : ReaderConfig) (handler : H) (capacity : ℕ) (event : Event) (first more : List (ReaderCall H)) (k : ℕ)
+        (config : ReaderConfig) (handler : H) (room : Room) (event : Event) (first more : List (ReaderCall H)) (k : ℕ)
         → SubmitsNone event first → SubmitsNone event more
-        → IsTold answer_of after event (first ++ SubmitEvent event ∷ more) (new_reader config handler capacity)
-        → let r = after_calls answer_of after (first ++ SubmitEvent event ∷ more) (new_reader config handler capacity) in
+        → IsTold answer_of after event (first ++ SubmitEvent event ∷ more) (new_reader config handler room)
+        → let r = after_calls answer_of after (first ++ SubmitEvent event ∷ more) (new_reader config handler room) in
         slice_get r.queue.events k ≡ Some event → in_doubt r.queue ≡ Some event
 
     -- .. and what is in doubt was told
     abbrev pub ToldWhatIsInDoubt : Type 0
-    ToldWhatIsInDoubt = (config : ReaderConfig) (handler : H) (capacity : ℕ) (event : Event) (calls : List (ReaderCall H))
-        → in_doubt (after_calls answer_of after calls (new_reader config handler capacity)).queue ≡ Some event
-        → IsTold answer_of after event calls (new_reader config handler capacity)
+    ToldWhatIsInDoubt = (config : ReaderConfig) (handler : H) (room : Room) (event : Event) (calls : List (ReaderCall H))
+        → in_doubt (after_calls answer_of after calls (new_reader config handler room)).queue ≡ Some event
+        → IsTold answer_of after event calls (new_reader config handler room)
 
     -- once it has lapsed, no answer but a repeat tells it, unless an equal one waits or is put in
     abbrev pub TellsNoMoreWhatLapsed : Type 0

@@ -21,7 +21,7 @@ script_vendor = 0x53 ∷ 0x49 ∷ 0x4D ∷ []
 
 -- the same bytes come back, from the same maker
 abbrev pub answer_to_maker : MakerMessage → Answer
-answer_to_maker m = if bytes_eq m.vendor script_vendor then answer.Maker m.vendor m.bytes else answer.Refuse RecordNotProcessed
+answer_to_maker m = if bytes_eq m.vendor script_vendor then answer.Maker m else answer.Refuse RecordNotProcessed
 
 -- no timer counts; one input and one reader, at 0; OUT is refused as a whole where a record isn't known
 abbrev pub handler_answer : ScriptReader → Command → Answer

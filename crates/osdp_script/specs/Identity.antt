@@ -17,9 +17,7 @@ script_config number address = record {
     firmware_build = 0;
   };
   caps = record {
-    capabilities = record {
-      items =
-          record { function = 2; level = 1; count = 8 } ∷ record { function = 8; level = 1; count = 0 } ∷ [];
-    };
+    items =
+        record { function = 2; level = 1; count = 8 } ∷ record { function = 8; level = 1; count = 0 } ∷ [];
   };
 }

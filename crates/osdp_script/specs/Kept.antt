@@ -1,12 +1,10 @@
 -- How the code keeps the lines below those of the readers: a small step a line, and the bytes of all messages and damage in one row.
-use Rattle.std.specs.Prelude.{ℕ, nat_le, List, [], length, Option, Some, None, if◌then◌else◌}
+use Rattle.std.specs.Prelude.{ℕ, nat_le, List, [], length, if◌then◌else◌}
 use Rattle.osdp_frame.specs.Packet.{largest}
-use Rattle.osdp_msg.specs.declared.command.Command.{Command}
-use Rattle.osdp_msg.specs.declared.event.Event.{Event}
-use Rattle.osdp_sim.specs.Kept.{command_from, event_from, parts, total}
+use Rattle.osdp_msg.specs.Kept.{command_kept, event_kept}
+use Rattle.osdp_sim.specs.Kept.{parts, total}
 use Rattle.osdp_sim.specs.declared.step.Move.{Move}
 use Rattle.osdp_sim.specs.declared.step.Move.TheVariants as moves
-use Rattle.osdp_sim.specs.declared.step.SimStep.{SimStep}
 use Rattle.osdp_sim.specs.declared.step.SimStep.TheVariants as steps
 use Rattle.osdp_script.specs.declared.script.ScriptLine.{ScriptLine}
 use Rattle.osdp_script.specs.declared.script.ScriptLine.TheVariants.{Step, Clean}
@@ -15,16 +13,7 @@ use Rattle.osdp_script.specs.declared.step.ScriptStep.TheVariants as kept
 use Rattle.osdp_script.specs.declared.step.Way.{Way}
 use Rattle.osdp_script.specs.declared.step.Way.TheVariants as ways
 
--- ---- messages and damage
-
--- Bytes that are none would be a wait that takes no time. What is kept was written, so none such is kept.
-abbrev pub order : ℕ → Option Command → SimStep
-order reader None = steps.Wait 0
-order reader (Some command) = steps.Issue reader command
-
-abbrev pub happening : ℕ → Option Event → SimStep
-happening reader None = steps.Wait 0
-happening reader (Some event) = steps.Queue reader event
+-- ---- damage
 
 -- the bytes of a move
 abbrev pub move_bytes : Move → List ℕ
@@ -61,8 +50,8 @@ own_size (kept.Clean n) = 0
 
 -- the line that is kept as this step and these bytes
 abbrev pub line_of : ScriptStep → List ℕ → ScriptLine
-line_of (kept.Issue reader size) own = Step (order reader (command_from own))
-line_of (kept.Queue reader size) own = Step (happening reader (event_from own))
+line_of (kept.Issue reader size) own = Step (steps.Issue reader (command_kept own))
+line_of (kept.Queue reader size) own = Step (steps.Queue reader (event_kept own))
 line_of (kept.Busy reader busy) own = Step (steps.Busy reader busy)
 line_of (kept.Wait time) own = Step (steps.Wait time)
 line_of (kept.ToReader way) own = Step (steps.ToReader (move_of way own))

@@ -10,6 +10,7 @@ use crate::line::{characters, is_passed_over};
 use crate::parse::parse_line;
 use crate::script::{Script, ScriptLine};
 use osdp_frame::{Address, CheckKind};
+use osdp_msg::Spelling;
 use osdp_words::all_words_in;
 use std::alloc::{AllocError, Global};
 use std::str;
@@ -45,7 +46,7 @@ impl Draft {
     }
 
     /// Whether a line may stand after those above it.
-    fn is_in_place(&self, line: &ScriptLine) -> bool
+    fn is_in_place(&self, line: &ScriptLine<'_>) -> bool
         ensures { IsTrue result ↔ IsInPlace (plan_of self.now) line.now }
     {
         match line {
@@ -59,7 +60,7 @@ impl Draft {
     }
 
     /// Adds what a line says.
-    fn add(&mut self, line: &ScriptLine) -> Result<(), AllocError>
+    fn add(&mut self, line: &ScriptLine<'_>) -> Result<(), AllocError>
         ensures { OnOk result (plan_of self.new ≡ with_line line.now (plan_of self.old)) }
     {
         match line {
@@ -77,7 +78,8 @@ impl Draft {
         ensures { IfOk result (λ good. JudgesText good (plan_of self.old) text.now (plan_of self.new)) }
     {
         let words = all_words_in(alloc, text)?;
-        let line = match parse_line(&words, self.readers.len()) {
+        let mut place = Spelling::new();
+        let line = match parse_line(&words, self.readers.len(), &mut place) {
             Some(line) => line,
             None => return Ok(false),
         };

@@ -5,9 +5,8 @@ ghost use Rattle.osdp_script.specs.Handler.{answer_to_maker, new_handler};
 
 use crate::known::are_known;
 use crate::outputs::switch_all;
-use arrayvec::ArrayVec;
-use osdp_msg::{Command, MakerMessage, NakReason};
-use osdp_reader::{Answer, Handler};
+use osdp_msg::{Command, MakerMessage, NakReason, Spelling};
+use osdp_reader::{Answer, Handler, lend};
 
 /// The maker's code of a script's readers.
 const VENDOR: [u8; 3] = [0x53, 0x49, 0x4d];
@@ -29,15 +28,16 @@ impl ScriptReader {
     }
 }
 
-/// The maker's own reply has the bytes of the command. Another maker's command is refused.
-fn answer_to_maker(message: &MakerMessage) -> Answer
+/// The maker's own reply has the bytes of the command, which are put into `place`. Another maker's command is refused.
+fn answer_to_maker<'a>(message: &MakerMessage<'_>, place: &'a mut Spelling) -> Answer<'a>
     ensures { result ≡ answer_to_maker message.now }
 {
-    if message.vendor != VENDOR {
+    let vendor = message.vendor();
+    if vendor != VENDOR {
         return Answer::Refuse(NakReason::RecordNotProcessed);
     }
-    let bytes = ArrayVec::try_from(message.bytes.as_slice()).unwrap();
-    Answer::Maker(message.vendor, bytes)
+    let bytes = lend(message.bytes(), place);
+    Answer::Maker(MakerMessage::new(vendor, bytes).unwrap())
 }
 
 impl Handler for ScriptReader {
@@ -47,14 +47,11 @@ impl Handler for ScriptReader {
 
     ghost after = { handler_after };
 
-    fn answer(&mut self, command: &Command) -> Answer {
-        if let Command::Maker(message) = command {
-            return answer_to_maker(message);
-        }
+    fn answer<'a>(&mut self, command: &Command<'_>, place: &'a mut Spelling) -> Answer<'a> {
         match command {
             Command::LocalStatus => Answer::Local(0, 0),
             Command::InputStatus | Command::ReaderStatus => Answer::list(&[0]),
-            Command::OutputStatus => Answer::list(&self.outputs),
+            Command::OutputStatus => Answer::list(lend(&self.outputs, place)),
             Command::Output(outputs) => {
                 if !are_known(outputs.records()) {
                     return Answer::Refuse(NakReason::RecordNotProcessed);
@@ -63,6 +60,7 @@ impl Handler for ScriptReader {
                 Answer::Done
             }
             Command::Led(_) | Command::Buzzer(_) | Command::Text(_) => Answer::Done,
+            Command::Maker(message) => answer_to_maker(message, place),
             _ => Answer::Refuse(NakReason::RecordNotProcessed),
         }
     }

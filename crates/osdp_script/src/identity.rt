@@ -5,20 +5,20 @@ ghost use Rattle.osdp_script.specs.Identity.{script_config};
 
 use arrayvec::ArrayVec;
 use osdp_frame::Address;
-use osdp_msg::{Capability, PdCap, PdId};
+use osdp_msg::{Capability, PdId};
 use osdp_reader::ReaderConfig;
 
 /// What the reader of this number, counted from 1, is: its number is its serial number, and it has eight outputs and a CRC.
 pub fn script_config(number: u32, address: Address) -> ReaderConfig
     ensures { result ≡ script_config number address }
 {
-    let mut capabilities = ArrayVec::new();
-    capabilities.push(Capability {
+    let mut caps = ArrayVec::new();
+    caps.push(Capability {
         function: 2,
         level: 1,
         count: 8,
     });
-    capabilities.push(Capability {
+    caps.push(Capability {
         function: 8,
         level: 1,
         count: 0,
@@ -34,6 +34,6 @@ pub fn script_config(number: u32, address: Address) -> ReaderConfig
             firmware_minor: 0,
             firmware_build: 0,
         },
-        caps: PdCap { capabilities },
+        caps,
     }
 }

@@ -7,7 +7,7 @@ ghost use Rattle.osdp_script.specs.declared.script.ScriptLine.TheVariants.{Clean
 ghost use Rattle.osdp_script.specs.Kept.{line_of, lines_kept, own_size, sizes};
 
 use crate::step::{ScriptStep, Way, bytes_of};
-use osdp_msg::{Command, Event};
+use osdp_msg::{Command, Event, Spelling};
 use osdp_sim::SimStep;
 use std::alloc::{AllocError, Global};
 use std::marker::Model;
@@ -60,23 +60,25 @@ impl KeptLines {
     }
 
     /// Adds a command that is submitted.
-    fn add_command(&mut self, reader: usize, command: &Command) -> Result<(), AllocError>
+    fn add_command(&mut self, reader: usize, command: &Command<'_>) -> Result<(), AllocError>
         ensures { OnOk result (self.new ≡ self.old ++ Step (steps.Issue reader command.now) ∷ []) }
     {
-        let own = command.write();
+        let mut own = Spelling::new();
+        command.write_into(&mut own);
         self.add(ScriptStep::Issue(reader, own.len() as u16), own.as_slice())
     }
 
     /// Adds an event that is submitted.
-    fn add_event(&mut self, reader: usize, event: &Event) -> Result<(), AllocError>
+    fn add_event(&mut self, reader: usize, event: &Event<'_>) -> Result<(), AllocError>
         ensures { OnOk result (self.new ≡ self.old ++ Step (steps.Queue reader event.now) ∷ []) }
     {
-        let own = event.to_reply().write();
+        let mut own = Spelling::new();
+        event.write_into(&mut own);
         self.add(ScriptStep::Queue(reader, own.len() as u16), own.as_slice())
     }
 
     /// Adds a step.
-    pub(crate) fn push(&mut self, step: &SimStep) -> Result<(), AllocError>
+    pub(crate) fn push(&mut self, step: &SimStep<'_>) -> Result<(), AllocError>
         ensures { OnOk result (self.new ≡ self.old ++ Step step.now ∷ []) }
     {
         match step {
@@ -128,6 +130,16 @@ impl<'a> Model for LinesLeft<'a> {
 }
 
 impl<'a> LinesLeft<'a> {
+    /// The same lines, lent again.
+    pub(crate) fn copy(&self) -> LinesLeft<'a>
+        ensures { result ≡ self.now }
+    {
+        LinesLeft {
+            steps: self.steps,
+            row: self.row,
+        }
+    }
+
     /// Takes the first of them: its step, and the step's own bytes.
     pub(crate) fn take_first(&mut self) -> Option<(ScriptStep, &'a [u8])>
         ensures { MatchOption result ((self.old ≡ []) × (self.new ≡ [])) (λ first. self.old ≡ line_of first.0 first.1.now ∷ self.new) }

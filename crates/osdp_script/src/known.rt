@@ -3,7 +3,7 @@
 ghost use Rattle.std.specs.Prelude.{◌≡◌};
 ghost use Rattle.osdp_script.specs.Known.{all_known, is_known};
 
-use osdp_msg::OutputRecord;
+use osdp_msg::{OutputRecord, Records};
 
 /// Whether there is such an output and such a control.
 fn is_known(change: OutputRecord) -> bool
@@ -13,11 +13,12 @@ fn is_known(change: OutputRecord) -> bool
 }
 
 /// Whether all records are of outputs 0 to 7 and controls 0 to 6. Else an OUT with them is refused as a whole.
-pub fn are_known(records: &[OutputRecord]) -> bool
-    ensures { result ≡ all_known records.now }
+pub fn are_known(records: Records<'_, OutputRecord>) -> bool
+    ensures { result ≡ all_known records.entry }
 {
-    for record in records {
-        if !is_known(*record) {
+    let mut left = records;
+    'records: while let Some(record) = left.next() {
+        if !is_known(record) {
             return false;
         }
     }

@@ -3,7 +3,7 @@
 ghost use Rattle.std.specs.Prelude.{◌≡◌};
 ghost use Rattle.osdp_script.specs.Outputs.{outputs_after, switched};
 
-use osdp_msg::OutputRecord;
+use osdp_msg::{OutputRecord, Records};
 
 /// The outputs after one record: 1, 3 and 6 switch off, 2, 4 and 5 on, and 0 does nothing.
 fn switch_one(mut outputs: [u8; 8], change: OutputRecord) -> [u8; 8]
@@ -22,10 +22,11 @@ fn switch_one(mut outputs: [u8; 8], change: OutputRecord) -> [u8; 8]
 }
 
 /// Does the records in their order. An output is 1 where it is on, and else 0.
-pub fn switch_all(outputs: &mut [u8; 8], records: &[OutputRecord])
-    ensures { outputs.new ≡ outputs_after outputs.old records.now }
+pub fn switch_all(outputs: &mut [u8; 8], records: Records<'_, OutputRecord>)
+    ensures { outputs.new ≡ outputs_after outputs.old records.entry }
 {
-    for record in records {
-        *outputs = switch_one(*outputs, *record);
+    let mut left = records;
+    'records: while let Some(record) = left.next() {
+        *outputs = switch_one(*outputs, record);
     }
 }

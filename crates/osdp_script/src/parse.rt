@@ -10,7 +10,7 @@ ghost use Rattle.osdp_script.specs.Lines.{IsHappening, IsOrder, IsReader, IsSett
 
 use crate::script::ScriptLine;
 use osdp_frame::{Address, CheckKind, LONGEST_TIME, MAX_PACKET};
-use osdp_msg::{Command, Event, MAX_WAITING};
+use osdp_msg::{Command, Event, MAX_WAITING, Spelling};
 use osdp_sim::{Move, SimStep};
 use osdp_words::{byte_list, number_u8, number_u32};
 
@@ -85,25 +85,33 @@ fn parse_reader(words: &[&str]) -> Option<(Address, usize)>
     Some((address, room as usize))
 }
 
-/// A reader, and a command other than POLL.
-fn parse_issue(words: &[&str], readers: usize) -> Option<(usize, Command)>
+/// A reader, and a command other than POLL. What it has of bytes stands in `place` then.
+fn parse_issue<'a>(
+    words: &[&str],
+    readers: usize,
+    place: &'a mut Spelling,
+) -> Option<(usize, Command<'a>)>
     ensures { ReadsWords (λ (x : ℕ × Command). number x.0 ∷ command_words x.1) (λ (x : ℕ × Command). IsOrder readers x.0 x.1)
         (texts words.now) result }
 {
     let (reader, text) = reader_first(words, readers)?;
-    match Command::parse(text) {
+    match Command::parse(text, place) {
         Ok(Command::Poll) | Err(_) => None,
         Ok(command) => Some((reader, command)),
     }
 }
 
-/// A reader, and an event.
-fn parse_queue(words: &[&str], readers: usize) -> Option<(usize, Event)>
+/// A reader, and an event. What it has of bytes stands in `place` then.
+fn parse_queue<'a>(
+    words: &[&str],
+    readers: usize,
+    place: &'a mut Spelling,
+) -> Option<(usize, Event<'a>)>
     ensures { ReadsWords (λ (x : ℕ × Event). number x.0 ∷ event_words x.1) (λ (x : ℕ × Event). IsHappening readers x.0 x.1)
         (texts words.now) result }
 {
     let (reader, text) = reader_first(words, readers)?;
-    match Event::parse(text) {
+    match Event::parse(text, place) {
         Ok(event) => Some((reader, event)),
         Err(_) => None,
     }
@@ -144,8 +152,14 @@ fn parse_move(words: &[&str]) -> Option<Move>
     }
 }
 
-/// The line whose words begin with a name and go on with these, where there are so many readers.
-fn parse_row(name: &str, words: &[&str], readers: usize) -> Option<ScriptLine>
+/// The line whose words begin with a name and go on with these, where there are so many readers. What a message has of bytes stands in
+/// `place` then.
+fn parse_row<'a>(
+    name: &str,
+    words: &[&str],
+    readers: usize,
+    place: &'a mut Spelling,
+) -> Option<ScriptLine<'a>>
     ensures { ReadsWords line_words (LineFits readers) (name.now ∷ texts words.now) result }
 {
     match name {
@@ -155,11 +169,11 @@ fn parse_row(name: &str, words: &[&str], readers: usize) -> Option<ScriptLine>
             Some(ScriptLine::Reader(address, room))
         }
         "issue" => {
-            let (reader, command) = parse_issue(words, readers)?;
+            let (reader, command) = parse_issue(words, readers, place)?;
             Some(ScriptLine::Step(SimStep::Issue(reader, command)))
         }
         "queue" => {
-            let (reader, event) = parse_queue(words, readers)?;
+            let (reader, event) = parse_queue(words, readers, place)?;
             Some(ScriptLine::Step(SimStep::Queue(reader, event)))
         }
         "busy" => {
@@ -181,12 +195,16 @@ fn parse_row(name: &str, words: &[&str], readers: usize) -> Option<ScriptLine>
     }
 }
 
-/// The line that has these words, where there are so many readers.
-pub(crate) fn parse_line(words: &[&str], readers: usize) -> Option<ScriptLine>
+/// The line that has these words, where there are so many readers. What a message has of bytes stands in `place` then.
+pub(crate) fn parse_line<'a>(
+    words: &[&str],
+    readers: usize,
+    place: &'a mut Spelling,
+) -> Option<ScriptLine<'a>>
     ensures { ReadsWords line_words (LineFits readers) (texts words.now) result }
 {
     let [name, rest @ ..] = words else {
         return None;
     };
-    parse_row(name, rest, readers)
+    parse_row(name, rest, readers, place)
 }

@@ -1,13 +1,15 @@
 //! The steps of a script, handed out one at a time.
 
-ghost use Rattle.std.specs.Prelude.{◌≡◌, ◌∷◌, ◌++◌, MatchOption};
+ghost use Rattle.std.specs.Prelude.{◌≡◌, ◌∷◌, ◌++◌, [], drop, List, MatchOption};
+ghost use Rattle.osdp_sim.specs.declared.step.SimStep.{SimStep};
 ghost use Rattle.osdp_script.specs.Schedule.{steps_left};
 ghost use Rattle.osdp_script.specs.Kept.{line_of};
-ghost use Rattle.osdp_script.specs.Script.{line_steps, steps_of};
+ghost use Rattle.osdp_script.specs.Script.{line_steps, lines_steps, steps_of};
 
 use crate::kept::LinesLeft;
 use crate::script::Script;
-use crate::step::{ScriptStep, issue, queue};
+use crate::step::ScriptStep;
+use osdp_msg::{Command, Event};
 use osdp_sim::{Move, Schedule, SimStep};
 
 /// What of a round without losses is still to come.
@@ -45,51 +47,41 @@ impl Script {
     }
 }
 
+/// The first step of a line, which is kept as this one with these bytes.
+fn first_step(line: ScriptStep, own: &[u8]) -> SimStep<'_>
+    ensures { (later : List SimStep) → line_steps (line_of line own.now) ++ later ≡ result ∷ drop 1 (line_steps (line_of line own.now) ++ later) }
+{
+    match line {
+        ScriptStep::Issue(reader, _) => SimStep::Issue(reader, Command::kept(own)),
+        ScriptStep::Queue(reader, _) => SimStep::Queue(reader, Event::kept(own)),
+        ScriptStep::Busy(reader, busy) => SimStep::Busy(reader, busy),
+        ScriptStep::Wait(time) => SimStep::Wait(time),
+        ScriptStep::ToReader(way) => SimStep::ToReader(way.to_move(own)),
+        ScriptStep::ToController(way) => SimStep::ToController(way.to_move(own)),
+        ScriptStep::Reopen(reader) => SimStep::Reopen(reader),
+        ScriptStep::Clean(_) => SimStep::Wait(400),
+    }
+}
+
 impl ScriptSteps<'_> {
-    /// The first step of a line, which is kept as this one with these bytes. Where the line stands for more, these are still to come.
-    fn begin(&mut self, line: ScriptStep, own: &[u8]) -> SimStep
-        requires over { self.old.phase ≡ Phase.Over }
-        requires none { self.old.rounds ≡ 0 }
-        ensures { line_steps (line_of line own.now) ++ steps_left self.old ≡ result ∷ steps_left self.new }
+    /// The first step of the lines that are left. None where no line is left.
+    fn line_step(&self) -> Option<SimStep<'_>>
+        ensures { MatchOption result (lines_steps self.now.rest ≡ []) (λ step. lines_steps self.now.rest ≡ step ∷ drop 1 (lines_steps self.now.rest)) }
     {
-        match line {
-            ScriptStep::Issue(reader, _) => issue(reader, own),
-            ScriptStep::Queue(reader, _) => queue(reader, own),
-            ScriptStep::Busy(reader, busy) => SimStep::Busy(reader, busy),
-            ScriptStep::Wait(time) => SimStep::Wait(time),
-            ScriptStep::ToReader(way) => SimStep::ToReader(way.to_move(own)),
-            ScriptStep::ToController(way) => SimStep::ToController(way.to_move(own)),
-            ScriptStep::Reopen(reader) => SimStep::Reopen(reader),
-            ScriptStep::Clean(count) => {
-                self.phase = Phase::ToReader;
-                self.rounds = count;
-                SimStep::Wait(400)
-            }
-        }
+        let mut rest = self.rest.copy();
+        let (line, own) = rest.take_first()?;
+        Some(first_step(line, own))
     }
 
-    /// The next step of a line that stands for rounds.
-    fn go_on(&mut self) -> Option<SimStep>
-        ensures { MatchOption result ((self.old.phase ≡ Phase.Over) × (self.old.rounds ≡ 0) × (self.new ≡ self.old))
-            (λ step. steps_left self.old ≡ step ∷ steps_left self.new) }
+    /// Passes over the first step of the lines that are left: where its line stands for more, these are still to come.
+    fn pass_line(&mut self)
+        requires over { self.old.phase ≡ Phase.Over }
+        requires none { self.old.rounds ≡ 0 }
+        ensures { steps_left self.new ≡ drop 1 (steps_left self.old) }
     {
-        match self.phase {
-            Phase::ToReader => {
-                self.phase = Phase::ToController;
-                Some(SimStep::ToReader(Move::Deliver))
-            }
-            Phase::ToController => {
-                self.phase = Phase::Over;
-                Some(SimStep::ToController(Move::Deliver))
-            }
-            Phase::Over => {
-                if self.rounds == 0 {
-                    return None;
-                }
-                self.rounds -= 1;
-                self.phase = Phase::ToReader;
-                Some(SimStep::Wait(50))
-            }
+        if let Some((ScriptStep::Clean(count), _)) = self.rest.take_first() {
+            self.phase = Phase::ToReader;
+            self.rounds = count;
         }
     }
 }
@@ -97,11 +89,30 @@ impl ScriptSteps<'_> {
 impl Schedule for ScriptSteps<'_> {
     ghost left = { steps_left };
 
-    fn next(&mut self) -> Option<SimStep> {
-        if let Some(step) = self.go_on() {
-            return Some(step);
+    fn step(&self) -> Option<SimStep<'_>> {
+        match self.phase {
+            Phase::ToReader => Some(SimStep::ToReader(Move::Deliver)),
+            Phase::ToController => Some(SimStep::ToController(Move::Deliver)),
+            Phase::Over => {
+                if self.rounds == 0 {
+                    return self.line_step();
+                }
+                Some(SimStep::Wait(50))
+            }
         }
-        let (first, own) = self.rest.take_first()?;
-        Some(self.begin(first, own))
+    }
+
+    fn pass(&mut self) {
+        match self.phase {
+            Phase::ToReader => self.phase = Phase::ToController,
+            Phase::ToController => self.phase = Phase::Over,
+            Phase::Over => {
+                if self.rounds == 0 {
+                    return self.pass_line();
+                }
+                self.rounds -= 1;
+                self.phase = Phase::ToReader;
+            }
+        }
     }
 }

@@ -6,13 +6,13 @@ use osdp_sim::SimStep;
 
 /// What one line of a script says.
 #[derive(Debug, Drop)]
-pub enum ScriptLine {
+pub enum ScriptLine<'a> {
     /// The check that the controllers' packets end with.
     Check(CheckKind),
     /// A reader: its address, 0 to 126, and how many events may wait, 1 to 1024.
     Reader(Address, usize),
     /// One step.
-    Step(SimStep),
+    Step(SimStep<'a>),
     /// The session opens, and so many rounds without losses follow: 0 to 1000.
     Clean(usize),
 }

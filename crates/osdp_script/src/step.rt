@@ -1,12 +1,10 @@
 //! A line below those of the readers, in little memory.
 
 ghost use Rattle.std.specs.Prelude.{◌≡◌, length};
-ghost use Rattle.osdp_sim.specs.Kept.{command_from, event_from};
-ghost use Rattle.osdp_script.specs.Kept.{happening, move_bytes, move_of, move_size, order, own_size};
+ghost use Rattle.osdp_script.specs.Kept.{move_bytes, move_of, move_size, own_size};
 
 use osdp_frame::Burst;
-use osdp_sim::message::{command_from, event_from};
-use osdp_sim::{Move, SimStep};
+use osdp_sim::Move;
 
 /// What the line does with the burst in front.
 #[derive(Clone, Copy, Debug)]
@@ -106,25 +104,5 @@ impl ScriptStep {
             | ScriptStep::Reopen(_)
             | ScriptStep::Clean(_) => 0,
         }
-    }
-}
-
-/// A reader's user submits the command that these bytes are.
-pub(crate) fn issue(reader: usize, bytes: &[u8]) -> SimStep
-    ensures { result ≡ order reader (command_from bytes.now) }
-{
-    match command_from(bytes) {
-        Some(command) => SimStep::Issue(reader, command),
-        None => SimStep::Wait(0),
-    }
-}
-
-/// A reader's device submits the event that these bytes are.
-pub(crate) fn queue(reader: usize, bytes: &[u8]) -> SimStep
-    ensures { result ≡ happening reader (event_from bytes.now) }
-{
-    match event_from(bytes) {
-        Some(event) => SimStep::Queue(reader, event),
-        None => SimStep::Wait(0),
     }
 }

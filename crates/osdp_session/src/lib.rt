@@ -44,7 +44,7 @@ pub fn run_session<H: Handler>(
     alloc: Global,
     config: &SimConfig,
     handler: H,
-    steps: &[SimStep],
+    steps: &[SimStep<'_>],
 ) -> Result<Account, Fault<Account>>
     ensures { HoldsOfRun H.answer_of H.after config.now handler steps.now result }
 {

@@ -32,7 +32,7 @@ pub fn run_bus<H: Handler>(
     alloc: Global,
     config: &BusConfig,
     readers: Vec<(ReaderConfig, usize, H)>,
-    steps: &[SimStep],
+    steps: &[SimStep<'_>],
 ) -> Result<Vec<Account>, Fault<Vec<Account>>>
     ensures { HoldsOfBusRun H.answer_of H.after config.now readers.items steps.now result }
 {

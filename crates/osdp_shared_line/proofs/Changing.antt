@@ -2,6 +2,7 @@
 use Rattle.std.proofs.Common.{◌≡◌, ◌≢◌, ◌⊎◌, ◌<◌, ℕ, zero, suc, Bool, true, false, cond, leb, ltb, List, [], ◌∷◌, ◌++◌, Option, Some, None, IfSome, refl, sym, subst, ap, ◌∙◌, inl, inr, append_assoc}
 use Rattle.std.proofs.lemmas.Bool.{ltb-true}
 use Rattle.std.specs.Prelude.{◌||◌, is_some, not}
+use Rattle.osdp_msg.specs.declared.limits.Room.{Room}
 use Rattle.osdp_frame.specs.Packet.{Packet}
 use Rattle.osdp_msg.specs.CommandTable.{CommandFits}
 use Rattle.osdp_msg.specs.declared.command.Command.{Command}
@@ -377,7 +378,7 @@ module _ {H : Type 0} where
 
     -- ---- a reader restarts: where it is, or at an address that is free
 
-    pub restarting : (i address : ℕ) (handler : H) (room : ℕ) (n : Net H)
+    pub restarting : (i address : ℕ) (handler : H) (room : Room) (n : Net H)
         → ((s : Site H) → site_at i n.sites ≡ Some s → (reader_address s ≡ address) ⊎ IsFreeFor i address s n) → Apart n
         → Apart (line.change_at i (site_at i n.sites) (calls answer_of after (link.RestartReader address handler room)) n)
     restarting i address handler room n may a =

@@ -3,6 +3,7 @@ use Rattle.std.proofs.Common.{◌≡◌, ◌≢◌, ◌<◌, ◌+◌, ℕ, zero,
 use Rattle.std.proofs.lemmas.Bool.Decides.{eqb_tells}
 use Rattle.std.proofs.lemmas.List.{append-nil}
 use Rattle.std.specs.Prelude.{option_map, option_to_list}
+use Rattle.osdp_msg.specs.declared.limits.Room.{Room}
 use Rattle.osdp_frame.specs.Packet.{Packet}
 use Rattle.osdp_msg.specs.declared.command.Command.{Command}
 use Rattle.osdp_msg.specs.declared.event.Event.{Event}
@@ -15,6 +16,7 @@ use Rattle.osdp_controller.specs.declared.config.ControllerConfig.{ControllerCon
 use Rattle.osdp_controller.specs.declared.fault.ControllerFault.{ControllerFault}
 use Rattle.osdp_controller.specs.declared.state.State.TheVariants.{Closed}
 use Rattle.osdp_reader.specs.declared.handler.Answer.{Answer}
+use Rattle.osdp_reader.specs.Queue.{lacks_room}
 use Rattle.osdp_link_laws.specs.Link as link
 use Rattle.osdp_link_laws.specs.Link.{Delivered, Delivery, Link, Lost, Move, Repeated, after_move, lost_at}
 use Rattle.osdp_link_laws.proofs.Lines.{each_map, each_of}
@@ -417,7 +419,7 @@ module _ {H : Type 0} (answer_of : H → Command → Answer) (after : H → Comm
 
   -- ---- the panel restarts
 
-  at_restart : (m i k : ℕ) (settings : ℕ → ControllerConfig × ℕ) (s : Site H) (ss : List (Site H)) → i ≡ m + k → site_at k ss ≡ Some s
+  at_restart : (m i k : ℕ) (settings : ℕ → ControllerConfig × Room) (s : Site H) (ss : List (Site H)) → i ≡ m + k → site_at k ss ≡ Some s
       → site_at k (line.all_restart answer_of after m settings ss) ≡ Some (restarts answer_of after (settings i) s)
   at_restart m i k settings s [] at is = absurd cc
   at_restart m i zero settings s (t ∷ ss) at is =
@@ -434,7 +436,7 @@ module _ {H : Type 0} (answer_of : H → Command → Answer) (after : H → Comm
       (submitted (controllers.submit_refusal c s.controller) c s (own k s.coming) (own k n.to_panel))
   each_is_its_own n (Queue i e) heard quiet k s is =
       changes_always i k s (link.Queue e) (calls answer_of after (link.Queue e)) n is
-      (queued (length s.reader.queue.events == s.reader.queue.capacity) e s (own k s.coming) (own k n.to_panel))
+      (queued (lacks_room e s.reader.queue) e s (own k s.coming) (own k n.to_panel))
   each_is_its_own n (SetBusy i busy) heard quiet k s is = changes_always i k s (link.SetBusy busy) (calls answer_of after (link.SetBusy busy)) n is refl
   each_is_its_own n (WithdrawEvent i) heard quiet k s is = changes_always i k s link.WithdrawEvent (calls answer_of after link.WithdrawEvent) n is refl
   each_is_its_own n (SetHandler i h) heard quiet k s is = changes_always i k s (link.SetHandler h) (calls answer_of after (link.SetHandler h)) n is refl

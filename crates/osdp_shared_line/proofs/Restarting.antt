@@ -2,6 +2,7 @@
 use Rattle.std.proofs.Common.{◌≡◌, ℕ, cond, eqb, List, [], ◌∷◌, ◌++◌, length, Option, Some, None, refl, sym, subst, ap, ◌∙◌, inl, inr, arith}
 use Rattle.std.proofs.lemmas.Bool.Decides.{eqb_tells}
 use Rattle.std.specs.Prelude.{option_map, option_to_list}
+use Rattle.osdp_msg.specs.declared.limits.Room.{Room}
 use Rattle.osdp_frame.specs.Packet.{Packet}
 use Rattle.osdp_msg.specs.declared.command.Command.{Command}
 use Rattle.osdp_controller.specs.Hearing.{comset_of}
@@ -153,7 +154,7 @@ module _ {H : Type 0} (k : ℕ) where
 module _ {H : Type 0} (answer_of : H → Command → Answer) (after : H → Command → H) where
   -- ---- one restart
 
-  restarted : (n : Net H) (k address : ℕ) (handler : H) (room : ℕ) (s t : Site H) → Apart n → site_at k n.sites ≡ Some s
+  restarted : (n : Net H) (k address : ℕ) (handler : H) (room : Room) (s t : Site H) → Apart n → site_at k n.sites ≡ Some s
       → site_at k (after_net answer_of after (RestartReader k address handler room) n).sites ≡ Some t
       → view k t (after_net answer_of after (RestartReader k address handler room) n)
       ≡ after_move answer_of after (link.RestartReader address handler room) (view k s n)
@@ -164,7 +165,7 @@ module _ {H : Type 0} (answer_of : H → Command → Answer) (after : H → Comm
       (some_same m.site t (sym m.there ∙ there))
       (m.moved ∙ ap (λ ms. link.run answer_of after ms (view k s n)) (one_is k k (link.RestartReader address handler room) refl))
 
-  panel_restarted : (n : Net H) (settings : ℕ → ControllerConfig × ℕ) (k : ℕ) (s t : Site H) → Apart n → site_at k n.sites ≡ Some s
+  panel_restarted : (n : Net H) (settings : ℕ → ControllerConfig × Room) (k : ℕ) (s t : Site H) → Apart n → site_at k n.sites ≡ Some s
       → site_at k (after_net answer_of after (RestartPanel settings) n).sites ≡ Some t
       → view k t (after_net answer_of after (RestartPanel settings) n)
       ≡ after_move answer_of after (link.RestartController (settings k).0 (settings k).1) (view k s n)

@@ -7,6 +7,7 @@ use Rattle.osdp_msg.specs.declared.command.Command.{Command}
 use Rattle.osdp_controller.specs.Hearing as controller
 use Rattle.osdp_controller.specs.declared.report.Report.{Report as ReportTold}
 use Rattle.osdp_reader.specs.declared.handler.Answer.{Answer}
+use Rattle.osdp_reader.specs.Queue.{lacks_room}
 use Rattle.osdp_link_laws.specs.Link as link
 use Rattle.osdp_link_laws.specs.Link.{Delivered, Delivery, Lost, Repeated, lost_at}
 use Rattle.osdp_link_laws.specs.Peers.{ReadsWhatIsAsked}
@@ -238,7 +239,7 @@ module _ {H : Type 0} (answer_of : H → Command → Answer) (after : H → Comm
       noted_after : (move : NetMove H) → RestFits answer_of after move n → KeepsRule move n notes → Noted (after_net answer_of after move n) (notes_after move n notes)
       noted_after (Submit i c) rest rule = submitting answer_of after n notes h i c rule
       noted_after (Queue i e) rest rule = quiet_call answer_of after n notes h i (Queue i e) (calls answer_of after (link.Queue e)) (λ k s. refl)
-          (λ s at. queueing answer_of after n notes h i (length s.reader.queue.events == s.reader.queue.capacity) e s)
+          (λ s at. queueing answer_of after n notes h i (lacks_room e s.reader.queue) e s)
       noted_after (SetBusy i busy) rest rule = quiet_call answer_of after n notes h i (SetBusy i busy) (calls answer_of after (link.SetBusy busy)) (λ k s. refl)
           (λ s at. record { address = refl; left = all_left (unended s); reader = refl; coming = Nothing refl; opens = λ is. is })
       noted_after (WithdrawEvent i) rest rule = quiet_call answer_of after n notes h i (WithdrawEvent i) (calls answer_of after link.WithdrawEvent) (λ k s. refl)

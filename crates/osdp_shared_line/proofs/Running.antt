@@ -1,11 +1,13 @@
 -- From the beginning over each list of moves: nobody else hears what a site says, and each site is its link.
 use Rattle.std.proofs.Common.{◌≡◌, ◌≢◌, ◌+◌, ℕ, zero, suc, List, [], ◌∷◌, ◌++◌, length, Some, IfSome, refl, sym, subst, ap, ◌∙◌, inl, inr, arith}
 use Rattle.std.specs.Prelude.{◌==◌}
+use Rattle.osdp_msg.specs.declared.limits.Room.{Room}
 use Rattle.osdp_frame.specs.Packet.{Packet}
 use Rattle.osdp_msg.specs.CommandTable.{CommandFits}
 use Rattle.osdp_msg.specs.declared.command.Command.{Command}
 use Rattle.osdp_controller.specs.declared.config.ControllerConfig.{ControllerConfig}
 use Rattle.osdp_reader.specs.declared.handler.Answer.{Answer}
+use Rattle.osdp_reader.specs.Queue.{lacks_room}
 use Rattle.osdp_link_laws.specs.Headline.{MaySubmit}
 use Rattle.osdp_link_laws.specs.Link as link
 use Rattle.osdp_link_laws.specs.Peers.{ReadsWhatIsAsked}
@@ -25,7 +27,7 @@ use Rattle.osdp_shared_line.proofs.Sites.{some_same}
 module _ {H : Type 0} (answer_of : H → Command → Answer) (after : H → Command → H) where
   -- ---- the panel restarts
 
-  pub restart_from : (m i k : ℕ) (settings : ℕ → ControllerConfig × ℕ) (t : Site H) (ss : List (Site H)) → i ≡ m + k
+  pub restart_from : (m i k : ℕ) (settings : ℕ → ControllerConfig × Room) (t : Site H) (ss : List (Site H)) → i ≡ m + k
       → site_at k (line.all_restart answer_of after m settings ss) ≡ Some t
       → (s : Site H) × (site_at k ss ≡ Some s) × (t ≡ restarts answer_of after (settings i) s)
   restart_from m i k settings t [] at is = absurd cc
@@ -34,7 +36,7 @@ module _ {H : Type 0} (answer_of : H → Command → Answer) (after : H → Comm
       (s, refl, sym (some_same (restarts answer_of after (settings m) s) t is) ∙ ap (λ j. restarts answer_of after (settings j) s) here)
   restart_from m i (suc k) settings t (s ∷ ss) at is = restart_from (suc m) i k settings t ss (omega (arith, at)) is
 
-  restarting_all : (settings : ℕ → ControllerConfig × ℕ) (n : Net H) → NetMoveFits answer_of after (RestartPanel settings) n → Apart n
+  restarting_all : (settings : ℕ → ControllerConfig × Room) (n : Net H) → NetMoveFits answer_of after (RestartPanel settings) n → Apart n
       → Apart (after_net answer_of after (RestartPanel settings) n)
   restarting_all settings n fits a = record {
     names = λ j k u v other here there b mine its.
@@ -81,7 +83,7 @@ module _ {H : Type 0} (answer_of : H → Command → Answer) (after : H → Comm
     apart_after (Submit i c) n fits a = submitting answer_of after i c n fits.0 fits.1 a
     apart_after (Queue i e) n fits a =
         quiet_change i (line.calls answer_of after (link.Queue e)) n
-        (λ s. queueing answer_of after (length s.reader.queue.events == s.reader.queue.capacity) e s) a
+        (λ s. queueing answer_of after (lacks_room e s.reader.queue) e s) a
     apart_after (SetBusy i busy) n fits a = quiet_change i (line.calls answer_of after (link.SetBusy busy)) n (busying answer_of after busy) a
     apart_after (WithdrawEvent i) n fits a = quiet_change i (line.calls answer_of after link.WithdrawEvent) n (withdrawing_event answer_of after) a
     apart_after (SetHandler i h) n fits a = quiet_change i (line.calls answer_of after (link.SetHandler h)) n (handling answer_of after h) a

@@ -3,6 +3,7 @@ use Rattle.std.proofs.Common.{◌≡◌, ◌≢◌, ◌⊎◌, ◌<◌, ℕ, tru
 use Rattle.std.proofs.lemmas.Bool.Decides.{eqb_tells}
 use Rattle.std.proofs.lemmas.List.{append-nil}
 use Rattle.std.specs.Prelude.{option_to_list}
+use Rattle.osdp_msg.specs.declared.limits.Room.{Room}
 use Rattle.osdp_frame.specs.Packet.{Packet}
 use Rattle.osdp_msg.specs.declared.command.Command.{Command}
 use Rattle.osdp_controller.specs.Sessions.{seen}
@@ -267,7 +268,7 @@ module _ {H : Type 0} (answer_of : H → Command → Answer) (after : H → Comm
 
     -- ---- the panel restarts
 
-    pub restarting : (settings : ℕ → ControllerConfig × ℕ) → KeepsRule (RestartPanel settings) n notes
+    pub restarting : (settings : ℕ → ControllerConfig × Room) → KeepsRule (RestartPanel settings) n notes
         → Noted (after_net answer_of after (RestartPanel settings) n) (notes_after (RestartPanel settings) n notes)
     restarting settings rule = all_go n notes (RestartPanel settings) h 0 (after_net answer_of after (RestartPanel settings) n) (λ k u is.
         let old = restart_from answer_of after 0 k k settings u n.sites (omega arith) is in

@@ -138,7 +138,7 @@ module _ {H : Type 0} where
         × ((s.reader.config.address ≡ address) ⊎ IsFreeFor k address s n)
     NetMoveFits (RestartPanel settings) n =
         (k : ℕ) (s : Site H) → site_at k n.sites ≡ Some s
-        → AreSettings (settings k).0 (settings k).1
+        → AreSettings (settings k).0 (settings k).1.messages (settings k).1.bytes
         × ((j : ℕ) (t : Site H) → j ≢ k → site_at j n.sites ≡ Some t
         → IsNameOf (settings k).0.address j (restarts answer_of after (settings j) t) → ⊥)
 

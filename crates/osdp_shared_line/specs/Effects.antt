@@ -1,5 +1,6 @@
 -- What each move of a program or of a power failure does to the site that it speaks of, and that no other site changes.
 use Rattle.std.specs.Prelude.{◌≡◌, ◌≢◌, ◌≤◌, ◌⊎◌, ℕ, true, false, if◌then◌else◌, List, [], ◌∷◌, ◌++◌, length, Some, None}
+use Rattle.osdp_msg.specs.declared.limits.Room.{Room}
 use Rattle.osdp_msg.specs.declared.command.Command.{Command}
 use Rattle.osdp_msg.specs.declared.event.Event.{Event}
 use Rattle.osdp_controller.specs.declared.config.ControllerConfig.{ControllerConfig}
@@ -62,10 +63,10 @@ module _ {H : Type 0} where
       pub withdraws : EachWithdraws
       pub events : EachWithdrawsEvents
       pub retargets : EachRetargets
-      pub reader : (n : Net H) (k address : ℕ) (handler : H) (room : ℕ) (s t : Site H) → IsChanged n (RestartReader k address handler room) k s t
+      pub reader : (n : Net H) (k address : ℕ) (handler : H) (room : Room) (s t : Site H) → IsChanged n (RestartReader k address handler room) k s t
           → HasNewReader answer_of after address handler room (view k s n)
           (view k t (after_net answer_of after (RestartReader k address handler room) n))
-      pub panel : (n : Net H) (settings : ℕ → ControllerConfig × ℕ) (k : ℕ) (s t : Site H) → IsChanged n (RestartPanel settings) k s t
+      pub panel : (n : Net H) (settings : ℕ → ControllerConfig × Room) (k : ℕ) (s t : Site H) → IsChanged n (RestartPanel settings) k s t
           → HasNewController (settings k).0 (settings k).1 (view k s n) (view k t (after_net answer_of after (RestartPanel settings) n))
           × (t.reserved ≡ None)
 

@@ -3,6 +3,7 @@
 -- Only what each end has not read yet is kept here: nothing before its place is ever read again, and what is lost to one end is not lost to
 -- another.
 use Rattle.std.specs.Prelude.{ℕ, zero, suc, Bool, false, ◌||◌, ◌==◌, if◌then◌else◌, List, [], ◌∷◌, ◌++◌, map, Option, Some, None, is_some, not}
+use Rattle.osdp_msg.specs.declared.limits.Room.{Room}
 use Rattle.osdp_frame.specs.Packet.{Packet}
 use Rattle.osdp_msg.specs.declared.command.Command.{Command}
 use Rattle.osdp_msg.specs.declared.command_fields.Communication.{Communication}
@@ -52,8 +53,8 @@ pub data NetMove (H : Type 0) : Type 0 where
   LoseToReader : (site place : ℕ) → NetMove H
   LoseToPanel : ℕ → NetMove H
   Reopen : (site now : ℕ) → NetMove H
-  RestartReader : (site address : ℕ) → H → (capacity : ℕ) → NetMove H
-  RestartPanel : (ℕ → ControllerConfig × ℕ) → NetMove H
+  RestartReader : (site address : ℕ) → H → Room → NetMove H
+  RestartPanel : (ℕ → ControllerConfig × Room) → NetMove H
 
 abbrev pub site_at : {A : Type 0} → ℕ → List A → Option A
 site_at k [] = None
@@ -202,10 +203,10 @@ module _ {H : Type 0} where
     ticks now s = calls (link.Tick now) s
 
     -- the panel is made anew: nothing is kept for any COMSET
-    abbrev pub restarts : ControllerConfig × ℕ → Site H → Site H
+    abbrev pub restarts : ControllerConfig × Room → Site H → Site H
     restarts settings s = keeping None (calls (link.RestartController settings.0 settings.1) s)
 
-    abbrev pub all_restart : ℕ → (ℕ → ControllerConfig × ℕ) → List (Site H) → List (Site H)
+    abbrev pub all_restart : ℕ → (ℕ → ControllerConfig × Room) → List (Site H) → List (Site H)
     all_restart k settings [] = []
     all_restart k settings (s ∷ ss) = restarts (settings k) s ∷ all_restart (suc k) settings ss
 
@@ -249,8 +250,8 @@ module _ {H : Type 0} where
         change_at k (site_at k n.sites) (λ s. record s { coming = lost_at place s.coming }) n
     after_net (LoseToPanel place) n = record n { to_panel = lost_at place n.to_panel }
     after_net (Reopen k now) n = change_at k (site_at k n.sites) (calls (link.Reopen now)) n
-    after_net (RestartReader k address handler capacity) n =
-        change_at k (site_at k n.sites) (calls (link.RestartReader address handler capacity)) n
+    after_net (RestartReader k address handler room) n =
+        change_at k (site_at k n.sites) (calls (link.RestartReader address handler room)) n
     after_net (RestartPanel settings) n = record n { sites = all_restart 0 settings n.sites }
 
     abbrev pub run : List (NetMove H) → Net H → Net H

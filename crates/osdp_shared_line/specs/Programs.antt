@@ -103,7 +103,7 @@ module _ {H : Type 0} where
     RestFits (RestartReader k address handler room) n =
         (s : Site H) → site_at k n.sites ≡ Some s
         → MoveFits answer_of after (link.RestartReader address handler room) (view k s n) × (s.reader.config.address ≡ address)
-    RestFits (RestartPanel settings) n = (k : ℕ) (s : Site H) → site_at k n.sites ≡ Some s → AreSettings (settings k).0 (settings k).1
+    RestFits (RestartPanel settings) n = (k : ℕ) (s : Site H) → site_at k n.sites ≡ Some s → AreSettings (settings k).0 (settings k).1.messages (settings k).1.bytes
     RestFits move n = NetMoveFits answer_of after move n
 
     abbrev pub KeepRule : List (NetMove H) → Net H → (ℕ → Note) → Type 0

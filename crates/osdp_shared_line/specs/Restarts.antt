@@ -1,5 +1,6 @@
 -- What a restart costs each of several sites, and what holds of a site whose device never changes, or whose ends never restart.
 use Rattle.std.specs.Prelude.{◌≡◌, ◌≢◌, ℕ, All, List, ◌∷◌, ◌++◌, length, Some, None}
+use Rattle.osdp_msg.specs.declared.limits.Room.{Room}
 use Rattle.osdp_msg.specs.declared.command.Command.{Command}
 use Rattle.osdp_controller.specs.Machine.{AreSettings}
 use Rattle.osdp_controller.specs.declared.config.ControllerConfig.{ControllerConfig}
@@ -46,7 +47,7 @@ module _ {H : Type 0} where
     -- ---- what restarts cost
 
     abbrev pub EachReaderRestartCosts : Type 0
-    EachReaderRestartCosts = (n : Net H) (moves : List (NetMove H)) (k address : ℕ) (handler : H) (room : ℕ) (first s t : Site H)
+    EachReaderRestartCosts = (n : Net H) (moves : List (NetMove H)) (k address : ℕ) (handler : H) (room : Room) (first s t : Site H)
         → IsBeforeAndAfter n moves (RestartReader k address handler room) k first s t
         → let before = run answer_of after moves n in
         ReaderCosts (view k s before) (view k t (after_net answer_of after (RestartReader k address handler room) before))
@@ -54,7 +55,7 @@ module _ {H : Type 0} where
     -- nothing else is reported in the session of the restart but what was offered before it and what is queued since, but those of these that
     -- are withdrawn
     abbrev pub EachReportsNoMore : Type 0
-    EachReportsNoMore = (n : Net H) (moves : List (NetMove H)) (k address : ℕ) (handler : H) (room : ℕ) (more : List (NetMove H))
+    EachReportsNoMore = (n : Net H) (moves : List (NetMove H)) (k address : ℕ) (handler : H) (room : Room) (more : List (NetMove H))
         (first s t last : Site H)
         → IsBeforeAndAfter n moves (RestartReader k address handler room) k first s t
         → let before = run answer_of after moves n in
@@ -65,8 +66,8 @@ module _ {H : Type 0} where
 
     -- the panel restarts: each site bears what a restart of its controller costs, and nothing is kept for any COMSET
     abbrev pub EachPanelRestartCosts : Type 0
-    EachPanelRestartCosts = (n : Net H) (moves : List (NetMove H)) (settings : ℕ → ControllerConfig × ℕ) (k : ℕ) (first s t : Site H)
-        → IsBeforeAndAfter n moves (RestartPanel settings) k first s t → AreSettings (settings k).0 (settings k).1
+    EachPanelRestartCosts = (n : Net H) (moves : List (NetMove H)) (settings : ℕ → ControllerConfig × Room) (k : ℕ) (first s t : Site H)
+        → IsBeforeAndAfter n moves (RestartPanel settings) k first s t → AreSettings (settings k).0 (settings k).1.messages (settings k).1.bytes
         → let before = run answer_of after moves n in
         ControllerCosts (view k s before) (view k t (after_net answer_of after (RestartPanel settings) before)) × (t.reserved ≡ None)
 

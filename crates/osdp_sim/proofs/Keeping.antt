@@ -1,46 +1,10 @@
 -- Messages that are kept as a row of bytes.
 use Rattle.std.proofs.Common.{◌≡◌, ◌+◌, ◌≤◌, ◌&&◌, ℕ, suc, Bool, true, false, leb, List, [], ◌∷◌, ◌++◌, length, take, drop, Some, refl, ap, ◌∙◌, arith, length-append}
 use Rattle.std.specs.Prelude.{zip}
-use Rattle.std.specs.Result.{result_ok}
 use Rattle.std.proofs.Math.Seq.{take-length}
 use Rattle.std.proofs.lemmas.Bool.{le-leb, leb-true}
 use Rattle.std.proofs.lemmas.List.{drop-append-le, length-drop, take-append-le}
-use Rattle.osdp_msg.specs.declared.command.Command.{Command}
-use Rattle.osdp_msg.specs.declared.event.Event.{Event}
-use Rattle.osdp_msg.specs.declared.event.Event.TheVariants as events
-use Rattle.osdp_msg.specs.declared.reply.Reply.{Reply}
-use Rattle.osdp_msg.specs.declared.reply.Reply.TheVariants as answer
-use Rattle.osdp_msg.specs.CommandTable.{CommandFits, command_code, command_data, command_of}
-use Rattle.osdp_msg.specs.Events.{event_in, event_reply}
-use Rattle.osdp_msg.specs.ReplyTable.{ReplyFits, reply_at, reply_code, reply_data, reply_fault, reply_of}
-use Rattle.osdp_msg.proofs.Commands.{commands}
-use Rattle.osdp_msg.proofs.Replies.{replies}
-use Rattle.osdp_msg.proofs.Table.{found}
-use Rattle.osdp_sim.specs.Kept.{command_from, event_from, parts, reply_from, reply_kept, total}
-
--- ---- messages are read back
-
-pub command_back : (m : Command) → CommandFits m → command_from (command_code m ∷ command_data m) ≡ Some m
-unfolding command_of
-command_back m fits =
-    ap result_ok (found commands (command_code m) (command_data m) m (record { code_is = refl; data_is = refl; fits = fits }))
-
-pub reply_back : (m : Reply) → ReplyFits m → reply_from (reply_code m ∷ reply_data m) ≡ Some m
-unfolding reply_of
-reply_back m fits =
-    ap result_ok (found replies (reply_code m) (reply_data m) m (record { code_is = refl; data_is = refl; fits = fits }))
-
-event_back_in : (e : Event) → event_in (event_reply e) ≡ Some e
-event_back_in (events.LocalState x) = refl
-event_back_in e = refl
-
-pub event_back : (e : Event) → ReplyFits (event_reply e) → event_from (reply_code (event_reply e) ∷ reply_data (event_reply e)) ≡ Some e
-event_back e fits = rw (reply_back (event_reply e) fits) (event_back_in e)
-
--- an ACK is its code alone
-pub ack_kept : reply_kept (0x40 ∷ []) ≡ answer.Ack
-unfolding reply_of reply_fault reply_at
-ack_kept = refl
+use Rattle.osdp_sim.specs.Kept.{parts, total}
 
 -- ---- one more
 

@@ -1,9 +1,14 @@
 -- Schedules, step by step.
-use Rattle.std.proofs.Common.{◌≡◌, ◌+◌, ◌-◌, arith, ℕ, Bool, true, ◌&&◌, List, [], ◌∷◌, ◌++◌, length, take, drop, Option, Some, None, is_none, refl, sym, subst, ap, ◌∙◌}
+use Rattle.std.proofs.Common.{◌≡◌, ◌<◌, ◌+◌, ◌-◌, add-one, get_or, suc, arith, ℕ, Bool, true, ◌&&◌, List, [], ◌∷◌, ◌++◌, length, take, drop, Option, Some, None, is_none, refl, sym, subst, ap, ◌∙◌}
+use Rattle.std.proofs.Math.Seq.{drop-cons}
 use Rattle.std.proofs.lemmas.List.{append-nil, append_assoc, drop_at, length-append, take_at}
 use Rattle.osdp_sim.specs.declared.fault.Cause.{Cause}
 use Rattle.osdp_sim.specs.declared.step.SimStep.{SimStep}
 use Rattle.osdp_sim.specs.Schedules.{HoldsAlong, IsCause, StopsAt, first_fault, is_well, run}
+
+-- the step at a place, and those after it
+pub next_step : (steps : List SimStep) (i : ℕ) (step : SimStep) → i < length steps → step ≡ get_or steps i step → drop i steps ≡ step ∷ drop (i + 1) steps
+next_step steps i step within is = rw add-one (drop-cons steps i step within ∙ ap (λ y. y ∷ drop (suc i) steps) (sym is))
 
 -- the first step is not refused, and the others aren't
 pub first_well : (fault : Option Cause) (rest : Bool) → (is_none fault && rest) ≡ true → (fault ≡ None) × (rest ≡ true)

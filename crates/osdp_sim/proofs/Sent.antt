@@ -11,6 +11,7 @@ use Rattle.osdp_controller.specs.Ticking.{ticks}
 use Rattle.osdp_controller.specs.declared.fault.ControllerFault.{ControllerFault}
 use Rattle.osdp_reader.specs.declared.handler.Answer.{Answer}
 use Rattle.osdp_reader.specs.Table as reader
+use Rattle.osdp_reader.specs.Queue.{lacks_room}
 use Rattle.osdp_sim.specs.declared.step.Move.{Move}
 use Rattle.osdp_sim.specs.declared.step.Move.TheVariants.{Deliver, Drop, Repeat, Damage}
 use Rattle.osdp_sim.specs.declared.step.SimStep.{SimStep}
@@ -63,7 +64,7 @@ module _ {H : Type 0} (answer_of : H → Command → Answer) (after : H → Comm
   step_sent has (Issue number command) s fits h =
       where_sent (number == 1) s _ h (issued_sent (controllers.submit_refusal command s.controller) command s h)
   step_sent has (Queue number event) s fits h =
-      where_sent (number == 1) s _ h (queued_sent (length s.reader.queue.events == s.reader.queue.capacity) event s h)
+      where_sent (number == 1) s _ h (queued_sent (lacks_room event s.reader.queue) event s h)
   step_sent has (Busy number busy) s fits h =
       where_sent (number == 1) s _ h (record { to_reader = h.to_reader; to_controller = h.to_controller })
   step_sent has (Wait wait) s fits h =

@@ -9,6 +9,7 @@ use Rattle.osdp_controller.specs.declared.report.Report.{Report}
 use Rattle.osdp_controller.specs.declared.report.Report.TheVariants as report
 use Rattle.osdp_reader.specs.declared.kind.Kind.{Kind}
 use Rattle.osdp_reader.specs.declared.kind.Kind.TheVariants as kind
+use Rattle.osdp_sim.specs.Kept.{commands_of, events_of}
 use Rattle.osdp_sim.specs.declared.account.Account as declared
 use Rattle.osdp_sim.specs.declared.account.End.{End}
 use Rattle.osdp_sim.specs.declared.account.End.TheVariants as ending
@@ -85,12 +86,12 @@ with_taken commands a = record a { taken = a.taken ++ commands }
 -- the lists of an account, whatever room they have
 abbrev pub lists_of : declared.Account → Account
 lists_of a = record {
-  issued = a.issued.items;
-  taken = a.taken.items;
+  issued = commands_of a.issued.items;
+  taken = commands_of a.taken.items;
   settled = a.settled.items;
-  unsettled = a.unsettled.items;
-  queued = a.queued.items;
-  reported = a.reported.items;
+  unsettled = commands_of a.unsettled.items;
+  queued = events_of a.queued.items;
+  reported = events_of a.reported.items;
   ends = a.ends.items;
   sessions = a.sessions.items;
 }

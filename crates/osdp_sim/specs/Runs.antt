@@ -11,7 +11,7 @@ use Rattle.osdp_sim.specs.declared.fault.Fault.{Fault}
 use Rattle.osdp_sim.specs.declared.step.SimStep.{SimStep}
 use Rattle.osdp_sim.specs.Account.{Account, empty_account, lists_of}
 use Rattle.osdp_sim.specs.Schedules as schedules
-use Rattle.osdp_sim.specs.State.{SimState, set_up}
+use Rattle.osdp_sim.specs.State.{SimState, room_for, set_up}
 use Rattle.osdp_sim.specs.Steps.{StepFits, after_step, fault_of}
 
 -- the reader's settings are in their ranges ..
@@ -23,12 +23,12 @@ pub record ReaderInRange (config : SimConfig) : Type 0 where
 -- .. and so are the controller's
 pub record AreSettings (config : SimConfig) : Type 0 where
   pub reader : ReaderInRange config
-  pub controller : controllers.AreSettings config.controller config.commands
+  pub controller : controllers.AreSettings config.controller config.commands (room_for config.commands).bytes
 
 -- why there is no controller ..
 abbrev pub IsControllerCause : Cause → SimConfig → Type 0
 IsControllerCause cause config =
-    schedules.IsSetUpCause cause (controllers.AreSettings config.controller config.commands)
+    schedules.IsSetUpCause cause (controllers.AreSettings config.controller config.commands (room_for config.commands).bytes)
 
 -- .. and why no step was taken
 abbrev pub IsSetUpCause : Cause → SimConfig → Type 0

@@ -1,6 +1,8 @@
 -- A simulated line between a controller and a reader.
-use Rattle.std.specs.Prelude.{ℕ, All, List, []}
+use Rattle.std.specs.Prelude.{ℕ, ◌+◌, ◌*◌, All, List, []}
 use Rattle.osdp_controller.specs.Machine.{Machine, after_begin, new_machine}
+use Rattle.osdp_msg.specs.Limits.{most_data}
+use Rattle.osdp_msg.specs.declared.limits.Room.{Room}
 use Rattle.osdp_reader.specs.State.{ReaderState, new_reader}
 use Rattle.osdp_sim.specs.declared.config.SimConfig.{SimConfig}
 use Rattle.osdp_sim.specs.Line.{IsSent}
@@ -15,11 +17,15 @@ pub record SimState (H : Type 0) : Type 0 where
   pub clock : ℕ
   pub account : Account
 
+-- room for so many messages, however long each is
+abbrev pub room_for : ℕ → Room
+room_for count = record { messages = count; bytes = count * (1 + most_data) }
+
 -- the first session begins at moment 0
 abbrev pub set_up : {H : Type 0} → SimConfig → H → SimState H
 set_up config handler = record {
-  controller = after_begin 0 (new_machine config.controller config.commands);
-  reader = new_reader config.reader handler config.events;
+  controller = after_begin 0 (new_machine config.controller config.commands (room_for config.commands).bytes);
+  reader = new_reader config.reader handler (room_for config.events);
   to_reader = [];
   to_controller = [];
   clock = 0;

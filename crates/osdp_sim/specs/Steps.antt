@@ -15,6 +15,7 @@ use Rattle.osdp_reader.specs.declared.handler.Answer.{Answer}
 use Rattle.osdp_reader.specs.State as readers
 use Rattle.osdp_reader.specs.State.{ReaderState}
 use Rattle.osdp_reader.specs.Table as reader
+use Rattle.osdp_reader.specs.Queue.{lacks_room}
 use Rattle.osdp_sim.specs.declared.fault.Cause.{Cause}
 use Rattle.osdp_sim.specs.declared.fault.Cause.TheVariants.{HoldsPacket, NotQuiet}
 use Rattle.osdp_sim.specs.declared.step.Move.{Move}
@@ -110,7 +111,7 @@ module _ {H : Type 0} where
     after_step (Issue number command) s =
         where_there number s (issued (controllers.submit_refusal command s.controller) command s)
     after_step (Queue number event) s =
-        where_there number s (queued (length s.reader.queue.events == s.reader.queue.capacity) event s)
+        where_there number s (queued (lacks_room event s.reader.queue) event s)
     after_step (Busy number busy) s =
         where_there number s (record s { reader = readers.after_set_busy busy s.reader })
     after_step (Wait wait) s = waited (moment_after wait s.clock) s

@@ -2,17 +2,14 @@
 
 ghost use Rattle.std.specs.Prelude.{◌≡◌, OnOk, Some};
 ghost use Rattle.osdp_sim.specs.Account.{empty_account, lists_of, taken_by, taken_command, with_issued, with_queued, with_report, with_session, with_taken};
-ghost use Rattle.osdp_sim.specs.Kept.{command_kept};
+ghost use Rattle.osdp_msg.specs.Kept.{command_kept};
 ghost use Rattle.osdp_sim.specs.Room.{HasPlaces};
-ghost use Rattle.osdp_controller.specs.declared.report.Report.TheVariants as reports;
 ghost use Rattle.osdp_msg.specs.CommandTable.{CommandFits};
-ghost use Rattle.osdp_msg.specs.declared.reply.Reply.TheVariants.{Ack};
 
 use crate::kept::Kept;
-use crate::message::{Spelling, spell_command};
 use crate::settled::Settled;
-use osdp_controller::{LostCause, Report};
-use osdp_msg::{Command, Event, Reply};
+use osdp_controller::{KeptReport, LostCause, Report};
+use osdp_msg::{Command, Event, Reply, Spelling};
 use osdp_reader::{Heard, Kind};
 use std::alloc::{AllocError, Global};
 
@@ -48,17 +45,17 @@ pub struct Lengths {
 #[derive(Debug, Drop)]
 pub struct Account {
     /// The commands that the controller accepted.
-    pub issued: Kept<Command>,
+    pub issued: Kept,
     /// The commands, other than POLL, that the reader has taken with the number that it expected.
-    pub taken: Kept<Command>,
+    pub taken: Kept,
     /// The commands that were settled, each with its answer. A COMSET that moved the reader stands with its COM.
     pub settled: Settled,
     /// The commands that were outstanding where a session was lost.
-    pub unsettled: Kept<Command>,
+    pub unsettled: Kept,
     /// The events that the reader accepted.
-    pub queued: Kept<Event>,
+    pub queued: Kept,
     /// The events that the controller reported.
-    pub reported: Kept<Event>,
+    pub reported: Kept,
     /// How the sessions ended.
     pub ends: Vec<End>,
     /// How long the other lists were when each session began.
@@ -117,13 +114,13 @@ impl Account {
     }
 
     /// Puts the bytes of a command into the place for those of a message.
-    pub(crate) fn spell(&mut self, command: &Command)
+    pub(crate) fn spell(&mut self, command: &Command<'_>)
         ensures kept { command_kept self.new.spelling.items ≡ command.now }
         ensures fits { CommandFits command.now }
         ensures lists { lists_of self.new ≡ lists_of self.old }
         ensures places { HasPlaces self.old → HasPlaces self.new }
     {
-        spell_command(command, &mut self.spelling);
+        command.write_into(&mut self.spelling);
     }
 
     /// The command whose bytes stand in the place for those of a message was accepted.
@@ -135,7 +132,7 @@ impl Account {
     }
 
     /// A command was accepted.
-    pub fn issue(&mut self, command: &Command)
+    pub fn issue(&mut self, command: &Command<'_>)
         requires { HasPlaces self.old }
         ensures { lists_of self.new ≡ with_issued command.now (lists_of self.old) }
     {
@@ -144,26 +141,25 @@ impl Account {
     }
 
     /// An event was accepted.
-    pub fn queue(&mut self, event: &Event)
+    pub fn queue(&mut self, event: &Event<'_>)
         requires { HasPlaces self.old }
         ensures { lists_of self.new ≡ with_queued event.now (lists_of self.old) }
     {
-        self.queued.push(event, &mut self.spelling);
+        self.queued.push_event(event, &mut self.spelling);
     }
 
     /// The reader has taken a command: a POLL isn't counted.
-    fn take(&mut self, command: &Command)
+    fn take(&mut self, command: &Command<'_>)
         requires { HasPlaces self.old }
         ensures { lists_of self.new ≡ with_taken (taken_command (Some command.now)) (lists_of self.old) }
     {
         if !matches!(command, Command::Poll) {
-            self.taken.push(command, &mut self.spelling);
+            self.taken.push_command(command, &mut self.spelling);
         }
     }
 
     /// The reader has heard a packet, and made this of it.
-    #[inline(always)]
-    pub fn take_heard(&mut self, heard: &Heard)
+    pub fn take_heard(&mut self, heard: &Heard<'_>)
         requires { HasPlaces self.old }
         ensures { lists_of self.new ≡ with_taken (taken_by heard.now.kind heard.now.command) (lists_of self.old) }
     {
@@ -176,26 +172,17 @@ impl Account {
     }
 
     /// The controller has reported what stands there, if anything does.
-    #[inline(always)]
-    pub fn tell_any(&mut self, report: &Option<Report>)
+    pub fn tell_any(&mut self, report: &KeptReport)
         requires { HasPlaces self.old }
         ensures { lists_of self.new ≡ with_report report.now (lists_of self.old) }
     {
-        if let Some(report) = report {
-            self.tell(report);
+        if let Some(report) = report.read() {
+            self.tell(&report);
         }
     }
 
-    /// The controller has settled a command by an ACK.
-    pub fn settle(&mut self, command: &Command)
-        requires { HasPlaces self.old }
-        ensures { lists_of self.new ≡ with_report (Some (reports.Settled command.now Ack)) (lists_of self.old) }
-    {
-        self.settled.push_acknowledged(command, &mut self.spelling);
-    }
-
     /// The controller has reported this.
-    pub fn tell(&mut self, report: &Report)
+    pub fn tell(&mut self, report: &Report<'_>)
         requires { HasPlaces self.old }
         ensures { lists_of self.new ≡ with_report (Some report.now) (lists_of self.old) }
     {
@@ -209,10 +196,10 @@ impl Account {
                 self.settled.push(command, &answer, &mut self.spelling);
                 self.ends.push_reserved(End::Moved);
             }
-            Report::Event(event) => self.reported.push(event, &mut self.spelling),
+            Report::Event(event) => self.reported.push_event(event, &mut self.spelling),
             Report::Lost(cause, command) => {
                 if let Some(command) = command {
-                    self.unsettled.push(command, &mut self.spelling);
+                    self.unsettled.push_command(command, &mut self.spelling);
                 }
                 self.ends.push_reserved(End::Lost(*cause));
             }

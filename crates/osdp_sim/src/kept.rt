@@ -1,48 +1,46 @@
 //! Lists of messages in little memory.
 
-ghost use Rattle.std.specs.Prelude.{◌≡◌, ◌+◌, ◌≤◌, ◌∷◌, ◌++◌, [], true, length, vec_capacity, vec_len, OnOk};
-ghost use Rattle.std.specs.Iterator.{YieldsFirst, item_count};
+ghost use Rattle.std.specs.Prelude.{◌≡◌, ◌+◌, ◌≤◌, ◌∷◌, ◌++◌, [], drop, map, slice_get, true, length, vec_capacity, vec_len, OnOk};
+ghost use Rattle.std.specs.Option.{option_copied};
+ghost use Rattle.osdp_msg.specs.Kept.{reply_kept};
+ghost use Rattle.osdp_sim.specs.Kept.{commands_of, events_of};
 
-use crate::message::{Message, Spelling};
-use osdp_msg::MAX_MESSAGE;
+use osdp_msg::{Command, Event, MAX_MESSAGE, Reply, Spelling};
 use std::alloc::{AllocError, Global};
-use std::marker::{Model, PhantomData};
+use std::marker::Model;
 
 /// Messages in their order. Each takes its bytes and a small place, and not the room of the longest one.
 #[derive(Debug, Drop)]
-pub struct Kept<M: Message> {
+pub struct Kept {
     /// How many bytes each has.
     sizes: Vec<u16>,
     /// Their bytes, one after the other.
     row: Vec<u8>,
-    /// What they are.
-    kind: PhantomData<M>,
 }
 
-impl<M: Message> Model for Kept<M> {
-    ghost use Rattle.std.specs.Prelude.{◌≡◌, ◌+◌, ◌&&◌, leb, length, vec_capacity, vec_len};
+impl Model for Kept {
+    ghost use Rattle.std.specs.Prelude.{◌≡◌, ◌+◌, ◌&&◌, List, ℕ, leb, length, vec_capacity, vec_len};
     ghost use Rattle.osdp_msg.specs.Limits.{most_data};
-    ghost use Rattle.osdp_sim.specs.Kept.{Keeping, all_sizes, messages};
+    ghost use Rattle.osdp_sim.specs.Kept.{Keeping, all_sizes, strings};
 
-    ghost Value = { Keeping M };
+    ghost Value = { Keeping (List ℕ) };
 
     ghost view = { λ k. record {
-      items = messages M.kept k.sizes.items k.row.items;
+      items = strings k.sizes.items k.row.items;
       has_place = leb (vec_len k.sizes + 1) (vec_capacity k.sizes) && leb (vec_len k.row + (1 + most_data)) (vec_capacity k.row);
     } };
 
     ghost invariant = { λ k. all_sizes k.sizes.items ≡ length k.row.items };
 }
 
-impl<M: Message> Kept<M> {
+impl Kept {
     /// No message.
-    pub fn new(alloc: Global) -> Kept<M>
+    pub fn new(alloc: Global) -> Kept
         ensures { result.items ≡ [] }
     {
         Kept {
             sizes: Vec::new(alloc),
             row: Vec::new(alloc),
-            kind: PhantomData,
         }
     }
 
@@ -85,12 +83,30 @@ impl<M: Message> Kept<M> {
         Ok(())
     }
 
-    /// Adds a message, by way of a place for its bytes.
-    pub fn push(&mut self, message: &M, spelling: &mut Spelling)
+    /// Adds a command, by way of a place for its bytes.
+    pub(crate) fn push_command(&mut self, command: &Command<'_>, spelling: &mut Spelling)
         requires { self.old.has_place ≡ true }
-        ensures { self.new.items ≡ self.old.items ++ message.now ∷ [] }
+        ensures { commands_of self.new.items ≡ commands_of self.old.items ++ command.now ∷ [] }
     {
-        message.spell(spelling);
+        command.write_into(spelling);
+        self.add(spelling.as_slice());
+    }
+
+    /// Adds an event, by way of a place for its bytes.
+    pub(crate) fn push_event(&mut self, event: &Event<'_>, spelling: &mut Spelling)
+        requires { self.old.has_place ≡ true }
+        ensures { events_of self.new.items ≡ events_of self.old.items ++ event.now ∷ [] }
+    {
+        event.write_into(spelling);
+        self.add(spelling.as_slice());
+    }
+
+    /// Adds a reply, by way of a place for its bytes.
+    pub(crate) fn push_reply(&mut self, reply: &Reply<'_>, spelling: &mut Spelling)
+        requires { self.old.has_place ≡ true }
+        ensures { map reply_kept self.new.items ≡ map reply_kept self.old.items ++ reply.now ∷ [] }
+    {
+        reply.write_into(spelling);
         self.add(spelling.as_slice());
     }
 
@@ -98,20 +114,19 @@ impl<M: Message> Kept<M> {
     pub(crate) fn add(&mut self, own: &[u8])
         requires place { self.old.has_place ≡ true }
         requires size { length own.now ≤ MAX_MESSAGE }
-        ensures { self.new.items ≡ self.old.items ++ M.kept own.now ∷ [] }
+        ensures { self.new.items ≡ self.old.items ++ own.now ∷ [] }
     {
         put(&mut self.row, own);
         self.sizes.push_reserved(own.len() as u16);
     }
 
     /// All messages, to be taken one after the other.
-    pub fn left(&self) -> KeptLeft<'_, M>
+    pub fn left(&self) -> KeptLeft<'_>
         ensures { result ≡ self.now.items }
     {
         KeptLeft {
             sizes: &self.sizes,
             row: &self.row,
-            kind: PhantomData,
         }
     }
 }
@@ -126,38 +141,34 @@ fn put(row: &mut Vec<u8>, own: &[u8])
 
 /// The messages that are still to come.
 #[derive(Drop)]
-pub struct KeptLeft<'a, M: Message> {
+pub struct KeptLeft<'a> {
     /// How many bytes each has.
     sizes: &'a [u16],
     /// Their bytes, one after the other.
     row: &'a [u8],
-    /// What they are.
-    kind: PhantomData<M>,
 }
 
-impl<'a, M: Message> Model for KeptLeft<'a, M> {
-    ghost use Rattle.std.specs.Prelude.{◌≡◌, List, length};
-    ghost use Rattle.osdp_sim.specs.Kept.{all_sizes, messages};
+impl<'a> Model for KeptLeft<'a> {
+    ghost use Rattle.std.specs.Prelude.{◌≡◌, List, ℕ, length};
+    ghost use Rattle.osdp_sim.specs.Kept.{all_sizes, strings};
 
-    ghost Value = { List M };
+    ghost Value = { List (List ℕ) };
 
-    ghost view = { λ k. messages M.kept k.sizes.now k.row.now };
+    ghost view = { λ k. strings k.sizes.now k.row.now };
 
     ghost invariant = { λ k. all_sizes k.sizes.now ≡ length k.row.now };
 }
 
-impl<'a, M: Message> Iterator for KeptLeft<'a, M> {
-    type Item = M;
-
-    ghost next_gives = { YieldsFirst (λ left. left) };
-
-    ghost remaining = { item_count (λ left. left) };
-
-    fn next(&mut self) -> Option<M> {
+impl<'a> KeptLeft<'a> {
+    /// The bytes of the next one, which is taken. None where none is left.
+    pub fn next(&mut self) -> Option<&'a [u8]>
+        ensures first { option_copied result ≡ slice_get self.old 0 }
+        ensures others { self.new ≡ drop 1 self.old }
+    {
         let (size, sizes) = self.sizes.split_first()?;
         let (own, row) = self.row.split_at(usize::from(*size));
         self.sizes = sizes;
         self.row = row;
-        Some(M::read_back(own))
+        Some(own)
     }
 }

@@ -26,7 +26,6 @@ mod fault;
 pub mod hearing;
 mod kept;
 pub mod line;
-pub mod message;
 pub mod running;
 mod schedule;
 mod session;

@@ -47,7 +47,7 @@ pub trait SimulatedLine {
     ghost HasRoom: { Self → Type 0 };
 
     /// Why a step is refused. A setting out of its range, and memory that is refused, are no reasons of a step.
-    fn fault(&self, step: &SimStep) -> Option<Cause>
+    fn fault(&self, step: &SimStep<'_>) -> Option<Cause>
         ensures fault { result ≡ fault_of step.now (state_of self.now) }
         ensures cause { IfSome result (λ cause. IsCause cause result) };
 
@@ -59,7 +59,7 @@ pub trait SimulatedLine {
         ensures room { OnOk result (HasRoom self.new) };
 
     /// Takes a step that isn't refused.
-    fn take(&mut self, step: &SimStep)
+    fn take(&mut self, step: &SimStep<'_>)
         requires well { fault_of step.now (state_of self.old) ≡ None }
         requires room { HasRoom self.old }
         requires ready { IsReady self.old }
@@ -74,20 +74,18 @@ pub trait SimulatedLine {
 }
 
 /// Takes the steps of a list where they lie, up to the first that is refused or finds no memory.
-pub fn run_listed<L: SimulatedLine>(line: L, steps: &[SimStep]) -> Result<L::Told, Fault<L::Told>>
+pub fn run_listed<L: SimulatedLine>(line: L, steps: &[SimStep<'_>]) -> Result<L::Told, Fault<L::Told>>
     requires { L.IsReady line }
     ensures ends { RunsTo L.after_step L.fault_of L.lists_of L.account_of steps.now (L.state_of line) result }
     ensures fits { HoldsAlong L.after_step L.StepFits (steps_done steps.now result) (L.state_of line) }
 {
     let mut line = line;
-    let mut left = steps;
-    let mut number = 0;
-    'steps: while let Some((step, rest)) = left.split_first() {
-        left = rest;
-        number += 1;
+    let mut at = 0;
+    for step in steps {
+        at += 1;
         if let Err(cause) = try_step(&mut line, step) {
             return Err(Fault {
-                step: number,
+                step: at,
                 cause,
                 account: line.into_told(),
             });
@@ -109,7 +107,7 @@ pub fn run_steps<L: SimulatedLine, S: Schedule>(
     let mut line = line;
     let mut schedule = schedule;
     let mut at = 0;
-    'steps: while let Some(step) = schedule.next() {
+    'steps: while let Some(step) = schedule.step() {
         at += 1;
         if let Err(cause) = try_step(&mut line, &step) {
             return Err(Fault {
@@ -118,12 +116,13 @@ pub fn run_steps<L: SimulatedLine, S: Schedule>(
                 account: line.into_told(),
             });
         }
+        schedule.pass();
     }
     Ok(line.into_told())
 }
 
 /// Takes a step, unless it is refused or there is no memory; then nothing has changed.
-fn try_step<L: SimulatedLine>(line: &mut L, step: &SimStep) -> Result<(), Cause>
+fn try_step<L: SimulatedLine>(line: &mut L, step: &SimStep<'_>) -> Result<(), Cause>
     requires { L.IsReady line.old }
     ensures ready { L.IsReady line.new }
     ensures ok { OnOk result ((L.fault_of step.now (L.state_of line.old) ≡ None)

@@ -26,7 +26,7 @@ pub fn run_session<H: Handler>(
     alloc: Global,
     config: &SimConfig,
     handler: H,
-    steps: &[SimStep],
+    steps: &[SimStep<'_>],
 ) -> Result<Account, Fault<Account>>
     ensures ends { RunEnds H.answer_of H.after config.now handler steps.now result }
     ensures fits { FitAlong H.answer_of H.after (steps_done steps.now result) (set_up config.now handler) }

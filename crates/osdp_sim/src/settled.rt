@@ -2,11 +2,9 @@
 
 ghost use Rattle.std.specs.Prelude.{◌≡◌, ◌∷◌, ◌++◌, [], true, length, OnOk};
 ghost use Rattle.std.specs.Iterator.{YieldsFirst, item_count};
-ghost use Rattle.osdp_msg.specs.declared.reply.Reply.TheVariants.{Ack};
 
 use crate::kept::{Kept, KeptLeft};
-use crate::message::Spelling;
-use osdp_msg::{Command, Reply};
+use osdp_msg::{Command, Reply, Spelling};
 use std::alloc::{AllocError, Global};
 use std::marker::Model;
 
@@ -14,25 +12,26 @@ use std::marker::Model;
 #[derive(Debug, Drop)]
 pub struct Settled {
     /// The commands.
-    commands: Kept<Command>,
+    commands: Kept,
     /// The answer of each.
-    answers: Kept<Reply>,
+    answers: Kept,
 }
 
 impl Model for Settled {
-    ghost use Rattle.std.specs.Prelude.{◌≡◌, ◌&&◌, length, zip};
+    ghost use Rattle.std.specs.Prelude.{◌≡◌, ◌&&◌, length, map};
+    ghost use Rattle.osdp_msg.specs.Kept.{reply_kept};
     ghost use Rattle.osdp_msg.specs.declared.command.Command.{Command};
     ghost use Rattle.osdp_msg.specs.declared.reply.Reply.{Reply};
-    ghost use Rattle.osdp_sim.specs.Kept.{Keeping};
+    ghost use Rattle.osdp_sim.specs.Kept.{Keeping, commands_of, settled_of};
 
     ghost Value = { Keeping (Command × Reply) };
 
     ghost view = { λ k. record {
-      items = zip k.commands.items k.answers.items;
+      items = settled_of k.commands.items k.answers.items;
       has_place = k.commands.has_place && k.answers.has_place;
     } };
 
-    ghost invariant = { λ k. length k.commands.items ≡ length k.answers.items };
+    ghost invariant = { λ k. length (commands_of k.commands.items) ≡ length (map reply_kept k.answers.items) };
 }
 
 impl Settled {
@@ -65,21 +64,12 @@ impl Settled {
     }
 
     /// Adds a command and its answer, by way of a place for their bytes.
-    pub fn push(&mut self, command: &Command, answer: &Reply, spelling: &mut Spelling)
+    pub fn push(&mut self, command: &Command<'_>, answer: &Reply<'_>, spelling: &mut Spelling)
         requires { self.old.has_place ≡ true }
         ensures { self.new.items ≡ self.old.items ++ (command.now, answer.now) ∷ [] }
     {
-        self.commands.push(command, spelling);
-        self.answers.push(answer, spelling);
-    }
-
-    /// Adds a command that an ACK answered, by way of a place for its bytes.
-    pub(crate) fn push_acknowledged(&mut self, command: &Command, spelling: &mut Spelling)
-        requires { self.old.has_place ≡ true }
-        ensures { self.new.items ≡ self.old.items ++ (command.now, Ack) ∷ [] }
-    {
-        self.commands.push(command, spelling);
-        self.answers.add(&[0x40]);
+        self.commands.push_command(command, spelling);
+        self.answers.push_reply(answer, spelling);
     }
 
     /// All of them, to be taken one after the other.
@@ -97,33 +87,35 @@ impl Settled {
 #[derive(Drop)]
 pub struct SettledLeft<'a> {
     /// The commands.
-    commands: KeptLeft<'a, Command>,
+    commands: KeptLeft<'a>,
     /// The answer of each.
-    answers: KeptLeft<'a, Reply>,
+    answers: KeptLeft<'a>,
 }
 
 impl<'a> Model for SettledLeft<'a> {
-    ghost use Rattle.std.specs.Prelude.{◌≡◌, List, length, zip};
+    ghost use Rattle.std.specs.Prelude.{◌≡◌, List, length, map};
+    ghost use Rattle.osdp_msg.specs.Kept.{reply_kept};
     ghost use Rattle.osdp_msg.specs.declared.command.Command.{Command};
     ghost use Rattle.osdp_msg.specs.declared.reply.Reply.{Reply};
+    ghost use Rattle.osdp_sim.specs.Kept.{commands_of, settled_of};
 
     ghost Value = { List (Command × Reply) };
 
-    ghost view = { λ k. zip k.commands k.answers };
+    ghost view = { λ k. settled_of k.commands k.answers };
 
-    ghost invariant = { λ k. length k.commands ≡ length k.answers };
+    ghost invariant = { λ k. length (commands_of k.commands) ≡ length (map reply_kept k.answers) };
 }
 
 impl<'a> Iterator for SettledLeft<'a> {
-    type Item = (Command, Reply);
+    type Item = (Command<'a>, Reply<'a>);
 
     ghost next_gives = { YieldsFirst (λ left. left) };
 
     ghost remaining = { item_count (λ left. left) };
 
-    fn next(&mut self) -> Option<(Command, Reply)> {
+    fn next(&mut self) -> Option<(Command<'a>, Reply<'a>)> {
         let command = self.commands.next()?;
         let answer = self.answers.next()?;
-        Some((command, answer))
+        Some((Command::kept(command), Reply::kept(answer)))
     }
 }

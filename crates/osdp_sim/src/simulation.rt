@@ -6,7 +6,7 @@ ghost use Rattle.osdp_sim.specs.Account as account;
 ghost use Rattle.osdp_sim.specs.Account.{lists_of};
 ghost use Rattle.osdp_sim.specs.Room.{HasRoom, state_of};
 ghost use Rattle.osdp_sim.specs.Runs.{AreSettings, IsControllerCause, IsSetUpCause, ReaderInRange};
-ghost use Rattle.osdp_sim.specs.State.{AreSent, SimState, set_up};
+ghost use Rattle.osdp_sim.specs.State.{AreSent, SimState, room_for, set_up};
 ghost use Rattle.osdp_sim.specs.Steps.{StepFits, after_step, fault_of, is_quiet, refuses_reopen};
 
 use crate::account::Account;
@@ -17,10 +17,10 @@ use crate::line::{handed_packet, move_on, send};
 use crate::running::SimulatedLine;
 use crate::step::{Move, SimStep};
 use crate::steps::StepTaker;
-use osdp_controller::{Controller, ControllerFault, Report};
+use osdp_controller::{Controller, ControllerFault, KeptReport};
 use osdp_frame::Burst;
-use osdp_msg::{Command, Event, is_room};
-use osdp_reader::{Handler, Heard, Reader};
+use osdp_msg::{Command, Event, Room, is_room};
+use osdp_reader::{Handler, Reader};
 use std::alloc::{AllocError, Global};
 use std::collections::VecDeque;
 
@@ -39,12 +39,10 @@ pub struct Simulation<H: Handler> {
     pub clock: u64,
     /// What has happened so far.
     pub account: Account,
-    /// The packet that the controller sent last, as bytes. This and what follows are lent to both ends, step after step.
+    /// The packet that an end sent last, as bytes. This and what follows are lent to both ends, step after step.
     out: Burst,
     /// What the controller told last, if it told anything.
-    report: Option<Report>,
-    /// What the reader made of the packet that it heard last.
-    heard: Heard,
+    report: KeptReport,
 }
 
 /// Whether the reader's settings are in their ranges.
@@ -56,11 +54,11 @@ fn is_reader_in_range(config: &SimConfig) -> bool
 
 /// A controller whose first session has begun.
 fn begun(alloc: Global, config: &SimConfig) -> Result<Controller, Cause>
-    ensures made { IfOk result (λ c. controllers.AreSettings config.now.controller config.now.commands
-        × (c ≡ controllers.after_begin 0 (controllers.new_machine config.now.controller config.now.commands))) }
+    ensures made { IfOk result (λ c. controllers.AreSettings config.now.controller config.now.commands (room_for config.now.commands).bytes
+        × (c ≡ controllers.after_begin 0 (controllers.new_machine config.now.controller config.now.commands (room_for config.now.commands).bytes))) }
     ensures cause { IfErr result (λ cause. IsControllerCause cause config.now) }
 {
-    let mut controller = match Controller::new(alloc, config.controller, config.commands) {
+    let mut controller = match Controller::new(alloc, config.controller, Room::of(config.commands)) {
         Ok(controller) => controller,
         Err(ControllerFault::OutOfRange) => return Err(Cause::OutOfRange),
         Err(
@@ -86,7 +84,7 @@ impl<H: Handler> Simulation<H> {
             return Err(Cause::OutOfRange);
         }
         let controller = begun(alloc, config)?;
-        let Ok(reader) = Reader::new(alloc, config.reader.copy(), handler, config.events) else {
+        let Ok(reader) = Reader::new(alloc, config.reader.copy(), handler, Room::of(config.events)) else {
             return Err(Cause::NoMemory);
         };
         let mut account = Account::new(alloc);
@@ -102,8 +100,7 @@ impl<H: Handler> Simulation<H> {
             clock: 0,
             account,
             out: Burst::new(),
-            report: None,
-            heard: Heard::new(),
+            report: KeptReport::new(),
         })
     }
 
@@ -132,22 +129,22 @@ impl<H: Handler> StepTaker for Simulation<H> {
         number == 1 && !self.is_quiet()
     }
 
-    fn issue(&mut self, number: usize, command: &Command) {
+    fn issue(&mut self, number: usize, command: &Command<'_>) {
         // It is written once, for its ranges and for the account.
         self.account.spell(command);
         if number != 1 {
             return;
         }
-        if self.controller.submit_copy(command).is_ok() {
+        if self.controller.submit(command).is_ok() {
             self.account.issue_spelled();
         }
     }
 
-    fn queue(&mut self, number: usize, event: &Event) {
+    fn queue(&mut self, number: usize, event: &Event<'_>) {
         if number != 1 {
             return;
         }
-        if self.reader.submit_event(event.copy()).is_ok() {
+        if self.reader.submit_event(event) {
             self.account.queue(event);
         }
     }
@@ -163,7 +160,7 @@ impl<H: Handler> StepTaker for Simulation<H> {
         self.clock = self.clock.saturating_add(wait);
         if self
             .controller
-            .tick_into(self.clock, &mut self.out, &mut self.report)
+            .tick(self.clock, &mut self.out, &mut self.report)
         {
             send(&mut self.to_reader, &self.out);
         }
@@ -172,10 +169,10 @@ impl<H: Handler> StepTaker for Simulation<H> {
 
     fn to_reader(&mut self, way: &Move) {
         if let Some(packet) = handed_packet(&self.to_reader, way) {
-            hear(
+            let _ = hear(
                 &mut self.reader,
                 &packet,
-                &mut self.heard,
+                &mut self.out,
                 &mut self.account,
                 &mut self.to_controller,
             );
@@ -185,14 +182,8 @@ impl<H: Handler> StepTaker for Simulation<H> {
 
     fn to_controller(&mut self, way: &Move) {
         if let Some(packet) = handed_packet(&self.to_controller, way) {
-            // An ACK is told where the command stands, since a report has the size of the largest one.
-            if let Some(command) = self.controller.acknowledged(&packet) {
-                self.account.settle(command);
-                self.controller.pass(&packet, self.clock);
-            } else {
-                self.controller.hear(&packet, self.clock, &mut self.report);
-                self.account.tell_any(&self.report);
-            }
+            self.controller.hear(&packet, self.clock, &mut self.report);
+            self.account.tell_any(&self.report);
         }
         move_on(&mut self.to_controller, way);
     }
@@ -228,7 +219,7 @@ impl<H: Handler> SimulatedLine for Simulation<H> {
 
     ghost HasRoom = { HasRoom };
 
-    fn fault(&self, step: &SimStep) -> Option<Cause> {
+    fn fault(&self, step: &SimStep<'_>) -> Option<Cause> {
         self.refusal(step)
     }
 
@@ -238,7 +229,7 @@ impl<H: Handler> SimulatedLine for Simulation<H> {
         self.account.grow()
     }
 
-    fn take(&mut self, step: &SimStep) {
+    fn take(&mut self, step: &SimStep<'_>) {
         osdp_frame_laws::one_spelling();
         self.change(step);
     }

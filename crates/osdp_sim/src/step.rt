@@ -34,12 +34,12 @@ impl Move {
 }
 
 /// A step of a schedule. Readers count from 1, and a step with a reader that isn't there does nothing.
-#[derive(Debug, Drop, PartialEq)]
-pub enum SimStep {
+#[derive(Debug, Drop)]
+pub enum SimStep<'a> {
     /// The controller's user submits a command for a reader.
-    Issue(usize, Command),
+    Issue(usize, Command<'a>),
     /// A reader's device submits an event.
-    Queue(usize, Event),
+    Queue(usize, Event<'a>),
     /// A reader is busy from now on, or it isn't any more.
     Busy(usize, bool),
     /// So many milliseconds pass. Then the controller is asked once what is due.
@@ -52,9 +52,9 @@ pub enum SimStep {
     Reopen(usize),
 }
 
-impl SimStep {
+impl<'a> SimStep<'a> {
     /// A step equal to this one.
-    pub fn copy(&self) -> SimStep
+    pub fn copy(&self) -> SimStep<'a>
         ensures { result ≡ self.now }
     {
         match self {

@@ -36,13 +36,13 @@ pub trait StepTaker {
         ensures { result ≡ refuses_reopen number (state_of self.now) };
 
     /// The controller's user submits a command for a reader; a refused one is dropped.
-    fn issue(&mut self, number: usize, command: &Command)
+    fn issue(&mut self, number: usize, command: &Command<'_>)
         requires prepared { IsPrepared self.old }
         ensures state { state_of self.new ≡ after_step (Issue number command.now) (state_of self.old) }
         ensures fits { StepFits (Issue number command.now) (state_of self.old) };
 
     /// A reader's device submits an event; a refused one is dropped.
-    fn queue(&mut self, number: usize, event: &Event)
+    fn queue(&mut self, number: usize, event: &Event<'_>)
         requires prepared { IsPrepared self.old }
         ensures state { state_of self.new ≡ after_step (Queue number event.now) (state_of self.old) }
         ensures fits { StepFits (Queue number event.now) (state_of self.old) };
@@ -81,7 +81,7 @@ pub trait StepTaker {
 
     /// Why a step is refused: a move of the line where its damage holds a packet, and a session that is to begin again where `refuses_reopen` says
     /// so.
-    final fn refusal(&self, step: &SimStep) -> Option<Cause>
+    final fn refusal(&self, step: &SimStep<'_>) -> Option<Cause>
         ensures fault { result ≡ fault_by refuses_reopen step.now (state_of self.now) }
         ensures cause { IfSome result (λ cause. IsCause cause result) }
     {
@@ -99,7 +99,7 @@ pub trait StepTaker {
     }
 
     /// Takes a step that isn't refused.
-    final fn change(&mut self, step: &SimStep)
+    final fn change(&mut self, step: &SimStep<'_>)
         requires well { fault_by refuses_reopen step.now (state_of self.old) ≡ None }
         requires prepared { IsPrepared self.old }
         ensures state { state_of self.new ≡ after_step step.now (state_of self.old) }

@@ -8,6 +8,7 @@ use Rattle.osdp_bus.specs.declared.config.BusConfig.{BusConfig}
 use Rattle.osdp_bus.specs.declared.device.Device.{Device}
 use Rattle.osdp_sim.specs.Account.{Account, empty_account, with_session}
 use Rattle.osdp_sim.specs.Line.{IsSent}
+use Rattle.osdp_sim.specs.State.{room_for}
 
 -- a reader's side of a site: the reader, and what has come of its schedule so far
 pub record ReaderSite (H : Type 0) : Type 0 where
@@ -41,7 +42,7 @@ module _ {H : Type 0} where
   begun_device config given = device_begins 0 (new_device (address_of given) config)
 
   abbrev pub new_site : Given H → ReaderSite H
-  new_site given = record { reader = new_reader given.0 given.2 given.1; account = with_session empty_account }
+  new_site given = record { reader = new_reader given.0 given.2 (room_for given.1); account = with_session empty_account }
 
   -- entry 0 is that of the first reader
   abbrev pub begun_bus : BusConfig → List (Given H) → BusState

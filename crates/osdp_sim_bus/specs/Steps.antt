@@ -13,6 +13,7 @@ use Rattle.osdp_controller.specs.declared.report.Report.{Report}
 use Rattle.osdp_reader.specs.State as readers
 use Rattle.osdp_reader.specs.Table as reader
 use Rattle.osdp_reader.specs.declared.handler.Answer.{Answer}
+use Rattle.osdp_reader.specs.Queue.{lacks_room}
 use Rattle.osdp_bus.specs.Buses.{BusState, device_of}
 use Rattle.osdp_bus.specs.Hearing.{after_bytes, after_silence}
 use Rattle.osdp_bus.specs.Machine.{after_begin_at, after_next_report, after_submit_at, submit_refusal_at}
@@ -69,7 +70,7 @@ module _ {H : Type 0} where
 
   abbrev pub site_queues : Event → ReaderSite H → ReaderSite H
   site_queues event site =
-      site_queues_unless (length site.reader.queue.events == site.reader.queue.capacity) event site
+      site_queues_unless (lacks_room event site.reader.queue) event site
 
   abbrev pub site_is_busy : Bool → ReaderSite H → ReaderSite H
   site_is_busy busy site = record site { reader = readers.after_set_busy busy site.reader }

@@ -11,7 +11,7 @@ ghost use Rattle.osdp_sim_bus.specs.Steps.{hears_run, site_hears, site_says};
 use crate::site::ReaderSite;
 use osdp_bus::Bus;
 use osdp_frame::{Burst, FrameView};
-use osdp_reader::{Handler, Heard};
+use osdp_reader::Handler;
 use osdp_sim::Move;
 use std::alloc::AllocError;
 use std::collections::VecDeque;
@@ -41,11 +41,11 @@ pub fn hand_in(bus: &mut Bus, run: &[u8], now: u64)
     bus.on_silence(now);
 }
 
-/// All readers hear a packet, in their order, and what each of them answers goes out. What the last of them made of it stands in `heard`.
+/// All readers hear a packet, in their order, and what each of them answers goes out. What the last of them answers stands in `out`.
 pub fn hear_all<H: Handler>(
     sites: &mut [ReaderSite<H>],
     packet: &FrameView<'_>,
-    heard: &mut Heard,
+    out: &mut Burst,
     line: &mut VecDeque<Burst>,
 )
     requires place { deque_len line.old + length sites.old ≤ deque_capacity line.old }
@@ -55,7 +55,7 @@ pub fn hear_all<H: Handler>(
     ensures fits { All (λ site. SaysFit H.answer_of H.after (packet.now ∷ []) site.reader) (sites_of sites.old) }
 {
     for site in sites.iter_mut() {
-        site.hear(packet, heard, line);
+        site.hear(packet, out, line);
     }
 }
 

@@ -16,7 +16,7 @@ use crate::simulation::Simulation;
 use crate::site::ReaderSite;
 use osdp_bus::{Bus, BusConfig, BusFault};
 use osdp_frame::{Address, Burst};
-use osdp_reader::{Handler, Heard, ReaderConfig};
+use osdp_reader::{Handler, ReaderConfig};
 use osdp_sim::running::{SimulatedLine, run_listed, run_steps};
 use osdp_sim::steps::StepTaker;
 use osdp_sim::{Account, Cause, Fault, Schedule, SimStep};
@@ -34,7 +34,7 @@ pub fn run_bus<H: Handler>(
     alloc: Global,
     config: &BusConfig,
     readers: Vec<(ReaderConfig, usize, H)>,
-    steps: &[SimStep],
+    steps: &[SimStep<'_>],
 ) -> Result<Vec<Account>, Fault<Vec<Account>>>
     ensures ends { RunEnds H.answer_of H.after config.now readers.items steps.now result }
     ensures fits { FitAlong H.answer_of H.after (steps_done steps.now result) (set_up config.now readers.items) }
@@ -88,7 +88,7 @@ impl<H: Handler> SimulatedLine for Run<H> {
 
     ghost HasRoom = { λ r. HasRoom r.simulation };
 
-    fn fault(&self, step: &SimStep) -> Option<Cause> {
+    fn fault(&self, step: &SimStep<'_>) -> Option<Cause> {
         self.simulation.refusal(step)
     }
 
@@ -96,7 +96,7 @@ impl<H: Handler> SimulatedLine for Run<H> {
         self.simulation.grow()
     }
 
-    fn take(&mut self, step: &SimStep) {
+    fn take(&mut self, step: &SimStep<'_>) {
         osdp_frame_laws::one_spelling();
         self.simulation.change(step);
     }
@@ -152,7 +152,6 @@ fn set_up<H: Handler>(
         to_bus: VecDeque::new(alloc),
         clock: 0,
         out: Burst::new(),
-        heard: Heard::new(),
     };
     Ok(Run { simulation, told })
 }

@@ -11,7 +11,7 @@ use crate::site::ReaderSite;
 use osdp_bus::Bus;
 use osdp_frame::Burst;
 use osdp_msg::{Command, Event};
-use osdp_reader::{Handler, Heard};
+use osdp_reader::Handler;
 use osdp_sim::Move;
 use osdp_sim::line::{handed_packet, move_on, send};
 use osdp_sim::steps::StepTaker;
@@ -31,10 +31,8 @@ pub struct Simulation<H: Handler> {
     pub to_bus: VecDeque<Burst>,
     /// The moment, in milliseconds since the set-up.
     pub clock: u64,
-    /// The burst that the bus sent last. It is lent to the bus, step after step.
+    /// The burst that an end sent last. It is lent to the bus and to the readers, step after step.
     pub out: Burst,
-    /// What a reader made of the packet that it heard last. It is lent to the readers, step after step.
-    pub heard: Heard,
 }
 
 impl<H: Handler> Simulation<H> {
@@ -69,12 +67,13 @@ impl<H: Handler> Simulation<H> {
         requires room { All HasPlace self.old.sites.items }
         ensures state { state_of self.new ≡ takes_report (state_of self.old) }
     {
-        let Some((entry, report)) = self.bus.next_report() else {
+        let Some((entry, report)) = self.bus.report() else {
             return
         };
         if entry < self.sites.len() {
             self.sites[entry].account.tell(&report);
         }
+        self.bus.settle();
     }
 }
 
@@ -95,19 +94,19 @@ impl<H: Handler> StepTaker for Simulation<H> {
         self.is_there(number) && !self.is_quiet(number - 1)
     }
 
-    fn issue(&mut self, number: usize, command: &Command) {
+    fn issue(&mut self, number: usize, command: &Command<'_>) {
         // Writing it brings in that its fields are in their ranges.
         let _ = command.write();
         if !self.is_there(number) {
             return;
         }
         // A COMSET to whatever address is put on the line: the account tells what the reader answers.
-        if self.bus.submit_anywhere(number - 1, command.copy()).is_ok() {
+        if self.bus.submit_anywhere(number - 1, command).is_ok() {
             self.sites[number - 1].account.issue(command);
         }
     }
 
-    fn queue(&mut self, number: usize, event: &Event) {
+    fn queue(&mut self, number: usize, event: &Event<'_>) {
         if self.is_there(number) {
             self.sites[number - 1].queue(event);
         }
@@ -122,7 +121,7 @@ impl<H: Handler> StepTaker for Simulation<H> {
     fn wait(&mut self, wait: u64) {
         osdp_frame_laws::one_spelling();
         self.clock = self.clock.saturating_add(wait);
-        if self.bus.tick_into(self.clock, &mut self.out) {
+        if self.bus.tick(self.clock, &mut self.out) {
             send(&mut self.to_readers, &self.out);
         }
         self.take_report();
@@ -130,7 +129,7 @@ impl<H: Handler> StepTaker for Simulation<H> {
 
     fn to_reader(&mut self, way: &Move) {
         if let Some(packet) = handed_packet(&self.to_readers, way) {
-            hear_all(&mut self.sites, &packet, &mut self.heard, &mut self.to_bus);
+            hear_all(&mut self.sites, &packet, &mut self.out, &mut self.to_bus);
         }
         move_on(&mut self.to_readers, way);
     }

@@ -11,8 +11,8 @@ ghost use Rattle.osdp_sim_bus.specs.State.{new_site};
 ghost use Rattle.osdp_sim_bus.specs.Steps.{site_hears, site_queues, site_says};
 
 use osdp_frame::{Burst, FrameView};
-use osdp_msg::Event;
-use osdp_reader::{Handler, Heard, Reader, ReaderConfig};
+use osdp_msg::{Event, Room};
+use osdp_reader::{Handler, Reader, ReaderConfig};
 use osdp_sim::hearing::hear;
 use osdp_sim::{Account, Cause};
 use std::alloc::Global;
@@ -36,7 +36,7 @@ impl<H: Handler> ReaderSite<H> {
         ensures made { IfOk result (λ site. site_of site ≡ new_site (config, events, handler)) }
         ensures cause { IfErr result (λ cause. cause ≡ NoMemory) }
     {
-        let Ok(reader) = Reader::new(alloc, config, handler, events) else {
+        let Ok(reader) = Reader::new(alloc, config, handler, Room::of(events)) else {
             return Err(Cause::NoMemory);
         };
         let mut account = Account::new(alloc);
@@ -48,17 +48,17 @@ impl<H: Handler> ReaderSite<H> {
     }
 
     /// The device submits an event; a refused one is dropped.
-    pub fn queue(&mut self, event: &Event)
+    pub fn queue(&mut self, event: &Event<'_>)
         requires { HasPlace self.old }
         ensures { site_of self.new ≡ site_queues event.now (site_of self.old) }
     {
-        if self.reader.submit_event(event.copy()).is_ok() {
+        if self.reader.submit_event(event) {
             self.account.queue(event);
         }
     }
 
-    /// The reader hears a packet, and its answer goes out. What it made of the packet stands in `heard`, in place of what stood there.
-    pub fn hear(&mut self, packet: &FrameView<'_>, heard: &mut Heard, line: &mut VecDeque<Burst>)
+    /// The reader hears a packet, and its answer goes out. It stands in `out` then, in place of what stood there.
+    pub fn hear(&mut self, packet: &FrameView<'_>, out: &mut Burst, line: &mut VecDeque<Burst>)
         requires place { deque_len line.old < deque_capacity line.old }
         requires places { HasPlace self.old }
         ensures site { site_of self.new ≡ site_hears H.answer_of H.after packet.now (site_of self.old) }
@@ -67,6 +67,6 @@ impl<H: Handler> ReaderSite<H> {
         ensures room { deque_capacity line.new ≡ deque_capacity line.old }
         ensures fits { SaysFit H.answer_of H.after (packet.now ∷ []) (site_of self.old).reader }
     {
-        hear(&mut self.reader, packet, heard, &mut self.account, line);
+        let _ = hear(&mut self.reader, packet, out, &mut self.account, line);
     }
 }

@@ -9,6 +9,7 @@ use Rattle.osdp_msg.specs.declared.command.Command.{Command}
 use Rattle.osdp_msg.specs.declared.event.Event.{Event}
 use Rattle.osdp_controller.specs.declared.report.Report.{Report}
 use Rattle.osdp_reader.specs.declared.handler.Answer.{Answer}
+use Rattle.osdp_reader.specs.Queue.{lacks_room}
 use Rattle.osdp_bus.specs.Machine.{after_next_report, submit_refusal_at}
 use Rattle.osdp_bus.specs.declared.config.BusConfig.{BusConfig}
 use Rattle.osdp_bus.specs.declared.fault.BusFault.{BusFault}
@@ -111,7 +112,7 @@ module _ {H : Type 0} (answer_of : H → Command → Answer) (after : H → Comm
   step_grows (Queue number e) s u at =
       where_stays (is_there number s) s (record s { sites = changed_site (number - 1) (site_queues e) s.sites })
       (stays_changed Stays same k (number - 1) (site_queues e) s.sites
-      (λ v. queued_stays (length v.reader.queue.events == v.reader.queue.capacity) e v)) u at
+      (λ v. queued_stays (lacks_room e v.reader.queue) e v)) u at
   step_grows (Busy number busy) s u at =
       where_stays (is_there number s) s (record s { sites = changed_site (number - 1) (site_is_busy busy) s.sites })
       (stays_changed Stays same k (number - 1) (site_is_busy busy) s.sites

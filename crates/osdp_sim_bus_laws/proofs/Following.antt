@@ -11,6 +11,7 @@ use Rattle.osdp_controller.specs.declared.report.Report.{Report}
 use Rattle.osdp_reader.specs.State as readers
 use Rattle.osdp_reader.specs.State.{ReaderState}
 use Rattle.osdp_reader.specs.declared.handler.Answer.{Answer}
+use Rattle.osdp_reader.specs.Queue.{lacks_room}
 use Rattle.osdp_bus.specs.Machine.{after_next_report, submit_refusal_at}
 use Rattle.osdp_bus.specs.Ticking.{bus_ticks}
 use Rattle.osdp_bus.specs.declared.fault.BusFault.{BusFault}
@@ -189,10 +190,10 @@ module _ {H : Type 0} (answer_of : H → Command → Answer) (after : H → Comm
   queueing number e s n h =
       where_is (is_there number s) (Queue (number - 1) e ∷ []) (changes_site (number - 1) (site_queues e) s) s n
       (one_reader (number - 1) (Queue (number - 1) e) (site_queues e) (line.calls answer_of after (link.Queue e)) s n tt tt refl
-      (λ t. queue_same (length t.reader.queue.events == t.reader.queue.capacity) e t) (λ t. refl)
-      (λ u t is. subst (λ (r : ReaderState H). IsSiteOf (site_queues_unless (length r.queue.events == r.queue.capacity) e u)
-      (queues_by (length t.reader.queue.events == t.reader.queue.capacity) e t)) (sym is.reader)
-      (queued_as (length t.reader.queue.events == t.reader.queue.capacity) e u t is)) h) (nothing s n h)
+      (λ t. queue_same (lacks_room e t.reader.queue) e t) (λ t. refl)
+      (λ u t is. subst (λ (r : ReaderState H). IsSiteOf (site_queues_unless (lacks_room e r.queue) e u)
+      (queues_by (lacks_room e t.reader.queue) e t)) (sym is.reader)
+      (queued_as (lacks_room e t.reader.queue) e u t is)) h) (nothing s n h)
 
   pub setting : (number : ℕ) (busy : Bool) (s : LineState H) (n : Net H) → FollowsSites s n
       → Comes (for_reader number s (λ k. SetBusy k busy)) (where_there number (λ place. changes_site place (site_is_busy busy) s) s) n

@@ -9,6 +9,7 @@ use Rattle.osdp_msg.specs.declared.event.Event.{Event}
 use Rattle.osdp_controller.specs.declared.report.Report.{Report}
 use Rattle.osdp_reader.specs.Table as reader
 use Rattle.osdp_reader.specs.declared.handler.Answer.{Answer}
+use Rattle.osdp_reader.specs.Queue.{lacks_room}
 use Rattle.osdp_bus.specs.Machine.{after_next_report, submit_refusal_at}
 use Rattle.osdp_bus.specs.declared.device.Device.{Device}
 use Rattle.osdp_bus.specs.declared.fault.BusFault.{BusFault}
@@ -176,5 +177,5 @@ module _ {H : Type 0} (answer_of : H → Command → Answer) (after : H → Comm
         where_device k (is_there number s) s next (keeps_all k s.bus.devices.entries),
         where_sites SameIssued issued_idle k (is_there number s) s next
             (stays_changed SameIssued issued_idle.same k (number - 1) (site_queues e) s.sites
-            (λ u. queued_same (length u.reader.queue.events == u.reader.queue.capacity) e u)),
+            (λ u. queued_same (lacks_room e u.reader.queue) e u)),
       )

@@ -8,6 +8,7 @@ use Rattle.osdp_msg.specs.declared.command.Command.{Command}
 use Rattle.osdp_msg.specs.declared.event.Event.{Event}
 use Rattle.osdp_controller.specs.declared.report.Report.{Report}
 use Rattle.osdp_reader.specs.declared.handler.Answer.{Answer}
+use Rattle.osdp_reader.specs.Queue.{lacks_room}
 use Rattle.osdp_bus.specs.Machine.{after_next_report, submit_refusal_at}
 use Rattle.osdp_bus.specs.declared.config.BusConfig.{BusConfig}
 use Rattle.osdp_bus.specs.declared.fault.BusFault.{BusFault}
@@ -100,7 +101,7 @@ module _ {H : Type 0} where
         (one_issued (submit_refusal_at (number - 1) command s.bus) (number - 1) command s all) all
     one_step (step.Queue number event) s within all =
         one_where (is_there number s) (record s { sites = changed_site (number - 1) (site_queues event) s.sites }) s
-        (one_changed (site_queues event) (λ u is. one_queued (length u.reader.queue.events == u.reader.queue.capacity) event u is)
+        (one_changed (site_queues event) (λ u is. one_queued (lacks_room event u.reader.queue) event u is)
         (number - 1) s.sites all) all
     one_step (step.Busy number busy) s within all =
         one_where (is_there number s) (record s { sites = changed_site (number - 1) (site_is_busy busy) s.sites }) s

@@ -19,7 +19,7 @@ use Rattle.osdp_controller.specs.declared.fault.ControllerFault.TheVariants.{Ful
 use Rattle.osdp_controller.specs.declared.session.Session.{Session}
 use Rattle.osdp_controller.specs.declared.state.State.{State}
 use Rattle.osdp_controller.specs.declared.state.State.TheVariants.{Closed, Quiet, Idle, Waiting, Pausing}
-use Rattle.osdp_reader.specs.Queue.{Queue as EventQueue}
+use Rattle.osdp_reader.specs.Queue.{Queue as EventQueue, lacks_room}
 use Rattle.osdp_reader.specs.State.{ReaderState}
 use Rattle.osdp_reader.specs.Table as reader
 use Rattle.osdp_reader.specs.declared.handler.Answer.{Answer}
@@ -336,7 +336,7 @@ module _ {H : Type 0} (answer_of : H → Command → Answer) (after : H → Comm
   accepts_commands [] k s few = none_accepted (s.controller.capacity - k) s.account.issued
   accepts_commands (Issue number c ∷ list) k s few = issue_accepts number c list (accepts_commands list) k s few
   accepts_commands (Queue number e ∷ list) k s few =
-      queue_issues_none e list (accepts_commands list) (number == 1) (length s.reader.queue.events == s.reader.queue.capacity) k s few
+      queue_issues_none e list (accepts_commands list) (number == 1) (lacks_room e s.reader.queue) k s few
   accepts_commands (step ∷ list) k s few = idle_commands list (accepts_commands list) step tt k s few
 
   -- ---- events
@@ -378,7 +378,7 @@ module _ {H : Type 0} (answer_of : H → Command → Answer) (after : H → Comm
           (omega (arith, few, is refl)) (rest k s few)
 
       by_number : (there : Bool) → Accepts (s.reader.queue.capacity - k) ((if there then e ∷ [] else []) ++ events_of list) s.account.queued
-          (run answer_of after list (if there then steps.queued (length s.reader.queue.events == s.reader.queue.capacity) e s else s)).account.queued
+          (run answer_of after list (if there then steps.queued (lacks_room e s.reader.queue) e s else s)).account.queued
       by_number false = rest k s few
       by_number true =
           by_full (length s.reader.queue.events == s.reader.queue.capacity) (counts (length s.reader.queue.events) s.reader.queue.capacity)

@@ -13,6 +13,7 @@ use Rattle.osdp_controller.specs.Ticking.{ticks}
 use Rattle.osdp_controller.specs.declared.fault.ControllerFault.{ControllerFault}
 use Rattle.osdp_controller.specs.declared.report.Report.{Report}
 use Rattle.osdp_reader.specs.declared.handler.Answer.{Answer}
+use Rattle.osdp_reader.specs.Queue.{lacks_room}
 use Rattle.osdp_link_laws.specs.Headline.{IsBeginning}
 use Rattle.osdp_sim.specs.Account.{Account, lengths_of, with_issued, with_queued, with_report, with_session}
 use Rattle.osdp_sim.specs.Line.{handed, left}
@@ -207,7 +208,7 @@ module _ {H : Type 0} (answer_of : H → Command → Answer) (after : H → Comm
 
   step_grows : (step : SimStep) (s : SimState H) → Grows (begun_by 1 step s.account) s.account (after_step answer_of after step s).account
   step_grows (Issue number c) s = issued_grows (number == 1) (controllers.submit_refusal c s.controller) c s
-  step_grows (Queue number e) s = queued_grows (number == 1) (length s.reader.queue.events == s.reader.queue.capacity) e s
+  step_grows (Queue number e) s = queued_grows (number == 1) (lacks_room e s.reader.queue) e s
   step_grows (Busy number busy) s = busy_grows (number == 1) s _ refl
   step_grows (Wait wait) s = grows_by_report (ticks (moment_after wait s.clock) s.controller.session s.controller.waiting).step.report s.account
   step_grows (ToReader move) s = answered_grows (packets_in (handed move s.to_reader)) (record s { to_reader = left move s.to_reader })

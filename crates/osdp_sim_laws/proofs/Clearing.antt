@@ -10,6 +10,7 @@ use Rattle.osdp_controller.specs.Ticking.{ticks}
 use Rattle.osdp_controller.specs.declared.fault.ControllerFault.{ControllerFault}
 use Rattle.osdp_reader.specs.Table as reader
 use Rattle.osdp_reader.specs.declared.handler.Answer.{Answer}
+use Rattle.osdp_reader.specs.Queue.{lacks_room}
 use Rattle.osdp_link_laws.specs.Link as link
 use Rattle.osdp_link_laws.specs.Link.{Delivered, Delivery, Link, Lost, Repeated}
 use Rattle.osdp_link_laws.proofs.Stages.{Each}
@@ -82,7 +83,7 @@ module _ {H : Type 0} where
     step_few n (Issue number c) clock l few =
         where_few n (number == 1) (link.Submit c) l few (submits_few n (controllers.submit_refusal c l.controller) c l few)
     step_few n (Queue number e) clock l few =
-        where_few n (number == 1) (link.Queue e) l few (queues_few n (length l.reader.queue.events == l.reader.queue.capacity) e l few)
+        where_few n (number == 1) (link.Queue e) l few (queues_few n (lacks_room e l.reader.queue) e l few)
     step_few n (Busy number busy) clock l few =
         where_few n (number == 1) (link.SetBusy busy) l few (omega (arith, few.0), omega (arith, few.1))
     step_few n (Wait wait) clock l few =

@@ -10,6 +10,7 @@ use Rattle.osdp_controller_laws.specs.Calls.{IsInRange, StaysInRange}
 use Rattle.osdp_controller_laws.specs.Runs.{Begin}
 use Rattle.osdp_controller.specs.Machine.{new_machine}
 use Rattle.osdp_reader.specs.declared.handler.Answer.{Answer}
+use Rattle.osdp_reader.specs.Queue.{lacks_room}
 use Rattle.osdp_link_laws.specs.Headline as headline
 use Rattle.osdp_link_laws.specs.Link as link
 use Rattle.osdp_link_laws.specs.Link.{Delivered, Link}
@@ -81,7 +82,7 @@ module _ {H : Type 0} (answer_of : H → Command → Answer) (after : H → Comm
       where_in_time clock wait (number == 1) (link.Submit command) l is (submits_in_time answer_of after clock wait (controllers.submit_refusal command l.controller) command l is)
   step_in_time wait (Queue number event) clock l fits is =
       where_in_time clock wait (number == 1) (link.Queue event) l is
-      (queues_in_time answer_of after clock wait (length l.reader.queue.events == l.reader.queue.capacity) event l is)
+      (queues_in_time answer_of after clock wait (lacks_room event l.reader.queue) event l is)
   step_in_time wait (Busy number busy) clock l fits is = where_in_time clock wait (number == 1) (link.SetBusy busy) l is is
   step_in_time wait (Wait more) clock l fits is = tick_in_time answer_of after clock (moment_after more clock) wait l (clock_on more clock fits).0 is
   step_in_time wait (ToReader move) clock l fits is = reader_in_time answer_of after clock wait (delivery move) l.to_reader l is

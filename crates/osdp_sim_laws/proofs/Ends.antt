@@ -17,6 +17,7 @@ use Rattle.osdp_controller.specs.declared.state.State.{State}
 use Rattle.osdp_controller_laws.specs.Commands.{tells_end}
 use Rattle.osdp_controller_laws.proofs.Closed.{silent_frame, silent_tick}
 use Rattle.osdp_reader.specs.declared.handler.Answer.{Answer as HandlerAnswer}
+use Rattle.osdp_reader.specs.Queue.{lacks_room}
 use Rattle.osdp_link_laws.specs.Ends.{count}
 use Rattle.osdp_sim.proofs.Schedules.{first_well}
 use Rattle.osdp_sim.specs.Account.{Account, lengths_of, with_report}
@@ -110,7 +111,7 @@ module _ {H : Type 0} where
     step_ended told (Issue number command) s well h =
         where_ended (number == 1) s _ h (λ there. issued_ended (controllers.submit_refusal command s.controller) command s h)
     step_ended told (Queue number event) s well h =
-        where_ended (number == 1) s _ h (λ there. queued_ended (length s.reader.queue.events == s.reader.queue.capacity) event s h)
+        where_ended (number == 1) s _ h (λ there. queued_ended (lacks_room event s.reader.queue) event s h)
     step_ended told (Busy number busy) s well h = where_ended (number == 1) s _ h (λ there. h)
     step_ended told (Wait wait) s well h =
         let now = moment_after wait s.clock in

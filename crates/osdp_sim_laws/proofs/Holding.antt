@@ -12,6 +12,7 @@ use Rattle.osdp_controller.specs.declared.state.State.TheVariants.{Closed, Quiet
 use Rattle.osdp_controller.specs.declared.fault.ControllerFault.{ControllerFault}
 use Rattle.osdp_reader.specs.declared.config.ReaderConfig.{ReaderConfig}
 use Rattle.osdp_reader.specs.declared.handler.Answer.{Answer}
+use Rattle.osdp_reader.specs.Queue.{lacks_room}
 use Rattle.osdp_link_laws.specs.Headline.{Begins, IsBeginning}
 use Rattle.osdp_link_laws.specs.Link as link
 use Rattle.osdp_link_laws.specs.OneHandler.{AreOnce, Once, with_answers}
@@ -187,7 +188,7 @@ module _ {H : Type 0} (answer_of : H → Command → Answer) (after : H → Comm
 
   move_within : (m : link.Move H) (l : link.Link H) → IsWithin m → (link.after_move answer_of after m l).earlier ≡ l.earlier
   move_within (link.Submit command) l w = submits_within (controllers.submit_refusal command l.controller) command l
-  move_within (link.Queue event) l w = queues_within (length l.reader.queue.events == l.reader.queue.capacity) event l
+  move_within (link.Queue event) l w = queues_within (lacks_room event l.reader.queue) event l
   move_within (link.SetBusy busy) l w = refl
   move_within (link.Tick now) l w = refl
   move_within (link.ToReader how) l w = reader_within l.to_reader how l

@@ -8,6 +8,7 @@ use Rattle.osdp_controller.specs.Ticking.{ticks}
 use Rattle.osdp_controller.specs.declared.state.State.{State}
 use Rattle.osdp_controller.specs.declared.state.State.TheVariants.{Closed, Quiet, Idle, Waiting, Pausing}
 use Rattle.osdp_reader.specs.declared.handler.Answer.{Answer}
+use Rattle.osdp_reader.specs.Queue.{lacks_room}
 use Rattle.osdp_link_laws.specs.Headline.{MovesFit}
 use Rattle.osdp_link_laws.specs.Link as link
 use Rattle.osdp_link_laws.specs.Link.{Link, after_move}
@@ -116,7 +117,7 @@ module _ {H : Type 0} (answer_of : H → Command → Answer) (after : H → Comm
       })
   step_follows reads (Queue number event) l clock a from well fits =
       by_number (number == 1) _ (link.Queue event) l clock a from.packets from.tells (λ there. record {
-        carried = queueing (length l.reader.queue.events == l.reader.queue.capacity) event l clock a from.packets from.tells;
+        carried = queueing (lacks_room event l.reader.queue) event l clock a from.packets from.tells;
         moves = (tt, tt);
         ordinary = (tt, tt);
       })

@@ -35,12 +35,19 @@ text_subject t =
     if t.command == 1 || t.command == 2 then Ok (subject.Text t.reader t.row t.column)
     else (if t.command == 3 || t.command == 4 then Err Timed else Err NoState)
 
+-- the one of a list, where it has no other
+abbrev pub only : {A : Type 0} → List A → Option A
+only (x ∷ []) = Some x
+only _ = None
+
+abbrev pub or_several : {A : Type 0} → (A → Result Subject SiteFault) → Option A → Result Subject SiteFault
+or_several subject (Some x) = subject x
+or_several subject None = Err Several
+
 -- one output or LED in a command; what puts nothing is no state
 abbrev pub subject_of : Command → Result Subject SiteFault
-subject_of (command.Output (r ∷ [])) = output_subject r
-subject_of (command.Output records) = Err Several
-subject_of (command.Led (r ∷ [])) = led_subject r
-subject_of (command.Led records) = Err Several
+subject_of (command.Output records) = or_several output_subject (only records)
+subject_of (command.Led records) = or_several led_subject (only records)
 subject_of (command.Buzzer b) = buzzer_subject b
 subject_of (command.Text t) = text_subject t
 subject_of _ = Err NoState

@@ -6,13 +6,14 @@
 //!
 //! ```text
 //! let mut site = Site::new(alloc, panel.entries(), SiteConfig::new(), clock.now())?;
-//! site.wants(door, red)?;
+//! site.wants(door, &red)?;
 //! loop {
 //!     .. waits for bytes, at most until the earlier of panel.next_deadline() and site.next_deadline() ..
 //!     site.act(&mut panel, now);
 //!     if let Some(unsent) = panel.turn(bytes, now, &mut turn) { .. it goes out .. }
-//!     for (entry, report) in [&turn.heard, &turn.ticked].into_iter().flatten() {
-//!         if let Some(presence) = site.heed(*entry, report, now) { .. it is online or offline from now on .. }
+//!     for told in [&turn.heard, &turn.ticked] {
+//!         let Some((entry, report)) = told.read() else { continue };
+//!         if let Some(presence) = site.heed(entry, &report, now) { .. it is online or offline from now on .. }
 //!     }
 //! }
 //! ```
@@ -23,6 +24,7 @@
 #![tactic(auto)]
 
 mod fault;
+mod kept;
 pub mod laws;
 mod place;
 mod site;

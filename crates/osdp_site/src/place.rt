@@ -6,6 +6,7 @@ ghost use Rattle.osdp_site.specs.Acting.{acts_at, begins_anew, submits, submitte
 ghost use Rattle.osdp_site.specs.Places.{after_wants, change_of, changed_unless, due_of, goes_offline, goes_online, heeds, is_due, is_online, is_refreshed, new_place, unless_refused, wants_refusal};
 
 use crate::fault::SiteFault;
+use crate::kept::KeptCommand;
 use crate::subject::Subject;
 use osdp_panel::{Command, Entry, Panel, Report};
 use std::alloc::Global;
@@ -24,7 +25,7 @@ pub enum Presence {
 #[derive(Drop)]
 pub struct Place {
     room: usize,
-    wanted: Vec<Command>,
+    wanted: Vec<KeptCommand>,
     done: usize,
     presence: Presence,
     begins: Option<u64>,
@@ -129,11 +130,11 @@ impl Place {
     }
 
     /// A state is wanted, in place of the one of the same that was wanted before.
-    pub(crate) fn wants(&mut self, command: Command) -> Result<(), SiteFault>
-        ensures result { result ≡ unless_refused (wants_refusal command self.old) }
-        ensures place { self.new ≡ changed_unless (wants_refusal command self.old) self.old (after_wants command self.old) }
+    pub(crate) fn wants(&mut self, command: &Command<'_>) -> Result<(), SiteFault>
+        ensures result { result ≡ unless_refused (wants_refusal command.now self.old) }
+        ensures place { self.new ≡ changed_unless (wants_refusal command.now self.old) self.old (after_wants command.now self.old) }
     {
-        let subject = Subject::of(&command)?;
+        let subject = Subject::of(command)?;
         match subject.first_in(self.wanted.as_slice()) {
             Some(i) => {
                 let _ = self.wanted.remove(i);
@@ -144,12 +145,12 @@ impl Place {
             None if self.wanted.len() >= self.room => return Err(SiteFault::Full),
             None => {}
         }
-        self.wanted.push_reserved(command);
+        self.wanted.push_reserved(KeptCommand::new(command));
         Ok(())
     }
 
     /// A report of the entry is heeded. What is told of whether the device is online.
-    pub(crate) fn heed(&mut self, report: &Report, pause: u32, now: u64) -> Option<Presence>
+    pub(crate) fn heed(&mut self, report: &Report<'_>, pause: u32, now: u64) -> Option<Presence>
         ensures told { result ≡ change_of self.old.presence self.new.presence }
         ensures place { self.new ≡ heeds pause now report.now self.old }
     {
@@ -175,7 +176,7 @@ impl Place {
         ensures panel { panel.new ≡ (submits entry (due_of self.old) panel.old).panel }
     {
         for at in self.done..self.wanted.len() {
-            match panel.submit(entry, self.wanted[at].copy()) {
+            match panel.submit(entry, &self.wanted[at].lend()) {
                 Ok(()) => self.done = at + 1,
                 Err(_) => return,
             }

@@ -93,9 +93,9 @@ impl Site {
     /// state, a sound that is counted, a text with command 3 or 4; NoState (P6) for a command that says no state: an output with control 0 or above 6, an LED whose
     /// permanent control isn't 1, tone 0, a text with another command, and each other kind of command; else Full (P3) where as many states are wanted as there is
     /// room for. Nothing has changed then.
-    pub fn wants(&mut self, entry: Entry, command: Command) -> Result<(), SiteFault>
-        ensures result { result ≡ unless_refused (wants_refusal_at entry command self.old) }
-        ensures site { self.new ≡ changed_unless (wants_refusal_at entry command self.old) self.old (wants_at entry command self.old) }
+    pub fn wants(&mut self, entry: Entry, command: &Command<'_>) -> Result<(), SiteFault>
+        ensures result { result ≡ unless_refused (wants_refusal_at entry command.now self.old) }
+        ensures site { self.new ≡ changed_unless (wants_refusal_at entry command.now self.old) self.old (wants_at entry command.now self.old) }
     {
         if entry >= self.places.len() {
             return Err(SiteFault::NoEntry);
@@ -105,7 +105,7 @@ impl Site {
 
     /// A report of the panel, at the moment at which it came. Where the device is online or offline by it and wasn't before, that is told, once. A session that is
     /// lost or moved makes the next one due after the pause. A report of no entry of this site changes nothing.
-    pub fn heed(&mut self, entry: Entry, report: &Report, now: u64) -> Option<Presence>
+    pub fn heed(&mut self, entry: Entry, report: &Report<'_>, now: u64) -> Option<Presence>
         ensures told { result ≡ told_at entry now report.now self.old }
         ensures site { self.new ≡ heeds_at entry now report.now self.old }
     {

@@ -1,9 +1,11 @@
 //! Which commands are states, and of what they say how it is.
 
 ghost use Rattle.std.specs.Prelude.{◌≡◌, ◌≤◌, ◌+◌, ◌<◌, ◌^◌, IfSome, length};
-ghost use Rattle.osdp_site.specs.States.{buzzer_subject, first_about, is_about, is_same, led_subject, output_subject, subject_of, text_subject};
+ghost use Rattle.osdp_site.specs.States.{buzzer_subject, first_about, is_about, is_same, led_subject, only, output_subject, subject_of, text_subject};
 
 use crate::fault::SiteFault;
+use crate::kept::KeptCommand;
+use osdp_msg::{Record, Records};
 use osdp_panel::{Buzzer, Command, LedRecord, OutputRecord, Text};
 
 /// What a state is of. There is one state of each at a time.
@@ -57,29 +59,40 @@ fn buzzer_subject(buzzer: &Buzzer) -> Result<Subject, SiteFault>
 }
 
 /// A text that stays.
-fn text_subject(text: &Text) -> Result<Subject, SiteFault>
+fn text_subject(text: &Text<'_>) -> Result<Subject, SiteFault>
     ensures { result ≡ text_subject text.now }
 {
-    match text.command {
-        1 | 2 => Ok(Subject::Text(text.reader, text.row, text.column)),
+    match text.command() {
+        1 | 2 => Ok(Subject::Text(text.reader(), text.row(), text.column())),
         3 | 4 => Err(SiteFault::Timed),
         _ => Err(SiteFault::NoState),
     }
 }
 
+/// The one record of a list. None where there are several.
+fn only<R: Record>(mut records: Records<'_, R>) -> Option<R>
+    ensures { result ≡ only records.entry }
+{
+    let first = records.next()?;
+    match records.next() {
+        Some(_) => None,
+        None => Some(first),
+    }
+}
+
 impl Subject {
     /// What a command says the state of, or why it says none.
-    pub(crate) fn of(command: &Command) -> Result<Subject, SiteFault>
+    pub(crate) fn of(command: &Command<'_>) -> Result<Subject, SiteFault>
         ensures { result ≡ subject_of command.now }
     {
         match command {
-            Command::Output(outputs) => match outputs.records() {
-                [given] => output_subject(given),
-                _ => Err(SiteFault::Several),
+            Command::Output(outputs) => match only(outputs.records()) {
+                Some(given) => output_subject(&given),
+                None => Err(SiteFault::Several),
             },
-            Command::Led(leds) => match leds.records() {
-                [given] => led_subject(given),
-                _ => Err(SiteFault::Several),
+            Command::Led(leds) => match only(leds.records()) {
+                Some(given) => led_subject(&given),
+                None => Err(SiteFault::Several),
             },
             Command::Buzzer(buzzer) => buzzer_subject(buzzer),
             Command::Text(text) => text_subject(text),
@@ -114,7 +127,7 @@ impl Subject {
     }
 
     /// Whether a command says its state.
-    fn is_of(self, command: &Command) -> bool
+    fn is_of(self, command: &Command<'_>) -> bool
         ensures { result ≡ is_about self command.now }
     {
         match Subject::of(command) {
@@ -124,12 +137,12 @@ impl Subject {
     }
 
     /// The first of these commands that says its state.
-    pub(crate) fn first_in(self, commands: &[Command]) -> Option<usize>
+    pub(crate) fn first_in(self, commands: &[KeptCommand]) -> Option<usize>
         ensures place { result ≡ first_about 0 self commands.now }
         ensures within { IfSome result (λ i. i < length commands.now) }
     {
         for (i, command) in commands.iter().enumerate() {
-            if self.is_of(command) {
+            if self.is_of(&command.lend()) {
                 return Some(i);
             }
         }

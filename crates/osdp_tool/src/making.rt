@@ -7,12 +7,13 @@ ghost use Rattle.osdp_tool.specs.Ending.{Ends};
 ghost use Rattle.osdp_tool.specs.PacketOrder.{order_digits, order_line};
 
 use crate::order::PacketOrder;
+use osdp_msg::Spelling;
 use osdp_tool_streams::{ToolFault, Watched, finish, write_out};
 use std::alloc::{AllocError, Global};
 use std::io::Write;
 
 /// The bytes of a packet in upper case digits.
-fn digits(alloc: Global, order: &PacketOrder) -> Result<String, AllocError>
+fn digits(alloc: Global, order: &PacketOrder<'_>) -> Result<String, AllocError>
     ensures { IfOk result (λ text. string_bytes text ≡ order_digits order.now) }
 {
     osdp_frame_laws::one_spelling();
@@ -20,7 +21,7 @@ fn digits(alloc: Global, order: &PacketOrder) -> Result<String, AllocError>
 }
 
 /// The line of a packet: its digits, and a line feed.
-fn line(alloc: Global, order: &PacketOrder) -> Result<String, AllocError>
+fn line(alloc: Global, order: &PacketOrder<'_>) -> Result<String, AllocError>
     ensures { IfOk result (λ text. string_bytes text ≡ order_line order.now) }
 {
     let mut text = digits(alloc, order)?;
@@ -33,7 +34,8 @@ fn print<W: Write>(alloc: Global, words: &[&str], output: &mut Watched<W>) -> Re
     requires { has_failed output.old ≡ false }
     ensures { Ends (texts words.now) (W.contents (inner_of output.old)) (W.contents (inner_of output.new)) (has_failed output.new) result }
 {
-    let Some(order) = PacketOrder::parse(words) else {
+    let (mut command, mut reply) = (Spelling::new(), Spelling::new());
+    let Some(order) = PacketOrder::parse(words, &mut command, &mut reply) else {
         return Err(ToolFault::BadWords);
     };
     match line(alloc, &order) {

@@ -8,21 +8,21 @@ ghost use Rattle.osdp_tool.specs.PacketOrder.{MessageFits, OrderFits, message_bo
 
 use arrayvec::ArrayVec;
 use osdp_frame::{Address, CheckKind, Frame, Header, MAX_BODY, Seq};
-use osdp_msg::{Command, MAX_MESSAGE, Reply};
+use osdp_msg::{Command, MAX_MESSAGE, Reply, Spelling};
 use osdp_words::number_u8;
 
 /// What a packet carries.
 #[derive(Debug, Drop)]
-pub enum Message {
+pub enum Message<'a> {
     /// From the controller to a device.
-    Command(Command),
+    Command(Command<'a>),
     /// From a device to the controller.
-    Reply(Reply),
+    Reply(Reply<'a>),
 }
 
 /// A packet as its words order it.
 #[derive(Debug, Drop)]
-pub struct PacketOrder {
+pub struct PacketOrder<'a> {
     /// The address, 0 to 127.
     pub address: Address,
     /// The sequence number, 0 to 3.
@@ -30,21 +30,22 @@ pub struct PacketOrder {
     /// Which check the packet ends with.
     pub check: CheckKind,
     /// The command or reply in its body.
-    pub message: Message,
+    pub message: Message<'a>,
 }
 
-impl Message {
-    /// The command or reply whose text has these words.
-    fn parse(words: &[&str]) -> Option<Message>
+impl<'a> Message<'a> {
+    /// The command or reply whose text has these words. What it has of bytes stands in the first place then, or in the second.
+    fn parse(
+        words: &[&str],
+        command: &'a mut Spelling,
+        reply: &'a mut Spelling,
+    ) -> Option<Message<'a>>
         ensures { ReadsWords message_words MessageFits (texts words.now) result }
     {
-        match Command::parse(words) {
-            Ok(command) => Some(Message::Command(command)),
-            Err(_) => match Reply::parse(words) {
-                Ok(reply) => Some(Message::Reply(reply)),
-                Err(_) => None,
-            },
+        if let Ok(command) = Command::parse(words, command) {
+            return Some(Message::Command(command));
         }
+        Some(Message::Reply(Reply::parse(words, reply).ok()?))
     }
 
     /// The code and the data.
@@ -69,10 +70,15 @@ impl Message {
     }
 }
 
-impl PacketOrder {
+impl<'a> PacketOrder<'a> {
     /// The packet that the words order: an address from 0 to 127, a sequence number from 0 to 3, `sum` or
-    /// `crc`, and the text of a command or a reply. None where they are anything else.
-    pub fn parse(words: &[&str]) -> Option<PacketOrder>
+    /// `crc`, and the text of a command or a reply. None where they are anything else. What a command has of bytes stands in the
+    /// first place then, and what a reply has in the second.
+    pub fn parse(
+        words: &[&str],
+        command: &'a mut Spelling,
+        reply: &'a mut Spelling,
+    ) -> Option<PacketOrder<'a>>
         ensures { ReadsWords order_words OrderFits (texts words.now) result }
     {
         let [address, seq, check, message @ ..] = words else {
@@ -81,7 +87,7 @@ impl PacketOrder {
         let address = Address::new(number_u8(address)?)?;
         let seq = Seq::new(number_u8(seq)?)?;
         let check = CheckKind::named(check)?;
-        let message = Message::parse(message)?;
+        let message = Message::parse(message, command, reply)?;
         Some(PacketOrder {
             address,
             seq,

@@ -1,20 +1,21 @@
 //! The lines of items.
 
-ghost use Rattle.std.specs.Prelude.{◌≡◌, ◌++◌, ◌+◌, ◌<◌, ◌^◌, ℕ, true, false, length, OnOk, IfOk, IfSome, string_bytes, codes};
+ghost use Rattle.std.specs.Prelude.{◌≡◌, ◌++◌, ◌+◌, ◌<◌, ◌^◌, ℕ, true, false, drop, length, slice_index, OnOk, IfOk, IfSome, Some, string_bytes, codes};
 ghost use Rattle.std.specs.Fmt.{decimal};
 ghost use Rattle.osdp_frame.specs.Reading.{PacketItem, SkippedItem, RefusedItem};
-ghost use Rattle.osdp_tool_show.specs.ItemText.{body_text, fault_name, head_text, is_refusal, item_line, counts_then};
+ghost use Rattle.osdp_tool_show.specs.ItemText.{body_text, fault_name, head_text, is_refusal, is_refused, item_line, printed_text, counts_then};
 ghost use Rattle.osdp_tool_show.specs.ToldItems.{shown_line, end_line};
 
 use crate::Detail;
 use crate::hex_text::push_bytes;
-use crate::message_text::{Told, bare_message, is_refused, push_message};
+use crate::message_text::{bare_message, is_refused, push_message};
 use crate::number::push_number;
 use crate::packet_text::push_head;
 use crate::tally::Tally;
 use osdp_frame::{FrameFault, FrameView};
-use osdp_msg::{Command, Reply};
+use osdp_msg::{Command, MsgFault, Reply};
 use std::alloc::AllocError;
+use std::fmt;
 
 /// Writes the number of the run, from 1, and a colon. Raw bytes are one run.
 #[inline(always)]
@@ -99,29 +100,27 @@ fn bare_name(view: &FrameView<'_>) -> Option<&'static str>
     bare_message(view.is_reply(), view.code())
 }
 
-/// Writes the line of a packet whose message is read to be told, and says whether it is refused.
+/// Writes the line of a packet whose message was read to be told, and says whether it is refused.
 #[inline(never)]
-fn push_read_packet<M: Told>(
+fn push_read_packet<M: fmt::Display>(
     text: &mut String,
     detail: Detail,
     tally: &Tally,
     view: &FrameView<'_>,
+    read: &Result<M, MsgFault>,
 ) -> Result<bool, AllocError>
     requires room { tally.now.runs + 1 < 2 ^ 64 }
-    requires block { view.now.block ≡ false }
-    requires reply { view.now.reply ≡ M.reply }
+    requires told { printed_text M.output read.now (slice_index view.now.body 0) (drop 1 view.now.body) ≡ Some (body_text view.now) }
+    requires refused { is_refused read.now ≡ is_refusal (PacketItem view.now) }
     ensures refused { IfOk result (λ refused. refused ≡ is_refusal (PacketItem view.now)) }
     ensures line { OnOk result (string_bytes text.new ≡ string_bytes text.old ++ shown_line detail tally.now (PacketItem view.now)) }
 {
-    let code = view.code();
-    let bytes = view.payload();
-    let read = M::read_message(code, bytes);
-    let refused = is_refused(&read);
+    let refused = is_refused(read);
     if !detail.has_packet(view, refused) {
         return Ok(refused);
     }
     push_front(text, tally, view)?;
-    push_message(text, &read, code, bytes)?;
+    push_message(text, read, view.code(), view.payload())?;
     text.push_str("\n")?;
     Ok(refused)
 }
@@ -150,10 +149,11 @@ pub(crate) fn push_packet(
         }
         return Ok(false);
     }
+    let (code, bytes) = (view.code(), view.payload());
     if view.is_reply() {
-        return push_read_packet::<Reply>(text, detail, tally, view);
+        return push_read_packet(text, detail, tally, view, &Reply::read(code, bytes));
     }
-    push_read_packet::<Command>(text, detail, tally, view)
+    push_read_packet(text, detail, tally, view, &Command::read(code, bytes))
 }
 
 /// Writes the line of a skipped byte, in full.

@@ -1,41 +1,12 @@
 //! What is told of a packet's code and data.
 
-ghost use Rattle.std.specs.Prelude.{◌≡◌, ◌++◌, ℕ, Bool, List, [], false, true, IfSome, OnOk, Some, string_bytes};
+ghost use Rattle.std.specs.Prelude.{◌≡◌, ◌++◌, [], false, IfSome, OnOk, string_bytes};
 ghost use Rattle.osdp_tool_show.specs.ItemText.{data_text, unread_text, printed_text, is_refused, is_refused_message, message_text};
 
 use crate::hex_text::push_bytes;
-use osdp_msg::{Command, MsgFault, Reply};
+use osdp_msg::MsgFault;
 use std::alloc::AllocError;
 use std::fmt;
-
-/// The messages of one direction, as they are told.
-pub(crate) trait Told: Drop + fmt::Display {
-    /// They are replies.
-    ghost reply: { Bool };
-
-    /// The message of a code and data.
-    fn read_message(code: u8, bytes: &[u8]) -> Result<Self, MsgFault>
-        ensures told { printed_text Self.output result code bytes.now ≡ Some (message_text reply code bytes.now) }
-        ensures refused { is_refused result ≡ is_refused_message reply code bytes.now };
-}
-
-impl Told for Command {
-    ghost reply = { false };
-
-    #[inline(always)]
-    fn read_message(code: u8, bytes: &[u8]) -> Result<Command, MsgFault> {
-        Command::read(code, bytes)
-    }
-}
-
-impl Told for Reply {
-    ghost reply = { true };
-
-    #[inline(always)]
-    fn read_message(code: u8, bytes: &[u8]) -> Result<Reply, MsgFault> {
-        Reply::read(code, bytes)
-    }
-}
 
 /// What is told of a message without data, where that is its name alone: most packets of a line are such, and
 /// are told without a value of the message.
@@ -99,7 +70,7 @@ fn push_unread(text: &mut String, fault: MsgFault, code: u8, bytes: &[u8]) -> Re
 }
 
 /// Writes what is told of a message that was read, or of a code and data that are none.
-pub(crate) fn push_message<M: Told>(
+pub(crate) fn push_message<M: fmt::Display>(
     text: &mut String,
     read: &Result<M, MsgFault>,
     code: u8,

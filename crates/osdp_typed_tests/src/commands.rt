@@ -1,5 +1,5 @@
 //! Commands.
-use crate::spelled::{is_command, list};
+use crate::spelled::is_command;
 use osdp_msg::{
     Buzzer, Command, Communication, LedRecord, Leds, MakerMessage, OutputRecord, Outputs, Text,
 };
@@ -7,37 +7,37 @@ use osdp_names::named::{color, led as control, output, text as shown, tone};
 
 #[test]
 fn poll(rt: HostRuntime) {
-    is_command(&rt, rt.alloc(), Command::Poll, "60");
+    is_command(&rt, rt.alloc(), &Command::Poll, "60");
 }
 
 #[test]
 fn id(rt: HostRuntime) {
-    is_command(&rt, rt.alloc(), Command::Id(0), "6100");
+    is_command(&rt, rt.alloc(), &Command::Id(0), "6100");
 }
 
 #[test]
 fn cap(rt: HostRuntime) {
-    is_command(&rt, rt.alloc(), Command::Cap(0), "6200");
+    is_command(&rt, rt.alloc(), &Command::Cap(0), "6200");
 }
 
 #[test]
 fn lstat(rt: HostRuntime) {
-    is_command(&rt, rt.alloc(), Command::LocalStatus, "64");
+    is_command(&rt, rt.alloc(), &Command::LocalStatus, "64");
 }
 
 #[test]
 fn istat(rt: HostRuntime) {
-    is_command(&rt, rt.alloc(), Command::InputStatus, "65");
+    is_command(&rt, rt.alloc(), &Command::InputStatus, "65");
 }
 
 #[test]
 fn ostat(rt: HostRuntime) {
-    is_command(&rt, rt.alloc(), Command::OutputStatus, "66");
+    is_command(&rt, rt.alloc(), &Command::OutputStatus, "66");
 }
 
 #[test]
 fn rstat(rt: HostRuntime) {
-    is_command(&rt, rt.alloc(), Command::ReaderStatus, "67");
+    is_command(&rt, rt.alloc(), &Command::ReaderStatus, "67");
 }
 
 /// A record of an OUT.
@@ -59,7 +59,7 @@ fn out(rt: HostRuntime) {
     is_command(
         &rt,
         rt.alloc(),
-        Command::Output(outputs),
+        &Command::Output(outputs),
         "6801052C0102010000",
     );
 }
@@ -81,9 +81,10 @@ fn led(rt: HostRuntime) {
         permanent_on_color: color::GREEN,
         permanent_off_color: color::WHITE,
     };
-    let leds = Leds::new(&[record]).expect(&rt, "one record");
+    let records = [record];
+    let leds = Leds::new(&records).expect(&rt, "one record");
     let digits = "69000102030401042C010105060207";
-    is_command(&rt, rt.alloc(), Command::Led(leds), digits);
+    is_command(&rt, rt.alloc(), &Command::Led(leds), digits);
 }
 
 #[test]
@@ -95,20 +96,13 @@ fn buz(rt: HostRuntime) {
         off_time: 4,
         count: 5,
     };
-    is_command(&rt, rt.alloc(), Command::Buzzer(buzzer), "6A0102030405");
+    is_command(&rt, rt.alloc(), &Command::Buzzer(buzzer), "6A0102030405");
 }
 
 #[test]
 fn text(rt: HostRuntime) {
-    let text = Text {
-        reader: 1,
-        command: shown::TEMPORARY,
-        time: 9,
-        row: 2,
-        column: 4,
-        characters: list(&rt, b"Hi"),
-    };
-    is_command(&rt, rt.alloc(), Command::Text(text), "6B0103090204024869");
+    let text = Text::new(1, shown::TEMPORARY, 9, 2, 4, b"Hi").expect(&rt, "two characters");
+    is_command(&rt, rt.alloc(), &Command::Text(text), "6B0103090204024869");
 }
 
 #[test]
@@ -118,14 +112,11 @@ fn comset(rt: HostRuntime) {
         baud_rate: 115_200,
     };
     let digits = "6E0700C20100";
-    is_command(&rt, rt.alloc(), Command::Comset(communication), digits);
+    is_command(&rt, rt.alloc(), &Command::Comset(communication), digits);
 }
 
 #[test]
 fn mfg(rt: HostRuntime) {
-    let message = MakerMessage {
-        vendor: [0x5C, 0xD1, 0x2E],
-        bytes: list(&rt, &[1, 2]),
-    };
-    is_command(&rt, rt.alloc(), Command::Maker(message), "805CD12E0102");
+    let message = MakerMessage::new([0x5C, 0xD1, 0x2E], &[1, 2]).expect(&rt, "two bytes");
+    is_command(&rt, rt.alloc(), &Command::Maker(message), "805CD12E0102");
 }

@@ -1,21 +1,17 @@
 //! Other replies.
-use crate::spelled::{is_reply, list};
-use arrayvec::ArrayVec;
+use crate::spelled::is_reply;
 use osdp_msg::{Capability, Communication, MakerMessage, Nak, NakReason, PdCap, PdId, Reply};
 use osdp_names::named::function;
 
 #[test]
 fn ack(rt: HostRuntime) {
-    is_reply(&rt, rt.alloc(), Reply::Ack, "40");
+    is_reply(&rt, rt.alloc(), &Reply::Ack, "40");
 }
 
 #[test]
 fn nak(rt: HostRuntime) {
-    let nak = Nak {
-        reason: NakReason::RecordNotProcessed,
-        detail: list(&rt, &[1]),
-    };
-    is_reply(&rt, rt.alloc(), Reply::Nak(nak), "410901");
+    let nak = Nak::new(NakReason::RecordNotProcessed, &[1]).expect(&rt, "one byte");
+    is_reply(&rt, rt.alloc(), &Reply::Nak(nak), "410901");
 }
 
 #[test]
@@ -32,26 +28,30 @@ fn pdid(rt: HostRuntime) {
     is_reply(
         &rt,
         rt.alloc(),
-        Reply::PdId(id),
+        &Reply::PdId(id),
         "455CD12E010201020304050607",
     );
 }
 
 #[test]
 fn pdcap(rt: HostRuntime) {
-    let mut capabilities = ArrayVec::new();
-    for (function, level, count) in [(function::OUTPUT_CONTROL, 1, 4), (function::VERSION, 2, 0)] {
-        let capability = Capability {
-            function,
-            level,
-            count,
-        };
-        capabilities.try_push(capability).ok().expect(&rt, "room");
-    }
+    let capabilities = [
+        Capability {
+            function: function::OUTPUT_CONTROL,
+            level: 1,
+            count: 4,
+        },
+        Capability {
+            function: function::VERSION,
+            level: 2,
+            count: 0,
+        },
+    ];
+    let capabilities = PdCap::new(&capabilities).expect(&rt, "two records");
     is_reply(
         &rt,
         rt.alloc(),
-        Reply::PdCap(PdCap { capabilities }),
+        &Reply::PdCap(capabilities),
         "46020104100200",
     );
 }
@@ -62,19 +62,16 @@ fn com(rt: HostRuntime) {
         address: 7,
         baud_rate: 115_200,
     };
-    is_reply(&rt, rt.alloc(), Reply::Com(communication), "540700C20100");
+    is_reply(&rt, rt.alloc(), &Reply::Com(communication), "540700C20100");
 }
 
 #[test]
 fn busy(rt: HostRuntime) {
-    is_reply(&rt, rt.alloc(), Reply::Busy, "79");
+    is_reply(&rt, rt.alloc(), &Reply::Busy, "79");
 }
 
 #[test]
 fn mfgrep(rt: HostRuntime) {
-    let message = MakerMessage {
-        vendor: [0x5C, 0xD1, 0x2E],
-        bytes: list(&rt, &[1, 2]),
-    };
-    is_reply(&rt, rt.alloc(), Reply::MakerReply(message), "905CD12E0102");
+    let message = MakerMessage::new([0x5C, 0xD1, 0x2E], &[1, 2]).expect(&rt, "two bytes");
+    is_reply(&rt, rt.alloc(), &Reply::MakerReply(message), "905CD12E0102");
 }

@@ -39,20 +39,25 @@ COMSET 7 9600|NAK COM
 MFG 53494D 01|NAK ACK MFGREP
 ";
 
-/// An event and its copy are the event that this reply tells, and tell it.
-fn is_told_by(rt: &impl Abort, event: Event, reply: Reply) {
-    assert!(rt; event.copy() == event);
-    assert!(rt; event.to_reply() == reply);
-    assert!(rt; reply.to_event() == Ok(event));
+/// An event and its copy are printed as this text, and so is the reply that tells it.
+fn is_told(rt: &impl Abort, alloc: Global, event: &Event<'_>, text: &str) {
+    prints(rt, alloc, event, text);
+    prints(rt, alloc, &event.copy(), text);
+    prints(rt, alloc, &event.reply(), text);
 }
 
 /// The words are an event's text, and the reply of this text tells that event.
 fn is_event(rt: &impl Abort, alloc: Global, words: &[&str], text: &str) {
-    let event = Event::parse(words).ok().expect(rt, text);
-    let reply = Reply::parse(words).ok().expect(rt, text);
-    let printed = event.to_string(alloc).ok().expect(rt, "memory for a text");
-    is_text(rt, printed.as_str(), text);
-    is_told_by(rt, event, reply);
+    let mut place = Spelling::new();
+    let event = Event::parse(words, &mut place).ok().expect(rt, text);
+    is_told(rt, alloc, &event, text);
+    let mut place = Spelling::new();
+    let reply = Reply::parse(words, &mut place).ok().expect(rt, text);
+    assert!(rt;
+        event.reply().write().as_slice() == reply.write().as_slice(),
+        "{text}"
+    );
+    is_told(rt, alloc, &reply.event().expect(rt, text), text);
 }
 
 #[test]
@@ -63,12 +68,18 @@ fn events_are_replies(rt: HostRuntime) {
     }
 }
 
-/// The words are no event's, and the reply of this text tells none and comes back.
+/// The words are no event's, and the reply of this text tells none.
 fn is_no_event(rt: &impl Abort, words: &[&str], text: &str) {
-    assert!(rt; Event::parse(words) == Err(BadWords), "{text}");
-    let reply = Reply::parse(words).ok().expect(rt, text);
-    let same = reply.copy();
-    assert!(rt; reply.to_event() == Err(same), "{text}");
+    assert!(rt; is_bad(words), "{text}");
+    let mut place = Spelling::new();
+    let reply = Reply::parse(words, &mut place).ok().expect(rt, text);
+    assert!(rt; reply.event().is_none(), "{text}");
+}
+
+/// Whether these are no words of an event.
+fn is_bad(words: &[&str]) -> bool {
+    let mut place = Spelling::new();
+    Event::parse(words, &mut place).err() == Some(BadWords)
 }
 
 #[test]
@@ -81,14 +92,23 @@ fn others_are_none(rt: HostRuntime) {
 
 #[test]
 fn bad_words(rt: HostRuntime) {
-    assert!(rt; Event::parse(&[]) == Err(BadWords));
-    assert!(rt; Event::parse(&["KEYPAD", "0"]) == Err(BadWords));
+    assert!(rt; is_bad(&[]));
+    assert!(rt; is_bad(&["KEYPAD", "0"]));
 }
 
 /// The reply of this text fits the command exactly where its name is listed.
-fn fits_as_listed(rt: &impl Abort, alloc: Global, command: &Command, text: &str, names: &[&str]) {
+fn fits_as_listed(
+    rt: &impl Abort,
+    alloc: Global,
+    command: &Command<'_>,
+    text: &str,
+    names: &[&str],
+) {
     let words = words_of(rt, alloc, text);
-    let reply = Reply::parse(words.as_slice()).ok().expect(rt, text);
+    let mut place = Spelling::new();
+    let reply = Reply::parse(words.as_slice(), &mut place)
+        .ok()
+        .expect(rt, text);
     let name = *words.as_slice().first().expect(rt, "a name");
     assert_eq!(rt; fits(command, &reply), names.contains(&name), "{text}");
 }
@@ -97,7 +117,7 @@ fn fits_as_listed(rt: &impl Abort, alloc: Global, command: &Command, text: &str,
 fn fit_as_listed(
     rt: &impl Abort,
     alloc: Global,
-    command: &Command,
+    command: &Command<'_>,
     texts: &[&str],
     names: &[&str],
 ) {
@@ -112,7 +132,10 @@ fn fitting(rt: HostRuntime) {
         let (text, names) = row.split_once('|').expect(&rt, "a command and names");
         let words = words_of(&rt, rt.alloc(), text);
         let names = words_of(&rt, rt.alloc(), names);
-        let command = Command::parse(words.as_slice()).ok().expect(&rt, text);
+        let mut place = Spelling::new();
+        let command = Command::parse(words.as_slice(), &mut place)
+            .ok()
+            .expect(&rt, text);
         fit_as_listed(&rt, rt.alloc(), &command, &EVENTS, names.as_slice());
         fit_as_listed(&rt, rt.alloc(), &command, &OTHERS, names.as_slice());
     }

@@ -40,13 +40,15 @@ fn line(rt: &impl Abort, alloc: Global, name: &str, word: &str, count: usize) ->
 
 #[test]
 fn an_output_from_its_record(rt: HostRuntime) {
-    let made = Outputs::new(&[OUTPUT]).expect(&rt, "one record");
+    let records = [OUTPUT];
+    let made = Outputs::new(&records).expect(&rt, "one record");
     prints(&rt, rt.alloc(), &Command::Output(made), "OUT 1:5:300");
 }
 
 #[test]
 fn an_led_from_its_record(rt: HostRuntime) {
-    let made = Leds::new(&[led()]).expect(&rt, "one record");
+    let records = [led()];
+    let made = Leds::new(&records).expect(&rt, "one record");
     prints(
         &rt,
         rt.alloc(),
@@ -78,7 +80,8 @@ fn no_outputs_and_leds_or_too_many(rt: HostRuntime) {
 
 #[test]
 fn a_card_from_its_bits(rt: HostRuntime) {
-    let made = Raw::new(1, 0, 26, &[0x0A, 0x0B, 0x0C, 0x40]).expect(&rt, "four bytes");
+    let bytes = [0x0A, 0x0B, 0x0C, 0x40];
+    let made = Raw::new(1, 0, 26, &bytes).expect(&rt, "four bytes");
     prints(&rt, rt.alloc(), &Event::Raw(made), "RAW 1 0 26 0A0B0C40");
 }
 
@@ -108,7 +111,8 @@ fn words_of_a_line_have_spaces_between(rt: HostRuntime) {
         "  OUT 0:2:0 1:1:5",
         "OUT   0:2:0  1:1:5   ",
     ] {
-        let command = Command::parse_line(text).ok().expect(&rt, text);
+        let mut place = Spelling::new();
+        let command = Command::parse_line(text, &mut place).ok().expect(&rt, text);
         prints(&rt, rt.alloc(), &command, "OUT 0:2:0 1:1:5");
     }
 }
@@ -126,7 +130,8 @@ fn a_line_that_is_no_command(rt: HostRuntime) {
         "KEYPAD 0 31",
         "POLL 0",
     ] {
-        assert_eq!(rt; Command::parse_line(text), Err(BadWords));
+        let mut place = Spelling::new();
+        assert_eq!(rt; Command::parse_line(text, &mut place).err(), Some(BadWords));
     }
 }
 
@@ -140,7 +145,11 @@ fn a_line_of_many_words(rt: HostRuntime) {
         (1_000, false),
     ] {
         let text = line(&rt, rt.alloc(), "OUT", "  0:2:0", count);
-        assert_eq!(rt; Command::parse_line(text.as_str()).is_ok(), fits);
+        let mut place = Spelling::new();
+        assert_eq!(rt;
+            Command::parse_line(text.as_str(), &mut place).is_ok(),
+            fits
+        );
     }
 }
 
@@ -148,17 +157,20 @@ fn a_line_of_many_words(rt: HostRuntime) {
 fn a_reply_of_the_most_words(rt: HostRuntime) {
     for (count, fits) in [(0, true), (477, true), (478, false), (479, false)] {
         let text = line(&rt, rt.alloc(), "PDCAP", " 1:2:3", count);
-        assert_eq!(rt; Reply::parse_line(text.as_str()).is_ok(), fits);
+        let mut place = Spelling::new();
+        assert_eq!(rt; Reply::parse_line(text.as_str(), &mut place).is_ok(), fits);
     }
 }
 
 #[test]
 fn an_event_of_a_line(rt: HostRuntime) {
-    let event = Event::parse_line(" KEYPAD  0 3132")
+    let mut place = Spelling::new();
+    let event = Event::parse_line(" KEYPAD  0 3132", &mut place)
         .ok()
         .expect(&rt, "an event");
     prints(&rt, rt.alloc(), &event, "KEYPAD 0 3132");
     for text in ["ACK", "KEYPAD 0", "KEYPAD\t0 31", "OUT 0:2:0", ""] {
-        assert_eq!(rt; Event::parse_line(text), Err(BadWords));
+        let mut place = Spelling::new();
+        assert_eq!(rt; Event::parse_line(text, &mut place).err(), Some(BadWords));
     }
 }

@@ -43,15 +43,20 @@ fn is_plain(rt: &impl Abort, alloc: Global, message: &impl fmt::Display, text: &
 fn is_plain_message(rt: &impl Abort, alloc: Global, kind: &str, text: &str) {
     let words = words_of(rt, alloc, text);
     let words = words.as_slice();
+    let mut place = Spelling::new();
     match kind {
-        "command" => is_plain(
-            rt,
-            alloc,
-            &Command::parse(words).ok().expect(rt, text),
-            text,
-        ),
-        "reply" => is_plain(rt, alloc, &Reply::parse(words).ok().expect(rt, text), text),
-        _ => is_plain(rt, alloc, &Event::parse(words).ok().expect(rt, text), text),
+        "command" => {
+            let command = Command::parse(words, &mut place).ok().expect(rt, text);
+            is_plain(rt, alloc, &command, text);
+        }
+        "reply" => {
+            let reply = Reply::parse(words, &mut place).ok().expect(rt, text);
+            is_plain(rt, alloc, &reply, text);
+        }
+        _ => {
+            let event = Event::parse(words, &mut place).ok().expect(rt, text);
+            is_plain(rt, alloc, &event, text);
+        }
     }
 }
 

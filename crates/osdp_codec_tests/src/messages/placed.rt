@@ -1,4 +1,4 @@
-//! Commands that are put in one place, one after the other.
+//! Commands that are read, parsed and written in one place, one after the other; and messages that are kept as bytes.
 use super::*;
 
 /// A code, its data, and the text of the command. Of two of one kind with a list the second has the shorter one.
@@ -22,39 +22,13 @@ const COMMANDS: &str = "\
 6E 0780250000 COMSET 7 9600
 ";
 
-/// A code and data are put in place of what stands there, as the command of this text.
-fn is_put(
-    rt: &impl Abort,
-    alloc: Global,
-    place: &mut Option<Command>,
-    code: u8,
-    data: &[u8],
-    text: &str,
-) {
-    assert_eq!(rt; Command::read_into(code, data, place), Ok(()), "{text}");
-    let command = place.as_ref().expect(rt, text);
-    let printed = command
-        .to_string(alloc)
-        .ok()
-        .expect(rt, "memory for a text");
-    is_text(rt, printed.as_str(), text);
-}
-
-/// An equal command is put in place of another one, and its code and data in place of those of the other one.
-fn is_copied(rt: &impl Abort, command: &Command, copied: &mut Command, code: u8, data: &[u8]) {
-    let mut written = copied.write();
-    command.copy_into(copied);
-    assert!(rt; *copied == *command);
-    copied.write_into(&mut written);
-    is_spelled(rt, written.as_slice(), code, data);
-}
-
-/// A row's command is put in place of what stands there, and then an equal one in place of a copy.
+/// A row's command is read from its code and data; parsed in place of what stands in `place`; and written, and read again, in place of
+/// what stands in `written`.
 fn row_is_put(
     rt: &impl Abort,
     alloc: Global,
-    place: &mut Option<Command>,
-    copied: &mut Command,
+    place: &mut Spelling,
+    written: &mut Spelling,
     row: &str,
 ) {
     let (digits, rest) = row.split_once(' ').expect(rt, "a code");
@@ -65,24 +39,45 @@ fn row_is_put(
     let (digits, text) = rest.split_once(' ').expect(rt, "data");
     let digits = if digits == "none" { "" } else { digits };
     let data = bytes_of(rt, alloc, digits);
-    is_put(rt, alloc, place, code, data.as_slice(), text);
-    let command = place.as_ref().expect(rt, text);
-    is_copied(rt, command, copied, code, data.as_slice());
+    let data = data.as_slice();
+    let read = Command::read(code, data).ok().expect(rt, text);
+    is_command(rt, alloc, &read, code, data, text);
+    let words = words_of(rt, alloc, text);
+    let parsed = Command::parse(words.as_slice(), place)
+        .ok()
+        .expect(rt, text);
+    is_command(rt, alloc, &parsed, code, data, text);
+    parsed.write_into(written);
+    is_spelled(rt, written.as_slice(), code, data);
+    prints(rt, alloc, &Command::kept(written.as_slice()), text);
 }
 
 #[test]
 fn commands_in_one_place(rt: HostRuntime) {
-    let mut place = None;
-    let mut copied = Command::Poll;
+    let (mut place, mut written) = (Spelling::new(), Spelling::new());
     for row in COMMANDS.lines() {
-        row_is_put(&rt, rt.alloc(), &mut place, &mut copied, row);
+        row_is_put(&rt, rt.alloc(), &mut place, &mut written, row);
     }
 }
 
 #[test]
-fn refused_bytes_leave_no_command(rt: HostRuntime) {
-    let mut place = Some(Command::Id(1));
-    let fault = Command::read_into(0x6B, &[0, 1, 0, 1, 1, 2, 65], &mut place);
-    assert_eq!(rt; fault, Err(MsgFault::Count));
-    assert!(rt; place.is_none());
+fn messages_kept_as_bytes(rt: HostRuntime) {
+    let alloc = rt.alloc();
+    prints(&rt, alloc, &Command::kept(&[0x61, 3]), "ID 3");
+    prints(&rt, alloc, &Reply::kept(&[0x41, 4]), "NAK 4");
+    prints(&rt, alloc, &Event::kept(&[0x53, 0, 1, 49]), "KEYPAD 0 31");
+}
+
+#[test]
+fn bytes_that_are_no_message_stand_for_one_without_data(rt: HostRuntime) {
+    let alloc = rt.alloc();
+    for bytes in [&[0x6B, 0, 1, 0, 1, 1, 2, 65][..], &[0x40], &[]] {
+        prints(&rt, alloc, &Command::kept(bytes), "POLL");
+    }
+    for bytes in [&[0x53, 0, 2, 49][..], &[0x60], &[]] {
+        prints(&rt, alloc, &Reply::kept(bytes), "ACK");
+    }
+    for bytes in [&[0x41, 4][..], &[0x60], &[]] {
+        prints(&rt, alloc, &Event::kept(bytes), "ISTATR none");
+    }
 }

@@ -51,7 +51,7 @@ returns-clause-ever g c = (
 
 pub returns-clause-room : goal.returns-clause-room
 returns-clause-room g c = (
-  (λ config handler capacity. omega arith),
+  (λ config handler capacity. (omega arith, omega arith)),
   (
     (λ r p room. outcome_keeps g.H.Handler.answer_of g.H.Handler.after HasRoom (kind_of r p) r p keeps_room room),
     (λ r event free room. submit_room r event free room),

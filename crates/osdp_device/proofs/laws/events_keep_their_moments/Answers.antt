@@ -4,7 +4,7 @@ use Rattle.osdp_device.proofs.Waiting.{arrives, leaves, released, stayed, tells_
 use Rattle.osdp_device.proofs.laws.events_keep_their_moments.Goals as goal
 
 pub returns-clause-none : goal.returns-clause-none
-returns-clause-none g c config handler capacity = record { events = refl; moments = refl; room = refl; within = omega arith }
+returns-clause-none g c config handler room = record { events = refl; moments = refl; room = refl; within = omega arith }
 
 pub returns-clause-arrives : goal.returns-clause-arrives
 returns-clause-arrives g c = arrives g.row.H.Denot

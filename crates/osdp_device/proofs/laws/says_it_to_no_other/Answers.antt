@@ -8,8 +8,8 @@ use Rattle.osdp_device.specs.Program.{program_after, program_answer}
 use Rattle.osdp_device.specs.Saying.{Said, bytes_of}
 use Rattle.osdp_device.specs.Telling.{items_of}
 use Rattle.osdp_device.specs.declared.program.ProgramAnswers.{ProgramAnswers}
-use Rattle.osdp_device.specs.declared.program.Question.{Question}
-use Rattle.osdp_device.specs.declared.program.Question.TheVariants.{NotAsked, Asked, Answered}
+use Rattle.osdp_device.specs.declared.question.Question.{Question}
+use Rattle.osdp_device.specs.declared.question.Question.TheVariants.{NotAsked, Asked, Answered}
 use Rattle.osdp_device.proofs.Sets.{repeats_stored, says_no_other}
 use Rattle.osdp_device.proofs.laws.says_it_to_no_other.Goals as goal
 

@@ -8,8 +8,8 @@ use Rattle.osdp_device.specs.DecidingLaws.{IsSaidTo}
 use Rattle.osdp_device.specs.Program.{program_after, program_answer, set_or_told}
 use Rattle.osdp_device.specs.Telling.{items_of, next_told}
 use Rattle.osdp_device.specs.declared.program.ProgramAnswers.{ProgramAnswers}
-use Rattle.osdp_device.specs.declared.program.Question.{Question}
-use Rattle.osdp_device.specs.declared.program.Question.TheVariants.{Asked, Answered}
+use Rattle.osdp_device.specs.declared.question.Question.{Question}
+use Rattle.osdp_device.specs.declared.question.Question.TheVariants.{Asked, Answered}
 use Rattle.osdp_device.proofs.Sets.{says_it}
 use Rattle.osdp_device.proofs.Staying.{stays_ended, stays_taken, stays_tick}
 use Rattle.osdp_device.proofs.laws.says_what_was_set.Goals as goal

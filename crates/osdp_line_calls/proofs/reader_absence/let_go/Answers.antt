@@ -1,42 +1,52 @@
-use Rattle.std.proofs.Common.{◌++◌, string_bytes, sym, ap, ◌∙◌, arith, append-nil}
+use Rattle.std.proofs.Common.{◌++◌, cond, length, string_bytes, refl, sym, ap, ◌∙◌, arith, append-nil}
+use Rattle.osdp_device.specs.Ages.{after_expiry, after_removal}
+use Rattle.osdp_device.specs.Device.{DeviceState}
+use Rattle.osdp_device.specs.declared.status.DeviceStatus.{DeviceStatus}
 use Rattle.osdp_line_calls.specs.ReaderAbsence.{LetGo}
 use Rattle.osdp_line_calls.specs.ReaderTexts.{expired_lines}
-use Rattle.osdp_line_calls.proofs.LettingGo.{goes, stays, wrote_one}
+use Rattle.osdp_line_calls.proofs.LettingGo.{ages_of, goes, leaves, line_of, none_goes, reader_of, wrote_one}
 use Rattle.osdp_line_calls.proofs.reader_absence.let_go.Goals as goal
+
+-- a device whose oldest event has left
+gone : DeviceState DeviceStatus → DeviceState DeviceStatus
+gone d = record d { reader = after_expiry d.reader; ages = after_removal false (length d.reader.queue.events) d.ages }
 
 pub events-smaller : goal.events-smaller
 events-smaller c =
-    let g = goes c.args.now c.args.limit c.in-Some.expired c.events.device.reader c.expire_event.new.self.reader c.events.device.ages c.expire_event.new.self.ages
-    c.in-Some.ensures.event c.expire_event.ensures.reader c.expire_event.ensures.ages in
+    let d = c.events.device in
+    let q = c.expire_event.new.self in
+    let test = leaves c.args.now c.args.limit d.reader d.ages in
+    let g = goes c.args.now c.args.limit c.in-Some.expired d.reader q.reader d.ages q.ages c.in-Some.ensures
+    (reader_of test (gone d) d q c.expire_event.ensures.device) (ages_of test (gone d) d q c.expire_event.ensures.device) in
     omega (arith, g.fewer)
 
 pub events-preserved : goal.events-preserved
 events-preserved c =
-    let g = goes c.args.now c.args.limit c.in-Some.expired c.events.device.reader c.expire_event.new.self.reader c.events.device.ages c.expire_event.new.self.ages
-    c.in-Some.ensures.event c.expire_event.ensures.reader c.expire_event.ensures.ages in
+    let d = c.events.device in
+    let q = c.expire_event.new.self in
+    let test = leaves c.args.now c.args.limit d.reader d.ages in
+    let g = goes c.args.now c.args.limit c.in-Some.expired d.reader q.reader d.ages q.ages c.in-Some.ensures
+    (reader_of test (gone d) d q c.expire_event.ensures.device) (ages_of test (gone d) d q c.expire_event.ensures.device) in
     record {
       text = wrote_one (string_bytes c.events.text) (string_bytes c.push_expired.new.text) _ c.in-Some.expired _ _ c.in_ok-push_expired.ensures g.all
           c.events.invariant.text;
       reader = sym (ap (λ (x : LetGo). x.reader) g.all) ∙ c.events.invariant.reader;
       ages = sym (ap (λ (x : LetGo). x.ages) g.all) ∙ c.events.invariant.ages;
-      line = c.expire_event.ensures.line ∙ c.events.invariant.line;
+      line = line_of test (gone d) d q refl c.expire_event.ensures.device ∙ c.events.invariant.line;
     }
 
 pub returns-clause-text : goal.returns-clause-text
 returns-clause-text c =
-    let s = stays c.args.now c.args.limit c.events.device.reader c.expire_event.new.self.reader c.events.device.ages c.expire_event.new.self.ages
-    c.in_default.ensures.event c.expire_event.ensures.reader c.expire_event.ensures.ages in
-    sym (append-nil (string_bytes c.events.text)) ∙ sym (ap (λ (x : LetGo). string_bytes c.events.text ++ expired_lines x.expired) s.none)
+    let none = none_goes c.args.now c.args.limit c.events.device.reader c.events.device.ages c.in_default.ensures in
+    sym (append-nil (string_bytes c.events.text)) ∙ sym (ap (λ (x : LetGo). string_bytes c.events.text ++ expired_lines x.expired) none)
     ∙ c.events.invariant.text
 
 pub returns-clause-reader : goal.returns-clause-reader
 returns-clause-reader c =
-    let s = stays c.args.now c.args.limit c.events.device.reader c.expire_event.new.self.reader c.events.device.ages c.expire_event.new.self.ages
-    c.in_default.ensures.event c.expire_event.ensures.reader c.expire_event.ensures.ages in
-    s.reader ∙ sym (ap (λ (x : LetGo). x.reader) s.none) ∙ c.events.invariant.reader
+    let none = none_goes c.args.now c.args.limit c.events.device.reader c.events.device.ages c.in_default.ensures in
+    sym (ap (λ (x : LetGo). x.reader) none) ∙ c.events.invariant.reader
 
 pub returns-clause-ages : goal.returns-clause-ages
 returns-clause-ages c =
-    let s = stays c.args.now c.args.limit c.events.device.reader c.expire_event.new.self.reader c.events.device.ages c.expire_event.new.self.ages
-    c.in_default.ensures.event c.expire_event.ensures.reader c.expire_event.ensures.ages in
-    s.ages ∙ sym (ap (λ (x : LetGo). x.ages) s.none) ∙ c.events.invariant.ages
+    let none = none_goes c.args.now c.args.limit c.events.device.reader c.events.device.ages c.in_default.ensures in
+    sym (ap (λ (x : LetGo). x.ages) none) ∙ c.events.invariant.ages

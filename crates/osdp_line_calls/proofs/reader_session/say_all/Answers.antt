@@ -1,18 +1,19 @@
-use Rattle.std.proofs.Common.{◌≡◌, ◌++◌, suc, length, string_bytes, Some, None, sym, ap, ◌∙◌, arith, append-nil, refl}
+use Rattle.std.proofs.Common.{◌≡◌, ◌++◌, suc, length, string_bytes, Some, None, sym, ap, subst, ◌∙◌, arith, append-nil, refl}
 use Rattle.osdp_device.specs.Ages.{after_saying}
 use Rattle.osdp_frame.specs.Receiving.{Received}
 use Rattle.osdp_frame.specs.Held.{Held}
-use Rattle.osdp_device.specs.Saying.{said_in}
+use Rattle.osdp_device.specs.Saying.{Said}
+use Rattle.osdp_device.specs.Lent.{said_by}
 use Rattle.osdp_device.specs.Status.{status_after, status_answer}
 use Rattle.osdp_device.specs.Telling.{after_items, after_all, items_of, said_to_all}
 use Rattle.osdp_line_calls.specs.ReaderSessions.{is_any}
-use Rattle.osdp_line_calls.specs.ReaderTexts.{all_lines}
+use Rattle.osdp_line_calls.specs.ReaderTexts.{all_lines, said_lines}
 use Rattle.osdp_line_calls.proofs.ReaderTurns.{ages_on, line_on, turned, written}
 use Rattle.osdp_line_calls.proofs.reader_session.say_all.Goals as goal
 
 pub responses-smaller : goal.responses-smaller
 responses-smaller c =
-    let t = turned c.responses.device.reader c.responses.device.line.held (Some (said_in c.in-Some.response)) c.next.new.self.reader c.next.new.self.line.held
+    let t = turned c.responses.device.reader c.responses.device.line.held (Some (record { kind = c.in-Some.kind; command = c.next.new.self.command; bytes = c.next.new.out.items })) c.next.new.self.reader c.next.new.self.line.held
     c.in-Some.ensures.said c.next.ensures.reader (ap (λ (l : Received). l.held) c.next.ensures.line) in
     let fewer : length (said_to_all status_answer status_after (items_of c.responses.device.line.held) c.responses.device.reader)
     ≡ suc (length (said_to_all status_answer status_after (items_of c.next.new.self.line.held) c.next.new.self.reader)) = ap length t.said in
@@ -20,15 +21,17 @@ responses-smaller c =
 
 pub responses-preserved : goal.responses-preserved
 responses-preserved c =
-    let t = turned c.responses.device.reader c.responses.device.line.held (Some (said_in c.in-Some.response)) c.next.new.self.reader c.next.new.self.line.held
+    let t = turned c.responses.device.reader c.responses.device.line.held (Some (record { kind = c.in-Some.kind; command = c.next.new.self.command; bytes = c.next.new.out.items })) c.next.new.self.reader c.next.new.self.line.held
     c.in-Some.ensures.said c.next.ensures.reader (ap (λ (l : Received). l.held) c.next.ensures.line) in
+    let same : said_by c.heard.result c.as_slice.result.now ≡ record { kind = c.in-Some.kind; command = c.next.new.self.command; bytes = c.next.new.out.items } =
+    λ i. record { kind = c.heard.ensures.kind i; command = c.heard.ensures.command i; bytes = c.as_slice.ensures.value i } in
     record {
-      text = written (string_bytes c.responses.text) (string_bytes c.push_response.new.text) _ (said_in c.in-Some.response) _ _
-          c.in_ok-push_response.ensures t.said c.responses.invariant.text;
+      text = written (string_bytes c.responses.text) (string_bytes c.push_said.new.text) _ (record { kind = c.in-Some.kind; command = c.next.new.self.command; bytes = c.next.new.out.items }) _ _
+          (subst (λ (s : Said). string_bytes c.push_said.new.text ≡ string_bytes c.responses.text ++ said_lines s) same c.in_ok-push_said.ensures) t.said c.responses.invariant.text;
       reader = sym t.reader ∙ c.responses.invariant.reader;
       left = sym t.left ∙ c.responses.invariant.left;
       line = line_on c.args.device.now.line c.responses.device.line c.next.new.self.line _ c.responses.invariant.line c.next.ensures.line;
-      ages = ages_on _ _ (said_in c.in-Some.response) c.args.device.now.line.greatest c.responses.device.line.greatest c.responses.device.ages c.next.new.self.ages _
+      ages = ages_on _ _ (record { kind = c.in-Some.kind; command = c.next.new.self.command; bytes = c.next.new.out.items }) c.args.device.now.line.greatest c.responses.device.line.greatest c.responses.device.ages c.next.new.self.ages _
           t.said c.in-Some.ensures.ages (ap (λ (l : Received). l.greatest) c.responses.invariant.line) c.responses.invariant.ages;
     }
 

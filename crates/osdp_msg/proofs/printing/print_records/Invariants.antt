@@ -1,9 +1,13 @@
-use Rattle.std.proofs.Common.{◌++◌, ◌∷◌, take}
+use Rattle.std.proofs.Common.{◌≡◌, ◌++◌, ◌∷◌, List, length}
 use Rattle.std.specs.Fmt.{HasWritten, IsPlainFormatter}
 use Rattle.std.specs.List.{flat_map}
 use Rattle.osdp_words.specs.Word.{printed}
 use Rattle.osdp_msg.proofs.printing.print_records.Given as goal
 
-abbrev pub invariant-loop-record : goal.invariant-loop-record
-invariant-loop-record g l =
-    IsPlainFormatter l.fn.f → HasWritten g.W.Write.write_str_gives l.fn.f (l.name ++ flat_map (λ r. 32 ∷ printed (g.R.Record.word r)) (take l.record-index l.records)) l.f
+abbrev pub invariant-records : goal.invariant-records
+invariant-records g l =
+    (done : List g.row.R.Denot) × (l.fn.records ≡ done ++ l.left)
+    × (IsPlainFormatter l.fn.f → HasWritten g.W.Write.write_str_gives l.fn.f (l.name ++ flat_map (λ r. 32 ∷ printed (g.R.Record.word r)) done) l.f)
+
+abbrev pub decreases-records : goal.decreases-records
+decreases-records g l = length l.left

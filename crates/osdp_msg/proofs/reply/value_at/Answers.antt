@@ -1,4 +1,4 @@
-use Rattle.std.proofs.Common.{◌+◌, ◌/◌, drop, length, slice_index, true, lit<, arith}
+use Rattle.std.proofs.Common.{◌+◌, ◌/◌, drop, length, slice_index, true, arith}
 use Rattle.byteorder.specs.Endian.{little_number}
 use Rattle.osdp_msg.proofs.Replies.{row_passes}
 use Rattle.osdp_msg.proofs.Table.{any_length, counted, counted_length, exactly, has_length, multiple}
@@ -10,22 +10,22 @@ read-requires c = has_length 1 c.args.bytes.now (row_passes _ _ _ c.in-65.is c.r
 pub read-requires-in-69 : goal.read-requires-in-69
 read-requires-in-69 c = (exactly (length c.args.bytes.now) 12 true (row_passes _ _ _ c.in-69.is c.requires)).0
 
-pub read_records-requires : goal.read_records-requires
-read_records-requires c =
+pub read-requires-in-70 : goal.read-requires-in-70
+read-requires-in-70 c =
     let p = multiple 3 (length c.args.bytes.now) true (row_passes _ _ _ c.in-70.is c.requires) in
-    (lit< tt, (p.0, omega arith))
+    record { whole = p.0; room = omega (arith, p.1) }
 
 pub read-requires-in-72 : goal.read-requires-in-72
 read-requires-in-72 c = (exactly (length c.args.bytes.now) 2 true (row_passes _ _ _ c.in-72.is c.requires)).0
 
-pub list_of-requires : goal.list_of-requires
-list_of-requires c = (lit< tt, any_length (length c.args.bytes.now) true (row_passes _ _ _ c.in-73.is c.requires))
+pub read-requires-in-73 : goal.read-requires-in-73
+read-requires-in-73 c = any_length (length c.args.bytes.now) true (row_passes _ _ _ c.in-73.is c.requires)
 
-pub list_of-requires-in-74 : goal.list_of-requires-in-74
-list_of-requires-in-74 c = (lit< tt, any_length (length c.args.bytes.now) true (row_passes _ _ _ c.in-74.is c.requires))
+pub read-requires-in-74 : goal.read-requires-in-74
+read-requires-in-74 c = any_length (length c.args.bytes.now) true (row_passes _ _ _ c.in-74.is c.requires)
 
-pub list_of-requires-in-75 : goal.list_of-requires-in-75
-list_of-requires-in-75 c = (lit< tt, any_length (length c.args.bytes.now) true (row_passes _ _ _ c.in-75.is c.requires))
+pub read-requires-in-75 : goal.read-requires-in-75
+read-requires-in-75 c = any_length (length c.args.bytes.now) true (row_passes _ _ _ c.in-75.is c.requires)
 
 pub read-requires-in-80 : goal.read-requires-in-80
 read-requires-in-80 c =

@@ -1,6 +1,10 @@
-use Rattle.std.proofs.Common.{◌≡◌, drop}
+use Rattle.std.proofs.Common.{◌≡◌, length}
 use Rattle.osdp_script.specs.Outputs.{outputs_after}
 use Rattle.osdp_script.proofs.outputs.switch_all.Given as goal
 
-abbrev pub invariant-loop-record : goal.invariant-loop-record
-invariant-loop-record l = outputs_after l.outputs (drop l.record-index l.records) ≡ outputs_after l.fn.outputs l.records
+-- the records that are left do to the outputs as they are what all of them do to those at first
+abbrev pub invariant-records : goal.invariant-records
+invariant-records l = outputs_after l.outputs l.left ≡ outputs_after l.fn.outputs l.fn.records
+
+abbrev pub decreases-records : goal.decreases-records
+decreases-records l = length l.left

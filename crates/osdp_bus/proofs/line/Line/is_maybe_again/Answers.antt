@@ -9,7 +9,7 @@ use Rattle.osdp_bus.proofs.line.Line.is_maybe_again.Goals as goal
 pub returns-then-entry-len : goal.returns-then-entry-len
 returns-then-entry-len c =
     let ms = c.args.self.now.memories.items in
-    let report = c.in-Some.report.now in
+    let report = c.in-Some.report in
     let within : c.in-Some.entry < length ms = search rules in
     let there : slice_get ms c.in-Some.entry ≡ Some c.index.result.now =
     slice_get-get_or ms c.in-Some.entry c.index.result.now within ∙ sym (ap Some c.index.ensures) in

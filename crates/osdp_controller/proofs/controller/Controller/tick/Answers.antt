@@ -1,8 +1,7 @@
 use Rattle.osdp_controller.proofs.Keeping.{keeps_seen}
-use Rattle.osdp_controller.specs.Machine.{IsSession}
+use Rattle.osdp_controller.proofs.Waiting.{keeps_session}
 use Rattle.osdp_controller.proofs.controller.Controller.tick.Goals as goal
 
 pub invariant_of-self : goal.invariant_of-self
 invariant_of-self c =
-    let is : IsSession c.see.new.self = rw c.see.ensures (keeps_seen c.args.now c.self.inside.session c.self.invariant.session) in
-    record { session = is; capacity = c.self.invariant.capacity; waiting = c.self.invariant.waiting; room = c.self.invariant.room }
+    rw c.see.ensures (keeps_session c.self.inside.session _ c.self.inside.waiting (keeps_seen c.args.now c.self.inside.session c.self.invariant.machine.session) c.self.invariant)

@@ -21,11 +21,11 @@ has_number (Pausing until o) number answer s e = rw e refl
 pub returns-then-not-is_no_answer : goal.returns-then-not-is_no_answer
 returns-then-not-is_no_answer c =
     let s = c.args.self.now in
-    let read : c.read_into.new.place ≡ meaning_of c.args.frame.now = search rules in
+    let read : c.read-answer.result ≡ meaning_of c.args.frame.now = search rules in
     let same = ap (λ (answer : ReplyMeaning). hears_in s.state c.args.frame.now.sequence answer s) (sym read)
-    ∙ has_number s.state c.args.frame.now.sequence c.read_into.new.place s (search rules) in
+    ∙ has_number s.state c.args.frame.now.sequence c.read-answer.result s (search rules) in
     record {
       report = c.hear_numbered.ensures.report ∙ ap (λ (h : Heard). h.report) (sym same);
       session = c.hear_numbered.ensures.session ∙ ap (λ (h : Heard). h.session) (sym same);
-      kept = rw c.hear_numbered.ensures.session (keeps_numbered s.state c.read_into.new.place s c.requires.session.state c.requires.session.opening c.requires.session);
+      kept = rw c.hear_numbered.ensures.session (keeps_numbered s.state c.read-answer.result s c.requires.session.state c.requires.session.opening c.requires.session);
     }

@@ -8,7 +8,7 @@ returns-clause-fits c =
       reader = c.put_bytes.ensures.fits 0;
       format = c.put_bytes.ensures.fits 1;
       bits = c.append_u16.ensures.fits;
-      needed = c.self.invariant;
-      room = rw c.as_slice.ensures.value at c.as_slice.ensures.fits;
-      bytes = rw c.as_slice.ensures.value at c.append.ensures.fits;
+      needed = c.self.invariant.0;
+      room = c.self.invariant.1;
+      bytes = c.append.ensures.fits;
     }

@@ -3,7 +3,7 @@ use Rattle.osdp_sim.proofs.Keeping.{parts_length}
 use Rattle.osdp_sim.proofs.kept.Kept.len.Goals as goal
 
 pub returns : goal.returns
-returns g c =
+returns c =
     let sizes = c.self.inside.sizes.items in
     let counted : c.len.result ≡ length sizes = search rules in
-    counted ∙ sym (parts_length (λ size. size) (λ size. g.M.Message.kept) sizes c.self.inside.row.items) ∙ ap (λ kept. length kept.items) c.self.view_is
+    counted ∙ sym (parts_length (λ size. size) (λ size bytes. bytes) sizes c.self.inside.row.items) ∙ ap (λ kept. length kept.items) c.self.view_is

@@ -1,8 +1,13 @@
-use Rattle.std.proofs.Common.{length, ap, sym, ◌∙◌}
+use Rattle.std.proofs.Common.{length, map, ap, sym, ◌∙◌}
+use Rattle.std.proofs.lemmas.List.{length-map}
+use Rattle.osdp_msg.specs.Kept.{command_kept, reply_kept}
+use Rattle.osdp_sim.specs.Kept.{commands_of}
 use Rattle.osdp_sim.proofs.Keeping.{zip_length}
 use Rattle.osdp_sim.proofs.settled.Settled.len.Goals as goal
 
 pub returns : goal.returns
 returns c =
-    c.len.ensures ∙ sym (zip_length c.self.inside.commands.items c.self.inside.answers.items c.self.invariant)
+    let commands = c.self.inside.commands.items in
+    c.len.ensures ∙ sym (length-map commands command_kept)
+    ∙ sym (zip_length (commands_of commands) (map reply_kept c.self.inside.answers.items) c.self.invariant)
     ∙ ap (λ kept. length kept.items) c.self.view_is

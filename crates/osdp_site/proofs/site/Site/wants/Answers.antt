@@ -13,4 +13,4 @@ returns-clause-site c =
     let within : entry < length s.places = omega (arith, c.len.ensures, c.if-entry-len.false) in
     let there : place_of entry s ≡ Some p = slice_get_read s.places (length s.places) entry p refl within c.index_mut.ensures.value in
     rw (sym c.self.view_is) (ap (λ q. record s { places = slice_set s.places entry q }) c.wants.ensures.place
-    ∙ wants_back s entry c.args.command p there)
+    ∙ wants_back s entry c.args.command.now p there)

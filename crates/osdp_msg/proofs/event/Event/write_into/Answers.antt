@@ -1,0 +1,14 @@
+use Rattle.std.proofs.Common.{ap, subst, [], ◌∷◌, ◌∙◌}
+use Rattle.std.specs.Prelude.{unwrap_or}
+use Rattle.osdp_msg.specs.ReplyTable.{ReplyFits, reply_code, reply_data}
+use Rattle.osdp_msg.specs.declared.event.Event.TheVariants.{Inputs}
+use Rattle.osdp_msg.specs.Kept.{event_kept}
+use Rattle.osdp_msg.proofs.Keeping.{event_back}
+use Rattle.osdp_msg.proofs.event.Event.write_into.Goals as goal
+
+pub returns-clause-kept : goal.returns-clause-kept
+returns-clause-kept c =
+    let told = c.reply.ensures in
+    let spelled = c.write_into.ensures.spelled ∙ ap (λ r. reply_code r ∷ reply_data r) told in
+    let back = event_back c.args.self.now (subst ReplyFits told c.write_into.ensures.fits) in
+    ap event_kept spelled ∙ ap (λ read. unwrap_or read (Inputs (record { items = [] }))) back
