@@ -10,7 +10,7 @@ use crate::devices::Devices;
 use crate::found::{FINE, Found, NOTHING};
 use crate::said::{ReadReply, asks_unknown, is_ack, is_unknown, read_reply};
 use osdp_frame::{Burst, FrameView};
-use osdp_msg::{MsgFault, Reply};
+use osdp_msg::Reply;
 use std::alloc::{AllocError, Global};
 
 /// So many bytes the smallest packet has.
@@ -23,9 +23,7 @@ const SMALLEST: u8 = 7;
 pub struct Monitor {
     devices: Devices,
     skipped: u8,
-    ack: Result<Reply, MsgFault>,
     ghost few: { skipped < 7 },
-    ghost lent: { ack ≡ Ok Ack },
 }
 
 impl Monitor {
@@ -38,7 +36,6 @@ impl Monitor {
         Ok(Monitor {
             devices: Devices::new(alloc)?,
             skipped: 0,
-            ack: Ok(Reply::Ack),
         })
     }
 
@@ -112,9 +109,10 @@ impl Monitor {
             self.skipped = 0;
             return FINE;
         }
+        let read = Ok(Reply::Ack);
         let reply = ReadReply {
             packet,
-            read: &self.ack,
+            read: &read,
         };
         let found = self.devices.reply(&reply, expected);
         self.skipped = 0;
@@ -122,8 +120,6 @@ impl Monitor {
     }
 
     /// Takes a reply that is read.
-    // It stands by itself, since what is read has as many bytes as the largest reply.
-    #[inline(never)]
     fn hear_other(&mut self, packet: &FrameView<'_>, expected: &mut Burst) -> Found
         requires device { packet.now.address < 127 }
         requires reply { packet.now.reply ≡ true }

@@ -48,21 +48,25 @@ pub(crate) fn refusal_accused(packet: &FrameView<'_>, reply: &FrameView<'_>) -> 
 }
 
 /// Whether it is a reply that tells no event: ACK or NAK.
-fn is_plain(reply: &Reply) -> bool
+fn is_plain(reply: &Reply<'_>) -> bool
     ensures { result ≡ is_plain reply.now }
 {
     matches!(reply, Reply::Ack | Reply::Nak(_))
 }
 
 /// Whether it is an event to a POLL at number 0.
-fn is_event_at_zero(command: &Command, reply: &Reply, number: u8) -> bool
+fn is_event_at_zero(command: &Command<'_>, reply: &Reply<'_>, number: u8) -> bool
     ensures { result ≡ is_event_at_zero command.now reply.now number }
 {
     matches!(command, Command::Poll) && number == 0 && !is_plain(reply)
 }
 
 /// A reply that can be read fits the command, where that can be read.
-fn fit_accused(command: &Result<Command, MsgFault>, reply: &Reply, number: u8) -> Option<Accusation>
+fn fit_accused(
+    command: &Result<Command<'_>, MsgFault>,
+    reply: &Reply<'_>,
+    number: u8,
+) -> Option<Accusation>
     ensures { result ≡ fit_accused command.now reply.now number }
 {
     let Ok(command) = command else {
@@ -79,7 +83,7 @@ fn fit_accused(command: &Result<Command, MsgFault>, reply: &Reply, number: u8) -
 
 /// A reply that can be read fits the command of the packet, where that can be read. Most are an ACK to a POLL, which fits: nothing is read of the
 /// packet then.
-fn packet_accused(packet: &FrameView<'_>, reply: &Reply) -> Option<Accusation>
+fn packet_accused(packet: &FrameView<'_>, reply: &Reply<'_>) -> Option<Accusation>
     ensures { result ≡ fit_accused (asked packet.now) reply.now packet.now.sequence }
 {
     if matches!(reply, Reply::Ack) && is_poll(packet) {

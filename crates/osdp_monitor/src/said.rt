@@ -13,7 +13,7 @@ use std::marker::Model;
 #[derive(Drop)]
 pub(crate) struct ReadReply<'a, 'b> {
     pub packet: &'a FrameView<'b>,
-    pub read: &'a Result<Reply, MsgFault>,
+    pub read: &'a Result<Reply<'b>, MsgFault>,
 }
 
 impl<'a, 'b> Model for ReadReply<'a, 'b> {
@@ -58,14 +58,14 @@ pub(crate) fn is_ack(packet: &FrameView<'_>) -> bool
 }
 
 /// The reply that a packet from a device is.
-pub(crate) fn read_reply(packet: &FrameView<'_>) -> Result<Reply, MsgFault>
+pub(crate) fn read_reply<'a>(packet: &FrameView<'a>) -> Result<Reply<'a>, MsgFault>
     ensures { result ≡ reply_told packet.now }
 {
     Reply::read(packet.code(), packet.payload())
 }
 
 /// The command that a packet to a device is.
-pub(crate) fn read_command(packet: &FrameView<'_>) -> Result<Command, MsgFault>
+pub(crate) fn read_command<'a>(packet: &FrameView<'a>) -> Result<Command<'a>, MsgFault>
     ensures { result ≡ asked packet.now }
 {
     Command::read(packet.code(), packet.payload())
@@ -89,7 +89,7 @@ pub(crate) fn asks_unknown(packet: &FrameView<'_>) -> bool
 }
 
 /// What a reply says, by what is read of it.
-pub(crate) fn said_in(told: &Result<Reply, MsgFault>) -> Said
+pub(crate) fn said_in(told: &Result<Reply<'_>, MsgFault>) -> Said
     ensures { (code : ℕ) → result ≡ said_by (meaning_by_reading code told.now) }
 {
     match told {
@@ -100,10 +100,10 @@ pub(crate) fn said_in(told: &Result<Reply, MsgFault>) -> Said
 }
 
 /// The same of a NAK: the reason alone decides, whatever detail follows.
-fn said_by_reason(nak: &Nak) -> Said
+fn said_by_reason(nak: &Nak<'_>) -> Said
     ensures { result ≡ said_by (meaning_by_reason nak.now.reason nak.now) }
 {
-    match nak.reason {
+    match nak.reason() {
         NakReason::CheckCharacters => Said::Damage,
         NakReason::UnexpectedSequence => Said::Refusal,
         _ => Said::Answer,
@@ -122,7 +122,7 @@ pub(crate) fn tells_number(said: Said, number: u8) -> bool
 }
 
 /// Whether it is a NAK, whatever its reason.
-pub(crate) fn is_nak(read: &Result<Reply, MsgFault>) -> bool
+pub(crate) fn is_nak(read: &Result<Reply<'_>, MsgFault>) -> bool
     ensures { result ≡ is_nak read.now }
 {
     matches!(read, Ok(Reply::Nak(_)))
@@ -130,8 +130,8 @@ pub(crate) fn is_nak(read: &Result<Reply, MsgFault>) -> bool
 
 /// The address that a COM names which answers a COMSET, where it is another one and that of a device.
 pub(crate) fn moved_by(
-    asked: &Result<Command, MsgFault>,
-    told: &Result<Reply, MsgFault>,
+    asked: &Result<Command<'_>, MsgFault>,
+    told: &Result<Reply<'_>, MsgFault>,
     address: Address,
 ) -> Option<Address>
     ensures { result ≡ moved_by asked.now told.now address }

@@ -107,25 +107,16 @@ fn kind_of_reply(packet: &FrameView<'_>) -> ReplyKind
     if is_other(packet.code()) {
         return ReplyKind::Other;
     }
-    kind_by_reading(packet)
-}
-
-/// The same of one that is read.
-// It stands by itself, since what is read has as many bytes as the largest reply.
-#[inline(never)]
-fn kind_by_reading(packet: &FrameView<'_>) -> ReplyKind
-    ensures { result ≡ kind_of_reply (reply_told packet.now) }
-{
     by_reading(&Reply::read(packet.code(), packet.payload()))
 }
 
 /// The same by what is read of it.
-fn by_reading(read: &Result<Reply, MsgFault>) -> ReplyKind
+fn by_reading(read: &Result<Reply<'_>, MsgFault>) -> ReplyKind
     ensures { result ≡ kind_of_reply read.now }
 {
     match read {
         Ok(Reply::Busy) => ReplyKind::Busy,
-        Ok(Reply::Nak(nak)) => kind_of_reason(nak.reason),
+        Ok(Reply::Nak(nak)) => kind_of_reason(nak.reason()),
         Ok(Reply::Com(named)) => ReplyKind::Sets(named.baud_rate),
         Ok(Reply::Raw(_) | Reply::Formatted(_) | Reply::Keypad(_)) => ReplyKind::Event,
         Ok(_) | Err(_) => ReplyKind::Other,
