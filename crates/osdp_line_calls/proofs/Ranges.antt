@@ -1,11 +1,13 @@
 -- Settings within their ranges keep what is set within them.
-use Rattle.std.proofs.Common.{◌≡◌, Bool, true, false, refl, subst, arith, Some, None}
+use Rattle.std.proofs.Common.{◌≡◌, Bool, true, false, refl, subst, ap, arith, Some, None}
 use Rattle.std.specs.Prelude.{if◌then◌else◌}
 use Rattle.osdp_frame.specs.declared.check_kind.CheckKind.TheVariants.{Crc}
 use Rattle.osdp_bus.specs.declared.config.BusConfig.{BusConfig}
 use Rattle.osdp_bus.specs.Settings.{IsBusConfig}
 use Rattle.osdp_bus.proofs.Defaults as by_default
 use Rattle.osdp_controller.specs.Settings.{IsConfig}
+use Rattle.osdp_msg.specs.declared.limits.Room.{Room}
+use Rattle.osdp_line_calls.specs.Rooms.{room_for}
 use Rattle.osdp_line_calls.specs.declared.panel_command.PanelSetting.{PanelSetting}
 use Rattle.osdp_line_calls.specs.declared.panel_command.PanelSetting.TheVariants.{Check, ReplyWait, PollInterval, Sends, BusyWait, BusyLimit, QuietWait, Gap, Capacity}
 use Rattle.osdp_line_calls.specs.declared.reader_command.ReaderSetting.{ReaderSetting}
@@ -25,9 +27,17 @@ with_config : (c d : BusConfig) → IsBusConfig c → IsConfig (record {
   busy_wait = d.busy_wait;
   busy_limit = d.busy_limit;
   quiet_wait = d.quiet_wait;
-}) → d.gap ≡ c.gap → d.capacity ≡ c.capacity → IsBusConfig d
-with_config c d h config gap capacity = record {
-  controllers = record { config_in_range = config; room = omega (arith, h.controllers.room, capacity); limit = omega (arith, h.controllers.limit, capacity) };
+}) → d.gap ≡ c.gap → d.room ≡ c.room → IsBusConfig d
+with_config c d h config gap room = record {
+  controllers =
+      let messages = ap (λ (r : Room). r.messages) room in
+      let bytes = ap (λ (r : Room). r.bytes) room in
+      record {
+        config_in_range = config;
+        room = omega (arith, h.controllers.room, messages);
+        limit = omega (arith, h.controllers.limit, messages);
+        bytes = (omega (arith, h.controllers.bytes.0, bytes), omega (arith, h.controllers.bytes.1, bytes));
+      };
   gap = (omega (arith, h.gap.0, gap), omega (arith, h.gap.1, gap));
 }
 
@@ -54,7 +64,7 @@ set_in_range (QuietWait n) c fits h =
     let k = h.controllers.config_in_range in
     with_config c _ h (record { address = k.address; reply_wait = k.reply_wait; poll_interval = k.poll_interval; busy_wait = k.busy_wait; quiet_wait = fits; sends = k.sends; busy_limit = k.busy_limit }) refl refl
 set_in_range (Gap n) c fits h = record { controllers = h.controllers; gap = fits }
-set_in_range (Capacity n) c fits h = record { controllers = record { config_in_range = h.controllers.config_in_range; room = fits.0; limit = fits.1 }; gap = h.gap }
+set_in_range (Capacity n) c fits h = record { controllers = record { config_in_range = h.controllers.config_in_range; room = fits.0; limit = fits.1; bytes = (omega (arith, fits.0), omega (arith, fits.1)) }; gap = h.gap }
 
 -- ---- readers
 
@@ -80,7 +90,7 @@ put_in_range (reader.Presence told) r e fits is h = subst of_reader.AreInRange (
 
 -- what is set without settings
 pub bus_in_range : IsBusConfig panel.defaults
-bus_in_range = by_default.bus_in_range Crc 64 3 (omega arith, omega arith) (omega arith, omega arith)
+bus_in_range = by_default.bus_in_range Crc (room_for 64) 3 ((omega arith, omega arith), omega arith, omega arith) (omega arith, omega arith)
 
 pub reader_in_range : of_reader.AreInRange of_reader.defaults
 reader_in_range = record { address = omega arith; room = (omega arith, omega arith); gap = (omega arith, omega arith); expire = omega arith }

@@ -12,6 +12,7 @@ pub mod PanelSessions
 pub mod PanelLines
 pub mod Settings
 pub mod Wrong
+pub mod Rooms
 pub mod PanelSettings
 pub mod ReaderSettings
 pub mod Runs

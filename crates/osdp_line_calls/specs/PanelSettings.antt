@@ -9,6 +9,7 @@ use Rattle.osdp_frame.specs.Check.{check_name}
 use Rattle.osdp_words.specs.Word.{plain, number}
 use Rattle.osdp_line_calls.specs.declared.panel_command.PanelSetting.{PanelSetting}
 use Rattle.osdp_line_calls.specs.declared.panel_command.PanelSetting.TheVariants.{Check, ReplyWait, PollInterval, Sends, BusyWait, BusyLimit, QuietWait, Gap, Capacity}
+use Rattle.osdp_line_calls.specs.Rooms.{room_for}
 use Rattle.osdp_line_calls.specs.Settings.{Entry, IsSends, Make, SettingFits, setting_words}
 
 -- the name of each, its value as a word, and the range that is asked of it
@@ -32,14 +33,14 @@ with_setting (BusyWait n) c = record c { busy_wait = n }
 with_setting (BusyLimit n) c = record c { busy_limit = n }
 with_setting (QuietWait n) c = record c { quiet_wait = n }
 with_setting (Gap n) c = record c { gap = n }
-with_setting (Capacity n) c = record c { capacity = n }
+with_setting (Capacity n) c = record c { room = room_for n }
 
 abbrev pub put : PanelSetting → BusConfig → Option BusConfig
 put s c = Some (with_setting s c)
 
 -- without settings packets end with a CRC, and 64 commands may wait for each device
 abbrev pub defaults : BusConfig
-defaults = default_config Crc 64
+defaults = default_config Crc (room_for 64)
 
 -- the words are settings of a panel, and they make this bus of the defaults
 abbrev pub AreOfPanel : List (List ℕ) → BusConfig → Type 0

@@ -1,8 +1,6 @@
 -- What a call comes to.
-use Rattle.std.specs.Prelude.{◌≡◌, ℕ, ◌+◌, ◌*◌, Bool, true, false, List, [], ◌∷◌, ◌++◌, length, if◌then◌else◌}
-use Rattle.osdp_msg.specs.Limits.{most_data}
+use Rattle.std.specs.Prelude.{◌≡◌, ℕ, Bool, true, false, List, [], ◌∷◌, ◌++◌, length, if◌then◌else◌}
 use Rattle.osdp_msg.specs.declared.event.Event.{Event}
-use Rattle.osdp_msg.specs.declared.limits.Room.{Room}
 use Rattle.osdp_device.specs.Ages.{AgesState, after_arrival_if, after_saying, is_offline, no_ages}
 use Rattle.osdp_device.specs.Hearing.{Heard, hears_bytes, hears_silence, hears_tick}
 use Rattle.osdp_frame.specs.Receiving.{IsAllRead, Received, new_line}
@@ -14,6 +12,7 @@ use Rattle.osdp_reader.specs.State.{ReaderState, after_set_busy, after_set_handl
 use Rattle.osdp_reader.specs.declared.config.ReaderConfig.{ReaderConfig}
 use Rattle.osdp_line_calls.specs.LineAnswers.{CalledIn}
 use Rattle.osdp_line_calls.specs.ReaderAbsence.{LetGo, lets_go}
+use Rattle.osdp_line_calls.specs.Rooms.{room_for}
 use Rattle.osdp_line_calls.specs.declared.reader_call.ReaderCall.{ReaderCall}
 use Rattle.osdp_line_calls.specs.declared.reader_call.ReaderCall.TheVariants as call
 use Rattle.osdp_line_calls.specs.declared.reader_absence.Absence.{Absence}
@@ -31,10 +30,6 @@ pub record Session : Type 0 where
 
 abbrev pub Called : Type 0
 Called = CalledIn Session
-
--- room for so many events, however long each is
-abbrev pub room_for : ℕ → Room
-room_for capacity = record { messages = capacity; bytes = capacity * (1 + most_data) }
 
 -- a device to whose line nothing has come, at moment 0: no panel has been there yet
 abbrev pub new_session : ReaderConfig → ℕ → ℕ → Absence → Session

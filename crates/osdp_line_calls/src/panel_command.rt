@@ -6,6 +6,7 @@ ghost use Rattle.osdp_bus.specs.Settings.{IsBusConfig};
 ghost use Rattle.osdp_words.specs.Reading.{ReadsWords};
 ghost use Rattle.osdp_words.specs.Word.{texts};
 ghost use Rattle.osdp_line_calls.specs.PanelSettings.{defaults, entry, put, with_setting};
+ghost use Rattle.osdp_line_calls.specs.Rooms.{room_for};
 ghost use Rattle.osdp_line_calls.specs.Runs.{IsPanelOf};
 ghost use Rattle.osdp_line_calls.specs.Settings.{ReadsSettings, SettingFits, setting_words};
 ghost use Rattle.osdp_line_calls.specs.Wrong.{IsWrong};
@@ -17,6 +18,7 @@ use crate::values::{room, sends, time};
 use crate::wrong::WrongSetting;
 use osdp_bus::BusConfig;
 use osdp_frame::CheckKind;
+use osdp_msg::{MAX_MESSAGE, Room};
 use osdp_tool_streams::ToolFault;
 use osdp_words::number_u8;
 use std::alloc::Global;
@@ -41,7 +43,18 @@ pub enum PanelSetting {
     /// `gap`: after how long a silence a run of bytes is over.
     Gap(u32),
     /// `capacity`: how many commands may wait for each device, 1 to 1024.
-    Capacity(usize),
+    Capacity(u32),
+}
+
+/// Room for so many commands, however long each is.
+fn room_for(count: u32) -> Room
+    ensures { result ≡ room_for count }
+{
+    let messages = count as usize;
+    Room {
+        messages,
+        bytes: messages * MAX_MESSAGE,
+    }
 }
 
 impl PanelSetting {
@@ -76,7 +89,7 @@ impl PanelSetting {
             PanelSetting::BusyLimit(count) => config.busy_limit = count,
             PanelSetting::QuietWait(wait) => config.quiet_wait = wait,
             PanelSetting::Gap(wait) => config.gap = wait,
-            PanelSetting::Capacity(count) => config.capacity = count,
+            PanelSetting::Capacity(count) => config.room = room_for(count),
         }
     }
 }
@@ -93,7 +106,7 @@ impl Configured for BusConfig {
     ghost is_in_range = { IsBusConfig };
 
     fn default_settings() -> BusConfig {
-        BusConfig::new(CheckKind::Crc, 64)
+        BusConfig::new(CheckKind::Crc, room_for(64))
     }
 
     fn parse(name: &str, value: &str) -> Option<PanelSetting> {

@@ -45,11 +45,11 @@ fn add(bus: &mut Bus, address: Address, text: &mut String) -> Result<(), AllocEr
 /// Takes back a command, and writes which, or why the call is refused.
 fn withdraw(bus: &mut Bus, entry: Entry, text: &mut String) -> Result<(), AllocError>
     ensures text { OnOk result (string_bytes text.new ≡ string_bytes text.old ++ withdrawal_line entry (withdrawal_at entry bus.old)) }
-    ensures bus { OnOk result (bus.new ≡ after_withdraw_at entry bus.old) }
+    ensures bus { bus.new ≡ after_withdraw_at entry bus.old }
 {
-    push_withdrawal(text, entry, &bus.withdrawable(entry))?;
+    let told = push_withdrawal(text, entry, &bus.withdrawable(entry));
     let _ = bus.withdraw(entry);
-    Ok(())
+    told
 }
 
 /// Ticks at a moment, and writes what goes out.

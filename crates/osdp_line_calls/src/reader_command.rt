@@ -76,7 +76,7 @@ impl ReaderSetting {
             "serial" => Some(ReaderSetting::Serial(number_u32(value)?)),
             "firmware" => Some(ReaderSetting::Firmware(triple(value)?)),
             "cap" => Some(ReaderSetting::Cap(triple(value)?)),
-            "room" => Some(ReaderSetting::Room(room(value)?)),
+            "room" => Some(ReaderSetting::Room(room(value)? as usize)),
             "gap" => Some(ReaderSetting::Gap(time(value)?)),
             "expire" => Some(ReaderSetting::Expire(limit(value)?)),
             "presence" => Some(ReaderSetting::Presence(switch(value)?)),

@@ -56,11 +56,11 @@ pub(crate) fn sends(word: &str) -> Option<u8>
 }
 
 /// How many may wait, 1 to 1024.
-pub(crate) fn room(word: &str) -> Option<usize>
+pub(crate) fn room(word: &str) -> Option<u32>
     ensures { Reads number IsRoom word.now result }
 {
-    let count = number_u32(word)? as usize;
-    if !is_room(count) {
+    let count = number_u32(word)?;
+    if !is_room(count as usize) {
         return None;
     }
     Some(count)

@@ -24,7 +24,8 @@ use Rattle.osdp_line_calls.specs.declared.reader_call.ReaderCall.{ReaderCall}
 use Rattle.osdp_line_calls.specs.declared.reader_call.ReaderCall.TheVariants as line
 use Rattle.osdp_line_calls.specs.ReaderCalls.{CallFits, call_words}
 use Rattle.osdp_line_calls.specs.ReaderLines.{Answers}
-use Rattle.osdp_line_calls.specs.ReaderSessions.{Session, after_event, heard, new_session, room_for, submit_text}
+use Rattle.osdp_line_calls.specs.ReaderSessions.{Session, after_event, heard, new_session, submit_text}
+use Rattle.osdp_line_calls.specs.Rooms.{room_for}
 use Rattle.osdp_line_calls.specs.ReaderTexts.{all_lines, expired_line, no_line, presence_text, waiting_line}
 use Rattle.osdp_line_calls.specs.declared.reader_absence.Absence.{Absence}
 
