@@ -66,7 +66,7 @@ module _ {H : Type 0} where
   keeps_reader k (step ∷ steps) _ keep (inl is) = tt
 
   module _ (answer_of : H → Command → Answer) (after : H → Command → H) where
-    made_at : (k address : ℕ) (handler : H) (room gap : ℕ) (t u : Station H) (ts : List (Station H)) → site_at k ts ≡ Some t
+    made_at : (k address : ℕ) (handler : H) (room : Room) (gap : ℕ) (t u : Station H) (ts : List (Station H)) → site_at k ts ≡ Some t
         → site_at k (changes_at k (made_anew address handler room gap) (site_at k ts) ts) ≡ Some u → u ≡ made_anew address handler room gap t
     made_at k address handler room gap t u ts is next =
         let new : Station H = made_anew address handler room gap t in
@@ -121,7 +121,7 @@ module _ {H : Type 0} where
 
     -- ---- a device
 
-    device_costs : (t : Station H) (s : Site H) (d e : Device) (address : ℕ) (handler : H) (room gap : ℕ) (before next : link.Link H)
+    device_costs : (t : Station H) (s : Site H) (d e : Device) (address : ℕ) (handler : H) (room : Room) (gap : ℕ) (before next : link.Link H)
         → s.reader ≡ t.reader → s.account ≡ t.account → e.controller ≡ d.controller
         → before.reader ≡ s.reader → before.account ≡ s.account → next.account ≡ reader_restarted s.account
         → ReaderCosts before next → ReaderCosts (link_of_entry d t) (link_of_entry e (made_anew address handler room gap t))

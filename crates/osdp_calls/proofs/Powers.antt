@@ -38,7 +38,7 @@ address_at zero (a ∷ xs) = a
 address_at (suc k) (a ∷ xs) = address_at k xs
 
 abbrev pub settings_of : BusConfig → List ℕ → ℕ → ControllerConfig × Room
-settings_of config xs k = (controller_config (address_at k xs) config, config.capacity)
+settings_of config xs k = (controller_config (address_at k xs) config, config.room)
 
 pub there_is : (k : ℕ) (xs : List ℕ) → k < length xs → site_at k xs ≡ Some (address_at k xs)
 there_is k [] lt = absurd (omega (arith, lt))
@@ -50,7 +50,7 @@ within k x [] is = absurd cc
 within zero x (y ∷ xs) is = omega arith
 within (suc k) x (y ∷ xs) is = let rest = within k x xs is in omega (arith, rest)
 
-pub are_settings : (config : BusConfig) (a : ℕ) → IsBusConfig config → a < 127 → AreSettings (controller_config a config) config.capacity
+pub are_settings : (config : BusConfig) (a : ℕ) → IsBusConfig config → a < 127 → AreSettings (controller_config a config) config.room.messages config.room.bytes
 are_settings config a is lt = record {
   config_in_range = record {
     address = lt;
@@ -63,6 +63,7 @@ are_settings config a is lt = record {
   };
   room = is.controllers.room;
   limit = is.controllers.limit;
+  bytes = is.controllers.bytes;
 }
 
 pub outstanding_same : (o : Option ℕ) (top : ℕ) (m c : Machine) → Controls o top m c → link.outstanding_command c.session.state ≡ link.outstanding_command m.session.state
@@ -83,7 +84,7 @@ module _ {H : Type 0} where
   module _ (answer_of : H → Command → Answer) (after : H → Command → H) where
     -- ---- a device
 
-    pub new_device_is : (k address : ℕ) (handler : H) (room gap : ℕ) (l : InUse H) (n : Net H) → IsNetOf l n
+    pub new_device_is : (k address : ℕ) (handler : H) (room : Room) (gap : ℕ) (l : InUse H) (n : Net H) → IsNetOf l n
         → IsNetOf (on_station k (made_anew address handler room gap) l) (after_net answer_of after (RestartReader k address handler room) n)
     new_device_is k address handler room gap l n h =
         both_change k (made_anew address handler room gap) (line.calls answer_of after (link.RestartReader address handler room)) l n h (λ d t s is.
@@ -117,7 +118,7 @@ module _ {H : Type 0} where
                 ∙ ap address_of (some_same s2 u (sym c ∙ there)) ∙ is)
             by_name frees j u other there (Somebody d1 t1 s2 a b c has) (inr may) = no_other k address l n h frees.devices j u other there may
 
-    pub device_anew : (k address : ℕ) (handler : H) (room gap : ℕ) (l : InUse H) (n : Net H) → IsNetOf l n
+    pub device_anew : (k address : ℕ) (handler : H) (room : Room) (gap : ℕ) (l : InUse H) (n : Net H) → IsNetOf l n
         → ((t : Station H) → site_at k l.stations ≡ Some t → (t.reader.config.address ≡ address) ⊎ IsFreeFor k address t l)
         → (address < 127) × AreRoom room.messages room.bytes → StepsTo answer_of after (NewDevice k address handler room gap) l n (on_station k (made_anew address handler room gap) l)
     device_anew k address handler room gap l n h free fits =
@@ -127,29 +128,29 @@ module _ {H : Type 0} where
     -- ---- the panel
 
     each_made : (config : BusConfig) (settings : ℕ → ControllerConfig × Room) (l : InUse H) (i : ℕ) (xs : List ℕ) (ds : List Device) (ts : List (Station H)) (ss : List (Site H))
-        → length xs ≡ length ts → ((k a : ℕ) → site_at k xs ≡ Some a → settings (i + k) ≡ (controller_config a config, config.capacity))
+        → length xs ≡ length ts → ((k a : ℕ) → site_at k xs ≡ Some a → settings (i + k) ≡ (controller_config a config, config.room))
         → Match (Sites l) i ds ts ss
         → Match (IsSiteOf l.openings l.said 0) i (map (λ a. new_device a config) xs) (all_forget ds ts) (all_restart answer_of after i settings ss)
     each_made config settings l i [] ds1 ts1 ss1 same set_so (Done i1) = Done i
     each_made config settings l i (a ∷ xs) ds1 ts1 ss1 same set_so (Done i1) = absurd (omega (arith, same))
     each_made config settings l i [] ds1 ts1 ss1 same set_so (And i1 d t s ds ts ss is rest) = absurd (omega (arith, same))
     each_made config settings l i (a ∷ xs) ds1 ts1 ss1 same set_so (And i1 d t s ds ts ss is rest) =
-        let here : settings i ≡ (controller_config a config, config.capacity) =
+        let here : settings i ≡ (controller_config a config, config.room) =
         ap settings (let e : i ≡ i + 0 = omega arith in e) ∙ set_so 0 a refl in
         And i (new_device a config) (Rattle.osdp_calls.specs.Calls.forgets (Some d) t) (restarts answer_of after (settings i) s)
         (map (λ b. new_device b config) xs) (all_forget ds ts) (all_restart answer_of after (suc i) settings ss)
-        (controlled_so is (equal_same 0 (new_machine (controller_config a config) config.capacity) (new_machine (settings i).0 (settings i).1)
-        (λ x. new_machine (here x).0 (here x).1)) refl (λ x. record (is.account x) {
+        (controlled_so is (equal_same 0 (new_machine (controller_config a config) config.room.messages config.room.bytes) (new_machine (settings i).0 (settings i).1.messages (settings i).1.bytes)
+        (λ x. new_machine (here x).0 (here x).1.messages (here x).1.bytes)) refl (λ x. record (is.account x) {
           forgotten = (is.account x).forgotten ++ option_to_list (outstanding_same t.begun l.bus.greatest d.controller s.controller is.controller x);
           removed = (is.account x).removed ++ map link.ThrownAway (waiting_too t.begun l.bus.greatest d.controller s.controller is.controller x);
         }))
         (each_made config settings l (suc i) xs ds ts ss (omega (arith, same))
         (λ k b is2. ap settings (let e : suc i + k ≡ i + suc k = omega arith in e) ∙ set_so (suc k) b is2) rest)
 
-    set_at : (config : BusConfig) (ys xs : List ℕ) (k a : ℕ) → site_at k xs ≡ Some a → settings_of config xs (0 + k) ≡ (controller_config a config, config.capacity)
+    set_at : (config : BusConfig) (ys xs : List ℕ) (k a : ℕ) → site_at k xs ≡ Some a → settings_of config xs (0 + k) ≡ (controller_config a config, config.room)
     set_at config ys xs k a is =
         ap (settings_of config xs) (let e : 0 + k ≡ k = omega arith in e)
-        ∙ ap (λ b. (controller_config b config, config.capacity)) (some_same (address_at k xs) a (sym (there_is k xs (within k a xs is)) ∙ is))
+        ∙ ap (λ b. (controller_config b config, config.room)) (some_same (address_at k xs) a (sym (there_is k xs (within k a xs is)) ∙ is))
 
     pub panel_anew : (config : BusConfig) (xs : List ℕ) (l : InUse H) (n : Net H) → IsNetOf l n → PanelIsApart xs l
         → IsBusConfig config × All (λ a. a < 127) xs × (length xs ≡ length l.stations) → StepsTo answer_of after (NewPanel config xs) l n (panel_made_anew config xs l)

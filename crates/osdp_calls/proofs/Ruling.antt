@@ -4,6 +4,7 @@ use Rattle.std.specs.Prelude.{◌==◌}
 use Rattle.osdp_frame.specs.Packet.{Packet}
 use Rattle.osdp_msg.specs.declared.command.Command.{Command}
 use Rattle.osdp_msg.specs.declared.event.Event.{Event}
+use Rattle.osdp_msg.specs.declared.limits.Room.{Room}
 use Rattle.osdp_controller.specs.declared.state.State.{State}
 use Rattle.osdp_controller.specs.declared.state.State.TheVariants.{Closed}
 use Rattle.osdp_bus.specs.Buses.{device_of}
@@ -147,7 +148,7 @@ module _ {H : Type 0} where
           let s = steps_to (OfPanel panel.NextReport) places order quiet rule range in
           rests (OfPanel panel.NextReport) (after_call answer_of after (OfPanel panel.NextReport) places l) s s.made refl (λ j. refl) (λ j d. refl)
 
-      device_ruled : (k address : ℕ) (handler : H) (room gap : ℕ) (places : List ℕ)
+      device_ruled : (k address : ℕ) (handler : H) (room : Room) (gap : ℕ) (places : List ℕ)
           → KeepsRule (NewDevice k address handler room gap) l notes
           → StepsTo answer_of after (NewDevice k address handler room gap) l n (after_call answer_of after (NewDevice k address handler room gap) places l)
           → Ruled answer_of after n0 (after_call answer_of after (NewDevice k address handler room gap) places l) (notes_after (NewDevice k address handler room gap) l notes)

@@ -33,7 +33,8 @@ module _ {H : Type 0} where
     controller = record {
       session = record (new_session (controller_config (address_of t) config)) { state = Quiet 0 };
       waiting = [];
-      capacity = config.capacity;
+      capacity = config.room.messages;
+      room = config.room.bytes;
     };
     reserved = None;
     reader = t.reader;
@@ -72,20 +73,20 @@ module _ {H : Type 0} where
 
   module _ (answer_of : H → Command → Answer) (after : H → Command → H) where
     made_first : (config : BusConfig) (settings : ℕ → ControllerConfig × Room) (os : List Opening) (said : List Burst) (i : ℕ) (ts : List (Station H)) → said ≡ []
-        → ((k : ℕ) (t : Station H) → site_at k ts ≡ Some t → settings (i + k) ≡ (controller_config (address_of t) config, config.capacity))
+        → ((k : ℕ) (t : Station H) → site_at k ts ≡ Some t → settings (i + k) ≡ (controller_config (address_of t) config, config.room))
         → ((k : ℕ) (t : Station H) → site_at k ts ≡ Some t → IsFresh t)
         → Match (IsSiteOf os said 0) i (map (λ a. new_device a config) (map address_of ts)) ts (all_restart answer_of after i settings (map (first_site config) ts))
     made_first config settings os said i [] none set_so fresh = Done i
     made_first config settings os said i (t ∷ ts) none set_so fresh =
-        let here : settings i ≡ (controller_config (address_of t) config, config.capacity) =
+        let here : settings i ≡ (controller_config (address_of t) config, config.room) =
         ap settings (let e : i ≡ i + 0 = omega arith in e) ∙ set_so 0 t refl in
         let f = fresh 0 t refl in
         And i (new_device (address_of t) config) t (restarts answer_of after (settings i) (first_site config t))
         (map (λ a. new_device a config) (map address_of ts)) ts (all_restart answer_of after (suc i) settings (map (first_site config) ts))
         (record {
-          controller = subst (λ o. Controls o 0 (new_machine (controller_config (address_of t) config) config.capacity) (new_machine (settings i).0 (settings i).1)) (sym f.begun)
-              (equal_same 0 (new_machine (controller_config (address_of t) config) config.capacity) (new_machine (settings i).0 (settings i).1)
-              (λ x. new_machine (here x).0 (here x).1));
+          controller = subst (λ o. Controls o 0 (new_machine (controller_config (address_of t) config) config.room.messages config.room.bytes) (new_machine (settings i).0 (settings i).1.messages (settings i).1.bytes)) (sym f.begun)
+              (equal_same 0 (new_machine (controller_config (address_of t) config) config.room.messages config.room.bytes) (new_machine (settings i).0 (settings i).1.messages (settings i).1.bytes)
+              (λ x. new_machine (here x).0 (here x).1.messages (here x).1.bytes));
           reserved = refl;
           reader = refl;
           coming = ap (ahead_of_device i t.place os) (sym none);
@@ -139,7 +140,7 @@ module _ {H : Type 0} where
       same = subst (λ b. IsNetOf (record l { bus = b }) n1) (sym up.bus) (record {
         sites = made_first up.config (settings_of up.config (map address_of l.stations)) l.openings l.said 0 l.stations up.said
             (λ k t is. ap (settings_of up.config (map address_of l.stations)) (let e : 0 + k ≡ k = omega arith in e)
-            ∙ ap (λ a. (controller_config a up.config, up.config.capacity)) (address_there k t l.stations is))
+            ∙ ap (λ a. (controller_config a up.config, up.config.room)) (address_there k t l.stations is))
             (λ k t is. record {
               stored = up.stored k t is;
               place = (up.place k t is).0;

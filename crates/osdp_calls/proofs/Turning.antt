@@ -6,8 +6,8 @@ use Rattle.osdp_device.specs.Program.{program_after, program_answer}
 use Rattle.osdp_frame.specs.Receiving.{after_take}
 use Rattle.osdp_device.specs.Telling.{next_told}
 use Rattle.osdp_device.specs.declared.program.ProgramAnswers.{ProgramAnswers}
-use Rattle.osdp_device.specs.declared.program.Question.{Question}
-use Rattle.osdp_device.specs.declared.program.Question.TheVariants.{Answered, Asked, NotAsked}
+use Rattle.osdp_device.specs.declared.question.Question.{Question}
+use Rattle.osdp_device.specs.declared.question.Question.TheVariants.{Answered, Asked, NotAsked}
 use Rattle.osdp_shared_line.specs.Line.{site_at}
 use Rattle.osdp_shared_line.proofs.Sites.{at_changed}
 use Rattle.osdp_reader.specs.State.{after_set_handler}

@@ -6,6 +6,7 @@ use Rattle.osdp_frame.specs.Packet.{Packet}
 use Rattle.osdp_frame.specs.Reading.{RunItem, PacketItem, SkippedItem, RefusedItem}
 use Rattle.osdp_msg.specs.declared.command.Command.{Command}
 use Rattle.osdp_msg.specs.declared.event.Event.{Event}
+use Rattle.osdp_msg.specs.declared.limits.Room.{Room}
 use Rattle.osdp_controller.specs.declared.report.Report.{Report}
 use Rattle.osdp_bus.specs.Buses.{BusState, device_of, has_report, holder, is_silent, seen}
 use Rattle.osdp_bus.specs.Hearing.{ends_run, ends_silent}
@@ -43,7 +44,7 @@ pub data Call (H : Type 0) : Type 0 where
   Silence : ℕ → ℕ → Call H
   Next : ℕ → Call H
   Pending : ℕ → Call H
-  NewDevice : ℕ → ℕ → H → ℕ → ℕ → Call H
+  NewDevice : ℕ → ℕ → H → Room → ℕ → Call H
   NewPanel : BusConfig → List ℕ → Call H
 
 -- a call, and for each packet that it reads the place in what was said of the burst that it is a copy of
@@ -212,7 +213,7 @@ module _ {H : Type 0} where
   withdraws_event t = record t { reader = after_withdraw_event t.reader; account = event_withdrawn t.reader.queue t.account }
 
   -- the same device, with nothing taken, nothing stored and no event
-  abbrev pub made_anew : ℕ → H → ℕ → ℕ → Station H → Station H
+  abbrev pub made_anew : ℕ → H → Room → ℕ → Station H → Station H
   made_anew address handler room gap t = record t {
     reader = new_reader (record t.reader.config { address = address }) handler room;
     line = new_line gap;

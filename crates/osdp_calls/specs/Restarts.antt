@@ -1,6 +1,7 @@
 -- What a restart costs an entry: of its device, and of the panel.
 use Rattle.std.specs.Prelude.{◌≡◌, ◌≢◌, ℕ, All, List, length, Some, None}
 use Rattle.osdp_msg.specs.declared.command.Command.{Command}
+use Rattle.osdp_msg.specs.declared.limits.Room.{Room}
 use Rattle.osdp_bus.specs.Buses.{device_of}
 use Rattle.osdp_bus.specs.declared.config.BusConfig.{BusConfig}
 use Rattle.osdp_bus.specs.declared.device.Device.{Device}
@@ -33,14 +34,14 @@ module _ {H : Type 0} where
 
     -- a device is made anew: the events in its queue, but the one in front where it has offered that in this session, and at most its session
     abbrev pub NewDeviceCosts : Type 0
-    NewDeviceCosts = (l : InUse H) (steps : List (Step H)) (places : List ℕ) (k address : ℕ) (handler : H) (room gap : ℕ) (first t u : Station H)
+    NewDeviceCosts = (l : InUse H) (steps : List (Step H)) (places : List ℕ) (k address : ℕ) (handler : H) (room : Room) (gap : ℕ) (first t u : Station H)
         (d e : Device)
         → IsBeforeAndAfter l steps (record { call = NewDevice k address handler room gap; places = places }) k first t u d e
         → ReaderCosts (link_of_entry d t) (link_of_entry e u)
 
     -- .. and nothing else is reported in that session but what was offered before and what is queued since, but those of these that are withdrawn
     abbrev pub NewDeviceReportsNoMore : Type 0
-    NewDeviceReportsNoMore = (l : InUse H) (steps more : List (Step H)) (places : List ℕ) (k address : ℕ) (handler : H) (room gap : ℕ)
+    NewDeviceReportsNoMore = (l : InUse H) (steps more : List (Step H)) (places : List ℕ) (k address : ℕ) (handler : H) (room : Room) (gap : ℕ)
         (first t u last : Station H) (d e : Device)
         → IsBeforeAndAfter l steps (record { call = NewDevice k address handler room gap; places = places }) k first t u d e
         → let next = after_call answer_of after (NewDevice k address handler room gap) places (after_calls answer_of after steps l) in

@@ -8,8 +8,8 @@ use Rattle.osdp_device.specs.Program.{program_after, program_answer}
 use Rattle.osdp_frame.specs.Receiving.{Received, after_take}
 use Rattle.osdp_device.specs.Telling.{next_told}
 use Rattle.osdp_device.specs.declared.program.ProgramAnswers.{ProgramAnswers}
-use Rattle.osdp_device.specs.declared.program.Question.{Question}
-use Rattle.osdp_device.specs.declared.program.Question.TheVariants.{Asked, NotAsked}
+use Rattle.osdp_device.specs.declared.question.Question.{Question}
+use Rattle.osdp_device.specs.declared.question.Question.TheVariants.{Asked, NotAsked}
 use Rattle.osdp_panel.specs.Turns.{after_turn}
 use Rattle.osdp_reader.specs.declared.handler.Answer.{Answer}
 use Rattle.osdp_shared_line.specs.Line.{site_at}

@@ -17,8 +17,8 @@ use Rattle.osdp_device.specs.Deciding.{is_asked, pending_of, turned_by, with_que
 use Rattle.osdp_device.specs.Program.{new_program, program_after, program_answer}
 use Rattle.osdp_frame.specs.Receiving.{Received, after_silence, after_take, after_tick, new_line}
 use Rattle.osdp_device.specs.declared.program.ProgramAnswers.{ProgramAnswers}
-use Rattle.osdp_device.specs.declared.program.Question.{Question}
-use Rattle.osdp_device.specs.declared.program.Question.TheVariants.{Answered, Asked, NotAsked}
+use Rattle.osdp_device.specs.declared.question.Question.{Question}
+use Rattle.osdp_device.specs.declared.question.Question.TheVariants.{Answered, Asked, NotAsked}
 use Rattle.osdp_link_laws.proofs.Lines.{each_all}
 use Rattle.osdp_link_laws.proofs.Stages.{Each}
 use Rattle.osdp_reader.specs.State.{ReaderState, new_reader}

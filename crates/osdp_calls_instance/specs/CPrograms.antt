@@ -14,8 +14,8 @@ use Rattle.osdp_device.specs.Program.{new_program, program_after, program_answer
 use Rattle.osdp_frame.specs.Receiving.{Received, after_silence, after_take, after_tick}
 use Rattle.osdp_device.specs.Telling.{next_told}
 use Rattle.osdp_device.specs.declared.program.ProgramAnswers.{ProgramAnswers}
-use Rattle.osdp_device.specs.declared.program.Question.{Question}
-use Rattle.osdp_device.specs.declared.program.Question.TheVariants.{Answered, Asked, NotAsked}
+use Rattle.osdp_device.specs.declared.question.Question.{Question}
+use Rattle.osdp_device.specs.declared.question.Question.TheVariants.{Answered, Asked, NotAsked}
 use Rattle.osdp_device.specs.declared.status.DeviceStatus.{DeviceStatus}
 use Rattle.osdp_reader.specs.State.{ReaderState}
 use Rattle.osdp_reader.specs.declared.handler.Answer.{Answer}

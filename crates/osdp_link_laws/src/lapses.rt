@@ -27,7 +27,8 @@ pub fn nobody_hears_a_lapse<H: Handler>()
 /// it leaves, or with all of that but the event in front, which has lapsed last in that one. So an event that has lapsed is told once as in doubt, is
 /// reported once in its session at most, and is in no session after it; and no event is left out that has not lapsed.
 ///
-/// Asked is that each event that is queued leaves room for one more, and that no event lapses that was offered in an earlier session alone.
+/// Asked is that an event that is queued after a lapse would find room also if the event that lapsed last in this session still waited, and that no
+/// event lapses that was offered in an earlier session alone.
 pub fn holds_once_with_lapses<H: Handler>()
     ensures { LapsingHoldsOnce H.answer_of H.after }
 {

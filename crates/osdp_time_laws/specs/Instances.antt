@@ -23,6 +23,7 @@ machine_in state number = record {
   session = record { config = short_waits; state = state; number = number; greatest = 0 };
   waiting = [];
   capacity = 1;
+  room = 1433;
 }
 
 abbrev pub reply_of_one : ℕ → ℕ → Packet
@@ -56,7 +57,7 @@ outstanding_poll = Waiting 3 1 (record { exchange = Polling; busies = 0; sent = 
 
 -- the same with ticks on time, and an order in place of the POLL, while another waits: the first is answered at the last moment
 abbrev pub two_orders : Machine
-two_orders = record (machine_in (Idle 0) 0) { waiting = Id 0 ∷ Id 0 ∷ []; capacity = 2 }
+two_orders = record (machine_in (Idle 0) 0) { waiting = Id 0 ∷ Id 0 ∷ []; capacity = 2; room = 2866 }
 
 abbrev pub order_calls : List Call
 order_calls = Tick 3 ∷ Hear busy 6 ∷ Tick 6 ∷ Tick 8 ∷ Tick 11 ∷ Hear ack 14 ∷ Tick 14 ∷ []
