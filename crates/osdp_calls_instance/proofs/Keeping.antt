@@ -24,7 +24,7 @@ use Rattle.std.specs.Prelude.{slice_get, slice_index, IfSome}
 use Rattle.osdp_frame.specs.Packed.{packed}
 use Rattle.osdp_frame.specs.declared.check_kind.CheckKind.TheVariants.{Sum}
 use Rattle.osdp_shared_line.specs.Line.{site_at}
-use Rattle.osdp_calls_instance.specs.Instance.{SomeCallsKeep, device, line_after, set_up, settings, station}
+use Rattle.osdp_calls_instance.specs.Instance.{SomeCallsKeep, device, four, line_after, set_up, settings, station}
 
 pub none_read : (is_past : ℕ → Burst → Bool) (said : List Burst) → AreNotPast is_past said []
 none_read is_past said = each_all (λ i. (b : Burst) → site_at i said ≡ Some b → is_past i b ≡ false) [] tt
@@ -50,7 +50,7 @@ pub one_fits : (P : Packet → Type 0) (p : Packet) → P p → All P (p ∷ [])
 one_fits P p is = each_all P (p ∷ []) (is, tt)
 
 in_time : IsBusConfig settings
-in_time = bus_in_range Sum 4 3 (omega arith, omega arith) (omega arith, omega arith)
+in_time = bus_in_range Sum four 3 ((omega arith, omega arith), omega arith, omega arith) (omega arith, omega arith)
 
 vendor_bytes : (i : ℕ) → slice_index (1 ∷ 2 ∷ 3 ∷ []) i < 256
 vendor_bytes zero = omega arith
@@ -114,11 +114,11 @@ module _ {H : Type 0} (answer_of : H → Command → Answer) (after : H → Comm
         (
           record { in_order = tt; quiet_opening = tt; addresses = tt; in_range = tt },
           (
-            record { in_order = tt; quiet_opening = none_read (is_past_for_device 0 (line_after answer_of after 3 handler).openings) (line_after answer_of after 3 handler).said; addresses = tt; in_range = none_fits (λ p. IfSome (hears answer_of after (new_reader device handler 4) p).said ReplyFits) },
+            record { in_order = tt; quiet_opening = none_read (is_past_for_device 0 (line_after answer_of after 3 handler).openings) (line_after answer_of after 3 handler).said; addresses = tt; in_range = none_fits (λ p. IfSome (hears answer_of after (new_reader device handler four) p).said ReplyFits) },
             (
               record { in_order = tt; quiet_opening = tt; addresses = tt; in_range = tt },
               (
-                record { in_order = (record { by_panel = true; entry = 0; packet = packed false 0 0 Sum false 0 (97 ∷ 0 ∷ []) }, refl, refl, omega arith, tt); quiet_opening = one_read (is_past_for_device 0 (line_after answer_of after 5 handler).openings) (line_after answer_of after 5 handler).said 0 (λ b. refl); addresses = tt; in_range = one_fits (λ p. IfSome (hears answer_of after (new_reader device handler 4) p).said ReplyFits) (packed false 0 0 Sum false 0 (97 ∷ 0 ∷ [])) id_fits },
+                record { in_order = (record { by_panel = true; entry = 0; packet = packed false 0 0 Sum false 0 (97 ∷ 0 ∷ []) }, refl, refl, omega arith, tt); quiet_opening = one_read (is_past_for_device 0 (line_after answer_of after 5 handler).openings) (line_after answer_of after 5 handler).said 0 (λ b. refl); addresses = tt; in_range = one_fits (λ p. IfSome (hears answer_of after (new_reader device handler four) p).said ReplyFits) (packed false 0 0 Sum false 0 (97 ∷ 0 ∷ [])) id_fits },
                 (
                   record { in_order = tt; quiet_opening = none_read (is_past_for_panel (line_after answer_of after 6 handler).openings) (line_after answer_of after 6 handler).said; addresses = tt; in_range = tt },
                   (
@@ -130,7 +130,7 @@ module _ {H : Type 0} (answer_of : H → Command → Answer) (after : H → Comm
                         (
                           record { in_order = tt; quiet_opening = none_read (is_past_for_panel (line_after answer_of after 10 handler).openings) (line_after answer_of after 10 handler).said; addresses = tt; in_range = tt },
                           (
-                            record { in_order = tt; quiet_opening = tt; addresses = λ t is. inl (ap (λ (u : Station H). u.reader.config.address) (sym (only (only_station (line_after answer_of after 11 handler).stations handler) 0 t is).1)); in_range = (omega arith, (omega arith, omega arith)) },
+                            record { in_order = tt; quiet_opening = tt; addresses = λ t is. inl (ap (λ (u : Station H). u.reader.config.address) (sym (only (only_station (line_after answer_of after 11 handler).stations handler) 0 t is).1)); in_range = (omega arith, ((omega arith, omega arith), omega arith, omega arith)) },
                             (
                               record { in_order = tt; quiet_opening = tt; addresses = apart (line_after answer_of after 12 handler) (only_station (line_after answer_of after 12 handler).stations handler) refl; in_range = (in_time, one_below, refl) },
                               tt,

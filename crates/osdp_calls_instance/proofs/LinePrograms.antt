@@ -1,5 +1,5 @@
 -- Lines are calls of a line in use.
-use Rattle.std.proofs.Common.{◌≡◌, ℕ, zero, suc, ◌<◌, Bool, true, false, cond, option_map, slice_get, List, [], ◌∷◌, ◌++◌, drop, length, length-drop, map, Option, Some, None, refl, sym, subst, ap, ◌∙◌, arith, inl, inr}
+use Rattle.std.proofs.Common.{◌≡◌, ℕ, zero, suc, ◌<◌, Bool, true, false, not, cond, option_map, slice_get, List, [], ◌∷◌, ◌++◌, drop, length, length-drop, map, Option, Some, None, refl, sym, subst, ap, ◌∙◌, arith, inl, inr}
 use Rattle.std.specs.Prelude.{◌==◌}
 use Rattle.std.specs.List.{AllByRecursion}
 use Rattle.std.proofs.lemmas.Bool.Decides.{eqb_tells}
@@ -36,7 +36,8 @@ use Rattle.osdp_line_laws.specs.PanelRuns as panel_runs
 use Rattle.osdp_line_laws.specs.ReaderRuns as device_runs
 use Rattle.osdp_link_laws.proofs.Lines.{each_all}
 use Rattle.osdp_link_laws.proofs.Stages.{Each}
-use Rattle.osdp_reader.specs.State.{ReaderState, after_lapse_event, after_submit, after_withdraw_event}
+use Rattle.osdp_reader.specs.Queue.{has_room}
+use Rattle.osdp_reader.specs.State.{ReaderState, after_lapse_event, after_submit_if, after_withdraw_event}
 use Rattle.osdp_device.specs.Ages.{AgesState, after_expiry, after_removal, expired, expired_front, expires}
 use Rattle.osdp_device.specs.declared.events.Expired.{Expired}
 use Rattle.osdp_device.specs.declared.events.Expired.TheVariants.{Withdrawn, InDoubt}
@@ -338,8 +339,7 @@ with_line s = record { reader = s.reader; line = s.line }
 done_is : (call : ReaderCall) (s : device.Session) → with_line (device_runs.after_said (Some call) s) ≡ with_line (device.does call s).session
 done_is call s = same_device _ _ _ _ (sym (call_steps call s).reader) (sym (line_is call s))
 
-event_is : (full : Bool) (event : Event) (d : Held DeviceStatus)
-    → takes_event full event d ≡ record d { reader = cond full d.reader (after_submit event d.reader) }
+event_is : (fits : Bool) (event : Event) (d : Held DeviceStatus) → takes_event (not fits) event d ≡ record d { reader = after_submit_if fits event d.reader }
 event_is true event d = refl
 event_is false event d = refl
 
@@ -412,7 +412,7 @@ call_is k (line.Bytes list) s fits is =
     (λ place. omega (arith, fits.0.1 place))).is
 call_is k line.Silence s fits is = sym (reading_is status_answer status_after k s.reader (after_silence s.now s.line))
 call_is k line.Tick s fits is = sym (reading_is status_answer status_after k s.reader (after_tick s.now s.line))
-call_is k (line.Event event) s fits is = sym (event_is (device.is_full s.reader) event (with_line s))
+call_is k (line.Event event) s fits is = sym (event_is (has_room event s.reader.queue) event (with_line s))
 call_is k (line.Busy busy) s fits is = refl
 call_is k (line.Inputs list) s fits is = refl
 call_is k (line.Outputs list) s fits is = refl

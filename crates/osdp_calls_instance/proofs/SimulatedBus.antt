@@ -28,6 +28,7 @@ use Rattle.osdp_shared_line.specs.Line.{changed, site_at}
 use Rattle.osdp_shared_line.proofs.Sites.{some_same}
 use Rattle.osdp_sim.specs.Line.{handed, left}
 use Rattle.osdp_sim.specs.Schedules.{HoldsAlong}
+use Rattle.osdp_sim.specs.State.{room_for}
 use Rattle.osdp_sim.specs.Steps.{moment_after}
 use Rattle.osdp_sim.specs.declared.fault.Cause.{Cause}
 use Rattle.osdp_sim.specs.declared.fault.Cause.TheVariants as cause
@@ -406,7 +407,7 @@ module _ {H : Type 0} (answer_of : H → Command → Answer) (after : H → Comm
 
   new_readers : (gap : ℕ) (readers : List (Given H)) → held_readers (map (new_held gap) readers) ≡ site_readers (map new_site readers)
   new_readers gap [] = refl
-  new_readers gap (given ∷ readers) = ap (λ l. Rattle.osdp_reader.specs.State.new_reader given.0 given.2 given.1 ∷ l) (new_readers gap readers)
+  new_readers gap (given ∷ readers) = ap (λ l. Rattle.osdp_reader.specs.State.new_reader given.0 given.2 (room_for given.1) ∷ l) (new_readers gap readers)
 
   pub begins_so : (config : BusConfig) (gap : ℕ) (readers : List (Given H))
       → Goes (begin_calls answer_of after 0 readers) (set_up config readers) (programs_at_first answer_of after config gap readers)

@@ -25,7 +25,7 @@ use Rattle.osdp_shared_line.specs.Line.{site_at}
 use Rattle.osdp_shared_line.proofs.Sites.{some_same}
 use Rattle.osdp_calls.specs.Lines.{InUse, Station, ahead_of_device, is_past_for_device, is_past_for_panel}
 use Rattle.osdp_calls.specs.Premises.{IsAsked, IsNoOthers, IsSaid, IsSetUp, IsThere, unended_of}
-use Rattle.osdp_calls_instance.specs.Instance.{settings, station_at}
+use Rattle.osdp_calls_instance.specs.Instance.{four, settings, station_at}
 use Rattle.osdp_calls_instance.specs.TwoEntries.{TwoCallsKeep, once, two_after, two_set_up}
 use Rattle.osdp_calls_instance.proofs.Keeping.{id_fits, none_read, one_fits, one_read}
 
@@ -33,7 +33,7 @@ abbrev five : Communication
 five = record { address = 5; baud_rate = 9600 }
 
 once_in_time : IsBusConfig once
-once_in_time = bus_in_range Sum 4 1 (omega arith, omega arith) (omega arith, omega arith)
+once_in_time = bus_in_range Sum four 1 ((omega arith, omega arith), omega arith, omega arith) (omega arith, omega arith)
 
 -- of what a device may still read nothing is its own
 none_mine : (a : ℕ) (qs : List (ℕ × Packet)) → Each (λ (q : ℕ × Packet). q.0 ≡ 0) qs

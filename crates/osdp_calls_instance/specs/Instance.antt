@@ -3,6 +3,7 @@ use Rattle.std.specs.Prelude.{◌≡◌, ℕ, false, true, List, [], ◌∷◌, 
 use Rattle.osdp_frame.specs.declared.check_kind.CheckKind.TheVariants.{Sum}
 use Rattle.osdp_msg.specs.declared.command.Command.{Command}
 use Rattle.osdp_msg.specs.declared.command.Command.TheVariants.{Comset}
+use Rattle.osdp_msg.specs.declared.limits.Room.{Room}
 use Rattle.osdp_bus.specs.Settings.{default_config}
 use Rattle.osdp_bus.specs.declared.config.BusConfig.{BusConfig}
 use Rattle.osdp_bus_laws.specs.Calls as bus
@@ -16,15 +17,19 @@ use Rattle.osdp_calls.specs.Lines.{Burst, InUse, Station, bus_with}
 use Rattle.osdp_controller.specs.declared.report.Report.TheVariants.{Opened}
 use Rattle.osdp_calls.specs.Premises.{AllKeep, IsSetUp}
 
+-- room for four messages, however long each is
+abbrev pub four : Room
+four = record { messages = 4; bytes = 5732 }
+
 -- a bus with one entry, at address 0
 abbrev pub settings : BusConfig
-settings = default_config Sum 4
+settings = default_config Sum four
 
 abbrev pub device : ReaderConfig
 device = record {
   address = 0;
   id = record { vendor = 1 ∷ 2 ∷ 3 ∷ []; model = 4; version = 5; serial = 6; firmware_major = 7; firmware_minor = 8; firmware_build = 9 };
-  caps = record { capabilities = record { items = [] } };
+  caps = record { items = [] };
 }
 
 -- COMSET to address 5 at 9600 bits a second
@@ -37,7 +42,7 @@ module _ {H : Type 0} where
 
   abbrev pub station_at : ℕ → H → Station H
   station_at address handler = record {
-    reader = new_reader (record device { address = address }) handler 4;
+    reader = new_reader (record device { address = address }) handler four;
     line = new_line 20;
     place = 0;
     begun = None;
@@ -72,7 +77,7 @@ module _ {H : Type 0} where
       ∷ calls (OfPanel bus.NextReport) []
       ∷ calls (OfPanel (bus.Submit 0 away)) []
       ∷ calls (OfPanel (bus.Tick 407)) []
-      ∷ calls (NewDevice 0 0 handler 4 20) []
+      ∷ calls (NewDevice 0 0 handler four 20) []
       ∷ calls (NewPanel settings (0 ∷ [])) []
       ∷ []
 

@@ -18,6 +18,7 @@ use Rattle.osdp_line_calls.specs.ReaderAbsence.{lets_go}
 use Rattle.osdp_line_calls.specs.ReaderCalls.{CallFits}
 use Rattle.osdp_line_calls.specs.ReaderLines as device_lines
 use Rattle.osdp_line_calls.specs.ReaderSessions as device
+use Rattle.osdp_line_calls.specs.Rooms.{room_for}
 use Rattle.osdp_line_calls.specs.declared.panel_call.PanelCall.{PanelCall}
 use Rattle.osdp_line_calls.specs.declared.panel_call.PanelCall.TheVariants.{Add}
 use Rattle.osdp_line_calls.specs.declared.reader_call.ReaderCall.{ReaderCall}
@@ -145,7 +146,7 @@ calls_of_line k (line.Local tamper power) s = SetHandler k (record s.reader.hand
 abbrev pub device_line_calls : ℕ → DeviceLine → device.Session → List (Call DeviceStatus)
 device_line_calls k (SaysToDevice None) s = []
 device_line_calls k (SaysToDevice (Some call)) s = calls_of_line k call s
-device_line_calls k (DeviceAnew address room gap) s = NewDevice k address new_status room gap ∷ []
+device_line_calls k (DeviceAnew address room gap) s = NewDevice k address new_status (room_for room) gap ∷ []
 
 abbrev pub line_device : DeviceKind DeviceStatus
 line_device = record {

@@ -17,6 +17,7 @@ use Rattle.osdp_reader.specs.Queue.{lacks_room}
 use Rattle.osdp_shared_line.specs.Line.{site_at}
 use Rattle.osdp_sim.specs.Line.{handed}
 use Rattle.osdp_sim.specs.Schedules.{HoldsAlong}
+use Rattle.osdp_sim.specs.State.{room_for}
 use Rattle.osdp_sim.specs.Steps.{moment_after}
 use Rattle.osdp_sim.specs.declared.step.SimStep.{SimStep}
 use Rattle.osdp_sim.specs.declared.step.SimStep.TheVariants.{Busy, Issue, Queue, Reopen, ToController, ToReader, Wait}
@@ -82,11 +83,11 @@ BurstFits _ d = Unit {0}
 module _ {H : Type 0} where
   -- what is set up: a bus with an entry for each reader, and the readers, on whose lines a run of bytes is over after this silence
   abbrev pub new_held : ℕ → Given H → Held H
-  new_held gap given = record { reader = new_reader given.0 given.2 given.1; line = new_line gap }
+  new_held gap given = record { reader = new_reader given.0 given.2 (room_for given.1); line = new_line gap }
 
   abbrev pub new_station : ℕ → Given H → Station H
   new_station gap given = record {
-    reader = new_reader given.0 given.2 given.1;
+    reader = new_reader given.0 given.2 (room_for given.1);
     line = new_line gap;
     place = 0;
     begun = None;
