@@ -5,6 +5,7 @@ mod faulty;
 mod job;
 mod listener;
 mod make;
+mod moments;
 mod monitor;
 mod stream;
 mod tool;
