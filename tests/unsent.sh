@@ -45,7 +45,7 @@ try 4 600 <<'CODE'
 //! Each function lets go what a turn has to send.
 #![tactic(auto)]
 
-use osdp_device::{Device, ProgramAnswers};
+use osdp_device::{Burst, Device, ProgramAnswers};
 use osdp_panel::Panel;
 
 pub fn a_panel_drops(panel: &mut Panel, now: u64) {
@@ -61,15 +61,15 @@ pub fn a_panel_leaves(panel: &mut Panel, bytes: &[u8], now: u64) -> Option<u8> {
 }
 
 pub fn a_device_drops(device: &mut Device<ProgramAnswers>, now: u64) {
-    let mut turn = osdp_device::Turn::new();
-    let _ = device.turn(&[], now, &mut turn);
+    let mut out = Burst::new();
+    let _ = device.turn(&[], now, &mut out);
 }
 
 pub fn a_device_leaves(device: &mut Device<ProgramAnswers>, bytes: &[u8], now: u64) -> Option<u8> {
-    let mut turn = osdp_device::Turn::new();
-    let unsent = device.turn(bytes, now, &mut turn);
+    let mut out = Burst::new();
+    let (_, unsent) = device.turn(bytes, now, &mut out);
     bytes.first()?;
-    unsent?.bytes(&turn).first().copied()
+    unsent?.bytes(&out).first().copied()
 }
 CODE
 

@@ -5,7 +5,7 @@ ghost use Rattle.std.specs.Result.{result_map_both};
 ghost use Rattle.osdp_msg.specs.declared.command.Command.{Command as Ordered};
 ghost use Rattle.osdp_bus.specs.Settings.{default_config};
 ghost use Rattle.osdp_frame.specs.declared.check_kind.CheckKind.TheVariants.{Crc};
-ghost use Rattle.osdp_c_values.specs.Settings.{bus_config_of, day, limit_of};
+ghost use Rattle.osdp_c_values.specs.Settings.{bus_config_of, day, limit_of, room_for};
 ghost use Rattle.osdp_c_values.specs.Clocks.{new_clock};
 ghost use Rattle.osdp_c_values.specs.Addresses.{device_address};
 ghost use Rattle.osdp_c_values.specs.Calls.{IsDone, calls, frees, writes};
@@ -21,12 +21,13 @@ use osdp_c_values::{
     Place, ReportStruct, Status,
 };
 use osdp_frame::Burst;
+use osdp_msg::Spelling;
 use std::alloc::Global;
 
 /// Writes the default settings: those of a bus with a CRC, and room for 64 commands.
 #[unsafe(no_mangle)]
 pub extern "C" fn osdp_panel_defaults(settings: &mut PanelSettings)
-    ensures bus { bus_config_of settings.new ≡ Some (default_config Crc 64) }
+    ensures bus { bus_config_of settings.new ≡ Some (default_config Crc (room_for 64)) }
     ensures clock { settings.new.clock_limit ≡ day }
 {
     settings.set_defaults();
@@ -144,12 +145,12 @@ pub extern "C" fn osdp_panel_submit_text_nonnull(
     ensures { (read : Option Ordered) × IsReadCommand text.now read
         × IsDone (calls (on_bus (submits_text entry read)) panel.old.slot.machine) result panel.new.slot.machine }
 {
-    let mut read = None;
-    read_command(text, &mut read);
+    let mut place = Spelling::new();
+    let read = read_command(text, &mut place);
     on_held!(
         panel,
         alloc,
-        |machine| panel_calls::submit_read(&mut machine.bus, entry, read)
+        |machine| panel_calls::submit_read(&mut machine.bus, entry, &read)
     )
 }
 
@@ -264,7 +265,7 @@ pub extern "C" fn osdp_panel_next_report(
     on_held!(panel, alloc, |machine| {
         let maybe_again = machine.bus.is_maybe_again();
         report.set(machine.bus.report(), maybe_again);
-        machine.bus.drop_report();
+        machine.bus.settle();
         Status::Done
     })
 }

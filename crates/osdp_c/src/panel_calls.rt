@@ -101,14 +101,11 @@ pub(crate) fn set_moment(machine: &mut PanelMachine, now: u64)
 }
 
 /// Puts a command after those that wait for a device.
-fn submit(bus: &mut Bus, entry: Entry, command: Command) -> Status
-    ensures status { result ≡ (submits entry command bus.old).status }
-    ensures bus { bus.new ≡ (submits entry command bus.old).machine }
+fn submit(bus: &mut Bus, entry: Entry, command: &Command<'_>) -> Status
+    ensures status { result ≡ (submits entry command.now bus.old).status }
+    ensures bus { bus.new ≡ (submits entry command.now bus.old).machine }
 {
-    match bus.submit(entry, command) {
-        Ok(()) => Status::Done,
-        Err((fault, _)) => Status::Panel(fault),
-    }
+    done_status(bus.submit(entry, command))
 }
 
 /// The same by the command's code and data.
@@ -117,15 +114,15 @@ pub(crate) fn submit_data(bus: &mut Bus, entry: Entry, code: u8, body: &[u8]) ->
     ensures bus { bus.new ≡ (submits_data entry code body.now bus.old).machine }
 {
     match Command::read(code, body) {
-        Ok(command) => submit(bus, entry, command),
+        Ok(command) => submit(bus, entry, &command),
         Err(fault) => Status::Message(fault),
     }
 }
 
 /// The same by what was read of the command's text.
-pub(crate) fn submit_read(bus: &mut Bus, entry: Entry, read: Option<Command>) -> Status
-    ensures status { result ≡ (submits_text entry read bus.old).status }
-    ensures bus { bus.new ≡ (submits_text entry read bus.old).machine }
+pub(crate) fn submit_read(bus: &mut Bus, entry: Entry, read: &Option<Command<'_>>) -> Status
+    ensures status { result ≡ (submits_text entry read.now bus.old).status }
+    ensures bus { bus.new ≡ (submits_text entry read.now bus.old).machine }
 {
     match read {
         Some(command) => submit(bus, entry, command),
@@ -139,13 +136,12 @@ pub(crate) fn withdraw(bus: &mut Bus, entry: Entry, out: &mut MessageStruct) -> 
     ensures bus { bus.new ≡ (withdraws entry bus.old).machine }
     ensures written { out.new ≡ writes_withdrawn entry bus.old out.old }
 {
-    match bus.withdraw(entry) {
-        Ok(command) => {
-            out.set_command(command.as_ref());
-            Status::Done
-        }
-        Err(fault) => Status::Panel(fault),
+    match bus.withdrawable(entry) {
+        Ok(command) => out.set_command(command.as_ref()),
+        Err(fault) => return Status::Panel(fault),
     }
+    let _ = bus.withdraw(entry);
+    Status::Done
 }
 
 /// Sets the address of a device.

@@ -12,7 +12,7 @@ use crate::held::{freed, on_held, put_new};
 use crate::read::read_event;
 use crate::reader_calls;
 use osdp_c_values::{AnswerStruct, MessageStruct, ReaderHandle, ReaderSettings, StateList, Status};
-use osdp_msg::{Event, LocalState, NakReason};
+use osdp_msg::{NakReason, Spelling};
 use osdp_reader::Answer;
 use std::alloc::Global;
 
@@ -127,12 +127,11 @@ pub extern "C" fn osdp_device_event_nonnull(
     ensures { (read : Result Happened Answered) × IsEventRead (reply_of code body.now) read
         × IsDone (calls (submits_read read) reader.old.slot.machine) result reader.new.slot.machine }
 {
-    let mut event = Event::LocalState(LocalState::NORMAL);
-    let read = reader_calls::read_event_at(code, body, &mut event);
+    let read = reader_calls::read_event_at(code, body);
     on_held!(
         reader,
         alloc,
-        |machine| reader_calls::submit_data(&mut machine, read, &mut event)
+        |machine| reader_calls::submit_data(&mut machine, &read)
     )
 }
 
@@ -146,12 +145,12 @@ pub extern "C" fn osdp_device_event_text_nonnull(
     ensures { (read : Option Happened) × IsReadEvent text.now read
         × IsDone (calls (submits_text read) reader.old.slot.machine) result reader.new.slot.machine }
 {
-    let mut read = None;
-    read_event(text, &mut read);
+    let mut place = Spelling::new();
+    let read = read_event(text, &mut place);
     on_held!(
         reader,
         alloc,
-        |machine| reader_calls::submit_read(&mut machine, read)
+        |machine| reader_calls::submit_read(&mut machine, &read)
     )
 }
 
@@ -296,7 +295,7 @@ pub extern "C" fn osdp_device_answer_done(alloc: Global, reader: &mut ReaderHand
     on_held!(
         reader,
         alloc,
-        |machine| reader_calls::answer(&mut machine, Answer::Done)
+        |machine| reader_calls::answer(&mut machine, &Answer::Done)
     )
 }
 
@@ -313,7 +312,7 @@ pub extern "C" fn osdp_device_answer_local(
     on_held!(
         reader,
         alloc,
-        |machine| reader_calls::answer(&mut machine, Answer::Local(tamper, power))
+        |machine| reader_calls::answer(&mut machine, &Answer::Local(tamper, power))
     )
 }
 
@@ -330,7 +329,7 @@ pub extern "C" fn osdp_device_answer_list_nonnull(
     on_held!(
         reader,
         alloc,
-        |machine| reader_calls::answer_if(&mut machine, made)
+        |machine| reader_calls::answer_if(&mut machine, &made)
     )
 }
 
@@ -346,7 +345,7 @@ pub extern "C" fn osdp_device_answer_refused(
     on_held!(
         reader,
         alloc,
-        |machine| reader_calls::answer(&mut machine, Answer::Refuse(NakReason::from(reason)))
+        |machine| reader_calls::answer(&mut machine, &Answer::Refuse(NakReason::from(reason)))
     )
 }
 
@@ -364,6 +363,6 @@ pub extern "C" fn osdp_device_answer_maker_nonnull(
     on_held!(
         reader,
         alloc,
-        |machine| reader_calls::answer_if(&mut machine, made)
+        |machine| reader_calls::answer_if(&mut machine, &made)
     )
 }

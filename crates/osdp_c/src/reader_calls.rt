@@ -1,9 +1,9 @@
 //! The calls of a reader, on its device.
 
-ghost use Rattle.std.specs.Prelude.{◌≡◌, ◌↔◌, IsTrue};
+ghost use Rattle.std.specs.Prelude.{◌≡◌, ◌≤◌, ◌↔◌, IsTrue, length};
 ghost use Rattle.std.specs.Result.{result_map_both};
 ghost use Rattle.osdp_msg.specs.ReplyTable.{reply_of};
-ghost use Rattle.osdp_c_values.specs.Readers.{AreSettings, IsEventRead, MadeAs, MadeWith, answers, answers_if, at_moment, caps_of, does, event_expired, event_struct, expires_event, falls_silent, how_expired, is_closed, list_answer, looks, maker_answer, refuses, sets_local, sets_moment, sets_states, states_of, steps, submits, submits_read, submits_text, ticks, writes_at, writes_expired, writes_how, writes_offline, writes_pending, writes_silence, writes_step, writes_taken, writes_tick};
+ghost use Rattle.osdp_c_values.specs.Readers.{AreSettings, IsEventRead, MadeAs, MadeWith, answers, answers_if, at_moment, caps_of, does, event_expired, event_struct, expires_event, falls_silent, how_expired, is_closed, list_answer, looks, maker_answer, refuses, sets_local, sets_moment, sets_states, steps, submits, submits_read, submits_text, ticks, writes_at, writes_expired, writes_how, writes_offline, writes_pending, writes_silence, writes_step, writes_taken, writes_tick};
 
 use crate::held::at_moment;
 use arrayvec::ArrayVec;
@@ -11,18 +11,32 @@ use osdp_c_values::{
     AnswerStruct, Clock, MessageStruct, Place, ReaderMachine, ReaderSettings, StateList, Status,
 };
 use osdp_device::{Ages, Device, Expired, ProgramAnswers};
-use osdp_frame::{Address, CheckKind, FrameView, Header, Seq, is_time};
-use osdp_msg::{Event, LocalState, MAX_DATA, MsgFault, PdCap, Reply, is_room};
-use osdp_reader::{Answer, Heard, Kind, Reader, ReaderConfig, ReaderFault};
+use osdp_frame::{Address, Burst, CheckKind, FrameView, Header, Seq, is_time};
+use osdp_msg::{
+    Capability, Event, MAX_DATA, MakerMessage, MsgFault, Records, Reply, Room, States, is_room,
+};
+use osdp_reader::{Answer, Kind, Reader, ReaderConfig, ReaderFault};
 use std::alloc::Global;
-use std::mem::replace;
+
+/// These records in a list of their own.
+fn own_caps(records: Records<'_, Capability>) -> ArrayVec<Capability, 477>
+    requires { length records.entry ≤ 477 }
+    ensures { result.items ≡ records.entry }
+{
+    let mut caps = ArrayVec::new();
+    let mut left = records;
+    'records: while let Some(capability) = left.next() {
+        caps.try_push(capability).unwrap();
+    }
+    caps
+}
 
 /// What a reader answers to CAP, by the data of that reply.
-fn read_caps(body: &[u8]) -> Result<PdCap, MsgFault>
+fn read_caps(body: &[u8]) -> Result<ArrayVec<Capability, 477>, MsgFault>
     ensures { result ≡ caps_of body.now }
 {
     match Reply::read(0x46, body) {
-        Ok(Reply::PdCap(caps)) => Ok(caps),
+        Ok(Reply::PdCap(caps)) => Ok(own_caps(caps.capabilities())),
         Ok(_) => Err(MsgFault::Length),
         Err(fault) => Err(fault),
     }
@@ -39,7 +53,7 @@ fn are_in_range(settings: &ReaderSettings) -> bool
 fn new_machine(
     alloc: Global,
     settings: &ReaderSettings,
-    caps: PdCap,
+    caps: ArrayVec<Capability, 477>,
 ) -> Result<Box<ReaderMachine>, ReaderFault>
     ensures { MadeWith settings.now caps (result_map_both (λ b. b.value) (λ fault. fault) result) }
 {
@@ -58,20 +72,14 @@ fn new_machine(
     let Ok(ages) = Ages::new(alloc, capacity) else {
         return Err(ReaderFault::NoMemory);
     };
-    let reader = Reader::new(alloc, config, ProgramAnswers::new(), capacity)?;
+    let room = Room::of(capacity);
+    let reader = Reader::new(alloc, config, ProgramAnswers::new(), room)?;
     let Some(device) = Device::with_ages(reader, ages, settings.gap) else {
         return Err(ReaderFault::OutOfRange);
     };
     let clock = Clock::new(settings.clock_limit());
-    let heard = Place::new(Heard::new());
-    match Box::new(
-        alloc,
-        ReaderMachine {
-            device,
-            clock,
-            heard,
-        },
-    ) {
+    let sent = Place::new(Burst::new());
+    match Box::new(alloc, ReaderMachine { device, clock, sent }) {
         Ok(machine) => Ok(machine),
         Err(_) => Err(ReaderFault::NoMemory),
     }
@@ -95,15 +103,13 @@ pub(crate) fn new_box(
     }
 }
 
-/// A list of a state for each input, output or reader. None where there are more than a reply tells.
-fn read_states(states: &[u8]) -> Option<ArrayVec<u8, MAX_DATA>>
-    ensures { result ≡ states_of states.now }
+/// Puts these states in place of those that stand in a list.
+fn put_states(list: &mut ArrayVec<u8, MAX_DATA>, states: &[u8])
+    requires { length states.now ≤ MAX_DATA }
+    ensures { list.new.items ≡ states.now }
 {
-    let mut list = ArrayVec::new();
-    match list.try_extend_from_slice(states) {
-        Ok(()) => Some(list),
-        Err(_) => None,
-    }
+    list.clear();
+    list.try_extend_from_slice(states).unwrap();
 }
 
 /// Sets the state of each input, output or reader.
@@ -111,14 +117,14 @@ pub(crate) fn set_states(machine: &mut ReaderMachine, told: StateList, states: &
     ensures status { result ≡ (sets_states told states.now machine.old).status }
     ensures machine { machine.new ≡ (sets_states told states.now machine.old).machine }
 {
-    let Some(list) = read_states(states) else {
+    if states.len() > MAX_DATA {
         return Status::Message(MsgFault::Length);
-    };
+    }
     let status = &mut machine.device.handler_mut().status;
     match told {
-        StateList::Inputs => status.inputs = list,
-        StateList::Outputs => status.outputs = list,
-        StateList::Readers => status.readers = list,
+        StateList::Inputs => put_states(&mut status.inputs, states),
+        StateList::Outputs => put_states(&mut status.outputs, states),
+        StateList::Readers => put_states(&mut status.readers, states),
     }
     Status::Done
 }
@@ -133,62 +139,52 @@ pub(crate) fn set_local(machine: &mut ReaderMachine, tamper: u8, power: u8)
 }
 
 /// Puts an event after those that wait, as of the greatest moment seen. One that comes before any was seen is never too old.
-fn submit(machine: &mut ReaderMachine, event: Event) -> Status
-    ensures status { result ≡ (submits event machine.old).status }
-    ensures machine { machine.new ≡ (submits event machine.old).machine }
+fn submit(machine: &mut ReaderMachine, event: &Event<'_>) -> Status
+    ensures status { result ≡ (submits event.now machine.old).status }
+    ensures machine { machine.new ≡ (submits event.now machine.old).machine }
 {
     let now = match machine.clock.greatest() {
         Some(greatest) => greatest,
         None => u64::MAX,
     };
-    match machine.device.submit_event(event, now) {
-        Ok(()) => Status::Done,
-        Err(_) => Status::EventsFull,
+    if machine.device.submit_event(event, now) {
+        Status::Done
+    } else {
+        Status::EventsFull
     }
 }
 
-/// Puts the event that the reply of a code and data tells in place of what stands in `event`, or tells why there is none.
-// It is not inlined: the places of reading are on the stack only while the reply is read.
-#[inline(never)]
-pub(crate) fn read_event_at(code: u8, body: &[u8], event: &mut Event) -> Result<(), Status>
-    ensures { IsEventRead (reply_of code body.now) (result_map_both (λ _. event.new) (λ refused. refused) result) }
+/// The event that the reply of a code and data tells, or why there is none.
+pub(crate) fn read_event_at(code: u8, body: &[u8]) -> Result<Event<'_>, Status>
+    ensures { IsEventRead (reply_of code body.now) result }
 {
     match Reply::read(code, body) {
-        Ok(reply) => {
-            if reply.event_into(event) {
-                Ok(())
-            } else {
-                Err(Status::NoEvent)
-            }
-        }
+        Ok(reply) => match reply.event() {
+            Some(event) => Ok(event),
+            None => Err(Status::NoEvent),
+        },
         Err(fault) => Err(Status::Message(fault)),
     }
 }
 
-/// Puts the event after those that wait that was read of a reply's code and data. Its place holds another after that.
-// It is not inlined: the places of moving the event are not there while it is read.
-#[inline(never)]
+/// Puts the event after those that wait that was read of a reply's code and data.
 pub(crate) fn submit_data(
     machine: &mut ReaderMachine,
-    read: Result<(), Status>,
-    event: &mut Event,
+    read: &Result<Event<'_>, Status>,
 ) -> Status
-    ensures status { result ≡ (submits_read (result_map_both (λ _. event.old) (λ refused. refused) read) machine.old).status }
-    ensures machine { machine.new ≡ (submits_read (result_map_both (λ _. event.old) (λ refused. refused) read) machine.old).machine }
+    ensures status { result ≡ (submits_read read.now machine.old).status }
+    ensures machine { machine.new ≡ (submits_read read.now machine.old).machine }
 {
     match read {
-        Ok(()) => submit(
-            machine,
-            replace(event, Event::LocalState(LocalState::NORMAL)),
-        ),
-        Err(refused) => refused,
+        Ok(event) => submit(machine, event),
+        Err(refused) => *refused,
     }
 }
 
 /// The same by what was read of the event's text.
-pub(crate) fn submit_read(machine: &mut ReaderMachine, read: Option<Event>) -> Status
-    ensures status { result ≡ (submits_text read machine.old).status }
-    ensures machine { machine.new ≡ (submits_text read machine.old).machine }
+pub(crate) fn submit_read(machine: &mut ReaderMachine, read: &Option<Event<'_>>) -> Status
+    ensures status { result ≡ (submits_text read.now machine.old).status }
+    ensures machine { machine.new ≡ (submits_text read.now machine.old).machine }
 {
     match read {
         Some(event) => submit(machine, event),
@@ -265,25 +261,29 @@ pub(crate) fn look(machine: &mut ReaderMachine, command: &mut MessageStruct)
     ensures machine { machine.new ≡ (looks machine.old).machine }
     ensures written { command.new ≡ writes_pending machine.old command.old }
 {
-    let pending = machine.device.pending();
-    command.set_command(pending.as_ref());
+    if machine.device.pending() {
+        command.set_command(machine.device.command().as_ref());
+    } else {
+        command.set_command(None);
+    }
 }
 
 /// Sets what is said to the command before which the device has stopped.
-pub(crate) fn answer(machine: &mut ReaderMachine, answer: Answer) -> Status
-    ensures status { result ≡ (answers answer machine.old).status }
-    ensures machine { machine.new ≡ (answers answer machine.old).machine }
+pub(crate) fn answer(machine: &mut ReaderMachine, answer: &Answer<'_>) -> Status
+    ensures status { result ≡ (answers answer.now machine.old).status }
+    ensures machine { machine.new ≡ (answers answer.now machine.old).machine }
 {
-    match machine.device.answer_next(answer) {
-        Ok(()) => Status::Done,
-        Err(_) => Status::NotAsked,
+    if machine.device.answer_next(answer) {
+        Status::Done
+    } else {
+        Status::NotAsked
     }
 }
 
 /// The same of an answer that may be longer than a reply.
-pub(crate) fn answer_if(machine: &mut ReaderMachine, made: Option<Answer>) -> Status
-    ensures status { result ≡ (answers_if made machine.old).status }
-    ensures machine { machine.new ≡ (answers_if made machine.old).machine }
+pub(crate) fn answer_if(machine: &mut ReaderMachine, made: &Option<Answer<'_>>) -> Status
+    ensures status { result ≡ (answers_if made.now machine.old).status }
+    ensures machine { machine.new ≡ (answers_if made.now machine.old).machine }
 {
     match made {
         Some(made) => answer(machine, made),
@@ -292,24 +292,17 @@ pub(crate) fn answer_if(machine: &mut ReaderMachine, made: Option<Answer>) -> St
 }
 
 /// A byte for each input, output or reader. None where there are more than a reply tells.
-pub(crate) fn list_answer(states: &[u8]) -> Option<Answer>
+pub(crate) fn list_answer(states: &[u8]) -> Option<Answer<'_>>
     ensures { result ≡ list_answer states.now }
 {
-    match read_states(states) {
-        Some(list) => Some(Answer::List(list)),
-        None => None,
-    }
+    Some(Answer::List(States::new(states)?))
 }
 
 /// A maker's own reply. None where it is longer than a reply.
-pub(crate) fn maker_answer(vendor: &[u8; 3], bytes: &[u8]) -> Option<Answer>
+pub(crate) fn maker_answer<'a>(vendor: &[u8; 3], bytes: &'a [u8]) -> Option<Answer<'a>>
     ensures { result ≡ maker_answer vendor.now bytes.now }
 {
-    let mut list = ArrayVec::new();
-    match list.try_extend_from_slice(bytes) {
-        Ok(()) => Some(Answer::Maker(*vendor, list)),
-        Err(_) => None,
-    }
+    Some(Answer::Maker(MakerMessage::new(*vendor, bytes)?))
 }
 
 /// Whether a reader would refuse the number of a POLL.
@@ -338,28 +331,35 @@ pub(crate) fn is_closed(reader: &Reader<ProgramAnswers>) -> bool
     refuses(reader, one) && refuses(reader, two) && refuses(reader, three)
 }
 
-/// Writes an event that has left the queue, as the reply that would have told it; or that there is none.
-pub(crate) fn write_event(event: &Option<Event>, out: &mut MessageStruct)
+/// Writes an event that leaves the queue, as the reply that would have told it; or that there is none.
+pub(crate) fn write_event(event: &Option<Event<'_>>, out: &mut MessageStruct)
     ensures { out.new ≡ event_struct event.now out.old }
 {
     match event {
-        Some(event) => out.set_reply(Some(&event.to_reply())),
+        Some(event) => out.set_reply(Some(&event.reply())),
         None => out.set_reply(None),
     }
 }
 
-/// Writes what became of an event that was too old, and which it is.
-fn write_expired(expired: Option<Expired>, how: &mut u32, out: &mut MessageStruct)
-    ensures how { how.new ≡ how_expired expired }
-    ensures event { out.new ≡ event_struct (event_expired expired) out.old }
+/// Writes what becomes of an event that is too old, and which it is.
+fn write_expired(expired: &Option<Expired<'_>>, how: &mut u32, out: &mut MessageStruct)
+    ensures how { how.new ≡ how_expired expired.now }
+    ensures event { out.new ≡ event_struct (event_expired expired.now) out.old }
 {
-    let (number, event) = match expired {
-        None => (0, None),
-        Some(Expired::Withdrawn(event)) => (1, Some(event)),
-        Some(Expired::InDoubt(event)) => (2, Some(event)),
-    };
-    *how = number;
-    write_event(&event, out);
+    match expired {
+        None => {
+            *how = 0;
+            out.set_reply(None);
+        }
+        Some(Expired::Withdrawn(event)) => {
+            *how = 1;
+            out.set_reply(Some(&event.reply()));
+        }
+        Some(Expired::InDoubt(event)) => {
+            *how = 2;
+            out.set_reply(Some(&event.reply()));
+        }
+    }
 }
 
 /// Takes the oldest event off, where it is too old at a moment, and writes what became of it.
@@ -379,7 +379,8 @@ pub(crate) fn expire_event(
         machine,
         now,
         {
-            write_expired(machine.device.expire_event(now, limit), how, event);
+            write_expired(&machine.device.expiring(now, limit), how, event);
+            machine.device.expire_event(now, limit);
             Status::Done
         }
     )

@@ -60,7 +60,8 @@ pub extern "C" fn osdp_device_withdraw_event(
     ensures written { event.new ≡ writes writes_withdrawn reader.old.slot.machine event.old }
 {
     on_held!(reader, alloc, |machine| {
-        reader_calls::write_event(&machine.device.withdraw_event(), event);
+        reader_calls::write_event(&machine.device.reader().never_offered(), event);
+        machine.device.withdraw_event();
         Status::Done
     })
 }
@@ -76,7 +77,8 @@ pub extern "C" fn osdp_device_lapse_event(
     ensures written { event.new ≡ writes writes_lapsed reader.old.slot.machine event.old }
 {
     on_held!(reader, alloc, |machine| {
-        reader_calls::write_event(&machine.device.lapse_event(), event);
+        reader_calls::write_event(&machine.device.reader().in_doubt(), event);
+        machine.device.lapse_event();
         Status::Done
     })
 }

@@ -5,6 +5,7 @@ pub mod Clocks
 pub mod Commands
 pub mod Events
 pub mod Fields
+pub mod Machines
 pub mod Making
 pub mod Moments
 pub mod Owning

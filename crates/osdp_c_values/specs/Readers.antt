@@ -5,18 +5,18 @@ use Rattle.osdp_frame.specs.Receiving.{Received, after_silence, after_take, afte
 use Rattle.osdp_device.specs.Ages.{after_arrival, after_expiry, after_removal, after_saying, expired_front, expires, is_offline, no_ages}
 use Rattle.osdp_device.specs.declared.events.Expired.{Expired}
 use Rattle.osdp_device.specs.declared.events.Expired.TheVariants.{Withdrawn, InDoubt}
-use Rattle.osdp_reader.specs.Queue.{in_doubt, never_offered}
+use Rattle.osdp_reader.specs.Queue.{in_doubt, lacks_room, never_offered}
 use Rattle.osdp_device.specs.Deciding.{Turned, is_asked, pending_of, passed, turned, with_question}
 use Rattle.osdp_device.specs.Program.{new_program}
 use Rattle.osdp_device.specs.declared.program.ProgramAnswers.{ProgramAnswers}
-use Rattle.osdp_device.specs.declared.program.Question.TheVariants.{Answered}
+use Rattle.osdp_device.specs.declared.question.Question.TheVariants.{Answered}
 use Rattle.osdp_device.specs.declared.status.DeviceStatus.{DeviceStatus}
+use Rattle.osdp_msg.specs.declared.capability.Capability.{Capability}
 use Rattle.osdp_msg.specs.declared.event.Event.{Event}
 use Rattle.osdp_msg.specs.declared.fault.MsgFault.{MsgFault}
 use Rattle.osdp_msg.specs.declared.fault.MsgFault.TheVariants.{Length}
 use Rattle.osdp_msg.specs.declared.reply.Reply.{Reply}
 use Rattle.osdp_msg.specs.declared.reply.Reply.TheVariants as reply
-use Rattle.osdp_msg.specs.declared.reply_fields.PdCap.{PdCap}
 use Rattle.osdp_msg.specs.Events.{event_reply}
 use Rattle.osdp_msg.specs.ReplyTable.{reply_of}
 use Rattle.osdp_msg.specs.Limits.{most_data, most_maker_bytes, most_waiting}
@@ -42,19 +42,19 @@ use Rattle.osdp_c_values.specs.declared.status.Status.TheVariants as status
 use Rattle.osdp_c_values.specs.declared.message.MessageStruct.{MessageStruct}
 use Rattle.osdp_c_values.specs.Answers.{turn_struct}
 use Rattle.osdp_c_values.specs.Structs.{command_struct, reply_struct}
-use Rattle.osdp_c_values.specs.Settings.{id_of, limit_of}
+use Rattle.osdp_c_values.specs.Settings.{id_of, limit_of, room_for}
 use Rattle.osdp_c_values.specs.Statuses.{number}
 use Rattle.osdp_c_values.specs.Calls.{Done}
 use Rattle.osdp_c_values.specs.declared.states.StateList.{StateList}
 use Rattle.osdp_c_values.specs.declared.states.StateList.TheVariants.{Inputs, Outputs, Readers}
 
 -- what a reader answers to CAP, by the data of that reply
-abbrev pub caps_in : Result Reply MsgFault → Result PdCap MsgFault
-caps_in (Ok (reply.PdCap caps)) = Ok caps
+abbrev pub caps_in : Result Reply MsgFault → Result (ArrayVec Capability) MsgFault
+caps_in (Ok (reply.PdCap caps)) = Ok caps.capabilities
 caps_in (Ok other) = Err Length
 caps_in (Err fault) = Err fault
 
-abbrev pub caps_of : List ℕ → Result PdCap MsgFault
+abbrev pub caps_of : List ℕ → Result (ArrayVec Capability) MsgFault
 caps_of body = caps_in (reply_of 0x46 body)
 
 -- each setting is in its range
@@ -65,24 +65,23 @@ pub record AreSettings (s : ReaderSettings) : Type 0 where
   pub limit : s.capacity ≤ most_waiting
   pub gap : IsTime s.gap
 
-abbrev pub new_machine : ReaderSettings → PdCap → ReaderMachine
+abbrev pub new_machine : ReaderSettings → ArrayVec Capability → ReaderMachine
 new_machine s caps = record {
   device = record {
-    reader = new_reader (record { address = s.address; id = id_of s; caps = caps }) new_program s.capacity;
+    reader = new_reader (record { address = s.address; id = id_of s; caps = caps }) new_program (room_for s.capacity);
     line = new_line s.gap;
     ages = no_ages s.capacity;
   };
   clock = new_clock (limit_of s.clock_limit);
-  heard = tt;
 }
 
 -- how a new reader comes about: what it can do is read, then the settings are judged, before memory is asked for
-abbrev pub MadeWith : ReaderSettings → PdCap → Result ReaderMachine ReaderFault → Type 0
+abbrev pub MadeWith : ReaderSettings → ArrayVec Capability → Result ReaderMachine ReaderFault → Type 0
 MadeWith s caps (Ok m) = AreSettings s × (m ≡ new_machine s caps)
 MadeWith s caps (Err OutOfRange) = AreSettings s → ⊥
 MadeWith s caps (Err NoMemory) = AreSettings s
 
-abbrev pub MadeAs : ReaderSettings → Result PdCap MsgFault → Result ReaderMachine Status → Type 0
+abbrev pub MadeAs : ReaderSettings → Result (ArrayVec Capability) MsgFault → Result ReaderMachine Status → Type 0
 MadeAs s (Err fault) r = r ≡ Err (status.Message fault)
 MadeAs s (Ok caps) (Ok m) = MadeWith s caps (Ok m)
 MadeAs s (Ok caps) (Err refused) = (fault : ReaderFault) × (refused ≡ status.Reader fault) × MadeWith s caps (Err fault)
@@ -144,10 +143,6 @@ sets_local tamper power m = does (tells (record m.device.reader.handler.status {
 abbrev pub sets_busy : ℕ → ReaderMachine → Done ReaderMachine
 sets_busy busy m = does (sets (after_set_busy (not (busy == 0)) m.device.reader) m)
 
--- as many events wait as there is room for
-abbrev pub is_full : ReaderState ProgramAnswers → Bool
-is_full r = length r.queue.events == r.queue.capacity
-
 -- an event came at the greatest moment that was seen; one that came before any was is never too old
 abbrev pub arrival : Option ℕ → ℕ
 arrival (Some greatest) = greatest
@@ -163,7 +158,7 @@ arrived event m = record m {
 
 abbrev pub submits : Event → ReaderMachine → Done ReaderMachine
 submits event m =
-    if is_full m.device.reader then record { status = status.EventsFull; machine = m }
+    if lacks_room event m.device.reader.queue then record { status = status.EventsFull; machine = m }
     else does (arrived event m)
 
 -- the event that a reply tells, by the reply's code and data, or why there is none

@@ -1,8 +1,10 @@
 -- The settings of machines as structs of plain fields.
-use Rattle.std.specs.Prelude.{ℕ, ◌==◌, ◌&&◌, nat_le, if◌then◌else◌, Option, None, Some}
+use Rattle.std.specs.Prelude.{ℕ, ◌+◌, ◌*◌, ◌==◌, ◌&&◌, nat_le, if◌then◌else◌, Option, None, Some}
 use Rattle.osdp_bus.specs.declared.config.BusConfig.{BusConfig}
 use Rattle.osdp_frame.specs.declared.check_kind.CheckKind.{CheckKind}
 use Rattle.osdp_frame.specs.declared.check_kind.CheckKind.TheVariants.{Sum, Crc}
+use Rattle.osdp_msg.specs.Limits.{most_data, most_waiting}
+use Rattle.osdp_msg.specs.declared.limits.Room.{Room}
 use Rattle.osdp_msg.specs.declared.reply_fields.PdId.{PdId}
 use Rattle.osdp_c_values.specs.declared.settings.PanelSettings.{PanelSettings}
 use Rattle.osdp_c_values.specs.declared.settings.ProductStruct.{ProductStruct}
@@ -11,10 +13,14 @@ use Rattle.osdp_c_values.specs.declared.settings.ReaderSettings.{ReaderSettings}
 abbrev pub check_of : ℕ → CheckKind
 check_of number = if number == 0 then Sum else Crc
 
--- the bus's settings that a struct stands for: there are two checks, and the sends and the BUSYs are bytes
+-- room for so many messages, however long each is
+abbrev pub room_for : ℕ → Room
+room_for count = record { messages = count; bytes = count * (1 + most_data) }
+
+-- the bus's settings that a struct stands for: there are two checks, the sends and the BUSYs are bytes, and no more messages wait than there may be room for
 abbrev pub bus_config_of : PanelSettings → Option BusConfig
 bus_config_of s =
-    if nat_le s.check 1 && (nat_le s.sends 255 && nat_le s.busy_limit 255) then Some (record {
+    if nat_le s.check 1 && (nat_le s.sends 255 && (nat_le s.busy_limit 255 && nat_le s.capacity most_waiting)) then Some (record {
       check = check_of s.check;
       reply_wait = s.reply_wait;
       poll_interval = s.poll_interval;
@@ -23,7 +29,7 @@ bus_config_of s =
       busy_limit = s.busy_limit;
       quiet_wait = s.quiet_wait;
       gap = s.gap;
-      capacity = s.capacity;
+      room = room_for s.capacity;
     }) else None
 
 -- what a device is, by its serial number and what it is otherwise

@@ -13,7 +13,7 @@ use crate::place::Place;
 use osdp_bus::Bus;
 use osdp_device::{Device, ProgramAnswers};
 use osdp_frame::Burst;
-use osdp_reader::Heard;
+use std::marker::Model;
 
 /// A bus, and the moments that it has seen.
 #[derive(Drop)]
@@ -32,7 +32,7 @@ impl PanelMachine {
         ensures bus { self.new ≡ ticked now self.old }
         ensures written { IsSentIn (bus_ticks now self.old.bus).sent burst.old burst.new }
     {
-        if self.bus.tick_into(now, &mut self.sent.value) {
+        if self.bus.tick(now, &mut self.sent.value) {
             burst.set(self.sent.value.as_slice());
         } else {
             burst.set(&[]);
@@ -47,8 +47,17 @@ pub struct ReaderMachine {
     pub device: Device<ProgramAnswers>,
     /// The moments that it has seen.
     pub clock: Clock,
-    /// Where it is put what a packet comes to.
-    pub heard: Place<Heard>,
+    /// Where the burst that goes out is put together.
+    pub sent: Place<Burst>,
+}
+
+/// A call writes the command of its turn before it ends, so what the device lends of that turn is no part of the value.
+impl Model for ReaderMachine {
+    ghost use Rattle.osdp_c_values.specs.Machines.{HeldReader};
+
+    ghost Value = { HeldReader };
+
+    ghost view = { λ m. record { device = record { reader = m.device.reader; line = m.device.line; ages = m.device.ages }; clock = m.clock } };
 }
 
 impl ReaderMachine {
@@ -58,8 +67,8 @@ impl ReaderMachine {
         ensures machine { self.new ≡ (reads_next self.old self.old.device.line).machine }
         ensures written { answer.new ≡ writes_next self.old self.old.device.line answer.old }
     {
-        let settled = self.device.settle_into(&mut self.heard.value);
-        answer.set_settled(settled, &self.heard.value);
+        let settled = self.device.settle(&mut self.sent.value);
+        answer.set_settled(settled, self.device.command(), self.sent.value.as_slice());
     }
 
     /// Bytes have come up to a moment: tells how many of them were taken, and writes what the reader says, or the command before which it
@@ -69,8 +78,8 @@ impl ReaderMachine {
         ensures machine { self.new ≡ (steps bytes.now now self.old).machine }
         ensures written { answer.new ≡ writes_step bytes.now now self.old answer.old }
     {
-        let (count, settled) = self.device.step_into(bytes, now, &mut self.heard.value);
-        answer.set_settled(settled, &self.heard.value);
+        let count = self.device.take(bytes, now);
+        self.settle(answer);
         count
     }
 }

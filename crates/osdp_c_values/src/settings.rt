@@ -3,11 +3,11 @@
 ghost use Rattle.std.specs.Prelude.{◌≡◌, Some};
 ghost use Rattle.osdp_bus.specs.Settings.{default_config};
 ghost use Rattle.osdp_frame.specs.declared.check_kind.CheckKind.TheVariants.{Crc};
-ghost use Rattle.osdp_c_values.specs.Settings.{bus_config_of, check_of, day, id_of, limit_of};
+ghost use Rattle.osdp_c_values.specs.Settings.{bus_config_of, check_of, day, id_of, limit_of, room_for};
 
 use osdp_bus::BusConfig;
 use osdp_frame::CheckKind;
-use osdp_msg::PdId;
+use osdp_msg::{MAX_WAITING, PdId, Room};
 
 /// The settings of a panel. Times are in milliseconds, 1 to 3,600,000.
 #[repr(C)]
@@ -59,7 +59,7 @@ fn check_of(number: u32) -> CheckKind
 impl PanelSettings {
     /// Writes the default settings of a bus: a CRC, and room for 64 commands.
     pub fn set_defaults(&mut self)
-        ensures bus { bus_config_of self.new ≡ Some (default_config Crc 64) }
+        ensures bus { bus_config_of self.new ≡ Some (default_config Crc (room_for 64)) }
         ensures clock { self.new.clock_limit ≡ day }
     {
         self.check = 1;
@@ -81,11 +81,15 @@ impl PanelSettings {
         limit_of(self.clock_limit)
     }
 
-    /// The settings of a bus that they stand for. None where the check, the sends or the BUSYs have no such number.
+    /// The settings of a bus that they stand for. None where the check, the sends, the BUSYs or the commands that may wait have no such number.
     pub fn to_config(&self) -> Option<BusConfig>
         ensures { result ≡ bus_config_of self.now }
     {
-        if self.check > 1 || self.sends > 255 || self.busy_limit > 255 {
+        if self.check > 1
+            || self.sends > 255
+            || self.busy_limit > 255
+            || self.capacity as usize > MAX_WAITING
+        {
             return None;
         }
         Some(BusConfig {
@@ -97,7 +101,7 @@ impl PanelSettings {
             busy_limit: self.busy_limit as u8,
             quiet_wait: self.quiet_wait,
             gap: self.gap,
-            capacity: self.capacity as usize,
+            room: Room::of(self.capacity as usize),
         })
     }
 }
