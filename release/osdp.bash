@@ -1,4 +1,4 @@
-# Completion of osdp and osdp-port for bash. The words are those of their helps; tests/release.py holds them to these.
+# Completion of osdp, osdp-port and osdp-report for bash. The words are those of their helps; tests/release.py holds them to these.
 
 _osdp_words() {
   case $1 in
@@ -38,5 +38,12 @@ _osdp_port() {
   fi
 }
 
+_osdp_report() {
+  local word=${COMP_WORDS[COMP_CWORD]}
+  COMPREPLY=($(compgen -f -- "$word"))
+  [[ $word != -* ]] || COMPREPLY=($(compgen -W '--hex --osdpcap --stamped --raw --json --osdp' -- "$word"))
+}
+
 complete -o filenames -F _osdp osdp
 complete -o filenames -F _osdp_port osdp-port
+complete -o filenames -F _osdp_report osdp-report

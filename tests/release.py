@@ -1,7 +1,8 @@
 #!/usr/bin/env python3
 """What tests/release.sh looks at by Python: `release.py PROGRAM`.
 
-- The completions for bash and zsh offer, after each command, the options and settings of its help, and no others; and so of osdp-port.
+- The completions for bash and zsh offer, after each command, the options and settings of its help, and no others; and so of osdp-port and osdp-report. Both
+  run in their own shell.
 - `./install` proves crates side by side, each after all that it stands on; it says how far it is, and of one that isn't proved; no other is begun then.
   `rt` is a stand-in for this."""
 import contextlib
@@ -39,35 +40,36 @@ def wanted_after(command):
 
 
 def bash(*words):
-    """What bash offers for the last of these words."""
+    """What bash offers for the last of these words, files apart."""
     quoted = " ".join(f"'{word}'" for word in words)
-    script = f"source {TOP}/release/osdp.bash; COMP_WORDS=({quoted}); COMP_CWORD=$((${{#COMP_WORDS[@]}} - 1)); {'_osdp_port' if words[0] == 'osdp-port' else '_osdp'}; printf '%s\\n' \"${{COMPREPLY[@]}}\""
+    function = {"osdp": "_osdp", "osdp-port": "_osdp_port", "osdp-report": "_osdp_report"}[words[0]]
+    script = f"source {TOP}/release/osdp.bash; COMP_WORDS=({quoted}); COMP_CWORD=$((${{#COMP_WORDS[@]}} - 1)); {function}; printf '%s\\n' \"${{COMPREPLY[@]}}\""
     return set(subprocess.run(["bash", "-c", script], capture_output=True, text=True, cwd="/proc/self/fdinfo").stdout.split())
 
 
-def judge_bash():
-    top = set(re.findall(r"^  ([a-z]+) ", help_of("")[:0] or subprocess.run([PROGRAM, "help"], capture_output=True, text=True).stdout, re.M))
-    tell("osdp", top | {"--help", "-h", "--version"}, bash("osdp", ""))
-    tell("osdp sh", {"show"}, bash("osdp", "sh"))
+def zsh(*words):
+    """What zsh offers for the last of these words, files apart. `compadd` is a stand-in that prints what begins with the last word, as zsh picks it."""
+    quoted = " ".join(f"'{word}'" for word in words)
+    script = f"""_files() {{ }}; compadd() {{ [[ $1 != -- ]] || shift; for word in "$@"; do [[ $word != "$words[CURRENT]"* ]] || print -r -- $word; done }}
+        service={words[0]}; words=({quoted}); CURRENT=$#words; source {TOP}/release/_osdp"""
+    return set(subprocess.run(["zsh", "-f", "-c", script], capture_output=True, text=True).stdout.split())
+
+
+def judge_completion(shell):
+    """What a shell offers is what the helps name."""
+    offered = {"bash": bash, "zsh": zsh}[shell]
+    top = set(re.findall(r"^  ([a-z]+) ", subprocess.run([PROGRAM, "help"], capture_output=True, text=True).stdout, re.M))
+    tell(f"{shell}: osdp", top | {"--help", "-h", "--version"}, offered("osdp", ""))
+    tell(f"{shell}: osdp sh", {"show"}, offered("osdp", "sh"))
     for command in COMMANDS:
         beginning = "--" if command in ("show", "monitor", "check") else ""
-        tell(f"osdp {command}", wanted_after(command), {word for word in bash("osdp", command, beginning) if not word.isdigit()})
+        tell(f"{shell}: osdp {command}", wanted_after(command), {word for word in offered("osdp", command, beginning) if not word.isdigit()})
     text = subprocess.run([TOP / "port/osdp-port", "--help"], capture_output=True, text=True).stdout
-    tell("osdp-port --", set(re.findall(r"(?:^  |, )(--[\w-]+)", text, re.M)), bash("osdp-port", "--"))
-    tell("osdp-port PORT RATE", set(re.findall(r"^  ([a-z]+) ", text, re.M)), bash("osdp-port", "/dev/ttyS9", "9600", ""))
-    tell("osdp-port PORT", {"9600", "19200", "38400", "57600", "115200", "230400"}, bash("osdp-port", "/dev/ttyS9", ""))
-
-
-def judge_zsh():
-    """The words of the completion for zsh are those of the one for bash, line by line."""
-    shell, other = ((TOP / f"release/{name}").read_text() for name in ("osdp.bash", "_osdp"))
-    forms = re.search(r"^_osdp_forms=\((.*)\)$", other, re.M)[1]
-    for command, words in re.findall(r"^    ([a-z]+)\) echo '(.*)' ;;$", shell, re.M):
-        line = re.search(rf"^    {command}\) compadd(?: --)? (.*?)(?:; _files)? ;;$", other, re.M)[1]
-        tell(f"zsh, {command}", words, line.replace("$_osdp_forms", forms))
-    for words in (re.search(r"'(show .*)' ;;", shell)[1], re.search(r"'(--all .*?)'", shell)[1], re.search(r"'(9600 .*?)'", shell)[1], re.search(r"'(monitor show .*?)'", shell)[1]):
-        if f" {words}\n" not in other:
-            faults.append(f"zsh has no line of {words}")
+    tell(f"{shell}: osdp-port --", set(re.findall(r"(?:^  |, )(--[\w-]+)", text, re.M)), offered("osdp-port", "--"))
+    tell(f"{shell}: osdp-port PORT RATE", set(re.findall(r"^  ([a-z]+) ", text, re.M)), offered("osdp-port", "/dev/ttyS9", "9600", ""))
+    tell(f"{shell}: osdp-port PORT", {"9600", "19200", "38400", "57600", "115200", "230400"}, offered("osdp-port", "/dev/ttyS9", ""))
+    text = subprocess.run([TOP / "port/osdp-report", "--help"], capture_output=True, text=True).stdout
+    tell(f"{shell}: osdp-report --", set(re.findall(r"^  (--[\w-]+)", text, re.M)), offered("osdp-report", "--"))
 
 
 def prove(crates, wrong=None, wait=0.0):
@@ -120,6 +122,6 @@ def judge_proving():
 
 
 if __name__ == "__main__":
-    judge_bash(), judge_zsh(), judge_proving()
+    judge_completion("bash"), judge_completion("zsh"), judge_proving()
     print(f"release: {len(faults)} faults", *faults, sep="\n")
     sys.exit(1 if faults else 0)

@@ -2,7 +2,7 @@
 # Makes the packages of a release, twice, and tries them: in an empty root of Debian's, where the program runs, programs in C are built by pkg-config and by CMake, the
 # package for Python is used, and nothing is left once all is removed; and in an empty folder, where the archive of files alone builds programs in C and Rust. Then
 # what `./install` says, DESTDIR, and the completions (`release.py`). Takes the path of the program; the archive is that which `c.sh` has built. Run as root, it
-# fetches the root by mmdebstrap, which it installs where it isn't there.
+# fetches the root by mmdebstrap. It installs that and zsh where they aren't there.
 set -u
 cd "$(dirname "$0")/.." || exit 1
 . tests/passes.bash
@@ -10,10 +10,13 @@ top=$PWD
 root=$work/root
 trap '[ -z "${fetching:-}" ] || wait "$fetching"; rm -rf --one-file-system "$work"' EXIT
 
+for needed in mmdebstrap zsh; do
+  command -v "$needed" >/dev/null || { apt-get update -qq && apt-get install -qqy --no-install-recommends "$needed"; } >"$work/installed" 2>&1 || cat "$work/installed"
+done
+
 # ---- an empty root, fetched while the packages are made
 
 fetch_root() {
-  command -v mmdebstrap >/dev/null || { apt-get update -qq && apt-get install -qqy --no-install-recommends mmdebstrap; } || return
   mmdebstrap --quiet --variant=minbase --include=gcc,libc6-dev,cmake,make,pkgconf,python3-minimal,python3-serial bookworm "$root"
 }
 fetch_root >"$work/fetched" 2>&1 &
