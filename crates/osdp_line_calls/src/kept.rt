@@ -26,18 +26,25 @@ impl Model for KeptCommand {
 }
 
 impl KeptCommand {
+    /// A command equal to this one.
+    pub fn new(command: &Command<'_>) -> KeptCommand
+        ensures { result ≡ command.now }
+    {
+        let mut bytes = Spelling::new();
+        command.write_into(&mut bytes);
+        KeptCommand { bytes }
+    }
+
     /// The command whose text has these words.
     pub(crate) fn parse(words: &[&str]) -> Option<KeptCommand>
         ensures { ReadsWords command_words CommandFits (texts words.now) result }
     {
         let mut place = Spelling::new();
         let command = Command::parse(words, &mut place).ok()?;
-        let mut bytes = Spelling::new();
-        command.write_into(&mut bytes);
-        Some(KeptCommand { bytes })
+        Some(KeptCommand::new(&command))
     }
 
-    /// The command.
+    /// The command. It lends the bytes that are kept here.
     pub fn command(&self) -> Command<'_>
         ensures { result ≡ self.now }
     {
@@ -61,18 +68,25 @@ impl Model for KeptEvent {
 }
 
 impl KeptEvent {
+    /// An event equal to this one.
+    pub fn new(event: &Event<'_>) -> KeptEvent
+        ensures { result ≡ event.now }
+    {
+        let mut bytes = Spelling::new();
+        event.write_into(&mut bytes);
+        KeptEvent { bytes }
+    }
+
     /// The event whose text has these words.
     pub(crate) fn parse(words: &[&str]) -> Option<KeptEvent>
         ensures { ReadsWords event_words EventFits (texts words.now) result }
     {
         let mut place = Spelling::new();
         let event = Event::parse(words, &mut place).ok()?;
-        let mut bytes = Spelling::new();
-        event.write_into(&mut bytes);
-        Some(KeptEvent { bytes })
+        Some(KeptEvent::new(&event))
     }
 
-    /// The event.
+    /// The event. It lends the bytes that are kept here.
     pub fn event(&self) -> Event<'_>
         ensures { result ≡ self.now }
     {

@@ -57,6 +57,7 @@ mod wrong;
 
 pub use answering::answer_lines;
 pub use call::{LineCall, read_line};
+pub use kept::{KeptCommand, KeptEvent};
 pub use machine::LineMachine;
 pub use panel_call::PanelCall;
 pub use panel_command::{PanelSetting, panel_settings};
