@@ -705,6 +705,15 @@ void osdp_panel_defaults(struct osdp_panel_config *config);
  */
 OSDP_CHECKED osdp_status osdp_panel_new(osdp_panel *panel, const struct osdp_panel_config *config);
 
+/*
+ * The same with less memory: of the commands that wait for a device, so many bytes may wait together, 1 to 1,467,392. A command has as many as its packet
+ * without head and check: a code and the data, as OUT of one output 5. With `osdp_panel_new` each of `capacity` commands has room, however long it is, which
+ * are 1,433 bytes. One without room is refused with OSDP_COMMANDS_FULL.
+ *
+ * Those of `osdp_panel_new`.
+ */
+OSDP_CHECKED osdp_status osdp_panel_new_with_room(osdp_panel *panel, const struct osdp_panel_config *config, osdp_size bytes);
+
 /* Frees a panel and all that belongs to it; the handle is none after it. OSDP_NO_MACHINE. */
 OSDP_CHECKED osdp_status osdp_panel_free(osdp_panel *panel);
 
@@ -900,6 +909,16 @@ struct osdp_device_config {
  */
 OSDP_CHECKED static inline osdp_status osdp_device_new(
     osdp_device *device, const struct osdp_device_config *config, const uint8_t *capabilities, osdp_size length);
+
+/*
+ * The same with less memory: of the events that wait, so many bytes may wait together, 1 to 1,467,392. An event has a code and the data of the reply that
+ * tells it, as a card of 26 bits 9. With `osdp_device_new` each of `capacity` events has room, however long it is, which are 1,433 bytes. One without room is
+ * refused with OSDP_EVENTS_FULL.
+ *
+ * Those of `osdp_device_new`.
+ */
+OSDP_CHECKED static inline osdp_status osdp_device_new_with_room(
+    osdp_device *device, const struct osdp_device_config *config, const uint8_t *capabilities, osdp_size length, osdp_size bytes);
 
 /* Frees a reader and all that belongs to it; the handle is none after it. OSDP_NO_MACHINE. */
 OSDP_CHECKED osdp_status osdp_device_free(osdp_device *device);
@@ -1140,6 +1159,8 @@ OSDP_CHECKED osdp_status osdp_panel_submit_nonnull(osdp_panel *panel, osdp_size 
 OSDP_CHECKED osdp_status osdp_panel_submit_text_nonnull(osdp_panel *panel, osdp_size entry, const char *text, osdp_size length);
 OSDP_CHECKED osdp_status osdp_panel_bytes_nonnull(osdp_panel *panel, const uint8_t *bytes, osdp_size length, uint64_t now);
 OSDP_CHECKED osdp_status osdp_device_new_nonnull(osdp_device *device, const struct osdp_device_config *config, const uint8_t *capabilities, osdp_size length);
+OSDP_CHECKED osdp_status osdp_device_new_with_room_nonnull(
+    osdp_device *device, const struct osdp_device_config *config, const uint8_t *capabilities, osdp_size length, osdp_size bytes);
 OSDP_CHECKED osdp_status osdp_device_set_inputs_nonnull(osdp_device *device, const uint8_t *states, osdp_size length);
 OSDP_CHECKED osdp_status osdp_device_set_outputs_nonnull(osdp_device *device, const uint8_t *states, osdp_size length);
 OSDP_CHECKED osdp_status osdp_device_set_readers_nonnull(osdp_device *device, const uint8_t *states, osdp_size length);
@@ -1248,6 +1269,15 @@ static inline osdp_status osdp_device_new(osdp_device *device, const struct osdp
         return OSDP_BAD_LENGTH;
     }
     return osdp_device_new_nonnull(device, config, osdp_some_bytes(capabilities), length);
+}
+
+static inline osdp_status osdp_device_new_with_room(
+    osdp_device *device, const struct osdp_device_config *config, const uint8_t *capabilities, osdp_size length, osdp_size bytes)
+{
+    if (osdp_is_missing(capabilities, length)) {
+        return OSDP_BAD_LENGTH;
+    }
+    return osdp_device_new_with_room_nonnull(device, config, osdp_some_bytes(capabilities), length, bytes);
 }
 
 static inline osdp_status osdp_device_set_inputs(osdp_device *device, const uint8_t *states, osdp_size length)

@@ -64,18 +64,21 @@ def read_answer(struct: AnswerStruct) -> Answer:
 
 class Device:
     """A device at an address from 0 to 126, with room for `capacity` events. `vendor` has three bytes, `firmware` three numbers, and `capabilities` three bytes
-    for each.
+    for each. Where `room` is given, so many bytes of events may wait together, 1 to 1,467,392, which takes less memory: a card of 26 bits has 9.
 
     It is used by one thread at a time. `close` frees it, and so does the end of a `with`; a call after that raises OsdpError, NO_MACHINE."""
 
     def __init__(self, address: int, *, capacity: int = 64, gap: int = 20, serial: int = 0, clock_limit: int = 0, vendor: bytes = b"\0\0\0", model: int = 0,
-                 version: int = 0, firmware: Tuple[int, int, int] = (0, 0, 0), capabilities: bytes = b"") -> None:
+                 version: int = 0, firmware: Tuple[int, int, int] = (0, 0, 0), capabilities: bytes = b"", room: Optional[int] = None) -> None:
         self._handle = DeviceHandle()
         if len(vendor) != 3 or len(firmware) != 3:
             raise ValueError("a vendor has three bytes, and firmware three numbers")
         product = ProductStruct((ctypes.c_uint8 * 3)(*vendor), *(whole(each, 255, "a number of the product") for each in (model, version, *firmware)))
         config = DeviceConfigStruct(*(whole(each, MOST, "a setting") for each in (address, capacity, gap, serial, clock_limit)), product)
-        self._call("new_nonnull", ctypes.byref(config), capabilities, len(capabilities))
+        if room is None:
+            self._call("new_nonnull", ctypes.byref(config), capabilities, len(capabilities))
+        else:
+            self._call("new_with_room_nonnull", ctypes.byref(config), capabilities, len(capabilities), whole(room, MOST, "a room"))
 
     def _call(self, name: str, *words: object) -> None:
         call(f"osdp_device_{name}", ctypes.byref(self._handle), *words)

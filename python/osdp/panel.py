@@ -49,10 +49,11 @@ class Report:
 
 class Panel:
     """A panel. Settings are those of `struct osdp_panel_config`, by their names: times in milliseconds from 1 to 3,600,000, and `check` 0 for a sum and 1 for a CRC.
+    Where `room` is given, so many bytes of commands may wait for a device together, 1 to 1,467,392, which takes less memory: an OUT of one output has 5.
 
     It is used by one thread at a time. `close` frees it, and so does the end of a `with`; a call after that raises OsdpError, NO_MACHINE."""
 
-    def __init__(self, **settings: int) -> None:
+    def __init__(self, *, room: Optional[int] = None, **settings: int) -> None:
         self._handle = PanelHandle()
         config = PanelConfigStruct()
         library.osdp_panel_defaults(ctypes.byref(config))
@@ -61,7 +62,10 @@ class Panel:
             if name not in names:
                 raise TypeError(f"a panel has no setting {name}")
             setattr(config, name, whole(value, MOST, name))
-        self._call("new", ctypes.byref(config))
+        if room is None:
+            self._call("new", ctypes.byref(config))
+        else:
+            self._call("new_with_room", ctypes.byref(config), whole(room, MOST, "a room"))
 
     def _call(self, name: str, *words: object) -> None:
         call(f"osdp_panel_{name}", ctypes.byref(self._handle), *words)

@@ -220,6 +220,20 @@ impl Device {
     ///
     /// `BadLength` for more than 477 capabilities, `OutOfRange`, `NoMemory`.
     pub fn new(config: &DeviceConfig<'_>) -> Result<Device, Error> {
+        Device::made(config, None)
+    }
+
+    /// The same with less memory: of the events that wait, so many bytes may wait together, 1 to 1,467,392. An event has a code and the data of the reply that
+    /// tells it, as a card of 26 bits 9; with `new` there is room for 1,433 of each. One without room is refused with `Full`.
+    ///
+    /// # Errors
+    ///
+    /// `BadLength` for more than 477 capabilities, `OutOfRange`, `NoMemory`.
+    pub fn with_room(config: &DeviceConfig<'_>, bytes: usize) -> Result<Device, Error> {
+        Device::made(config, Some(bytes))
+    }
+
+    fn made(config: &DeviceConfig<'_>, room: Option<usize>) -> Result<Device, Error> {
         let reader = Device(UnsafeCell::new(sys::osdp_device {
             device: null_mut(),
             device_live: 0,
@@ -236,12 +250,14 @@ impl Device {
         let capabilities = capabilities.bytes();
         // SAFETY: the handle is none, and the pointers are good for as much as the call is told.
         check(unsafe {
-            sys::osdp_device_new_nonnull(
-                reader.0.get(),
-                &raw,
-                capabilities.as_ptr(),
-                capabilities.len(),
-            )
+            let (handle, first, length) =
+                (reader.0.get(), capabilities.as_ptr(), capabilities.len());
+            match room {
+                None => sys::osdp_device_new_nonnull(handle, &raw, first, length),
+                Some(bytes) => {
+                    sys::osdp_device_new_with_room_nonnull(handle, &raw, first, length, bytes)
+                }
+            }
         })?;
         Ok(reader)
     }

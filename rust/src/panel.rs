@@ -206,16 +206,35 @@ impl Panel {
     /// `OutOfRange` for a setting, `NoMemory`.
     pub fn new(config: &PanelConfig) -> Result<Panel, Error> {
         let settings = config.to_sys()?;
-        let panel = Panel {
+        let panel = Panel::none();
+        // SAFETY: the handle is none, and both pointers are good.
+        check(unsafe { sys::osdp_panel_new(panel.handle.get(), &settings) })?;
+        Ok(panel)
+    }
+
+    /// The same with less memory: of the commands that wait for a device, so many bytes may wait together, 1 to 1,467,392. A command has a code and its data,
+    /// as OUT of one output 5; with `new` there is room for 1,433 of each. One without room is refused with `Full`.
+    ///
+    /// # Errors
+    ///
+    /// `OutOfRange` for a setting or the bytes, `NoMemory`.
+    pub fn with_room(config: &PanelConfig, bytes: usize) -> Result<Panel, Error> {
+        let settings = config.to_sys()?;
+        let panel = Panel::none();
+        // SAFETY: the handle is none, and both pointers are good.
+        check(unsafe { sys::osdp_panel_new_with_room(panel.handle.get(), &settings, bytes) })?;
+        Ok(panel)
+    }
+
+    /// A handle that is none.
+    fn none() -> Panel {
+        Panel {
             handle: UnsafeCell::new(sys::osdp_panel {
                 panel: null_mut(),
                 panel_live: 0,
             }),
             number: PANELS.fetch_add(1, Ordering::Relaxed),
-        };
-        // SAFETY: the handle is none, and both pointers are good.
-        check(unsafe { sys::osdp_panel_new(panel.handle.get(), &settings) })?;
-        Ok(panel)
+        }
     }
 
     /// The number of a device of this panel.

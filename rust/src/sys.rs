@@ -385,6 +385,7 @@ calls! {
     osdp_reply_text_nonnull(code: u8, data: *const u8, length: usize, text: *mut c_char, room: usize, text_length: *mut usize);
 
     osdp_panel_new(panel: *mut osdp_panel, config: *const osdp_panel_config);
+    osdp_panel_new_with_room(panel: *mut osdp_panel, config: *const osdp_panel_config, bytes: usize);
     osdp_panel_free(panel: *mut osdp_panel);
     osdp_panel_add(panel: *mut osdp_panel, address: u32, entry: *mut usize);
     osdp_panel_begin(panel: *mut osdp_panel, entry: usize, now: u64);
@@ -400,6 +401,7 @@ calls! {
     osdp_panel_next_report(panel: *mut osdp_panel, report: *mut osdp_report);
 
     osdp_device_new_nonnull(device: *mut osdp_device, config: *const osdp_device_config, capabilities: *const u8, length: usize);
+    osdp_device_new_with_room_nonnull(device: *mut osdp_device, config: *const osdp_device_config, capabilities: *const u8, length: usize, bytes: usize);
     osdp_device_free(device: *mut osdp_device);
     osdp_device_set_inputs_nonnull(device: *mut osdp_device, states: *const u8, length: usize);
     osdp_device_set_outputs_nonnull(device: *mut osdp_device, states: *const u8, length: usize);

@@ -43,6 +43,13 @@ fn both() -> Result<(Panel, Device), Error> {
     Ok((panel, device))
 }
 
+/// How many bytes these machines hold.
+fn taken(made: impl Fn() -> Result<(Panel, Device), Error>) -> usize {
+    let before = HELD.load(SeqCst);
+    let _machines = made().unwrap();
+    HELD.load(SeqCst) - before
+}
+
 fn main() {
     let before = HELD.load(SeqCst);
     ASKED.store(0, SeqCst);
@@ -52,6 +59,19 @@ fn main() {
     assert!(HELD.load(SeqCst) > before);
     drop(machines);
     assert_eq!(HELD.load(SeqCst), before);
+
+    let whole = taken(both);
+    let small = taken(|| {
+        let mut panel = Panel::with_room(&PanelConfig::default(), 100)?;
+        panel.add(5)?;
+        Ok((panel, Device::with_room(&DEVICE, 100)?))
+    });
+    assert!(small + 64 * 1_000 < whole, "{small} of {whole}");
+    assert_eq!(
+        Panel::with_room(&PanelConfig::default(), 0).err(),
+        Some(Error::OutOfRange)
+    );
+    assert_eq!(Device::with_room(&DEVICE, 0).err(), Some(Error::OutOfRange));
 
     for number in 1..=asked {
         ASKED.store(0, SeqCst);

@@ -72,6 +72,41 @@ static void capacities(void)
     demand(osdp_device_free(&reader) == OSDP_OK);
 }
 
+/* Of so many bytes two OUTs of five fit, or three events of three, and not a byte more. */
+static void rooms(void)
+{
+    const uint8_t off[] = { 0, 1, 0, 0 };
+    struct osdp_panel panel = { 0 };
+    struct osdp_panel_config config = panel_config();
+    size_t entry, waiting;
+    config.capacity = 4;
+    demand(osdp_panel_new_with_room(&panel, &config, 0) == OSDP_PANEL_OUT_OF_RANGE);
+    demand(osdp_panel_new_with_room(&panel, &config, 1024 * 1433 + 1) == OSDP_PANEL_OUT_OF_RANGE);
+    demand(osdp_panel_new_with_room(&panel, &config, 11) == OSDP_OK && osdp_panel_add(&panel, 126, &entry) == OSDP_OK);
+    demand(osdp_panel_new_with_room(&panel, &config, 11) == OSDP_IN_USE);
+    demand(osdp_panel_submit(&panel, entry, 0x68, off, 4) == OSDP_OK && osdp_panel_submit(&panel, entry, 0x68, off, 4) == OSDP_OK);
+    demand(osdp_panel_submit(&panel, entry, 0x68, off, 4) == OSDP_COMMANDS_FULL);
+    demand(osdp_panel_submit_text(&panel, entry, "LSTAT", 5) == OSDP_OK);
+    demand(osdp_panel_submit_text(&panel, entry, "LSTAT", 5) == OSDP_COMMANDS_FULL);
+    demand(osdp_panel_waiting(&panel, entry, &waiting) == OSDP_OK && waiting == 3);
+    demand(osdp_panel_free(&panel) == OSDP_OK);
+
+    struct osdp_device reader = { 0 };
+    struct osdp_device_config what = reader_config();
+    what.capacity = 4;
+    demand(osdp_device_new_with_room(&reader, &what, NULL, 0, 0) == OSDP_DEVICE_OUT_OF_RANGE);
+    demand(osdp_device_new_with_room(&reader, &what, NULL, 0, 1024 * 1433 + 1) == OSDP_DEVICE_OUT_OF_RANGE);
+    demand(osdp_device_new_with_room(&reader, &what, NULL, 1, 9) == OSDP_BAD_LENGTH);
+    demand(osdp_device_new_with_room(&reader, &what, NULL, 0, 9) == OSDP_OK);
+    demand(osdp_device_new_with_room(&reader, &what, NULL, 0, 9) == OSDP_IN_USE);
+    for (int i = 0; i < 3; i++) {
+        demand(osdp_device_event_text(&reader, "LSTATR 1 0", 10) == OSDP_OK);
+    }
+    demand(osdp_device_event_text(&reader, "LSTATR 1 0", 10) == OSDP_EVENTS_FULL);
+    demand(osdp_device_waiting(&reader, &waiting) == OSDP_OK && waiting == 3);
+    demand(osdp_device_free(&reader) == OSDP_OK);
+}
+
 /* Numbers whose low byte, or low seven bits, would be a device's address are none. */
 static void addresses(void)
 {
@@ -415,6 +450,7 @@ int main(void)
     nulls();
     closed();
     capacities();
+    rooms();
     addresses();
     states();
     busy();

@@ -10,12 +10,12 @@ ghost use Rattle.osdp_c_values.specs.Clocks.{new_clock};
 ghost use Rattle.osdp_c_values.specs.Addresses.{device_address};
 ghost use Rattle.osdp_c_values.specs.Calls.{IsDone, calls, frees, writes};
 ghost use Rattle.osdp_c.specs.CommandTexts.{IsReadCommand};
-ghost use Rattle.osdp_c_values.specs.Panels.{AddsTo, IsBurstIn, IsDueIn, MadeAs, NewPanelEnds, at_moment, begins, does, falls_silent, hears, looks_at, of_bus, on_bus, reports, retargets, sets_moment, submits_data, submits_text, ticks, withdraws, writes_address, writes_closed, writes_entries, writes_report, writes_waiting, writes_withdrawn};
+ghost use Rattle.osdp_c_values.specs.Panels.{AddsTo, IsBurstIn, IsDueIn, MadeAs, NewPanelEnds, NewPanelWith, at_moment, begins, does, falls_silent, hears, looks_at, of_bus, on_bus, reports, retargets, sets_moment, submits_data, submits_text, ticks, withdraws, writes_address, writes_closed, writes_entries, writes_report, writes_waiting, writes_withdrawn};
 
 use crate::held::{freed, on_held, put_new};
 use crate::panel_calls;
 use crate::read::read_command;
-use osdp_bus::{Bus, BusFault, Entry};
+use osdp_bus::{Bus, BusConfig, BusFault, Entry};
 use osdp_c_values::{
     BurstStruct, Clock, MessageStruct, MomentStruct, PanelHandle, PanelMachine, PanelSettings,
     Place, ReportStruct, Status,
@@ -34,11 +34,15 @@ pub extern "C" fn osdp_panel_defaults(settings: &mut PanelSettings)
 }
 
 /// A bus on the heap, which has seen no moment. It is put there without `?`, which would copy it on the stack.
-fn new_machine(alloc: Global, settings: &PanelSettings) -> Result<Box<PanelMachine>, BusFault>
-    ensures bus { MadeAs (bus_config_of settings.now) (result_map_both (λ m. m.value.bus) (λ fault. fault) result) }
+fn new_machine(
+    alloc: Global,
+    settings: &PanelSettings,
+    config: Option<BusConfig>,
+) -> Result<Box<PanelMachine>, BusFault>
+    ensures bus { MadeAs config (result_map_both (λ m. m.value.bus) (λ fault. fault) result) }
     ensures clock { IfOk result (λ m. m.value.clock ≡ new_clock (limit_of settings.now.clock_limit)) }
 {
-    let Some(config) = settings.to_config() else {
+    let Some(config) = config else {
         return Err(BusFault::OutOfRange);
     };
     let clock = Clock::new(settings.clock_limit());
@@ -63,7 +67,24 @@ pub extern "C" fn osdp_panel_new(
 {
     put_new!(
         panel,
-        new_machine(alloc, settings),
+        new_machine(alloc, settings, settings.to_config()),
+        |fault| Status::Panel(fault)
+    )
+}
+
+/// The same with room for so many bytes of the commands that wait for a device together.
+#[unsafe(no_mangle)]
+pub extern "C" fn osdp_panel_new_with_room(
+    alloc: Global,
+    panel: &mut PanelHandle,
+    settings: &PanelSettings,
+    bytes: usize,
+) -> u32
+    ensures { NewPanelWith bytes settings.now panel.old.slot.machine result panel.new.slot.machine }
+{
+    put_new!(
+        panel,
+        new_machine(alloc, settings, settings.config_with(bytes)),
         |fault| Status::Panel(fault)
     )
 }

@@ -6,13 +6,15 @@ ghost use Rattle.osdp_msg.specs.ReplyTable.{reply_of};
 ghost use Rattle.osdp_c_values.specs.declared.status.Status.{Status as Answered};
 ghost use Rattle.osdp_c_values.specs.Calls.{IsDone, calls, frees, writes};
 ghost use Rattle.osdp_c.specs.CommandTexts.{IsReadEvent};
-ghost use Rattle.osdp_c_values.specs.Readers.{IsEventRead, NewReaderEnds, answers_done, answers_list, answers_local, answers_maker, answers_refused, at_moment, does, falls_silent, looks, sets_busy, sets_inputs, sets_local, sets_moment, sets_outputs, sets_readers, steps, submits_read, submits_text, ticks, writes_address, writes_at, writes_closed, writes_pending, writes_silence, writes_step, writes_taken, writes_tick, writes_waiting};
+ghost use Rattle.osdp_c_values.specs.Readers.{IsEventRead, NewReaderEnds, NewReaderWith, answers_done, answers_list, answers_local, answers_maker, answers_refused, at_moment, does, falls_silent, looks, sets_busy, sets_inputs, sets_local, sets_moment, sets_outputs, sets_readers, steps, submits_read, submits_text, ticks, writes_address, writes_at, writes_closed, writes_pending, writes_silence, writes_step, writes_taken, writes_tick, writes_waiting};
 
 use crate::held::{freed, on_held, put_new};
 use crate::read::read_event;
 use crate::reader_calls;
-use osdp_c_values::{AnswerStruct, MessageStruct, ReaderHandle, ReaderSettings, StateList, Status};
-use osdp_msg::{NakReason, Spelling};
+use osdp_c_values::{
+    AnswerStruct, MessageStruct, ReaderHandle, ReaderSettings, StateList, Status, default_room,
+};
+use osdp_msg::{NakReason, Room, Spelling};
 use osdp_reader::Answer;
 use std::alloc::Global;
 
@@ -28,7 +30,29 @@ pub extern "C" fn osdp_device_new_nonnull(
 {
     put_new!(
         reader,
-        reader_calls::new_box(alloc, settings, capabilities),
+        reader_calls::new_box(alloc, default_room(settings.capacity), settings, capabilities),
+        |refused| refused
+    )
+}
+
+/// The same with room for so many bytes of the events that wait together.
+#[unsafe(no_mangle)]
+pub extern "C" fn osdp_device_new_with_room_nonnull(
+    alloc: Global,
+    reader: &mut ReaderHandle,
+    settings: &ReaderSettings,
+    capabilities: &[u8],
+    bytes: usize,
+) -> u32
+    ensures { NewReaderWith bytes settings.now capabilities.now reader.old.slot.machine result reader.new.slot.machine }
+{
+    let room = Room {
+        messages: settings.capacity as usize,
+        bytes,
+    };
+    put_new!(
+        reader,
+        reader_calls::new_box(alloc, Some(room), settings, capabilities),
         |refused| refused
     )
 }

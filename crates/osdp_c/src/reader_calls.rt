@@ -13,7 +13,7 @@ use osdp_c_values::{
 use osdp_device::{Ages, Device, Expired, ProgramAnswers};
 use osdp_frame::{Address, Burst, CheckKind, FrameView, Header, Seq, is_time};
 use osdp_msg::{
-    Capability, Event, MAX_DATA, MakerMessage, MsgFault, Records, Reply, Room, States, is_room,
+    Capability, Event, MAX_DATA, MakerMessage, MsgFault, Records, Reply, Room, States,
 };
 use osdp_reader::{Answer, Kind, Reader, ReaderConfig, ReaderFault};
 use std::alloc::Global;
@@ -42,22 +42,26 @@ fn read_caps(body: &[u8]) -> Result<ArrayVec<Capability, 477>, MsgFault>
     }
 }
 
-/// Whether each setting is in its range.
-fn are_in_range(settings: &ReaderSettings) -> bool
-    ensures { IsTrue result ↔ AreSettings settings.now }
+/// Whether each setting is in its range, and so is the room for events.
+fn are_in_range(room: Room, settings: &ReaderSettings) -> bool
+    ensures { IsTrue result ↔ AreSettings room settings.now }
 {
-    settings.address <= 126 && is_room(settings.capacity as usize) && is_time(settings.gap)
+    settings.address <= 126 && room.is_right() && is_time(settings.gap)
 }
 
 /// A reader to which nothing has come, on the heap. It is put there in one function with its making, which takes less stack.
 fn new_machine(
     alloc: Global,
+    room: Option<Room>,
     settings: &ReaderSettings,
     caps: ArrayVec<Capability, 477>,
 ) -> Result<Box<ReaderMachine>, ReaderFault>
-    ensures { MadeWith settings.now caps (result_map_both (λ b. b.value) (λ fault. fault) result) }
+    ensures { MadeWith room settings.now caps (result_map_both (λ b. b.value) (λ fault. fault) result) }
 {
-    if !are_in_range(settings) {
+    let Some(room) = room else {
+        return Err(ReaderFault::OutOfRange);
+    };
+    if !are_in_range(room, settings) {
         return Err(ReaderFault::OutOfRange);
     }
     let Some(address) = Address::new(settings.address as u8) else {
@@ -68,11 +72,9 @@ fn new_machine(
         id: settings.to_id(),
         caps,
     };
-    let capacity = settings.capacity as usize;
-    let Ok(ages) = Ages::new(alloc, capacity) else {
+    let Ok(ages) = Ages::new(alloc, room.messages) else {
         return Err(ReaderFault::NoMemory);
     };
-    let room = Room::of(capacity);
     let reader = Reader::new(alloc, config, ProgramAnswers::new(), room)?;
     let Some(device) = Device::with_ages(reader, ages, settings.gap) else {
         return Err(ReaderFault::OutOfRange);
@@ -88,16 +90,17 @@ fn new_machine(
 /// The same with what it can do by the data of the reply to CAP.
 pub(crate) fn new_box(
     alloc: Global,
+    room: Option<Room>,
     settings: &ReaderSettings,
     body: &[u8],
 ) -> Result<Box<ReaderMachine>, Status>
-    ensures { MadeAs settings.now (caps_of body.now) (result_map_both (λ b. b.value) (λ refused. refused) result) }
+    ensures { MadeAs room settings.now (caps_of body.now) (result_map_both (λ b. b.value) (λ refused. refused) result) }
 {
     let caps = match read_caps(body) {
         Ok(caps) => caps,
         Err(fault) => return Err(Status::Message(fault)),
     };
-    match new_machine(alloc, settings, caps) {
+    match new_machine(alloc, room, settings, caps) {
         Ok(machine) => Ok(machine),
         Err(fault) => Err(Status::Reader(fault)),
     }

@@ -27,7 +27,7 @@ use Rattle.osdp_c_values.specs.declared.status.Status.{Status}
 use Rattle.osdp_c_values.specs.declared.status.Status.TheVariants as status
 use Rattle.osdp_c_values.specs.Moments.{moment_struct}
 use Rattle.osdp_c_values.specs.Reports.{report_struct}
-use Rattle.osdp_c_values.specs.Settings.{bus_config_of, limit_of}
+use Rattle.osdp_c_values.specs.Settings.{bus_config_of, bus_config_with, limit_of}
 use Rattle.osdp_c_values.specs.Statuses.{number}
 use Rattle.osdp_c_values.specs.Structs.{burst_of, command_struct}
 use Rattle.osdp_c_values.specs.Calls.{Done}
@@ -94,9 +94,17 @@ MadeBy config limit answer after =
     (r : Result BusState BusFault) × MadeAs config r × (answer ≡ number (made_status r)) × (after ≡ made_in limit r)
 
 -- a handle in use keeps what it holds
+abbrev pub NewPanelIn : Option BusConfig → ℕ → Option PanelMachine → ℕ → Option PanelMachine → Type 0
+NewPanelIn config limit (Some m) answer after = (answer ≡ number status.InUse) × (after ≡ Some m)
+NewPanelIn config limit None answer after = MadeBy config limit answer after
+
+-- a panel with room for each of its commands, however long it is
 abbrev pub NewPanelEnds : PanelSettings → Option PanelMachine → ℕ → Option PanelMachine → Type 0
-NewPanelEnds settings (Some m) answer after = (answer ≡ number status.InUse) × (after ≡ Some m)
-NewPanelEnds settings None answer after = MadeBy (bus_config_of settings) (limit_of settings.clock_limit) answer after
+NewPanelEnds settings before answer after = NewPanelIn (bus_config_of settings) (limit_of settings.clock_limit) before answer after
+
+-- .. and one with room for so many bytes of those that wait for a device together
+abbrev pub NewPanelWith : ℕ → PanelSettings → Option PanelMachine → ℕ → Option PanelMachine → Type 0
+NewPanelWith bytes settings before answer after = NewPanelIn (bus_config_with bytes settings) (limit_of settings.clock_limit) before answer after
 
 abbrev pub added_status : Result ℕ BusFault → Status
 added_status (Ok entry) = status.Done

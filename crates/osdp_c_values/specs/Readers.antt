@@ -15,11 +15,12 @@ use Rattle.osdp_msg.specs.declared.capability.Capability.{Capability}
 use Rattle.osdp_msg.specs.declared.event.Event.{Event}
 use Rattle.osdp_msg.specs.declared.fault.MsgFault.{MsgFault}
 use Rattle.osdp_msg.specs.declared.fault.MsgFault.TheVariants.{Length}
+use Rattle.osdp_msg.specs.declared.limits.Room.{Room}
 use Rattle.osdp_msg.specs.declared.reply.Reply.{Reply}
 use Rattle.osdp_msg.specs.declared.reply.Reply.TheVariants as reply
 use Rattle.osdp_msg.specs.Events.{event_reply}
 use Rattle.osdp_msg.specs.ReplyTable.{reply_of}
-use Rattle.osdp_msg.specs.Limits.{most_data, most_maker_bytes, most_waiting}
+use Rattle.osdp_msg.specs.Limits.{AreRoom, most_data, most_maker_bytes}
 use Rattle.osdp_msg.specs.NakReasons.{reason_of}
 use Rattle.osdp_frame.specs.Packed.{packed}
 use Rattle.osdp_frame.specs.Packet.{Packet}
@@ -42,7 +43,7 @@ use Rattle.osdp_c_values.specs.declared.status.Status.TheVariants as status
 use Rattle.osdp_c_values.specs.declared.message.MessageStruct.{MessageStruct}
 use Rattle.osdp_c_values.specs.Answers.{turn_struct}
 use Rattle.osdp_c_values.specs.Structs.{command_struct, reply_struct}
-use Rattle.osdp_c_values.specs.Settings.{id_of, limit_of, room_for}
+use Rattle.osdp_c_values.specs.Settings.{default_room, id_of, limit_of, room_for}
 use Rattle.osdp_c_values.specs.Statuses.{number}
 use Rattle.osdp_c_values.specs.Calls.{Done}
 use Rattle.osdp_c_values.specs.declared.states.StateList.{StateList}
@@ -57,34 +58,38 @@ caps_in (Err fault) = Err fault
 abbrev pub caps_of : List ℕ → Result (ArrayVec Capability) MsgFault
 caps_of body = caps_in (reply_of 0x46 body)
 
--- each setting is in its range
-pub record AreSettings (s : ReaderSettings) : Type 0 where
+-- each setting is in its range, and so is the room for events
+pub record AreSettings (given : Room) (s : ReaderSettings) : Type 0 where
   -- a device, and not the configuration address
   pub address : s.address ≤ 126
-  pub room : 1 ≤ s.capacity
-  pub limit : s.capacity ≤ most_waiting
+  pub room : AreRoom given.messages given.bytes
   pub gap : IsTime s.gap
 
-abbrev pub new_machine : ReaderSettings → ArrayVec Capability → ReaderMachine
-new_machine s caps = record {
+abbrev pub new_machine_in : Room → ReaderSettings → ArrayVec Capability → ReaderMachine
+new_machine_in room s caps = record {
   device = record {
-    reader = new_reader (record { address = s.address; id = id_of s; caps = caps }) new_program (room_for s.capacity);
+    reader = new_reader (record { address = s.address; id = id_of s; caps = caps }) new_program room;
     line = new_line s.gap;
-    ages = no_ages s.capacity;
+    ages = no_ages room.messages;
   };
   clock = new_clock (limit_of s.clock_limit);
 }
 
--- how a new reader comes about: what it can do is read, then the settings are judged, before memory is asked for
-abbrev pub MadeWith : ReaderSettings → ArrayVec Capability → Result ReaderMachine ReaderFault → Type 0
-MadeWith s caps (Ok m) = AreSettings s × (m ≡ new_machine s caps)
-MadeWith s caps (Err OutOfRange) = AreSettings s → ⊥
-MadeWith s caps (Err NoMemory) = AreSettings s
+-- with room for each of its events, however long it is
+abbrev pub new_machine : ReaderSettings → ArrayVec Capability → ReaderMachine
+new_machine s caps = new_machine_in (room_for s.capacity) s caps
 
-abbrev pub MadeAs : ReaderSettings → Result (ArrayVec Capability) MsgFault → Result ReaderMachine Status → Type 0
-MadeAs s (Err fault) r = r ≡ Err (status.Message fault)
-MadeAs s (Ok caps) (Ok m) = MadeWith s caps (Ok m)
-MadeAs s (Ok caps) (Err refused) = (fault : ReaderFault) × (refused ≡ status.Reader fault) × MadeWith s caps (Err fault)
+-- how a new reader comes about: what it can do is read, then the settings are judged, before memory is asked for
+abbrev pub MadeWith : Option Room → ReaderSettings → ArrayVec Capability → Result ReaderMachine ReaderFault → Type 0
+MadeWith None s caps r = r ≡ Err OutOfRange
+MadeWith (Some room) s caps (Ok m) = AreSettings room s × (m ≡ new_machine_in room s caps)
+MadeWith (Some room) s caps (Err OutOfRange) = AreSettings room s → ⊥
+MadeWith (Some room) s caps (Err NoMemory) = AreSettings room s
+
+abbrev pub MadeAs : Option Room → ReaderSettings → Result (ArrayVec Capability) MsgFault → Result ReaderMachine Status → Type 0
+MadeAs room s (Err fault) r = r ≡ Err (status.Message fault)
+MadeAs room s (Ok caps) (Ok m) = MadeWith room s caps (Ok m)
+MadeAs room s (Ok caps) (Err refused) = (fault : ReaderFault) × (refused ≡ status.Reader fault) × MadeWith room s caps (Err fault)
 
 abbrev pub made_status : Result ReaderMachine Status → Status
 made_status (Ok m) = status.Done
@@ -95,10 +100,18 @@ made_in (Ok m) = Some m
 made_in (Err refused) = None
 
 -- a handle in use keeps what it holds
+abbrev pub NewReaderIn : Option Room → ReaderSettings → List ℕ → Option ReaderMachine → ℕ → Option ReaderMachine → Type 0
+NewReaderIn room s body (Some m) answer after = (answer ≡ number status.InUse) × (after ≡ Some m)
+NewReaderIn room s body None answer after =
+    (r : Result ReaderMachine Status) × MadeAs room s (caps_of body) r × (answer ≡ number (made_status r)) × (after ≡ made_in r)
+
+-- a reader with room for each of its events, however long it is
 abbrev pub NewReaderEnds : ReaderSettings → List ℕ → Option ReaderMachine → ℕ → Option ReaderMachine → Type 0
-NewReaderEnds s body (Some m) answer after = (answer ≡ number status.InUse) × (after ≡ Some m)
-NewReaderEnds s body None answer after =
-    (r : Result ReaderMachine Status) × MadeAs s (caps_of body) r × (answer ≡ number (made_status r)) × (after ≡ made_in r)
+NewReaderEnds s body before answer after = NewReaderIn (default_room s.capacity) s body before answer after
+
+-- .. and one with room for so many bytes of those that wait together
+abbrev pub NewReaderWith : ℕ → ReaderSettings → List ℕ → Option ReaderMachine → ℕ → Option ReaderMachine → Type 0
+NewReaderWith bytes s body before answer after = NewReaderIn (Some (record { messages = s.capacity; bytes = bytes })) s body before answer after
 
 -- the reader is another; what has come on its line stays, and when its events came
 abbrev pub sets : ReaderState ProgramAnswers → ReaderMachine → ReaderMachine

@@ -17,10 +17,14 @@ check_of number = if number == 0 then Sum else Crc
 abbrev pub room_for : ℕ → Room
 room_for count = record { messages = count; bytes = count * (1 + most_data) }
 
--- the bus's settings that a struct stands for: there are two checks, the sends and the BUSYs are bytes, and no more messages wait than there may be room for
-abbrev pub bus_config_of : PanelSettings → Option BusConfig
-bus_config_of s =
-    if nat_le s.check 1 && (nat_le s.sends 255 && (nat_le s.busy_limit 255 && nat_le s.capacity most_waiting)) then Some (record {
+-- .. where so many may wait
+abbrev pub default_room : ℕ → Option Room
+default_room count = if nat_le count most_waiting then Some (room_for count) else None
+
+-- the bus's settings that a struct stands for, with such room: there are two checks, and the sends and the BUSYs are bytes
+abbrev pub bus_config_in : Room → PanelSettings → Option BusConfig
+bus_config_in room s =
+    if nat_le s.check 1 && (nat_le s.sends 255 && nat_le s.busy_limit 255) then Some (record {
       check = check_of s.check;
       reply_wait = s.reply_wait;
       poll_interval = s.poll_interval;
@@ -29,8 +33,20 @@ bus_config_of s =
       busy_limit = s.busy_limit;
       quiet_wait = s.quiet_wait;
       gap = s.gap;
-      room = room_for s.capacity;
+      room = room;
     }) else None
+
+abbrev pub bus_config_if : Option Room → PanelSettings → Option BusConfig
+bus_config_if None s = None
+bus_config_if (Some room) s = bus_config_in room s
+
+-- with room for each of its commands, however long it is
+abbrev pub bus_config_of : PanelSettings → Option BusConfig
+bus_config_of s = bus_config_if (default_room s.capacity) s
+
+-- with room for so many bytes of them together
+abbrev pub bus_config_with : ℕ → PanelSettings → Option BusConfig
+bus_config_with bytes s = bus_config_in (record { messages = s.capacity; bytes = bytes }) s
 
 -- what a device is, by its serial number and what it is otherwise
 abbrev pub pd_id : ℕ → ProductStruct → PdId

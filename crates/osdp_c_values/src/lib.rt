@@ -49,7 +49,7 @@ pub use place::Place;
 pub use reader_handle::ReaderHandle;
 pub use reply_texts::read_reply_text;
 pub use report::ReportStruct;
-pub use settings::{PanelSettings, ProductStruct, ReaderSettings};
+pub use settings::{PanelSettings, ProductStruct, ReaderSettings, default_room};
 pub use shared::{CommunicationStruct, MakerStruct};
 pub use states::StateList;
 pub use status::Status;

@@ -3,7 +3,7 @@
 ghost use Rattle.std.specs.Prelude.{◌≡◌, Some};
 ghost use Rattle.osdp_bus.specs.Settings.{default_config};
 ghost use Rattle.osdp_frame.specs.declared.check_kind.CheckKind.TheVariants.{Crc};
-ghost use Rattle.osdp_c_values.specs.Settings.{bus_config_of, check_of, day, id_of, limit_of, room_for};
+ghost use Rattle.osdp_c_values.specs.Settings.{bus_config_in, bus_config_of, bus_config_with, check_of, day, default_room, id_of, limit_of, room_for};
 
 use osdp_bus::BusConfig;
 use osdp_frame::CheckKind;
@@ -56,6 +56,17 @@ fn check_of(number: u32) -> CheckKind
     }
 }
 
+/// Room for so many messages, however long each is. None where no more than 1,024 may wait, and these are more.
+pub fn default_room(capacity: u32) -> Option<Room>
+    ensures { result ≡ default_room capacity }
+{
+    let capacity = capacity as usize;
+    if capacity > MAX_WAITING {
+        return None;
+    }
+    Some(Room::of(capacity))
+}
+
 impl PanelSettings {
     /// Writes the default settings of a bus: a CRC, and room for 64 commands.
     pub fn set_defaults(&mut self)
@@ -81,15 +92,29 @@ impl PanelSettings {
         limit_of(self.clock_limit)
     }
 
-    /// The settings of a bus that they stand for. None where the check, the sends, the BUSYs or the commands that may wait have no such number.
+    /// The settings of a bus that they stand for, with room for each command, however long it is. None where the check, the sends, the BUSYs or
+    /// the commands that may wait have no such number.
     pub fn to_config(&self) -> Option<BusConfig>
         ensures { result ≡ bus_config_of self.now }
     {
-        if self.check > 1
-            || self.sends > 255
-            || self.busy_limit > 255
-            || self.capacity as usize > MAX_WAITING
-        {
+        self.config_in(default_room(self.capacity)?)
+    }
+
+    /// The same with room for so many bytes of the commands that wait together.
+    pub fn config_with(&self, bytes: usize) -> Option<BusConfig>
+        ensures { result ≡ bus_config_with bytes self.now }
+    {
+        self.config_in(Room {
+            messages: self.capacity as usize,
+            bytes,
+        })
+    }
+
+    /// The same with such room.
+    fn config_in(&self, room: Room) -> Option<BusConfig>
+        ensures { result ≡ bus_config_in room self.now }
+    {
+        if self.check > 1 || self.sends > 255 || self.busy_limit > 255 {
             return None;
         }
         Some(BusConfig {
@@ -101,7 +126,7 @@ impl PanelSettings {
             busy_limit: self.busy_limit as u8,
             quiet_wait: self.quiet_wait,
             gap: self.gap,
-            room: Room::of(self.capacity as usize),
+            room,
         })
     }
 }
