@@ -56,7 +56,7 @@ pub use osdp_msg::{
     LocalState, MAX_DATA, MakerMessage, NakReason, OutputRecord, Outputs, PdCap, PdId, Raw, Room,
     Spelling, States, Text,
 };
-pub use osdp_reader::{Answer, Handler, Heard, Kind, Reader, ReaderConfig, ReaderFault};
+pub use osdp_reader::{Answer, Handler, Heard, Kind, Reader, ReaderConfig, ReaderFault, lend};
 pub use program::ProgramAnswers;
 pub use question::{KeptQuestion, Question};
 pub use settled::{Settled, Turn};

@@ -4,8 +4,8 @@
 
 use arrayvec::ArrayVec;
 use osdp_device::{
-    Address, Answer, Command, Device, Event, Expired, NakReason, Order, PdCap, PdId,
-    ProgramAnswers, Raw, Reader, ReaderConfig, Response, Turn, order_of, ordered,
+    Address, Answer, Burst, Command, Device, Event, Expired, Heard, NakReason, Order, PdId,
+    ProgramAnswers, Raw, Reader, ReaderConfig, Room, Settled, order_of, ordered,
 };
 use osdp_example_lines::{Line, read_line, send};
 use std::alloc::Global;
@@ -21,7 +21,7 @@ fn may_be_done(output: u8, control: u8) -> bool {
 
 /// A device to which nothing has come. None where there is no memory.
 fn new_device(alloc: Global) -> Option<Doors> {
-    let (address, capabilities) = (Address::new(5)?, ArrayVec::new());
+    let (address, caps) = (Address::new(5)?, ArrayVec::new());
     let id = PdId {
         vendor: [0x53, 0x49, 0x4D],
         model: 0,
@@ -31,28 +31,40 @@ fn new_device(alloc: Global) -> Option<Doors> {
         firmware_minor: 0,
         firmware_build: 0,
     };
-    let caps = PdCap { capabilities };
     let config = ReaderConfig { address, id, caps };
     let mut program = ProgramAnswers::new();
     let _ = program.status.outputs.try_extend_from_slice(&[0, 0]);
-    Device::new(alloc, Reader::new(alloc, config, program, 64).ok()?, 20).ok()
+    Device::new(
+        alloc,
+        Reader::new(alloc, config, program, Room::of(64)).ok()?,
+        20,
+    )
+    .ok()
+}
+
+/// Whether a command is an OUT of which a part may not be done.
+fn is_barred(command: Option<Command<'_>>) -> bool {
+    if let Some(Command::Output(out)) = command {
+        for record in out.records() {
+            if !may_be_done(record.output, record.control) {
+                return true;
+            }
+        }
+    }
+    false
 }
 
 /// An OUT that may not be done is refused before it is answered. All else is answered as it was set.
-fn decide(device: &mut Doors, command: &Command) {
-    if let Command::Output(out) = command {
-        for record in out.records() {
-            if !may_be_done(record.output, record.control) {
-                let _ = device.answer_next(Answer::Refuse(NakReason::RecordNotProcessed));
-            }
-        }
+fn decide(device: &mut Doors) {
+    if is_barred(device.command()) {
+        let _ = device.answer_next(&Answer::Refuse(NakReason::RecordNotProcessed));
     }
 }
 
 /// Does what the device is to do: before the answer is sent, so that an order that is answered was done, also where power is lost in between.
-fn act(rt: &HostRuntime, response: &Response) -> io::Result<()> {
-    if let (Order::Once, Some(Command::Output(out))) = (order_of(response), ordered(response)) {
-        for record in out.records().iter().filter(|record| record.control == 5) {
+fn act(rt: &HostRuntime, heard: &Heard<'_>, sent: &[u8]) -> io::Result<()> {
+    if let (Order::Once, Some(Command::Output(out))) = (order_of(heard, sent), ordered(heard)) {
+        for record in out.records().filter(|record| record.control == 5) {
             println!(rt; "on {}", record.output)?;
         }
     }
@@ -61,20 +73,23 @@ fn act(rt: &HostRuntime, response: &Response) -> io::Result<()> {
 
 /// Bytes have come up to a moment, or none. A turn says one thing; a line has 4,096 bytes at most, so that there are fewer than 10,000.
 fn hear(rt: &HostRuntime, device: &mut Doors, mut bytes: &[u8], now: u64) -> io::Result<()> {
-    let mut turn = Turn::new();
+    let mut out = Burst::new();
     device.tick(now);
     for _ in 0..10_000 {
-        let unsent = device.turn(bytes, now, &mut turn);
-        let acted = turn.response.as_ref().map(|response| act(rt, response));
+        let (turn, unsent) = device.turn(bytes, now, &mut out);
+        let acted = match turn.settled {
+            Settled::Said(kind) => act(rt, &device.heard(kind), out.as_slice()),
+            Settled::Nothing | Settled::Pending => Ok(()),
+        };
         if let Some(unsent) = unsent {
-            send(rt, unsent.bytes(&turn))?;
+            send(rt, unsent.bytes(&out))?;
         }
-        acted.unwrap_or(Ok(()))?;
+        acted?;
         bytes = &bytes[turn.taken..];
-        match (&turn.pending, &turn.response) {
-            (Some(command), _) => decide(device, command),
-            (None, None) if bytes.is_empty() => break,
-            (None, _) => {}
+        match turn.settled {
+            Settled::Pending => decide(device),
+            Settled::Nothing if bytes.is_empty() => break,
+            Settled::Nothing | Settled::Said(_) => {}
         }
     }
     Ok(())
@@ -83,11 +98,12 @@ fn hear(rt: &HostRuntime, device: &mut Doors, mut bytes: &[u8], now: u64) -> io:
 /// A card that has waited for more than 30 s, while no panel was there, is told to nobody any more.
 fn let_go(rt: &HostRuntime, device: &mut Doors, now: u64) -> io::Result<()> {
     for _ in 0..64 {
-        match device.expire_event(now, 30_000) {
+        match device.expiring(now, 30_000) {
             Some(Expired::Withdrawn(event)) => println!(rt; "withdrawn {event}")?,
             Some(Expired::InDoubt(event)) => println!(rt; "in doubt {event}")?,
             None => break,
         }
+        let _ = device.expire_event(now, 30_000);
     }
     Ok(())
 }
@@ -104,7 +120,7 @@ fn main(rt: HostRuntime) -> io::Result<()> {
             }
             Line::Card(bytes) => {
                 if let Some(card) = Raw::new(0, 0, 26, bytes.as_slice()) {
-                    let _ = device.submit_event(Event::Raw(card), last);
+                    let _ = device.submit_event(&Event::Raw(card), last);
                 }
             }
             Line::Other => println!(rt; "refused line")?,

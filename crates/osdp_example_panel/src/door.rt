@@ -78,7 +78,7 @@ impl Door {
     }
 
     /// Does what a report asks for about the door's place and its session.
-    pub fn heed(&mut self, rt: &HostRuntime, report: &Report, now: u64) -> io::Result<()> {
+    pub fn heed(&mut self, rt: &HostRuntime, report: &Report<'_>, now: u64) -> io::Result<()> {
         let _ = self.site.heed(DOOR, report, now);
         match report {
             Report::Opened(id) => {
@@ -115,7 +115,7 @@ impl Door {
         }
         self.stand.other = Some(place);
         self.keep(rt)?;
-        if panel.submit(DOOR, Command::Comset(comset(place))).is_ok() {
+        if panel.submit(DOOR, &Command::Comset(comset(place))).is_ok() {
             return Ok(());
         }
         self.stand.other = None;

@@ -11,7 +11,8 @@ use door::{DOOR, Door, FIRST};
 use osdp_example_lines::{Line, read_line, send, tell_due};
 use osdp_names::named::output;
 use osdp_panel::{
-    Address, BusConfig, CheckKind, Command, Event, OutputRecord, Outputs, Panel, Raw, Report, Turn,
+    Address, BusConfig, CheckKind, Command, Event, OutputRecord, Outputs, Panel, Raw, Report, Room,
+    Turn,
 };
 use std::alloc::Global;
 use std::io;
@@ -24,14 +25,14 @@ const STRIKE: OutputRecord = OutputRecord {
 };
 
 /// Whether a card opens the door: two cards of 26 bits do.
-fn may_enter(card: &Raw) -> bool {
+fn may_enter(card: &Raw<'_>) -> bool {
     let cards = [[0x12, 0x34, 0x56, 0x40], [0x65, 0x43, 0x21, 0x80]];
     card.bits() == 26 && cards.iter().any(|known| card.bytes() == known.as_slice())
 }
 
 /// A panel with its door. None where there is no memory.
 fn new_panel(alloc: Global) -> Option<Panel> {
-    let mut panel = Panel::new(alloc, BusConfig::new(CheckKind::Crc, 16)).ok()?;
+    let mut panel = Panel::new(alloc, BusConfig::new(CheckKind::Crc, Room::of(16))).ok()?;
     panel.add(Address::new(FIRST.address)?).ok()?;
     Some(panel)
 }
@@ -39,7 +40,7 @@ fn new_panel(alloc: Global) -> Option<Panel> {
 /// Orders the door's strike. Where as many orders wait as may, the door stays closed.
 fn open(panel: &mut Panel) {
     if let Some(outputs) = Outputs::new(&[STRIKE]) {
-        let _ = panel.submit(DOOR, Command::Output(outputs));
+        let _ = panel.submit(DOOR, &Command::Output(outputs));
     }
 }
 
@@ -56,11 +57,14 @@ fn turn(
     if let Some(unsent) = panel.turn(bytes, now, &mut turn) {
         send(rt, unsent.bytes(&turn))?;
     }
-    for (_, report) in [&turn.heard, &turn.ticked].into_iter().flatten() {
+    for told in [&turn.heard, &turn.ticked] {
+        let Some((_, report)) = told.read() else {
+            continue;
+        };
         println!(rt; "report {report:?}")?;
-        door.heed(rt, report, now)?;
+        door.heed(rt, &report, now)?;
         // a card that may have been told before makes no second order
-        if let Report::Event(Event::Raw(card)) = report
+        if let Report::Event(Event::Raw(card)) = &report
             && !turn.maybe_again
             && door.may_order()
             && may_enter(card)

@@ -1,7 +1,7 @@
 //! What was ordered, taken, settled, queued and reported of one device, by numbers, and the promises asked of it.
 
 use osdp_controller::Report;
-use osdp_msg::{Command, Event, Nak, NakReason, OutputRecord, Outputs, Raw, Reply};
+use osdp_msg::{Command, Event, NakReason, OutputRecord, Reply};
 use osdp_names::named::output;
 use std::process::Abort;
 
@@ -46,39 +46,37 @@ pub struct Account {
     pub may_repeat: bool,
 }
 
-/// The order of this number: one of an even number switches output 0, which is there, and one of an odd number output 1, which is not.
-pub fn order(rt: &impl Abort, number: usize) -> Command {
-    let record = OutputRecord {
+/// What the order of this number says: one of an even number switches output 0, which is there, and one of an odd number output 1, which is not.
+pub fn order(rt: &impl Abort, number: usize) -> OutputRecord {
+    OutputRecord {
         output: u8::from(number % 2 == 1),
         control: output::ON_FOR_A_TIME,
         timer: u16::try_from(number).ok().expect(rt, "a timer"),
-    };
-    Command::Output(Outputs::new(&[record]).expect(rt, "an order"))
+    }
 }
 
 /// The number of an order.
-fn number_of(rt: &impl Abort, command: &Command) -> usize {
+fn number_of(rt: &impl Abort, command: &Command<'_>) -> usize {
     match command {
-        Command::Output(outputs) => match outputs.records().first() {
-            Some(record) => usize::from(record.timer),
-            None => panic!(rt; "an order without a record"),
-        },
+        Command::Output(outputs) => {
+            let mut records = outputs.records();
+            let record = records.next().expect(rt, "a record");
+            usize::from(record.timer)
+        }
         _ => panic!(rt; "no order of ours"),
     }
 }
 
-/// The event of this number.
-pub fn event(rt: &impl Abort, number: usize) -> Event {
-    let byte = u8::try_from(number).ok().expect(rt, "a byte");
-    Event::Raw(Raw::new(0, 0, 8, &[byte]).expect(rt, "a card"))
+/// The byte of the card that is the event of this number.
+pub fn card(rt: &impl Abort, number: usize) -> u8 {
+    u8::try_from(number).ok().expect(rt, "a byte")
 }
 
 /// Whether an answer is the one that the device gives to the order of this number: done, or refused as out of range.
-fn is_its_answer(reply: &Reply, number: usize) -> bool {
+fn is_its_answer(reply: &Reply<'_>, number: usize) -> bool {
     match reply {
         Reply::Ack => number % 2 == 0,
-        Reply::Nak(Nak { reason, .. }) => number % 2 == 1
-            && *reason == NakReason::RecordNotProcessed,
+        Reply::Nak(nak) => number % 2 == 1 && nak.reason() == NakReason::RecordNotProcessed,
         _ => false,
     }
 }
@@ -111,7 +109,7 @@ impl Account {
     }
 
     /// The device has taken an order: no order before it is open, and none is taken twice, or after a later one.
-    pub fn takes(&mut self, rt: &impl Abort, command: &Command) {
+    pub fn takes(&mut self, rt: &impl Abort, command: &Command<'_>) {
         let number = number_of(rt, command);
         assert!(rt;
             number >= self.next_taken && number < self.issued,
@@ -125,7 +123,7 @@ impl Account {
     }
 
     /// An order was told settled: it was taken, in its order, and the answer is the device's.
-    fn settles(&mut self, rt: &impl Abort, command: &Command, reply: &Reply) {
+    fn settles(&mut self, rt: &impl Abort, command: &Command<'_>, reply: &Reply<'_>) {
         let number = number_of(rt, command);
         assert!(rt;
             self.is_taken.get(number) == Some(&true),
@@ -145,7 +143,7 @@ impl Account {
     }
 
     /// The order that waited longest was taken back.
-    pub fn withdraws(&mut self, rt: &impl Abort, command: &Command) {
+    pub fn withdraws(&mut self, rt: &impl Abort, command: &Command<'_>) {
         self.ends(rt, number_of(rt, command), Fate::Withdrawn);
     }
 
@@ -177,7 +175,7 @@ impl Account {
     }
 
     /// A report of the panel.
-    pub fn hears(&mut self, rt: &impl Abort, report: &Report) {
+    pub fn hears(&mut self, rt: &impl Abort, report: &Report<'_>) {
         match report {
             Report::Opened(_) | Report::Lost(_, None) => {}
             Report::Settled(command, reply) => self.settles(rt, command, reply),

@@ -2,9 +2,9 @@
 
 use arrayvec::ArrayVec;
 use osdp_device::{
-    Address, Capability, Command, Device, Event, Expired, Keypad, MAX_DATA, Order, OutputRecord,
-    PdCap, PdId, ProgramAnswers, Raw, Reader, ReaderConfig, Response, Turn, Unsent, order_of,
-    ordered,
+    Address, Burst, Capability, Command, Device, Event, Heard, Keypad, MAX_DATA, Order,
+    OutputRecord, PdId, ProgramAnswers, Raw, Reader, ReaderConfig, Room, Settled, Spelling, States,
+    Unsent, lend, order_of, ordered,
 };
 use std::alloc::Global;
 
@@ -44,9 +44,9 @@ fn identity() -> PdId {
 
 /// What it is, and what it can do, for CAP: it has inputs and outputs, and takes a CRC too.
 pub fn new_config(address: Address, inputs: u8, outputs: u8) -> ReaderConfig {
-    let mut capabilities = ArrayVec::new();
+    let mut caps = ArrayVec::new();
     for (function, count) in [(1, inputs), (2, outputs), (8, 0)] {
-        let _ = capabilities.try_push(Capability {
+        let _ = caps.try_push(Capability {
             function,
             level: 1,
             count,
@@ -55,7 +55,7 @@ pub fn new_config(address: Address, inputs: u8, outputs: u8) -> ReaderConfig {
     ReaderConfig {
         address,
         id: identity(),
-        caps: PdCap { capabilities },
+        caps,
     }
 }
 
@@ -81,23 +81,22 @@ pub fn new_device(
     let mut program = ProgramAnswers::new();
     program.status.inputs = all_off(inputs);
     program.status.outputs = all_off(outputs);
-    let reader = Reader::new(alloc, new_config(address, inputs, outputs), program, 64).ok()?;
+    let config = new_config(address, inputs, outputs);
+    let reader = Reader::new(alloc, config, program, Room::of(64)).ok()?;
     Device::new(alloc, reader, 20).ok()
 }
 
 /// A card was read at a moment: it waits until a POLL has taken it.
 pub fn card_was_read(device: &mut Device<ProgramAnswers>, now: u64) {
     if let Some(card) = Raw::new(0, 0, 26, &[0x12, 0x34, 0x56, 0x40]) {
-        let _ = device.submit_event(Event::Raw(card), now);
+        let _ = device.submit_event(&Event::Raw(card), now);
     }
 }
 
 /// Keys were pressed, each a byte in ASCII.
 pub fn keys_were_pressed(device: &mut Device<ProgramAnswers>, keys: &[u8], now: u64) {
-    let mut digits = ArrayVec::new();
-    if digits.try_extend_from_slice(keys).is_ok() {
-        let pressed = Keypad { reader: 0, digits };
-        let _ = device.submit_event(Event::Keypad(pressed), now);
+    if let Some(pressed) = Keypad::new(0, keys) {
+        let _ = device.submit_event(&Event::Keypad(pressed), now);
     }
 }
 
@@ -107,9 +106,9 @@ pub fn input_was_switched(device: &mut Device<ProgramAnswers>, input: usize, on:
     if let Some(state) = inputs.get_mut(input) {
         *state = u8::from(on);
     }
-    let mut states = ArrayVec::new();
-    if states.try_extend_from_slice(inputs.as_slice()).is_ok() {
-        let _ = device.submit_event(Event::Inputs(states), now);
+    let mut place = Spelling::new();
+    if let Some(states) = States::new(lend(inputs.as_slice(), &mut place)) {
+        let _ = device.submit_event(&Event::Inputs(states), now);
     }
 }
 
@@ -123,12 +122,12 @@ fn drive(until: &mut Option<u64>, record: &OutputRecord, now: u64) {
     }
 }
 
-/// What the device does with an answer: an OUT is done once, and not where it was refused.
-fn act(relays: &mut Relays, response: &Response, now: u64) {
-    if let (Order::Once, Some(Command::Output(out))) = (order_of(response), ordered(response)) {
+/// What the device does with what it heard, once it has its answer: an OUT is done once, and not where it was refused.
+fn act(relays: &mut Relays, heard: &Heard<'_>, answer: &[u8], now: u64) {
+    if let (Order::Once, Some(Command::Output(out))) = (order_of(heard, answer), ordered(heard)) {
         for record in out.records() {
             if let Some(until) = relays.until.get_mut(usize::from(record.output)) {
-                drive(until, record, now);
+                drive(until, &record, now);
             }
         }
     }
@@ -148,11 +147,10 @@ fn pass(device: &mut Device<ProgramAnswers>, relays: &mut Relays, now: u64) {
 /// Where no panel is there, events that have waited too long leave: a card of long ago opens no door.
 fn let_go(device: &mut Device<ProgramAnswers>, now: u64) {
     for _ in 0..64 {
-        match device.expire_event(now, TOO_OLD) {
-            // the device may beep: this card opens nothing
-            Some(Expired::Withdrawn(_) | Expired::InDoubt(_)) => {}
-            None => break,
+        if !device.expire_event(now, TOO_OLD) {
+            break;
         }
+        // the device may beep: this card opens nothing
     }
 }
 
@@ -162,17 +160,18 @@ pub fn device_turn(
     relays: &mut Relays,
     bytes: &[u8],
     now: u64,
-    turn: &mut Turn,
+    out: &mut Burst,
 ) -> Option<Unsent> {
     pass(device, relays, now);
     let_go(device, now);
     device.tick(now);
-    let unsent = match device.turn(bytes, now, turn) {
-        None if turn.pending.is_some() => device.turn(&[], now, turn),
-        unsent => unsent,
+    let (turn, unsent) = device.turn(bytes, now, out);
+    let (turn, unsent) = match unsent {
+        None if turn.settled == Settled::Pending => device.turn(&[], now, out),
+        unsent => (turn, unsent),
     };
-    if let Some(response) = &turn.response {
-        act(relays, response, now);
+    if let Some(kind) = turn.settled.kind() {
+        act(relays, &device.heard(kind), out.as_slice(), now);
     }
     unsent
 }

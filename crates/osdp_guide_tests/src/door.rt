@@ -3,7 +3,7 @@
 use crate::device::{Relays, card_was_read, device_turn, new_device};
 use crate::panel::{new_panel, panel_turn};
 use arrayvec::ArrayVec;
-use osdp_device::{Device, ProgramAnswers};
+use osdp_device::{Burst, Device, ProgramAnswers};
 use osdp_panel::{Address, Entry, Panel};
 use std::process::Abort;
 
@@ -23,7 +23,7 @@ fn run(
     until: u64,
 ) {
     let mut asked = osdp_panel::Turn::new();
-    let mut told = osdp_device::Turn::new();
+    let mut told = Burst::new();
     let (mut there, mut back) = (ArrayVec::new(), ArrayVec::new());
     for step in from / 10..until / 10 {
         let now = step * 10;

@@ -1,12 +1,13 @@
 //! The line: all that was said, in its order, and how far each end has read it.
 
-use crate::account::{Account, event, order};
+use crate::account::{Account, card, order};
 use crate::dice::Dice;
 use crate::ends::{new_bus, new_device};
 use arrayvec::ArrayVec;
 use osdp_bus::Bus;
 use osdp_device::{Device, DeviceStatus, again, taken};
-use osdp_msg::Command;
+use osdp_frame::Burst;
+use osdp_msg::{Command, Event, Outputs, Raw};
 use std::alloc::Global;
 use std::process::Abort;
 
@@ -71,6 +72,11 @@ fn new_site(rt: &impl Abort, alloc: Global, device: usize) -> Site {
     }
 }
 
+/// What belongs to a device, of the two.
+fn site_of<'a>(first: &'a mut Site, second: &'a mut Site, device: usize) -> &'a mut Site {
+    if device == 0 { first } else { second }
+}
+
 impl Line {
     pub fn new(rt: &impl Abort, alloc: Global, seed: u64) -> Line {
         Line {
@@ -87,11 +93,7 @@ impl Line {
     }
 
     fn site(&mut self, device: usize) -> &mut Site {
-        if device == 0 {
-            &mut self.first
-        } else {
-            &mut self.second
-        }
+        site_of(&mut self.first, &mut self.second, device)
     }
 
     /// The account of a device.
@@ -120,29 +122,33 @@ impl Line {
     /// Each report that waits is told to the account of its device.
     fn tells_reports(&mut self, rt: &impl Abort) {
         for _ in 0..64 {
-            let Some((entry, report)) = self.bus.next_report() else {
+            let Some((entry, report)) = self.bus.report() else {
                 return;
             };
-            self.account(entry).hears(rt, &report);
+            let site = site_of(&mut self.first, &mut self.second, entry);
+            site.account.hears(rt, &report);
+            self.bus.settle();
         }
     }
 
     /// The device reads what it holds, and answers.
     fn answers(&mut self, rt: &impl Abort, device: usize) {
+        let mut out = Burst::new();
         for _ in 0..64 {
             let site = self.site(device);
-            let Some(response) = site.device.next() else {
+            let Some(kind) = site.device.next(&mut out) else {
                 return;
             };
-            if let Some(command) = taken(&response) {
+            let heard = site.device.heard(kind);
+            if let Some(command) = taken(&heard) {
                 site.account.takes(rt, command);
             }
             assert!(rt;
-                matches!(again(&response), None | Some(Command::Id(_))),
+                matches!(again(&heard), None | Some(Command::Id(_))),
                 "an order at number 0"
             );
-            if !response.bytes().is_empty() {
-                self.says(rt, device, false, response.bytes());
+            if !out.is_empty() {
+                self.says(rt, device, false, out.as_slice());
             }
         }
     }
@@ -193,12 +199,13 @@ impl Line {
             self.silences_all(rt);
         }
         let early = if self.dice.is_once_in(50) { 500 } else { 0 };
-        let sent = self.bus.tick(self.now.saturating_sub(early));
+        let mut out = Burst::new();
+        let sends = self.bus.tick(self.now.saturating_sub(early), &mut out);
         self.tells_reports(rt);
-        let Some(burst) = sent else {
+        if !sends {
             return;
-        };
-        let bytes = burst.as_slice();
+        }
+        let bytes = out.as_slice();
         let device = usize::from(bytes.get(1) == Some(&6));
         let is_opening = bytes.get(5) == Some(&0x61);
         let floor = self.said.len();
@@ -335,7 +342,9 @@ impl Line {
     pub fn orders(&mut self, rt: &impl Abort, device: usize, most: usize) {
         let number = self.account(device).issued;
         if number < most {
-            assert!(rt; self.bus.submit(device, order(rt, number)).is_ok());
+            let records = [order(rt, number)];
+            let outputs = Outputs::new(&records).expect(rt, "an order");
+            assert!(rt; self.bus.submit(device, &Command::Output(outputs)).is_ok());
             self.account(device).issued = number.saturating_add(1);
         }
     }
@@ -346,16 +355,20 @@ impl Line {
         let site = self.site(device);
         let number = site.account.queued;
         if number < most {
-            assert!(rt; site.device.submit_event(event(rt, number), now).is_ok());
+            let bytes = [card(rt, number)];
+            let card = Raw::new(0, 0, 8, &bytes).expect(rt, "a card");
+            assert!(rt; site.device.submit_event(&Event::Raw(card), now));
             site.account.queued = number.saturating_add(1);
         }
     }
 
     /// The panel takes back the order that has waited longest, where it may.
     pub fn withdraws(&mut self, rt: &impl Abort, device: usize) {
-        if let Ok(Some(command)) = self.bus.withdraw(device) {
-            self.account(device).withdraws(rt, &command);
+        if let Ok(Some(command)) = self.bus.withdrawable(device) {
+            let site = site_of(&mut self.first, &mut self.second, device);
+            site.account.withdraws(rt, &command);
         }
+        let _ = self.bus.withdraw(device);
     }
 
     /// A session begins where none has.

@@ -3,7 +3,7 @@
 use crate::device::{
     Relays, card_was_read, device_turn, input_was_switched, keys_were_pressed, new_device,
 };
-use osdp_device::{Address, Device, ProgramAnswers, Turn};
+use osdp_device::{Address, Burst, Device, ProgramAnswers};
 use std::alloc::Global;
 use std::process::Abort;
 
@@ -35,13 +35,13 @@ fn are_answered(
     relays: &mut Relays,
     rows: &[(u64, &str, &str)],
 ) {
-    let mut turn = Turn::new();
+    let mut out = Burst::new();
     for (now, packet, answer) in rows {
         let (mut given, mut wanted) = ([0; 32], [0; 32]);
         let packet = bytes_of(rt, packet, &mut given);
-        let unsent = device_turn(device, relays, packet, *now, &mut turn);
+        let unsent = device_turn(device, relays, packet, *now, &mut out);
         let said = match unsent {
-            Some(unsent) => unsent.bytes(&turn),
+            Some(unsent) => unsent.bytes(&out),
             None => &[],
         };
         assert_eq!(rt; said, bytes_of(rt, answer, &mut wanted));

@@ -3,7 +3,7 @@
 use osdp_names::named::output;
 use osdp_panel::{
     Address, BusConfig, BusFault, CheckKind, Command, Entry, Event, OutputRecord, Outputs, Panel,
-    Raw, Report, Turn, Unsent,
+    Raw, Report, Room, Turn, Unsent,
 };
 use std::alloc::Global;
 
@@ -12,14 +12,14 @@ const ORDERS: usize = 64;
 
 /// A panel with one door, whose session begins now.
 pub fn new_panel(alloc: Global, address: Address, now: u64) -> Result<(Panel, Entry), BusFault> {
-    let mut panel = Panel::new(alloc, BusConfig::new(CheckKind::Crc, ORDERS))?;
+    let mut panel = Panel::new(alloc, BusConfig::new(CheckKind::Crc, Room::of(ORDERS)))?;
     let door = panel.add(address)?;
     panel.begin(door, now)?;
     Ok((panel, door))
 }
 
 /// Whether the card may enter: here one card of 26 bits may.
-fn may_enter(card: &Raw) -> bool {
+fn may_enter(card: &Raw<'_>) -> bool {
     card.bits() == 26 && card.bytes() == [0x12, 0x34, 0x56, 0x40].as_slice()
 }
 
@@ -31,7 +31,7 @@ fn open(panel: &mut Panel, door: Entry) {
         timer: 30,
     };
     if let Some(outputs) = Outputs::new(&[strike]) {
-        let _ = panel.submit(door, Command::Output(outputs));
+        let _ = panel.submit(door, &Command::Output(outputs));
     }
 }
 
@@ -44,7 +44,7 @@ fn begin_again(panel: &mut Panel, door: Entry, now: u64) {
 }
 
 /// What the panel does with a report. A card that may have been told before makes no second order.
-pub fn decide(panel: &mut Panel, door: Entry, report: &Report, maybe_again: bool, now: u64) {
+pub fn decide(panel: &mut Panel, door: Entry, report: &Report<'_>, maybe_again: bool, now: u64) {
     match report {
         Report::Event(Event::Raw(card)) if may_enter(card) && !maybe_again => open(panel, door),
         Report::Lost(..) | Report::Moved(..) => begin_again(panel, door, now),
@@ -65,8 +65,10 @@ pub fn panel_turn(
     turn: &mut Turn,
 ) -> Option<Unsent> {
     let unsent = panel.turn(bytes, now, turn);
-    for (_, report) in [&turn.heard, &turn.ticked].into_iter().flatten() {
-        decide(panel, door, report, turn.maybe_again, now);
+    for told in [&turn.heard, &turn.ticked] {
+        if let Some((_, report)) = told.read() {
+            decide(panel, door, &report, turn.maybe_again, now);
+        }
     }
     unsent
 }

@@ -37,7 +37,7 @@ pub use osdp_frame::{Address, Burst, CheckKind};
 pub use osdp_msg::{
     Buzzer, Capability, Command, Communication, Event, Formatted, Keypad, LedRecord, Leds,
     LocalState, MakerMessage, MsgFault, Nak, NakReason, OutputRecord, Outputs, PdCap, PdId, Raw,
-    Reply, Room, Text,
+    Reply, Room, Spelling, Text,
 };
 pub use panel::Panel;
 pub use unsent::Unsent;

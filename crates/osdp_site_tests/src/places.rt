@@ -1,6 +1,8 @@
 //! What is refused; what comes to the panel, and when; and what is told.
 
-use osdp_panel::{Address, BusConfig, CheckKind, Command, Entry, LostCause, Panel, PdId, Report};
+use osdp_panel::{
+    Address, BusConfig, CheckKind, Command, Entry, LostCause, Panel, PdId, Report, Room, Spelling,
+};
 use osdp_site::{Presence, Site, SiteConfig, SiteFault};
 use std::alloc::Global;
 
@@ -8,7 +10,7 @@ const DOOR: Entry = 0;
 
 /// A panel with one device, and room for two commands.
 fn new_panel(alloc: Global) -> Option<Panel> {
-    let mut panel = Panel::new(alloc, BusConfig::new(CheckKind::Crc, 2)).ok()?;
+    let mut panel = Panel::new(alloc, BusConfig::new(CheckKind::Crc, Room::of(2))).ok()?;
     panel.add(Address::new(5)?).ok()?;
     Some(panel)
 }
@@ -24,13 +26,14 @@ fn new_site(alloc: Global) -> Option<Site> {
 
 /// Wants what a text says; NoMemory stands for a text of no command.
 fn wants(site: &mut Site, entry: Entry, text: &str) -> Result<(), SiteFault> {
-    match Command::parse_line(text) {
-        Ok(command) => site.wants(entry, command),
+    let mut place = Spelling::new();
+    match Command::parse_line(text, &mut place) {
+        Ok(command) => site.wants(entry, &command),
         Err(_) => Err(SiteFault::NoMemory),
     }
 }
 
-fn opened() -> Report {
+fn opened() -> Report<'static> {
     Report::Opened(PdId {
         vendor: [1, 2, 3],
         model: 1,
@@ -42,7 +45,7 @@ fn opened() -> Report {
     })
 }
 
-fn lost() -> Report {
+fn lost() -> Report<'static> {
     Report::Lost(LostCause::NoReply, None)
 }
 

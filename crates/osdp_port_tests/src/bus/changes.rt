@@ -1,9 +1,11 @@
 //! Packets with one byte changed, while one of three devices holds the line.
 
-use crate::bus::rows::{Row, WHOLE, command, new_bus, run, submit};
+use crate::bus::rows::{Row, WHOLE, new_bus, run, submit};
 use osdp_bus::Bus;
 use osdp_check::{Check, Crc16};
 use osdp_controller::{LostCause, Report};
+use osdp_frame::Burst;
+use osdp_msg::{Command, Spelling};
 use osdp_test_packets::{PACKETS, bytes_of, check_anew, is_spelled};
 use osdp_words::Fields;
 use std::alloc::Global;
@@ -57,8 +59,17 @@ fn nothing() -> Told {
     }
 }
 
-/// The words of the OUT.
+/// The words of the OUT, and its bytes.
 const OUT: [&str; 2] = ["OUT", "0:2:0"];
+
+const OUT_BYTES: [u8; 5] = [0x68, 0, 2, 0, 0];
+
+/// The command is the OUT.
+fn is_out(rt: &impl Abort, command: &Command<'_>) {
+    let mut spelling = Spelling::new();
+    command.write_into(&mut spelling);
+    assert_eq!(rt; spelling.as_slice(), OUT_BYTES.as_slice());
+}
 
 impl Told {
     /// The OUT is settled by the reply of these bytes.
@@ -71,20 +82,20 @@ impl Told {
     }
 
     /// What is told of the OUT counts.
-    fn tell(&mut self, rt: &impl Abort, report: &Report) {
+    fn tell(&mut self, rt: &impl Abort, report: &Report<'_>) {
         match report {
             Report::Settled(told, reply) => {
-                assert!(rt; *told == command(rt, &OUT));
+                is_out(rt, told);
                 self.settles(reply.write().as_slice());
             }
             Report::Unread(Some(told), code) => {
-                assert!(rt; *told == command(rt, &OUT));
+                is_out(rt, told);
                 self.unread = self.unread.saturating_add(1);
                 self.check.add(2);
                 self.check.add(*code);
             }
             Report::Lost(LostCause::NumberRefused, Some(told)) => {
-                assert!(rt; *told == command(rt, &OUT));
+                is_out(rt, told);
                 self.lost = self.lost.saturating_add(1);
                 self.check.add(3);
             }
@@ -94,18 +105,15 @@ impl Told {
 
     /// The report that waits counts, if there is one. It is of entry 0, and the only one.
     fn take(&mut self, rt: &impl Abort, bus: &mut Bus) -> bool {
-        match bus.next_report() {
-            Some((entry, report)) => {
-                assert_eq!(rt; entry, 0);
-                self.tell(rt, &report);
-                assert!(rt; bus.next_report().is_none());
-                true
-            }
-            None => {
-                self.check.add(0);
-                false
-            }
-        }
+        let Some((entry, report)) = bus.report() else {
+            self.check.add(0);
+            return false;
+        };
+        assert_eq!(rt; entry, 0);
+        self.tell(rt, &report);
+        bus.settle();
+        assert!(rt; bus.report().is_none());
+        true
     }
 }
 
@@ -135,9 +143,10 @@ fn holding(rt: &impl Abort, alloc: Global) -> Bus {
 /// The next frame of each other device is its first POLL.
 fn goes_on(rt: &impl Abort, bus: &mut Bus) {
     let mut polled = [false; 2];
+    let mut out = Burst::new();
     for second in 1..20u64 {
-        if let Some(burst) = bus.tick(second * 1000) {
-            let bytes = burst.as_slice();
+        if bus.tick(second * 1000, &mut out) {
+            let bytes = out.as_slice();
             assert!(rt; bytes.len() >= 7);
             if bytes[1] == 0 && !polled[0] {
                 assert!(rt; is_spelled(bytes, POLL_0));
@@ -148,7 +157,7 @@ fn goes_on(rt: &impl Abort, bus: &mut Bus) {
                 polled[1] = true;
             }
         }
-        let _ = bus.next_report();
+        bus.settle();
     }
     assert!(rt; polled[0] && polled[1]);
 }

@@ -3,7 +3,8 @@
 use crate::bus::rows::{Row, WHOLE, add, command, is_told, new_bus, run, submit};
 use osdp_bus::{Bus, BusConfig, BusFault};
 use osdp_check::{Sum8, check_of};
-use osdp_frame::{Address, CheckKind};
+use osdp_frame::{Address, Burst, CheckKind};
+use osdp_msg::{Room, Spelling};
 use std::process::Abort;
 
 const ID_5: &str = "530508000061003F";
@@ -44,10 +45,9 @@ fn addresses_have_one_device(rt: HostRuntime) {
     );
     assert_eq!(rt; submit(&rt, &mut bus, 0, &["COMSET", "7", "9600"]), None);
     assert_eq!(rt; bus.waiting(0), Some(1));
-    assert!(rt;
-        bus.submit_anywhere(1, command(&rt, &["COMSET", "127", "9600"]))
-            .is_ok()
-    );
+    let mut place = Spelling::new();
+    let nowhere = command(&rt, &["COMSET", "127", "9600"], &mut place);
+    assert!(rt; bus.submit_anywhere(1, &nowhere).is_ok());
     assert_eq!(rt; (bus.waiting(1), bus.is_maybe_again()), (Some(1), false));
     assert_eq!(rt; add(&rt, &mut bus, 7), Err(BusFault::AddressTaken));
     assert_eq!(rt;
@@ -68,12 +68,12 @@ fn addresses_have_one_device(rt: HostRuntime) {
 /// A setting out of its range is told.
 #[test]
 fn settings_are_judged(rt: HostRuntime) {
-    let mut config = BusConfig::new(CheckKind::Sum, 4);
+    let mut config = BusConfig::new(CheckKind::Sum, Room::of(4));
     config.gap = 0;
     assert!(rt; matches!(Bus::new(rt.alloc(), config), Err(BusFault::OutOfRange)));
     config.gap = 3_600_000;
     assert!(rt; Bus::new(rt.alloc(), config).is_ok());
-    config.capacity = 1025;
+    config.room = Room::of(1025);
     assert!(rt; matches!(Bus::new(rt.alloc(), config), Err(BusFault::OutOfRange)));
 }
 
@@ -142,14 +142,14 @@ fn a_refused_comset_frees_its_address(rt: HostRuntime) {
 #[test]
 fn a_withdrawn_comset_frees_its_address(rt: HostRuntime) {
     let mut bus = new_bus(&rt, rt.alloc(), &[5, 6]);
-    assert!(rt; matches!(bus.withdraw(2), Err(BusFault::NoEntry)));
+    assert_eq!(rt; bus.withdraw(2), Err(BusFault::NoEntry));
     assert_eq!(rt; submit(&rt, &mut bus, 0, &["ID", "0"]), None);
     assert_eq!(rt; submit(&rt, &mut bus, 0, &["COMSET", "7", "9600"]), None);
     assert_eq!(rt; retarget(&rt, &mut bus, 0, 8), Err(BusFault::AddressTaken));
-    assert!(rt; matches!(bus.withdraw(0), Ok(Some(_))));
+    assert_eq!(rt; bus.withdraw(0), Ok(true));
     assert_eq!(rt; add(&rt, &mut bus, 7), Err(BusFault::AddressTaken));
-    assert!(rt; matches!(bus.withdraw(0), Ok(Some(_))));
-    assert!(rt; matches!(bus.withdraw(0), Ok(None)));
+    assert_eq!(rt; bus.withdraw(0), Ok(true));
+    assert_eq!(rt; bus.withdraw(0), Ok(false));
     assert_eq!(rt; add(&rt, &mut bus, 7), Ok(2));
 }
 
@@ -163,8 +163,9 @@ fn with_check(packet: [u8; 11]) -> [u8; 12] {
 
 /// The device at this address opens its session.
 fn opens(rt: &impl Abort, bus: &mut Bus, entry: usize, address: u8) {
-    let burst = bus.tick(400).expect(rt, "an opening ID");
-    assert!(rt; burst.len() == 8);
+    let mut out = Burst::new();
+    assert!(rt; bus.tick(400, &mut out), "an opening ID");
+    assert!(rt; out.len() == 8);
     let mut pd_id = [0; 19];
     pd_id[..18].copy_from_slice(&[
         0x53, 0x80, 19, 0, 0, 0x45, 0x53, 0x49, 0x4d, 1, 1, 1, 0, 0, 0, 1, 0, 0,
@@ -178,7 +179,8 @@ fn opens(rt: &impl Abort, bus: &mut Bus, entry: usize, address: u8) {
 /// The device at this address takes its COMSET to one that is 16 higher.
 fn moves(rt: &impl Abort, bus: &mut Bus, entry: usize, address: u8) {
     assert!(rt; address < 64);
-    let burst = bus.tick(400).expect(rt, "a COMSET");
+    let mut out = Burst::new();
+    assert!(rt; bus.tick(400, &mut out), "a COMSET");
     let asked = with_check([
         0x53,
         address,
@@ -192,7 +194,7 @@ fn moves(rt: &impl Abort, bus: &mut Bus, entry: usize, address: u8) {
         0,
         0,
     ]);
-    assert_eq!(rt; burst.as_slice(), asked.as_slice());
+    assert_eq!(rt; out.as_slice(), asked.as_slice());
     let answer = with_check([
         0x53,
         0x80 | address,
@@ -259,7 +261,7 @@ fn adds_or_is_told(rt: &impl Abort, bus: &mut Bus) {
 /// Where memory is refused, as `tests/machines_memory.sh` has it, that is the answer.
 #[test]
 fn out_of_memory_is_told(rt: HostRuntime) {
-    match Bus::new(rt.alloc(), BusConfig::new(CheckKind::Sum, 4)) {
+    match Bus::new(rt.alloc(), BusConfig::new(CheckKind::Sum, Room::of(4))) {
         Ok(mut bus) => adds_or_is_told(&rt, &mut bus),
         Err(fault) => assert_eq!(rt; fault, BusFault::NoMemory),
     }

@@ -2,8 +2,8 @@
 
 use osdp_bus::{Bus, BusConfig, BusFault, Entry};
 use osdp_controller::Report;
-use osdp_frame::{Address, CheckKind};
-use osdp_msg::Command;
+use osdp_frame::{Address, Burst, CheckKind};
+use osdp_msg::{Command, Room, Spelling};
 use osdp_test_packets::{bytes_of, is_spelled};
 use std::alloc::Global;
 use std::process::Abort;
@@ -38,7 +38,7 @@ pub struct Cut {
 
 /// A bus with checksums, default times and room for four commands each.
 pub fn new_bus(rt: &impl Abort, alloc: Global, addresses: &[u8]) -> Bus {
-    let made = Bus::new(alloc, BusConfig::new(CheckKind::Sum, 4));
+    let made = Bus::new(alloc, BusConfig::new(CheckKind::Sum, Room::of(4)));
     let mut bus = made.ok().expect(rt, "a bus");
     for (i, address) in addresses.iter().enumerate() {
         assert_eq!(rt; add(rt, &mut bus, *address), Ok(i));
@@ -51,24 +51,19 @@ pub fn add(rt: &impl Abort, bus: &mut Bus, address: u8) -> Result<Entry, BusFaul
     bus.add(Address::new(address).expect(rt, "an address"))
 }
 
-/// The command of these words.
-pub fn command(rt: &impl Abort, words: &[&str]) -> Command {
-    Command::parse(words).ok().expect(rt, "a command")
+/// The command of these words. Its bytes stand in `place`.
+pub fn command<'a>(rt: &impl Abort, words: &[&str], place: &'a mut Spelling) -> Command<'a> {
+    Command::parse(words, place).ok().expect(rt, "a command")
 }
 
-/// Why a command of these words is refused, if it is. A refused command comes back.
+/// Why a command of these words is refused, if it is.
 pub fn submit(rt: &impl Abort, bus: &mut Bus, entry: Entry, words: &[&str]) -> Option<BusFault> {
-    match bus.submit(entry, command(rt, words)) {
-        Ok(()) => None,
-        Err((fault, back)) => {
-            assert!(rt; back == command(rt, words));
-            Some(fault)
-        }
-    }
+    let mut place = Spelling::new();
+    bus.submit(entry, &command(rt, words, &mut place)).err()
 }
 
 /// The kind of a report.
-pub fn kind(report: &Report) -> &'static str {
+pub fn kind(report: &Report<'_>) -> &'static str {
     match report {
         Report::Opened(_) => "opened",
         Report::Settled(..) => "settled",
@@ -82,13 +77,14 @@ pub fn kind(report: &Report) -> &'static str {
 
 /// A report of this kind waits from this entry. The word `none` is for no report.
 pub fn is_told(rt: &impl Abort, bus: &mut Bus, entry: Entry, expected: &str) {
-    match bus.next_report() {
+    match bus.report() {
         Some((teller, report)) => {
             assert_eq!(rt; teller, entry);
             assert_eq!(rt; kind(&report), expected);
         }
         None => assert_eq!(rt; expected, "none"),
     }
+    bus.settle();
 }
 
 /// Hands over the bytes of these digits, cut as is asked for.
@@ -102,13 +98,14 @@ fn hands_over(rt: &impl Abort, bus: &mut Bus, now: u64, digits: &str, cut: Cut) 
 
 /// Makes the calls of the rows one after the other.
 pub fn run(rt: &impl Abort, bus: &mut Bus, rows: &[Row], cut: Cut) {
+    let mut out = Burst::new();
     for row in rows {
         match row {
             Row::Sends(now, digits) => {
-                let burst = bus.tick(*now).expect(rt, digits);
-                assert!(rt; is_spelled(burst.as_slice(), digits), "{digits}");
+                assert!(rt; bus.tick(*now, &mut out), "{digits}");
+                assert!(rt; is_spelled(out.as_slice(), digits), "{digits}");
             }
-            Row::Stays(now) => assert!(rt; bus.tick(*now).is_none(), "at {now}"),
+            Row::Stays(now) => assert!(rt; !bus.tick(*now, &mut out), "at {now}"),
             Row::Hears(now, digits) => hands_over(rt, bus, *now, digits, cut),
             Row::Silence(now) => bus.on_silence(*now),
             Row::Told(entry, expected) => is_told(rt, bus, *entry, expected),

@@ -20,34 +20,43 @@ const CARD_TOLD: &str = "53850F00015000001A0012345640D2";
 /// After how long a card is too old.
 const LIMIT: u64 = 30_000;
 
-fn card(rt: &impl Abort, first: u8) -> Event {
-    Event::Raw(Raw::new(0, 0, 26, &[first, 0x34, 0x56, 0x40]).expect(rt, "a card"))
-}
-
 /// A card is held to the device at a moment.
 fn is_held(rt: &impl Abort, device: &mut Device<DeviceStatus>, first: u8, now: u64) {
-    assert!(rt; device.submit_event(card(rt, first), now).is_ok());
+    let bytes = [first, 0x34, 0x56, 0x40];
+    let card = Raw::new(0, 0, 26, &bytes).expect(rt, "a card");
+    assert!(rt; device.submit_event(&Event::Raw(card), now));
+}
+
+/// The event is the card that begins with this byte.
+fn is_card(rt: &impl Abort, event: &Event<'_>, first: u8) {
+    match event {
+        Event::Raw(card) => assert_eq!(rt; card.bytes(), [first, 0x34, 0x56, 0x40].as_slice()),
+        _ => assert!(rt; false, "a card"),
+    }
 }
 
 /// Nothing is too old at a moment.
 fn keeps(rt: &impl Abort, device: &mut Device<DeviceStatus>, now: u64) {
-    assert!(rt; device.expire_event(now, LIMIT).is_none());
+    assert!(rt; device.expiring(now, LIMIT).is_none());
+    assert!(rt; !device.expire_event(now, LIMIT));
 }
 
 /// The card is withdrawn at a moment: nothing has told it.
 fn withdraws(rt: &impl Abort, device: &mut Device<DeviceStatus>, first: u8, now: u64) {
-    match device.expire_event(now, LIMIT) {
-        Some(Expired::Withdrawn(event)) => assert!(rt; event == card(rt, first)),
+    match device.expiring(now, LIMIT) {
+        Some(Expired::Withdrawn(event)) => is_card(rt, &event, first),
         Some(Expired::InDoubt(_)) | None => assert!(rt; false, "withdrawn"),
     }
+    assert!(rt; device.expire_event(now, LIMIT));
 }
 
 /// The card is in doubt at a moment: its answer may be lost.
 fn doubts(rt: &impl Abort, device: &mut Device<DeviceStatus>, first: u8, now: u64) {
-    match device.expire_event(now, LIMIT) {
-        Some(Expired::InDoubt(event)) => assert!(rt; event == card(rt, first)),
+    match device.expiring(now, LIMIT) {
+        Some(Expired::InDoubt(event)) => is_card(rt, &event, first),
         Some(Expired::Withdrawn(_)) | None => assert!(rt; false, "in doubt"),
     }
+    assert!(rt; device.expire_event(now, LIMIT));
 }
 
 /// The panel is stopped, a card is held, and the panel comes back 45 s later: the card is told to nobody.
@@ -105,11 +114,13 @@ fn a_card_is_taken_back(rt: HostRuntime) {
     is_held(&rt, &mut device, 0x12, 2000);
     is_held(&rt, &mut device, 0x13, 2500);
     answers(&rt, &mut device, POLL[0], 2600, CARD_TOLD);
-    assert!(rt; device.withdraw_event() == Some(card(&rt, 0x13)));
-    assert!(rt; device.withdraw_event().is_none());
+    let newest = device.reader().never_offered().expect(&rt, "a card");
+    is_card(&rt, &newest, 0x13);
+    assert!(rt; device.withdraw_event() && !device.withdraw_event());
     assert!(rt; device.oldest_age(3000) == Some(1000));
-    assert!(rt; device.lapse_event() == Some(card(&rt, 0x12)));
-    assert!(rt; device.lapse_event().is_none());
+    let oldest = device.reader().in_doubt().expect(&rt, "a card");
+    is_card(&rt, &oldest, 0x12);
+    assert!(rt; device.lapse_event() && !device.lapse_event());
     assert!(rt; device.oldest_age(3000).is_none());
 }
 
@@ -120,7 +131,7 @@ fn a_panel_that_is_there_gets_every_card(rt: HostRuntime) {
     is_held(&rt, &mut device, 0x12, 2000);
     hears(&rt, &mut device, POLL_TO_OTHER, 60_000);
     is_quiet(&rt, &mut device);
-    assert!(rt; device.expire_event(60_000, 0).is_none());
+    assert!(rt; !device.expire_event(60_000, 0));
     answers(
         &rt,
         &mut device,

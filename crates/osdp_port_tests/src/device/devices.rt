@@ -4,9 +4,9 @@
 
 use arrayvec::ArrayVec;
 use osdp_device::{Device, DeviceStatus};
-use osdp_frame::Address;
-use osdp_msg::PdCap;
-use osdp_reader::{Reader, ReaderConfig};
+use osdp_frame::{Address, Burst};
+use osdp_msg::Room;
+use osdp_reader::{Kind, Reader, ReaderConfig};
 use osdp_script::script_config;
 use osdp_words::byte_list;
 use std::alloc::Global;
@@ -30,11 +30,9 @@ pub fn new_reader(rt: &impl Abort, alloc: Global) -> Reader<DeviceStatus> {
     let config = ReaderConfig {
         address,
         id: script_config(1, address).id,
-        caps: PdCap {
-            capabilities: ArrayVec::new(),
-        },
+        caps: ArrayVec::new(),
     };
-    let made = Reader::new(alloc, config, status(), 4);
+    let made = Reader::new(alloc, config, status(), Room::of(4));
     made.ok().expect(rt, "a reader")
 }
 
@@ -57,16 +55,24 @@ pub fn is_spelled(rt: &impl Abort, bytes: &[u8], digits: &str) {
     assert_eq!(rt; bytes, spelled.as_slice());
 }
 
+/// It says these bytes next. The line of the table by which it does.
+pub fn says_next(rt: &impl Abort, device: &mut Device<DeviceStatus>, digits: &str) -> Kind {
+    let mut out = Burst::new();
+    let kind = device.next(&mut out).expect(rt, "an answer");
+    is_spelled(rt, out.as_slice(), digits);
+    kind
+}
+
 /// It says these bytes, and nothing more.
 pub fn says(rt: &impl Abort, device: &mut Device<DeviceStatus>, digits: &str) {
-    let response = device.next().expect(rt, "an answer");
-    is_spelled(rt, response.bytes(), digits);
+    let _ = says_next(rt, device, digits);
     is_quiet(rt, device);
 }
 
 /// It says nothing.
 pub fn is_quiet(rt: &impl Abort, device: &mut Device<DeviceStatus>) {
-    assert!(rt; device.next().is_none());
+    let mut out = Burst::new();
+    assert!(rt; device.next(&mut out).is_none());
 }
 
 /// A packet comes at a moment, and is answered so.

@@ -1,9 +1,9 @@
 //! What a device tells and does whose program set beforehand what there is.
 
-use crate::device::devices::{hears, is_spelled, opened};
-use osdp_device::{again, taken};
+use crate::device::devices::{hears, opened, says_next};
+use osdp_device::{Heard, again, taken};
+use osdp_frame::Burst;
 use osdp_msg::Command;
-use osdp_reader::Response;
 use std::alloc::Global;
 use std::process::Abort;
 
@@ -24,7 +24,7 @@ const EXCHANGES: &str = "\
 ";
 
 /// The command has this text.
-fn is_printed(rt: &impl Abort, alloc: Global, command: &Command, text: &str) {
+fn is_printed(rt: &impl Abort, alloc: Global, command: &Command<'_>, text: &str) {
     let printed = command
         .to_string(alloc)
         .ok()
@@ -33,9 +33,9 @@ fn is_printed(rt: &impl Abort, alloc: Global, command: &Command, text: &str) {
 }
 
 /// The command of this text was taken.
-fn is_taken(rt: &impl Abort, alloc: Global, response: &Response, text: &str) {
-    assert!(rt; again(response).is_none());
-    is_printed(rt, alloc, taken(response).expect(rt, "a command"), text);
+fn is_taken(rt: &impl Abort, alloc: Global, heard: &Heard<'_>, text: &str) {
+    assert!(rt; again(heard).is_none());
+    is_printed(rt, alloc, taken(heard).expect(rt, "a command"), text);
 }
 
 /// A command of a row is answered so, and told as taken.
@@ -44,9 +44,8 @@ fn is_answered(rt: &impl Abort, alloc: Global, row: &str) {
     let (sent, text) = rest.split_once(' ').expect(rt, "a text");
     let mut device = opened(rt, alloc);
     hears(rt, &mut device, given, 2000);
-    let response = device.next().expect(rt, "an answer");
-    is_spelled(rt, response.bytes(), sent);
-    is_taken(rt, alloc, &response, text);
+    let kind = says_next(rt, &mut device, sent);
+    is_taken(rt, alloc, &device.heard(kind), text);
 }
 
 #[test]
@@ -61,11 +60,11 @@ fn commands_are_answered_and_told(rt: HostRuntime) {
 fn repeats_are_not_taken(rt: HostRuntime) {
     let mut device = opened(&rt, rt.alloc());
     hears(&rt, &mut device, "53050B0001680102000031", 2000);
-    assert!(rt; device.next().is_some());
+    let _ = says_next(&rt, &mut device, "538507000140E0");
     hears(&rt, &mut device, "53050B0001680102000031", 2200);
-    let response = device.next().expect(&rt, "an answer");
-    is_spelled(&rt, response.bytes(), "538507000140E0");
-    assert!(rt; taken(&response).is_none() && again(&response).is_none());
+    let kind = says_next(&rt, &mut device, "538507000140E0");
+    let heard = device.heard(kind);
+    assert!(rt; taken(&heard).is_none() && again(&heard).is_none());
 }
 
 /// At number 0 an order is acted on each time; a POLL and what can't be read is none.
@@ -73,25 +72,24 @@ fn repeats_are_not_taken(rt: HostRuntime) {
 fn orders_at_number_0(rt: HostRuntime) {
     let mut device = opened(&rt, rt.alloc());
     hears(&rt, &mut device, "53050B0000680102000032", 2000);
-    let response = device.next().expect(&rt, "an answer");
-    assert!(rt; taken(&response).is_none());
-    is_printed(
-        &rt,
-        rt.alloc(),
-        again(&response).expect(&rt, "a command"),
-        "OUT 1:2:0",
-    );
+    let kind = says_next(&rt, &mut device, "538507000040E1");
+    let heard = device.heard(kind);
+    assert!(rt; taken(&heard).is_none());
+    let command = again(&heard).expect(&rt, "a command");
+    is_printed(&rt, rt.alloc(), command, "OUT 1:2:0");
     hears(
         &rt,
         &mut device,
         "53050700006041530507000160405305070002702F53050700007130",
         2000,
     );
+    let mut out = Burst::new();
     for _ in 0..4 {
-        let response = device.next().expect(&rt, "an answer");
-        assert!(rt; taken(&response).is_none() && again(&response).is_none());
+        let kind = device.next(&mut out).expect(&rt, "an answer");
+        let heard = device.heard(kind);
+        assert!(rt; taken(&heard).is_none() && again(&heard).is_none());
     }
-    assert!(rt; device.next().is_none());
+    assert!(rt; device.next(&mut out).is_none());
 }
 
 /// A COMSET moves the reader: the answer goes out at the old address, and the rate is told with it.
@@ -99,8 +97,8 @@ fn orders_at_number_0(rt: HostRuntime) {
 fn the_reader_moves(rt: HostRuntime) {
     let mut device = opened(&rt, rt.alloc());
     hears(&rt, &mut device, "53050C00016E078025000081", 2000);
-    let response = device.next().expect(&rt, "an answer");
-    let setting = response.comset().expect(&rt, "a setting");
+    let kind = says_next(&rt, &mut device, "53850C00015407802500001B");
+    let setting = device.heard(kind).comset().expect(&rt, "a setting");
     assert!(rt; setting.address == 7 && setting.baud_rate == 9600);
     assert_eq!(rt; device.reader().address().get(), 7);
 }
@@ -113,6 +111,5 @@ fn states_are_set_by_the_program(rt: HostRuntime) {
     states.tamper = 1;
     states.power = 0;
     hears(&rt, &mut device, "5305070001643C", 2000);
-    let response = device.next().expect(&rt, "an answer");
-    is_spelled(&rt, response.bytes(), "5385090001480100D5");
+    let _ = says_next(&rt, &mut device, "5385090001480100D5");
 }

@@ -1,9 +1,8 @@
 //! Ports of which a read answers an error where nothing waits.
 
-use crate::panel::rows::begun_bus;
-use osdp_bus::Bus;
+use crate::panel::rows::begun_panel;
 use osdp_controller::Report;
-use osdp_panel::{Turn, take_turn};
+use osdp_panel::{Panel, Turn};
 use std::io;
 use std::io::{ErrorKind, Read};
 use std::process::Abort;
@@ -62,10 +61,10 @@ struct Counts {
 
 impl Counts {
     fn count(&mut self, turn: &Turn) {
-        if turn.burst.is_some() {
+        if turn.sends {
             self.frames = self.frames.saturating_add(1);
         }
-        match &turn.heard {
+        match turn.heard.read() {
             Some((_, Report::Opened(_))) => self.opened = self.opened.saturating_add(1),
             Some(_) => self.others = self.others.saturating_add(1),
             None => {}
@@ -77,24 +76,18 @@ impl Counts {
 }
 
 /// A turn: reads, and answers what is written a turn later. Noise comes in place of the first answer.
-fn turns(rt: &impl Abort, bus: &mut Bus, port: &mut Port, now: u64) -> Turn {
+fn turns(rt: &impl Abort, panel: &mut Panel, port: &mut Port, turn: &mut Turn, now: u64) {
     let mut buffer = [0; 32];
     let count = port.read(&mut buffer).unwrap_or(0);
-    let turn = take_turn(bus, &buffer[..count], now);
-    if let Some(burst) = &turn.burst {
-        let number = burst
-            .as_slice()
-            .get(4)
-            .copied()
-            .expect(rt, "a control byte")
-            & 3;
+    if let Some(unsent) = panel.turn(&buffer[..count], now, turn) {
+        let control = unsent.bytes(turn).get(4).copied();
+        let number = control.expect(rt, "a control byte") & 3;
         port.waiting = if now == 400 { NOISE } else { answer(number) };
     }
-    turn
 }
 
 /// Twelve seconds, a turn every ten milliseconds.
-fn twelve_seconds(rt: &impl Abort, bus: &mut Bus, nothing: ErrorKind) -> Counts {
+fn twelve_seconds(rt: &impl Abort, panel: &mut Panel, nothing: ErrorKind) -> Counts {
     let mut port = Port {
         waiting: &[],
         nothing,
@@ -104,8 +97,9 @@ fn twelve_seconds(rt: &impl Abort, bus: &mut Bus, nothing: ErrorKind) -> Counts 
         opened: 0,
         others: 0,
     };
+    let mut turn = Turn::new();
     for step in 0..1200u64 {
-        let turn = turns(rt, bus, &mut port, step * 10);
+        turns(rt, panel, &mut port, &mut turn, step * 10);
         counts.count(&turn);
     }
     counts
@@ -121,10 +115,10 @@ const EXPECTED: Counts = Counts {
 
 #[test]
 fn noise_is_over_with_the_gap(rt: HostRuntime) {
-    let mut bus = begun_bus(&rt, rt.alloc(), &[5]);
-    let counts = twelve_seconds(&rt, &mut bus, ErrorKind::TimedOut);
+    let mut panel = begun_panel(&rt, rt.alloc(), &[5]);
+    let counts = twelve_seconds(&rt, &mut panel, ErrorKind::TimedOut);
     assert!(rt; counts == EXPECTED);
-    let mut bus = begun_bus(&rt, rt.alloc(), &[5]);
-    let counts = twelve_seconds(&rt, &mut bus, ErrorKind::WouldBlock);
+    let mut panel = begun_panel(&rt, rt.alloc(), &[5]);
+    let counts = twelve_seconds(&rt, &mut panel, ErrorKind::WouldBlock);
     assert!(rt; counts == EXPECTED);
 }

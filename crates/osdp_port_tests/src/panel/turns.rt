@@ -1,6 +1,6 @@
 //! Turns of a panel, worked by hand.
 
-use crate::panel::rows::{begun_bus, run};
+use crate::panel::rows::{begun_panel, run};
 
 /// A session opens, is polled, tells an event and is lost. The first answer comes in two pieces, with a read of nothing between.
 const ONE: &str = "\
@@ -71,7 +71,7 @@ const SCENES: [(&[u8], &str); 5] = [
 #[test]
 fn panels_take_their_turns(rt: HostRuntime) {
     for (addresses, rows) in SCENES {
-        let mut bus = begun_bus(&rt, rt.alloc(), addresses);
-        run(&rt, &mut bus, rows);
+        let mut panel = begun_panel(&rt, rt.alloc(), addresses);
+        run(&rt, &mut panel, rows);
     }
 }
