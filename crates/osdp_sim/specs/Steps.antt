@@ -3,6 +3,7 @@ use Rattle.std.specs.Prelude.{ℕ, ◌+◌, ◌-◌, ◌^◌, ◌==◌, min, Boo
 use Rattle.osdp_frame.specs.Items.{packets_in}
 use Rattle.osdp_frame.specs.Packet.{IsPacket, Packet}
 use Rattle.osdp_msg.specs.CommandTable.{CommandFits}
+use Rattle.osdp_msg.specs.Events.{EventFits}
 use Rattle.osdp_msg.specs.ReplyTable.{ReplyFits}
 use Rattle.osdp_msg.specs.declared.command.Command.{Command}
 use Rattle.osdp_msg.specs.declared.event.Event.{Event}
@@ -131,7 +132,7 @@ module _ {H : Type 0} where
     -- what both ends make sure of: what goes over the line has its fields in their ranges
     abbrev pub StepFits : SimStep → SimState H → Type 0
     StepFits (Issue number command) s = CommandFits command
-    StepFits (Queue number event) s = Unit {0}
+    StepFits (Queue number event) s = EventFits event
     StepFits (Busy number busy) s = Unit {0}
     StepFits (Wait wait) s =
         IfSome (ticks (moment_after wait s.clock) s.controller.session s.controller.waiting).step.frame IsPacket

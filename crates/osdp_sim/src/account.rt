@@ -2,7 +2,8 @@
 
 ghost use Rattle.std.specs.Prelude.{◌≡◌, OnOk, Some};
 ghost use Rattle.osdp_sim.specs.Account.{empty_account, lists_of, taken_by, taken_command, with_issued, with_queued, with_report, with_session, with_taken};
-ghost use Rattle.osdp_msg.specs.Kept.{command_kept};
+ghost use Rattle.osdp_msg.specs.Events.{EventFits};
+ghost use Rattle.osdp_msg.specs.Kept.{command_kept, event_kept};
 ghost use Rattle.osdp_sim.specs.Room.{HasPlaces};
 ghost use Rattle.osdp_msg.specs.CommandTable.{CommandFits};
 
@@ -131,6 +132,24 @@ impl Account {
         self.issued.add(self.spelling.as_slice());
     }
 
+    /// Puts the bytes of an event into that place.
+    pub(crate) fn spell_event(&mut self, event: &Event<'_>)
+        ensures kept { event_kept self.new.spelling.items ≡ event.now }
+        ensures fits { EventFits event.now }
+        ensures lists { lists_of self.new ≡ lists_of self.old }
+        ensures places { HasPlaces self.old → HasPlaces self.new }
+    {
+        event.write_into(&mut self.spelling);
+    }
+
+    /// The event whose bytes stand in that place was accepted.
+    pub(crate) fn queue_spelled(&mut self)
+        requires { HasPlaces self.old }
+        ensures { lists_of self.new ≡ with_queued (event_kept self.old.spelling.items) (lists_of self.old) }
+    {
+        self.queued.add(self.spelling.as_slice());
+    }
+
     /// A command was accepted.
     pub fn issue(&mut self, command: &Command<'_>)
         requires { HasPlaces self.old }
@@ -145,7 +164,8 @@ impl Account {
         requires { HasPlaces self.old }
         ensures { lists_of self.new ≡ with_queued event.now (lists_of self.old) }
     {
-        self.queued.push_event(event, &mut self.spelling);
+        self.spell_event(event);
+        self.queue_spelled();
     }
 
     /// The reader has taken a command: a POLL isn't counted.

@@ -141,11 +141,13 @@ impl<H: Handler> StepTaker for Simulation<H> {
     }
 
     fn queue(&mut self, number: usize, event: &Event<'_>) {
+        // So is an event.
+        self.account.spell_event(event);
         if number != 1 {
             return;
         }
         if self.reader.submit_event(event) {
-            self.account.queue(event);
+            self.account.queue_spelled();
         }
     }
 

@@ -6,6 +6,7 @@ use Rattle.osdp_frame.specs.Items.{packets_in}
 use Rattle.osdp_frame.specs.Bytes.{AreBytes}
 use Rattle.osdp_frame.specs.Packet.{IsPacket, Packet}
 use Rattle.osdp_msg.specs.CommandTable.{CommandFits}
+use Rattle.osdp_msg.specs.Events.{EventFits}
 use Rattle.osdp_msg.specs.declared.command.Command.{Command}
 use Rattle.osdp_msg.specs.declared.event.Event.{Event}
 use Rattle.osdp_controller.specs.States.{is_closed}
@@ -166,7 +167,7 @@ module _ {H : Type 0} where
     -- what both ends make sure of: what goes over the line has its fields in their ranges
     abbrev pub StepFits : SimStep → LineState H → Type 0
     StepFits (Issue number command) s = CommandFits command
-    StepFits (Queue number event) s = Unit {0}
+    StepFits (Queue number event) s = EventFits event
     StepFits (Busy number busy) s = Unit {0}
     StepFits (Wait wait) s = IfSome (bus_ticks (moment_after wait s.clock) s.bus).sent IsPacket
     StepFits (ToReader move) s =

@@ -107,6 +107,8 @@ impl<H: Handler> StepTaker for Simulation<H> {
     }
 
     fn queue(&mut self, number: usize, event: &Event<'_>) {
+        // So does this.
+        let _ = event.reply().write();
         if self.is_there(number) {
             self.sites[number - 1].queue(event);
         }

@@ -18,6 +18,7 @@ use Rattle.osdp_shared_line.specs.Addresses.{IsSetUp}
 use Rattle.osdp_shared_line.specs.Views.{view}
 use Rattle.osdp_bus_links.specs.Links.{device_of}
 use Rattle.osdp_bus_links.specs.Premises.{NoneIsKept}
+use Rattle.osdp_sim.specs.State.{room_for}
 use Rattle.osdp_sim_bus.specs.Runs.{AreSettings, are_apart, is_at, is_reader_in_range}
 use Rattle.osdp_sim_bus.specs.State.{Given, address_of, begun_device, new_site, set_up}
 use Rattle.osdp_sim_laws.proofs.Holding.{begins, tells_nothing}
@@ -80,7 +81,7 @@ module _ {H : Type 0} where
   first_site config given = record {
     controller = (begun_device config given).controller;
     reserved = None;
-    reader = new_reader given.0 given.2 given.1;
+    reader = new_reader given.0 given.2 (room_for given.1);
     coming = [];
     account = new_account [] [];
     earlier = [];
@@ -119,13 +120,22 @@ module _ {H : Type 0} where
     to_panel = refl;
     begins = λ k s is.
         let its = site_of config k s readers is in
-        subst (λ (u : line.Site H). Begins (view k u (first_net config readers))) its.2
-        (begins (record {
+        let alone = begins (record {
           reader = its.0.0;
           events = its.0.1;
           controller = controller_config (address_of its.0) config;
-          commands = config.capacity;
-        }) its.0.2 (in_range k its.0 readers all its.1));
+          commands = config.room.messages;
+        }) its.0.2 (in_range k its.0 readers all its.1) in
+        subst (λ (u : line.Site H). Begins (view k u (first_net config readers))) its.2
+        (record {
+          quiet = alone.quiet;
+          address = alone.address;
+          waiting = alone.waiting;
+          to_reader = alone.to_reader;
+          to_controller = alone.to_controller;
+          account = alone.account;
+          earlier = alone.earlier;
+        });
     together = each_first (λ (s : line.Site H). s.reader.config.address ≡ line.address_of s) config readers (λ given. refl);
     stored = each_first (λ (s : line.Site H). s.reader.stored ≡ None) config readers (λ given. refl);
     waiting = each_first (λ (s : line.Site H). All NoComset s.controller.waiting) config readers (λ given k d lt. absurd (omega (arith, lt)));

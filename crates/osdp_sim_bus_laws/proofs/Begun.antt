@@ -17,10 +17,11 @@ use Rattle.osdp_sim.specs.Account.{Account, lengths_of}
 use Rattle.osdp_sim.specs.Line.{handed, left}
 use Rattle.osdp_sim.specs.Steps.{moment_after}
 use Rattle.osdp_sim.specs.declared.step.SimStep.{SimStep}
+use Rattle.osdp_sim.proofs.Schedules.{holds_on}
 use Rattle.osdp_sim.specs.declared.step.SimStep.TheVariants.{Busy, Issue, Queue, Reopen, ToController, ToReader, Wait}
-use Rattle.osdp_sim_bus.specs.Runs.{run, steps_done}
+use Rattle.osdp_sim_bus.specs.Runs.{FitAlong, run, steps_done}
 use Rattle.osdp_sim_bus.specs.State.{Given, LineState, ReaderSite, accounts, new_site, set_up}
-use Rattle.osdp_sim_bus.specs.Steps.{after_step, all_hear, all_hear_each, changed_site, hears_run, is_there, issued, reopened, report_told, site_begins, site_hears, site_is_busy, site_is_told, site_issues, site_queues, site_queues_unless, waited}
+use Rattle.osdp_sim_bus.specs.Steps.{StepFits, after_step, all_hear, all_hear_each, changed_site, hears_run, is_there, issued, reopened, report_told, site_begins, site_hears, site_is_busy, site_is_told, site_issues, site_queues, site_queues_unless, waited}
 use Rattle.osdp_sim_laws.specs.Begun.{AreBegun}
 use Rattle.osdp_sim_laws.proofs.Accepting.{counts}
 use Rattle.osdp_sim_laws.proofs.Begun.{Grows, are_begun, begun_by, grows_by_command, grows_by_event, grows_by_report, grows_by_session, grows_on, has_grown, stays}
@@ -150,23 +151,27 @@ module _ {H : Type 0} (answer_of : H → Command → Answer) (after : H → Comm
     first_tells : Tells (set_up config readers) (new_site given).account
     first_tells = (new_site given, slice_get-map new_site readers k ∙ ap (option_map new_site) at, refl)
 
-    came_to : (list : List SimStep) (was : Account) → Tells (run answer_of after list (set_up config readers)) was
-        → CameTo answer_of after config readers k given list was
-    came_to list was (u, there, is) =
+    came_to : (list : List SimStep) → FitAlong answer_of after list (set_up config readers)
+        → (was : Account) → Tells (run answer_of after list (set_up config readers)) was → CameTo answer_of after config readers k given list was
+    came_to list along was (u, there, is) =
         let s = run answer_of after list (set_up config readers) in
         let here : slice_get (accounts s) k ≡ Some was = account_at k u s.sites there ∙ ap Some (sym is) in
-        let room = all_accepted answer_of after config readers list k given at in
-        record { run = here; room = subst (λ a. AcceptsFor config.capacity given.1 (suc k) list a) (same_item (sym room.1 ∙ here)) room.2 }
+        let room = all_accepted answer_of after config readers list along k given at in
+        record { run = here; room = subst (λ a. AcceptsFor config.room given.1 (suc k) list a) (same_item (sym room.1 ∙ here)) room.2 }
 
-    pub all_begun : (list : List SimStep) → (a : Account) × (slice_get (told_by answer_of after config readers list) k ≡ Some a)
+    pub all_begun : (list : List SimStep) → FitAlong answer_of after list (set_up config readers) → (a : Account) × (slice_get (told_by answer_of after config readers list) k ≡ Some a)
         × AreBegun (suc k) (CameTo answer_of after config readers k given) list a
-    all_begun list =
+    all_begun list along =
         let first = set_up config readers in
         let grown = has_grown (after_step answer_of after) Tells one_account (suc k) grow list first (new_site given).account first_tells in (
           grown.last,
-          (came_to list grown.last grown.tells).run,
+          (came_to list along grown.last grown.tells).run,
           are_begun (after_step answer_of after) Tells one_account (suc k) grow first (new_site given).account first_tells refl list grown.last grown.tells
-              (CameTo answer_of after config readers k given) came_to,
+              (CameTo answer_of after config readers k given)
+              (λ before more part.
+              let parts = holds_on (after_step answer_of after) (StepFits answer_of after) before more first
+              (subst (λ l. FitAlong answer_of after l first) part along) in
+              came_to before parts.0),
         )
 
 module _ {H : Type 0} (answer_of : H → Command → Answer) (after : H → Command → H) where
@@ -175,4 +180,4 @@ module _ {H : Type 0} (answer_of : H → Command → Answer) (after : H → Comm
       let done = steps_done steps answer in
       answers answer_of after
       (λ told. (a : Account) × (slice_get told k ≡ Some a) × AreBegun (suc k) (CameTo answer_of after config readers k given) done a)
-      config readers steps answer is was (λ taken. all_begun answer_of after k config readers given at done)
+      config readers steps answer is was (λ taken. all_begun answer_of after k config readers given at done is.fits)

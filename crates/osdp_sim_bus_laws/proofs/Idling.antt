@@ -21,6 +21,7 @@ use Rattle.osdp_sim_bus.specs.State.{LineState, ReaderSite}
 use Rattle.osdp_sim_bus.specs.Steps.{after_step, all_hear, all_hear_each, changed_site, hears_run, is_there, issued, reopened, report_told, site_begins, site_hears, site_is_busy, site_is_told, site_issues, site_queues, site_queues_unless, waited}
 use Rattle.osdp_sim_laws.proofs.Accepting.{IsNoOrder, outcome_few}
 use Rattle.osdp_sim_laws.proofs.Accounts.{report_leaves}
+use Rattle.osdp_sim_laws.proofs.Room.{FewEvents, fewer_events, same_events}
 use Rattle.osdp_sim_bus_laws.proofs.Places.{StaysAt, other_changed, stays_all, stays_changed, stays_each, stays_then, within}
 use Rattle.osdp_sim_bus_laws.proofs.Waiting.{Keeps, keeps_all, keeps_begin, keeps_hears, keeps_other, keeps_tick}
 
@@ -52,20 +53,20 @@ module _ {H : Type 0} (answer_of : H → Command → Answer) (after : H → Comm
 
   -- .. or its events: no more wait, and none is queued
   pub record NoneQueued (u v : ReaderSite H) : Type 0 where
-    pub waiting : length v.reader.queue.events ≤ length u.reader.queue.events
-    pub room : v.reader.queue.capacity ≡ u.reader.queue.capacity
+    pub waiting : FewEvents u.reader.queue v.reader.queue
     pub queued : v.account.queued ≡ u.account.queued
 
   pub events_idle : IsIdle NoneQueued
   events_idle = record {
-    same = λ u. record { waiting = omega arith; room = refl; queued = refl };
-    both = λ u v w one more. record { waiting = omega (arith, one.waiting, more.waiting); room = more.room ∙ one.room; queued = more.queued ∙ one.queued };
-    hears = λ p u.
-        let few = outcome_few answer_of after (reader.kind_of u.reader p) u.reader p in
-        record { waiting = few.events; room = few.capacity; queued = refl };
-    told = λ r u. record { waiting = omega arith; room = refl; queued = (report_leaves (Some r) u.account).1 };
-    busy = λ busy u. record { waiting = omega arith; room = refl; queued = refl };
-    begins = λ u. record { waiting = omega arith; room = refl; queued = refl };
+    same = λ u. record { waiting = same_events u.reader.queue; queued = refl };
+    both = λ u v w one more. record {
+      waiting = fewer_events u.reader.queue v.reader.queue w.reader.queue one.waiting more.waiting;
+      queued = more.queued ∙ one.queued;
+    };
+    hears = λ p u. record { waiting = outcome_few answer_of after (reader.kind_of u.reader p) u.reader p; queued = refl };
+    told = λ r u. record { waiting = same_events u.reader.queue; queued = (report_leaves (Some r) u.account).1 };
+    busy = λ busy u. record { waiting = record { events = omega arith; bytes = omega arith; capacity = refl; room = refl }; queued = refl };
+    begins = λ u. record { waiting = same_events u.reader.queue; queued = refl };
   }
 
   module _ (R : ReaderSite H → ReaderSite H → Type 0) (idle : IsIdle R) (k : ℕ) where

@@ -14,19 +14,18 @@ use Rattle.osdp_bus.specs.Hearing.{after_bytes, ends_run, ends_silent, hears_at,
 use Rattle.osdp_bus.specs.Machine.{after_begin_at, after_submit_at, changes_device, device_begins, device_submits}
 use Rattle.osdp_bus.specs.Ticking.{BusTicked, bus_ticks, is_due_at, is_held_and_due, next_due, stays, ticks_at, ticks_by, ticks_held, ticks_on, ticks_with}
 use Rattle.osdp_sim_bus.specs.Steps.{hears_run}
-use Rattle.osdp_sim_laws.proofs.Accepting.{tick_few}
+use Rattle.osdp_sim_laws.proofs.Room.{FewCommands, fewer_commands, same_commands, tick_few}
 use Rattle.osdp_sim_bus_laws.proofs.Places.{StaysAt, set_other, stays_all, stays_set, stays_then}
 
--- no more commands wait, and there is room for as many
-pub record IsFewer (d e : Device) : Type 0 where
-  pub waiting : length e.controller.waiting ≤ length d.controller.waiting
-  pub room : e.controller.capacity ≡ d.controller.capacity
+-- no more commands wait, with no more bytes, and there is room for as many
+abbrev pub IsFewer : Device → Device → Type 0
+IsFewer d e = FewCommands d.controller e.controller
 
 as_before : (d : Device) → IsFewer d d
-as_before d = record { waiting = omega arith; room = refl }
+as_before d = same_commands d.controller
 
 fewer_then : (d e f : Device) → IsFewer d e → IsFewer e f → IsFewer d f
-fewer_then d e f one more = record { waiting = omega (arith, one.waiting, more.waiting); room = more.room ∙ one.room }
+fewer_then d e f one more = fewer_commands d.controller e.controller f.controller one more
 
 -- so it is of the device at this place
 abbrev pub Keeps : ℕ → List Device → List Device → Type 0
@@ -47,7 +46,7 @@ keeps_with : (k : ℕ) (p : Packet) (now i : ℕ) (o : Option Device) (ds : Devi
     → Keeps k ds.entries (hears_with p now i o ds).entries
 keeps_with k p now i None ds at = keeps_all k ds.entries
 keeps_with k p now i (Some d) ds at =
-    keeps_set k i d (device_hears p now d) ds.entries at (record { waiting = omega arith; room = refl })
+    keeps_set k i d (device_hears p now d) ds.entries at (record { waiting = omega arith; bytes = omega arith; capacity = refl; room = refl })
 
 keeps_at : (k : ℕ) (p : Packet) (now : ℕ) (o : Option ℕ) (ds : Devices) → Keeps k ds.entries (hears_at p now o ds).entries
 keeps_at k p now None ds = keeps_all k ds.entries
@@ -95,8 +94,9 @@ TickKeeps k b t = BusKeeps k b t.bus
 keeps_ticks_with : (k i : ℕ) (o : Option Device) (b : BusState) → device_of i b ≡ o → TickKeeps k b (ticks_with i o b)
 keeps_ticks_with k i None b at = keeps_all k b.devices.entries
 keeps_ticks_with k i (Some d) b at =
+    let few = tick_few d.controller.session.state _ d.controller.waiting in
     keeps_set k i d (device_ticks b.greatest d) b.devices.entries at
-    (record { waiting = tick_few d.controller.session.state _ d.controller.waiting; room = refl })
+    (record { waiting = few.0; bytes = few.1; capacity = refl; room = refl })
 
 keeps_ticks_at : (k : ℕ) (o : Option ℕ) (b : BusState) → TickKeeps k b (ticks_at o b)
 keeps_ticks_at k None b = keeps_all k b.devices.entries
@@ -132,7 +132,7 @@ keeps_changes k entry change b is = by_device (device_of entry b) refl
 
 pub keeps_begin : (k entry now : ℕ) (b : BusState) → BusKeeps k b (after_begin_at entry now b)
 keeps_begin k entry now b =
-    keeps_changes k entry (device_begins (max b.greatest now)) (seen now b) (λ d. record { waiting = omega arith; room = refl })
+    keeps_changes k entry (device_begins (max b.greatest now)) (seen now b) (λ d. record { waiting = omega arith; bytes = omega arith; capacity = refl; room = refl })
 
 -- a command for another device
 pub keeps_other : (k entry : ℕ) (command : Command) (b : BusState) → (k ≡ entry → ⊥) → BusKeeps k b (after_submit_at entry command b)

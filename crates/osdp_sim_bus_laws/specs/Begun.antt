@@ -15,7 +15,7 @@ module _ {H : Type 0} (answer_of : H → Command → Answer) (after : H → Comm
   -- steps from the set-up came to this account of the reader at a place, with those of its orders in it that were accepted
   pub record CameTo (config : BusConfig) (readers : List (Given H)) (k : ℕ) (given : Given H) (steps : List SimStep) (was : Account) : Type 0 where
     pub run : slice_get (accounts (run answer_of after steps (set_up config readers))) k ≡ Some was
-    pub room : AcceptsFor config.capacity given.1 (suc k) steps was
+    pub room : AcceptsFor config.room given.1 (suc k) steps was
 
   -- the first session of each reader began with nothing, and each Reopen of it began one more, after what the steps before had come to for it
   abbrev pub EachIsBegun : BusConfig → List (Given H) → List SimStep → List Account → Type 0

@@ -1,10 +1,9 @@
 -- Which orders are accepted: by the room that there is.
-use Rattle.std.proofs.Common.{◌≡◌, ◌⊎◌, ◌≤◌, ◌+◌, ◌-◌, ℕ, zero, suc, arith, Bool, true, false, ◌==◌, if◌then◌else◌, ltb, leb, eqb, List, [], ◌∷◌, ◌++◌, length, take, drop, Option, Some, None, Result, Ok, Err, inl, inr, refl, sym, subst, ap, ◌∙◌, append_assoc}
-use Rattle.std.proofs.lemmas.Bool.{lt-ltb}
-use Rattle.std.proofs.lemmas.Bool.Decides.{eqb_tells, leb_tells}
+use Rattle.std.proofs.Common.{◌≡◌, ◌⊎◌, ◌≤◌, ◌+◌, ◌-◌, ℕ, zero, suc, arith, Bool, true, false, ◌==◌, if◌then◌else◌, leb, eqb, List, [], ◌∷◌, ◌++◌, length, take, drop, Option, Some, None, Result, Ok, Err, inl, inr, refl, sym, subst, ap, ◌∙◌, append_assoc}
+use Rattle.std.proofs.lemmas.Bool.Decides.{eqb_tells}
 use Rattle.std.proofs.lemmas.List.{append-nil, length-append, take_all}
 use Rattle.osdp_frame.specs.Items.{packets_in}
-use Rattle.osdp_frame.specs.Packet.{Packet, next_sequence}
+use Rattle.osdp_frame.specs.Packet.{Packet}
 use Rattle.osdp_msg.specs.declared.command.Command.{Command}
 use Rattle.osdp_msg.specs.declared.command.Command.TheVariants as command
 use Rattle.osdp_msg.specs.declared.event.Event.{Event}
@@ -12,13 +11,9 @@ use Rattle.osdp_msg.specs.declared.fault.MsgFault.{MsgFault}
 use Rattle.osdp_controller.specs.Hearing as controller
 use Rattle.osdp_controller.specs.Machine as controllers
 use Rattle.osdp_controller.specs.Machine.{Machine}
-use Rattle.osdp_controller.specs.Ticking.{Ticked, begins, gives_up, sends_frame, stays, ticks, ticks_in, tries_again}
-use Rattle.osdp_controller.specs.declared.exchange.Exchange.TheVariants.{Opening, Polling}
+use Rattle.osdp_controller.specs.Ticking.{ticks}
 use Rattle.osdp_controller.specs.declared.fault.ControllerFault.{ControllerFault}
 use Rattle.osdp_controller.specs.declared.fault.ControllerFault.TheVariants.{Full}
-use Rattle.osdp_controller.specs.declared.session.Session.{Session}
-use Rattle.osdp_controller.specs.declared.state.State.{State}
-use Rattle.osdp_controller.specs.declared.state.State.TheVariants.{Closed, Quiet, Idle, Waiting, Pausing}
 use Rattle.osdp_reader.specs.Queue.{Queue as EventQueue, lacks_room}
 use Rattle.osdp_reader.specs.State.{ReaderState}
 use Rattle.osdp_reader.specs.Table as reader
@@ -28,12 +23,13 @@ use Rattle.osdp_reader.specs.declared.kind.Kind.TheVariants as kind
 use Rattle.osdp_link_laws.specs.Headline.{IsBeginning}
 use Rattle.osdp_link_laws.specs.Sessions.{IsAmong}
 use Rattle.osdp_link_laws.proofs.Lines.{both}
+use Rattle.osdp_link_laws.proofs.Stages.{Each}
 use Rattle.osdp_sim.specs.Account.{Account}
 use Rattle.osdp_sim.specs.Line.{handed, left}
-use Rattle.osdp_sim.specs.Runs.{Stops, run}
+use Rattle.osdp_sim.specs.Runs.{FitAlong, Stops, run}
 use Rattle.osdp_sim.specs.State.{SimState, set_up}
 use Rattle.osdp_sim.specs.Steps as steps
-use Rattle.osdp_sim.specs.Steps.{after_step, controller_hears, moment_after, reader_hears}
+use Rattle.osdp_sim.specs.Steps.{StepFits, after_step, controller_hears, moment_after, reader_hears}
 use Rattle.osdp_sim.specs.declared.config.SimConfig.{SimConfig}
 use Rattle.osdp_sim.specs.declared.fault.Cause.{Cause}
 use Rattle.osdp_sim.specs.declared.step.SimStep.{SimStep}
@@ -41,6 +37,7 @@ use Rattle.osdp_sim.specs.declared.step.SimStep.TheVariants.{Issue, Queue, Busy,
 use Rattle.osdp_sim_laws.specs.Accepted.{AcceptsByRoom, IsAccepted, IsAcceptedByRoom, but_poll, commands_of, events_of}
 use Rattle.osdp_sim_laws.specs.Accounts.{account_in}
 use Rattle.osdp_sim_laws.proofs.Accounts.{report_leaves}
+use Rattle.osdp_sim_laws.proofs.Room.{FewCommands, FewEvents, OrderFits, ShortCommands, ShortEvents, commands_stay_short, dropped, events_stay_short, fewer_commands, fewer_events, no_room_for_command, no_room_for_event, one_more_command, one_more_event, orders_fit, same_commands, same_events, tick_few}
 
 -- a step that brings neither a command nor an event
 abbrev pub IsNoOrder : SimStep → Type 0
@@ -115,36 +112,11 @@ counts n m is = elim (eqb_tells n m) [ inl same ↦ same.1 | inr other ↦ absur
 
 -- ---- what a step leaves
 
--- a POLL is refused, and any other command where as many wait as there is room for
+-- a POLL is refused, and any other command where it has no room
 pub submit_is : (c : Command) (m : Machine) → ((controllers.submit_refusal c m ≡ None → ⊥) × (but_poll c ≡ []))
-    ⊎ ((controllers.submit_refusal c m ≡ (if ltb (length m.waiting) m.capacity then None else Some Full)) × (but_poll c ≡ c ∷ []))
+    ⊎ ((controllers.submit_refusal c m ≡ (if controllers.has_room c m then None else Some Full)) × (but_poll c ≡ c ∷ []))
 submit_is command.Poll m = inl (λ e. absurd cc, refl)
 submit_is c m = inr (refl, refl)
-
--- a tick makes no command wait
-abbrev pub Few : ℕ → Ticked → Type 0
-Few n t = length t.waiting ≤ n
-
-pub tick_few : (state : State) (s : Session) (w : List Command) → Few (length w) (ticks_in state s w)
-tick_few Closed s w = omega arith
-tick_few (Quiet until) s w = both (Few (length w)) (leb until s.greatest) (begins Opening 0 s w) (stays s w) (omega arith) (omega arith)
-tick_few (Idle due) s [] =
-    both (Few 0) (leb due s.greatest) (begins Polling (next_sequence s.number) s []) (stays s []) (omega arith) (omega arith)
-tick_few (Idle due) s (c ∷ w) = omega arith
-tick_few (Waiting until k o) s w =
-    both (Few (length w)) (leb until s.greatest) (tries_again k o s w) (stays s w)
-    (both (Few (length w)) (ltb k s.config.sends) (sends_frame (k + 1) o s w) (gives_up o s w) (omega arith) (omega arith)) (omega arith)
-tick_few (Pausing until o) s w = both (Few (length w)) (leb until s.greatest) (sends_frame 1 o s w) (stays s w) (omega arith) (omega arith)
-
--- .. and no packet makes an event wait
-pub record FewEvents (q p : EventQueue) : Type 0 where
-  pub events : length p.events ≤ length q.events
-  pub capacity : p.capacity ≡ q.capacity
-
-dropped : {A : Type 0} (b : Bool) (xs : List A) → length (if b then drop 1 xs else xs) ≤ length xs
-dropped true [] = omega arith
-dropped true (x ∷ xs) = omega arith
-dropped false xs = omega arith
 
 module _ {H : Type 0} where
   moved_few : (to : Option ℕ) (q : EventQueue) (r : ReaderState H) → FewEvents q r.queue → FewEvents q (reader.moved to r).queue
@@ -155,39 +127,40 @@ module _ {H : Type 0} where
 
 module _ {H : Type 0} (answer_of : H → Command → Answer) (after : H → Command → H) where
   begun_few : (c : Result Command MsgFault) (r : ReaderState H) (p : Packet) → FewEvents r.queue (reader.begun answer_of after c r p).reader.queue
-  begun_few (Err fault) r p = record { events = omega arith; capacity = refl }
-  begun_few (Ok c) r p = moved_few (reader.new_address c) r.queue _ (record { events = omega arith; capacity = refl })
+  begun_few (Err fault) r p = same_events r.queue
+  begun_few (Ok c) r p = moved_few (reader.new_address c) r.queue _ (record { events = omega arith; bytes = omega arith; capacity = refl; room = refl })
 
   taken_few : (c : Result Command MsgFault) (r : ReaderState H) (p : Packet) → FewEvents r.queue (reader.taken answer_of after c r p).reader.queue
-  taken_few (Err fault) r p = record { events = dropped r.queue.offered r.queue.events; capacity = refl }
+  taken_few (Err fault) r p =
+      let fewer = dropped r.queue.offered r.queue.events in
+      record { events = fewer.0; bytes = fewer.1; capacity = refl; room = refl }
   taken_few (Ok c) r p =
-      moved_few (reader.new_address c) r.queue _ (record { events = dropped r.queue.offered r.queue.events; capacity = refl })
+      let fewer = dropped r.queue.offered r.queue.events in
+      moved_few (reader.new_address c) r.queue _ (record { events = fewer.0; bytes = fewer.1; capacity = refl; room = refl })
 
   pub outcome_few : (k : Kind) (r : ReaderState H) (p : Packet) → FewEvents r.queue (reader.outcome answer_of after k r p).reader.queue
-  outcome_few kind.Silent r p = record { events = omega arith; capacity = refl }
-  outcome_few kind.Secured r p = record { events = omega arith; capacity = refl }
+  outcome_few kind.Silent r p = record { events = omega arith; bytes = omega arith; capacity = refl; room = refl }
+  outcome_few kind.Secured r p = record { events = omega arith; bytes = omega arith; capacity = refl; room = refl }
   outcome_few kind.Zero r p = begun_few (reader.command_in p) r p
-  outcome_few kind.Repeat r p = record { events = omega arith; capacity = refl }
+  outcome_few kind.Repeat r p = record { events = omega arith; bytes = omega arith; capacity = refl; room = refl }
   outcome_few kind.Taken r p = taken_few (reader.command_in p) r p
-  outcome_few kind.Busy r p = record { events = omega arith; capacity = refl }
-  outcome_few kind.Wrong r p = record { events = omega arith; capacity = refl }
+  outcome_few kind.Busy r p = record { events = omega arith; bytes = omega arith; capacity = refl; room = refl }
+  outcome_few kind.Wrong r p = record { events = omega arith; bytes = omega arith; capacity = refl; room = refl }
 
   -- nothing is accepted, and no more wait
   record AcceptsNone (s t : SimState H) : Type 0 where
-    pub waiting : length t.controller.waiting ≤ length s.controller.waiting
-    pub commands : t.controller.capacity ≡ s.controller.capacity
+    pub commands : FewCommands s.controller t.controller
     pub events : FewEvents s.reader.queue t.reader.queue
     pub issued : t.account.issued ≡ s.account.issued
     pub queued : t.account.queued ≡ s.account.queued
 
   same : (s : SimState H) → AcceptsNone s s
-  same s = record { waiting = omega arith; commands = refl; events = record { events = omega arith; capacity = refl }; issued = refl; queued = refl }
+  same s = record { commands = same_commands s.controller; events = same_events s.reader.queue; issued = refl; queued = refl }
 
   then_ : (s t u : SimState H) → AcceptsNone s t → AcceptsNone t u → AcceptsNone s u
   then_ s t u one more = record {
-    waiting = omega (arith, one.waiting, more.waiting);
-    commands = more.commands ∙ one.commands;
-    events = record { events = omega (arith, one.events.events, more.events.events); capacity = more.events.capacity ∙ one.events.capacity };
+    commands = fewer_commands s.controller t.controller u.controller one.commands more.commands;
+    events = fewer_events s.reader.queue t.reader.queue u.reader.queue one.events more.events;
     issued = more.issued ∙ one.issued;
     queued = more.queued ∙ one.queued;
   }
@@ -198,8 +171,7 @@ module _ {H : Type 0} (answer_of : H → Command → Answer) (after : H → Comm
       let t = reader_hears answer_of after (p ∷ []) s in
       then_ s t (reader_hears answer_of after packets t)
       (record {
-        waiting = omega arith;
-        commands = refl;
+        commands = same_commands s.controller;
         events = outcome_few (reader.kind_of s.reader p) s.reader p;
         issued = refl;
         queued = refl;
@@ -213,9 +185,8 @@ module _ {H : Type 0} (answer_of : H → Command → Answer) (after : H → Comm
       let leaves = report_leaves (controller.hears p s.clock s.controller.session).report s.account in
       then_ s t (controller_hears packets t)
       (record {
-        waiting = omega arith;
-        commands = refl;
-        events = record { events = omega arith; capacity = refl };
+        commands = record { waiting = omega arith; bytes = omega arith; capacity = refl; room = refl };
+        events = same_events s.reader.queue;
         issued = leaves.0;
         queued = leaves.1;
       })
@@ -230,12 +201,8 @@ module _ {H : Type 0} (answer_of : H → Command → Answer) (after : H → Comm
   off_the_line s t u controller reader account is =
       then_ s t u
       (record {
-        waiting = omega (arith, ap (λ (m : Machine). length m.waiting) controller);
-        commands = ap (λ (m : Machine). m.capacity) controller;
-        events = record {
-          events = omega (arith, ap (λ (r : ReaderState H). length r.queue.events) reader);
-          capacity = ap (λ (r : ReaderState H). r.queue.capacity) reader;
-        };
+        commands = subst (FewCommands s.controller) (sym controller) (same_commands s.controller);
+        events = subst (λ (r : ReaderState H). FewEvents s.reader.queue r.queue) (sym reader) (same_events s.reader.queue);
         issued = ap (λ (a : Account). a.issued) account;
         queued = ap (λ (a : Account). a.queued) account;
       })
@@ -246,15 +213,15 @@ module _ {H : Type 0} (answer_of : H → Command → Answer) (after : H → Comm
   idle_none (Queue number event) idles s = absurd idles
   idle_none (Busy number busy) idles s =
       where_none (number == 1) s (record s { reader = record s.reader { busy = busy } })
-      (record { waiting = omega arith; commands = refl; events = record { events = omega arith; capacity = refl }; issued = refl; queued = refl })
+      (record { commands = same_commands s.controller; events = record { events = omega arith; bytes = omega arith; capacity = refl; room = refl }; issued = refl; queued = refl })
   idle_none (Wait wait) idles s =
       let now = moment_after wait s.clock in
       let t = ticks now s.controller.session s.controller.waiting in
       let leaves = report_leaves t.step.report s.account in
+      let few = tick_few s.controller.session.state _ s.controller.waiting in
       record {
-        waiting = tick_few s.controller.session.state _ s.controller.waiting;
-        commands = refl;
-        events = record { events = omega arith; capacity = refl };
+        commands = record { waiting = few.0; bytes = few.1; capacity = refl; room = refl };
+        events = same_events s.reader.queue;
         issued = leaves.0;
         queued = leaves.1;
       }
@@ -266,7 +233,7 @@ module _ {H : Type 0} (answer_of : H → Command → Answer) (after : H → Comm
       off_the_line s t (after_step answer_of after (ToController move) s) refl refl refl (controller_none (packets_in (handed move s.to_controller)) t)
   idle_none (Reopen number) idles s =
       where_none (number == 1) s (steps.reopened s)
-      (record { waiting = omega arith; commands = refl; events = record { events = omega arith; capacity = refl }; issued = refl; queued = refl })
+      (record { commands = record { waiting = omega arith; bytes = omega arith; capacity = refl; room = refl }; events = same_events s.reader.queue; issued = refl; queued = refl })
 
   -- ---- commands
 
@@ -281,63 +248,65 @@ module _ {H : Type 0} (answer_of : H → Command → Answer) (after : H → Comm
 
   -- so from each state that these steps are taken from
   abbrev RestAccepts : List SimStep → Type 0
-  RestAccepts list = (k : ℕ) (s : SimState H) → length s.controller.waiting ≤ k → AcceptsCommands k list s (run answer_of after list s)
+  RestAccepts list = (k : ℕ) (s : SimState H) → ShortCommands k s.controller → Each OrderFits list → AcceptsCommands k list s (run answer_of after list s)
 
-  idle_commands : (list : List SimStep) → RestAccepts list → (step : SimStep) → IsNoOrder step → (k : ℕ) (s : SimState H) → length s.controller.waiting ≤ k
-      → AcceptsCommands k list s (run answer_of after (step ∷ list) s)
-  idle_commands list rest step idles k s few =
+  idle_commands : (list : List SimStep) → RestAccepts list → (step : SimStep) → IsNoOrder step → (k : ℕ) (s : SimState H) → ShortCommands k s.controller
+      → Each OrderFits list → AcceptsCommands k list s (run answer_of after (step ∷ list) s)
+  idle_commands list rest step idles k s few fit =
       let t = after_step answer_of after step s in
       let is = idle_none step idles s in
-      carried_commands k list s t (run answer_of after list t) is.commands is.issued (rest k t (omega (arith, few, is.waiting)))
+      carried_commands k list s t (run answer_of after list t) is.commands.capacity is.issued
+      (rest k t (commands_stay_short k s.controller t.controller is.commands few) fit)
 
   issue_accepts : (number : ℕ) (c : Command) (list : List SimStep) → RestAccepts list → RestAccepts (Issue number c ∷ list)
-  issue_accepts number c list rest k s few = by_number (number == 1)
+  issue_accepts number c list rest k s few fit = by_number (number == 1)
     where
       put : Accepts (s.controller.capacity - k) (c ∷ commands_of list) s.account.issued (run answer_of after list (steps.issued None c s)).account.issued
       put =
           let next = steps.issued None c s in
           one_accepted (s.controller.capacity - k) c (commands_of list) s.account.issued (run answer_of after list next).account.issued
           (subst (λ n. Accepts n (commands_of list) (s.account.issued ++ c ∷ []) (run answer_of after list next).account.issued) (one_less s.controller.capacity k)
-          (rest (k + 1) next (omega (arith, few, length-append s.controller.waiting (c ∷ [])))))
+          (rest (k + 1) next (one_more_command k c s.controller fit.0 few) fit.1))
 
-      by_room : (fault : Option ControllerFault) → fault ≡ (if ltb (length s.controller.waiting) s.controller.capacity then None else Some Full)
-          → Accepts (s.controller.capacity - k) (c ∷ commands_of list) s.account.issued (run answer_of after list (steps.issued fault c s)).account.issued
-      by_room None is = put
-      by_room (Some fault) is = elim (leb_tells s.controller.capacity (length s.controller.waiting)) [
-        | inl full ↦ one_refused (s.controller.capacity - k) c (commands_of list) s.account.issued (run answer_of after list s).account.issued
-            (omega (arith, few, full.1)) (rest k s few)
-        | inr room ↦ absurd (let e = is ∙ ap (λ b. if b then None else Some Full) (lt-ltb (length s.controller.waiting) s.controller.capacity room.1) in cc)
-      ]
+      by_room : (room : Bool) → (room ≡ false → s.controller.capacity ≤ k)
+          → Accepts (s.controller.capacity - k) (c ∷ commands_of list) s.account.issued
+          (run answer_of after list (steps.issued (if room then None else Some Full) c s)).account.issued
+      by_room true full = put
+      by_room false full =
+          one_refused (s.controller.capacity - k) c (commands_of list) s.account.issued (run answer_of after list s).account.issued
+          (omega (arith, full refl)) (rest k s few fit.1)
 
       poll : (fault : Option ControllerFault) → (fault ≡ None → ⊥)
           → Accepts (s.controller.capacity - k) (commands_of list) s.account.issued (run answer_of after list (steps.issued fault c s)).account.issued
       poll None refused = absurd (refused refl)
-      poll (Some fault) refused = rest k s few
+      poll (Some fault) refused = rest k s few fit.1
 
       by_number : (there : Bool) → Accepts (s.controller.capacity - k) ((if there then but_poll c else []) ++ commands_of list) s.account.issued
           (run answer_of after list (if there then steps.issued (controllers.submit_refusal c s.controller) c s else s)).account.issued
-      by_number false = rest k s few
+      by_number false = rest k s few fit.1
       by_number true = elim (submit_is c s.controller) [
         | inl (refused, none) ↦ subst (λ cs. Accepts (s.controller.capacity - k) (cs ++ commands_of list) s.account.issued
             (run answer_of after list (steps.issued (controllers.submit_refusal c s.controller) c s)).account.issued) (sym none)
             (poll (controllers.submit_refusal c s.controller) refused)
         | inr (is, one) ↦ subst (λ cs. Accepts (s.controller.capacity - k) (cs ++ commands_of list) s.account.issued
             (run answer_of after list (steps.issued (controllers.submit_refusal c s.controller) c s)).account.issued) (sym one)
-            (by_room (controllers.submit_refusal c s.controller) is)
+            (subst (λ fault. Accepts (s.controller.capacity - k) (c ∷ commands_of list) s.account.issued
+            (run answer_of after list (steps.issued fault c s)).account.issued) (sym is)
+            (by_room (controllers.has_room c s.controller) (no_room_for_command k c s.controller few fit.0)))
       ]
 
-  queue_issues_none : (e : Event) (list : List SimStep) → RestAccepts list → (there full : Bool) (k : ℕ) (s : SimState H) → length s.controller.waiting ≤ k
-      → AcceptsCommands k list s (run answer_of after list (if there then steps.queued full e s else s))
-  queue_issues_none e list rest false full k s few = rest k s few
-  queue_issues_none e list rest true true k s few = rest k s few
-  queue_issues_none e list rest true false k s few = rest k (steps.queued false e s) few
+  queue_issues_none : (e : Event) (list : List SimStep) → RestAccepts list → (there full : Bool) (k : ℕ) (s : SimState H) → ShortCommands k s.controller
+      → Each OrderFits list → AcceptsCommands k list s (run answer_of after list (if there then steps.queued full e s else s))
+  queue_issues_none e list rest false full k s few fit = rest k s few fit
+  queue_issues_none e list rest true true k s few fit = rest k s few fit
+  queue_issues_none e list rest true false k s few fit = rest k (steps.queued false e s) few fit
 
   pub accepts_commands : (list : List SimStep) → RestAccepts list
-  accepts_commands [] k s few = none_accepted (s.controller.capacity - k) s.account.issued
-  accepts_commands (Issue number c ∷ list) k s few = issue_accepts number c list (accepts_commands list) k s few
-  accepts_commands (Queue number e ∷ list) k s few =
-      queue_issues_none e list (accepts_commands list) (number == 1) (lacks_room e s.reader.queue) k s few
-  accepts_commands (step ∷ list) k s few = idle_commands list (accepts_commands list) step tt k s few
+  accepts_commands [] k s few fit = none_accepted (s.controller.capacity - k) s.account.issued
+  accepts_commands (Issue number c ∷ list) k s few fit = issue_accepts number c list (accepts_commands list) k s few fit
+  accepts_commands (Queue number e ∷ list) k s few fit =
+      queue_issues_none e list (accepts_commands list) (number == 1) (lacks_room e s.reader.queue) k s few fit.1
+  accepts_commands (step ∷ list) k s few fit = idle_commands list (accepts_commands list) step tt k s few fit.1
 
   -- ---- events
 
@@ -351,75 +320,94 @@ module _ {H : Type 0} (answer_of : H → Command → Answer) (after : H → Comm
       (subst (λ es. Accepts (t.reader.queue.capacity - k) (events_of list) es last.account.queued) queued is)
 
   abbrev RestQueues : List SimStep → Type 0
-  RestQueues list = (k : ℕ) (s : SimState H) → length s.reader.queue.events ≤ k → AcceptsEvents k list s (run answer_of after list s)
+  RestQueues list = (k : ℕ) (s : SimState H) → ShortEvents k s.reader.queue → Each OrderFits list → AcceptsEvents k list s (run answer_of after list s)
 
-  idle_events : (list : List SimStep) → RestQueues list → (step : SimStep) → IsNoOrder step → (k : ℕ) (s : SimState H) → length s.reader.queue.events ≤ k
-      → AcceptsEvents k list s (run answer_of after (step ∷ list) s)
-  idle_events list rest step idles k s few =
+  idle_events : (list : List SimStep) → RestQueues list → (step : SimStep) → IsNoOrder step → (k : ℕ) (s : SimState H) → ShortEvents k s.reader.queue
+      → Each OrderFits list → AcceptsEvents k list s (run answer_of after (step ∷ list) s)
+  idle_events list rest step idles k s few fit =
       let t = after_step answer_of after step s in
       let is = idle_none step idles s in
-      carried_events k list s t (run answer_of after list t) is.events.capacity is.queued (rest k t (omega (arith, few, is.events.events)))
+      carried_events k list s t (run answer_of after list t) is.events.capacity is.queued
+      (rest k t (events_stay_short k s.reader.queue t.reader.queue is.events few) fit)
 
   queue_accepts : (number : ℕ) (e : Event) (list : List SimStep) → RestQueues list → RestQueues (Queue number e ∷ list)
-  queue_accepts number e list rest k s few = by_number (number == 1)
+  queue_accepts number e list rest k s few fit = by_number (number == 1)
     where
       put : Accepts (s.reader.queue.capacity - k) (e ∷ events_of list) s.account.queued (run answer_of after list (steps.queued false e s)).account.queued
       put =
           let next = steps.queued false e s in
           one_accepted (s.reader.queue.capacity - k) e (events_of list) s.account.queued (run answer_of after list next).account.queued
           (subst (λ n. Accepts n (events_of list) (s.account.queued ++ e ∷ []) (run answer_of after list next).account.queued) (one_less s.reader.queue.capacity k)
-          (rest (k + 1) next (omega (arith, few, length-append s.reader.queue.events (e ∷ [])))))
+          (rest (k + 1) next (one_more_event k e s.reader.queue fit.0 few) fit.1))
 
-      by_full : (full : Bool) → (full ≡ true → length s.reader.queue.events ≡ s.reader.queue.capacity)
+      by_full : (full : Bool) → (full ≡ true → s.reader.queue.capacity ≤ k)
           → Accepts (s.reader.queue.capacity - k) (e ∷ events_of list) s.account.queued (run answer_of after list (steps.queued full e s)).account.queued
       by_full false is = put
       by_full true is =
           one_refused (s.reader.queue.capacity - k) e (events_of list) s.account.queued (run answer_of after list s).account.queued
-          (omega (arith, few, is refl)) (rest k s few)
+          (omega (arith, is refl)) (rest k s few fit.1)
 
       by_number : (there : Bool) → Accepts (s.reader.queue.capacity - k) ((if there then e ∷ [] else []) ++ events_of list) s.account.queued
           (run answer_of after list (if there then steps.queued (lacks_room e s.reader.queue) e s else s)).account.queued
-      by_number false = rest k s few
-      by_number true =
-          by_full (length s.reader.queue.events == s.reader.queue.capacity) (counts (length s.reader.queue.events) s.reader.queue.capacity)
+      by_number false = rest k s few fit.1
+      by_number true = by_full (lacks_room e s.reader.queue) (no_room_for_event k e s.reader.queue few fit.0)
 
   issue_queues_none : (c : Command) (list : List SimStep) → RestQueues list → (there : Bool) (fault : Option ControllerFault) (k : ℕ) (s : SimState H)
-      → length s.reader.queue.events ≤ k → AcceptsEvents k list s (run answer_of after list (if there then steps.issued fault c s else s))
-  issue_queues_none c list rest false fault k s few = rest k s few
-  issue_queues_none c list rest true (Some fault) k s few = rest k s few
-  issue_queues_none c list rest true None k s few = rest k (steps.issued None c s) few
+      → ShortEvents k s.reader.queue → Each OrderFits list
+      → AcceptsEvents k list s (run answer_of after list (if there then steps.issued fault c s else s))
+  issue_queues_none c list rest false fault k s few fit = rest k s few fit
+  issue_queues_none c list rest true (Some fault) k s few fit = rest k s few fit
+  issue_queues_none c list rest true None k s few fit = rest k (steps.issued None c s) few fit
 
   pub accepts_events : (list : List SimStep) → RestQueues list
-  accepts_events [] k s few = none_accepted (s.reader.queue.capacity - k) s.account.queued
-  accepts_events (Issue number c ∷ list) k s few =
-      issue_queues_none c list (accepts_events list) (number == 1) (controllers.submit_refusal c s.controller) k s few
-  accepts_events (Queue number e ∷ list) k s few = queue_accepts number e list (accepts_events list) k s few
-  accepts_events (step ∷ list) k s few = idle_events list (accepts_events list) step tt k s few
+  accepts_events [] k s few fit = none_accepted (s.reader.queue.capacity - k) s.account.queued
+  accepts_events (Issue number c ∷ list) k s few fit =
+      issue_queues_none c list (accepts_events list) (number == 1) (controllers.submit_refusal c s.controller) k s few fit.1
+  accepts_events (Queue number e ∷ list) k s few fit = queue_accepts number e list (accepts_events list) k s few fit
+  accepts_events (step ∷ list) k s few fit = idle_events list (accepts_events list) step tt k s few fit.1
 
   -- ---- whatever is answered
 
-  pub from_set_up : (config : SimConfig) (handler : H) (list : List SimStep) → IsAcceptedByRoom config list (run answer_of after list (set_up config handler)).account
-  from_set_up config handler list =
+  order_fits : (step : SimStep) (s : SimState H) → StepFits answer_of after step s → OrderFits step
+  order_fits (Issue number command) s fits = fits
+  order_fits (Queue number event) s fits = fits
+  order_fits step s fits = tt
+
+  pub each_order_fits : (list : List SimStep) (s : SimState H) → FitAlong answer_of after list s → Each OrderFits list
+  each_order_fits = orders_fit (after_step answer_of after) (StepFits answer_of after) order_fits
+
+  -- nothing waits at first
+  pub none_commands : (config : SimConfig) (handler : H) → ShortCommands 0 (set_up config handler).controller
+  none_commands config handler = record { few = omega arith; bytes = omega arith; ample = refl }
+
+  pub none_events : (config : SimConfig) (handler : H) → ShortEvents 0 (set_up config handler).reader.queue
+  none_events config handler = record { few = omega arith; bytes = omega arith; ample = refl }
+
+  pub from_set_up : (config : SimConfig) (handler : H) (list : List SimStep) → FitAlong answer_of after list (set_up config handler)
+      → IsAcceptedByRoom config list (run answer_of after list (set_up config handler)).account
+  from_set_up config handler list along =
       let s = set_up config handler in
       let last = (run answer_of after list s).account in
+      let fit = each_order_fits list s along in
       record {
         issued = accepted config.commands (commands_of list) last.issued
-            (subst (λ n. Accepts n (commands_of list) [] last.issued) (all_of config.commands) (accepts_commands list 0 s (omega arith)));
+            (subst (λ n. Accepts n (commands_of list) [] last.issued) (all_of config.commands) (accepts_commands list 0 s (none_commands config handler) fit));
         queued = accepted config.events (events_of list) last.queued
-            (subst (λ n. Accepts n (events_of list) [] last.queued) (all_of config.events) (accepts_events list 0 s (omega arith)));
+            (subst (λ n. Accepts n (events_of list) [] last.queued) (all_of config.events) (accepts_events list 0 s (none_events config handler) fit));
       }
     where
       all_of : (n : ℕ) → n - 0 ≡ n
       all_of n = omega arith
 
   pub accepts_by_room : AcceptsByRoom answer_of after
-  accepts_by_room config handler list (Ok account) ends =
-      subst (IsAcceptedByRoom config list) (sym ends.2) (from_set_up config handler list)
-  accepts_by_room config handler list (Err fault) ends = by_step fault.step fault.cause (account_in (Err fault)) ends
+  accepts_by_room config handler list (Ok account) is =
+      subst (IsAcceptedByRoom config list) (sym is.ends.2) (from_set_up config handler list is.fits)
+  accepts_by_room config handler list (Err fault) is = by_step fault.step fault.cause (account_in (Err fault)) is.ends is.fits
     where
-      by_step : (at : ℕ) (why : Cause) (lists : Account) → Stops answer_of after at why lists config handler list → IsAcceptedByRoom config (take (at - 1) list) lists
-      by_step zero why lists stops =
-          let none = from_set_up config handler [] in
+      by_step : (at : ℕ) (why : Cause) (lists : Account) → Stops answer_of after at why lists config handler list
+          → FitAlong answer_of after (take (at - 1) list) (set_up config handler) → IsAcceptedByRoom config (take (at - 1) list) lists
+      by_step zero why lists stops fits =
+          let none = from_set_up config handler [] tt in
           subst (IsAcceptedByRoom config []) (sym stops.1) (record { issued = none.issued; queued = none.queued })
-      by_step (suc before) why lists stops =
-          subst (IsAcceptedByRoom config (take (suc before - 1) list)) (sym stops.1.account) (from_set_up config handler (take (suc before - 1) list))
+      by_step (suc before) why lists stops fits =
+          subst (IsAcceptedByRoom config (take (suc before - 1) list)) (sym stops.1.account) (from_set_up config handler (take (suc before - 1) list) fits)

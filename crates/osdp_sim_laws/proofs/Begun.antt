@@ -17,15 +17,15 @@ use Rattle.osdp_reader.specs.Queue.{lacks_room}
 use Rattle.osdp_link_laws.specs.Headline.{IsBeginning}
 use Rattle.osdp_sim.specs.Account.{Account, lengths_of, with_issued, with_queued, with_report, with_session}
 use Rattle.osdp_sim.specs.Line.{handed, left}
-use Rattle.osdp_sim.specs.Runs.{run, steps_done}
+use Rattle.osdp_sim.specs.Runs.{FitAlong, run, steps_done}
 use Rattle.osdp_sim.specs.Schedules as schedules
 use Rattle.osdp_sim.specs.State.{SimState, set_up}
 use Rattle.osdp_sim.specs.Steps as steps
-use Rattle.osdp_sim.specs.Steps.{after_step, controller_hears, moment_after, reader_hears}
+use Rattle.osdp_sim.specs.Steps.{StepFits, after_step, controller_hears, moment_after, reader_hears}
 use Rattle.osdp_sim.specs.declared.account.Lengths.{Lengths}
 use Rattle.osdp_sim.specs.declared.step.SimStep.{SimStep}
 use Rattle.osdp_sim.specs.declared.step.SimStep.TheVariants.{Busy, Issue, Queue, Reopen, ToController, ToReader, Wait}
-use Rattle.osdp_sim.proofs.Schedules.{runs_on}
+use Rattle.osdp_sim.proofs.Schedules.{holds_on, runs_on}
 use Rattle.osdp_sim_laws.specs.Accepted.{IsAcceptedByRoom}
 use Rattle.osdp_sim_laws.specs.Accounts.{no_lengths}
 use Rattle.osdp_sim_laws.specs.Begun.{AreBegun, BeginsAfter, BeginsByReopens, CameTo, reopens, reopens_in}
@@ -161,11 +161,12 @@ module _ {S : Type 0} (taking : SimStep → S → S) (Tells : S → Account → 
         )
 
     pub are_begun : (CameTo : List SimStep → Account → Type 0)
-        → ((before : List SimStep) (was : Account) → Tells (schedules.run taking before start) was → CameTo before was) → AreBegun reader CameTo list a
+        → ((before more : List SimStep) → list ≡ before ++ more → (was : Account) → Tells (schedules.run taking before start) was → CameTo before was)
+        → AreBegun reader CameTo list a
     are_begun CameTo came = record {
       count = omega (arith, ap length sessions_are, all.count);
       first = ap (λ l. slice_get l 0) sessions_are;
-      each = λ before later is. let at = session_at before later is in (at.0, came before at.0 at.1, at.2);
+      each = λ before later is. let at = session_at before later is in (at.0, came before (Reopen reader ∷ later) is at.0 at.1, at.2);
     }
 
 -- ---- one reader
@@ -235,7 +236,10 @@ module _ {H : Type 0} (answer_of : H → Command → Answer) (after : H → Comm
       answers answer_of after (AreBegun 1 (CameTo answer_of after config handler) done) config handler list answer is was
       (λ taken. are_begun (after_step answer_of after) Tells one_account 1 grow start start.account refl refl done (run answer_of after done start).account refl
       (CameTo answer_of after config handler)
-      (λ before a told. record {
+      (λ before more part a told.
+      let along = holds_on (after_step answer_of after) (StepFits answer_of after) before more start
+      (subst (λ l. FitAlong answer_of after l start) part is.fits) in
+      record {
         run = told;
-        room = subst (λ b. IsAcceptedByRoom config before b) (sym told) (from_set_up answer_of after config handler before);
+        room = subst (λ b. IsAcceptedByRoom config before b) (sym told) (from_set_up answer_of after config handler before along.0);
       }))

@@ -1,8 +1,7 @@
 -- Schedules without losses, over bytes: which commands are settled and which events are reported.
-use Rattle.std.proofs.Common.{◌≡◌, ◌≤◌, ◌<◌, ◌+◌, ◌-◌, ℕ, zero, suc, arith, Bool, true, false, ◌==◌, if◌then◌else◌, All, List, [], ◌∷◌, ◌++◌, length, take, drop, Option, Some, None, Ok, Err, inl, inr, refl, sym, subst, ap, ◌∙◌}
-use Rattle.std.proofs.lemmas.Bool.{le-ltb}
-use Rattle.std.proofs.lemmas.Bool.Decides.{eqb_tells, leb_tells}
+use Rattle.std.proofs.Common.{◌≡◌, ◌≤◌, ◌<◌, ◌+◌, ◌-◌, ◌*◌, ℕ, zero, suc, arith, Bool, true, false, ◌==◌, if◌then◌else◌, All, List, [], ◌∷◌, ◌++◌, length, take, drop, Option, Some, None, Ok, Err, inl, inr, refl, sym, subst, ap, ◌∙◌}
 use Rattle.std.proofs.lemmas.List.{append-nil, length-append, length-take}
+use Rattle.osdp_msg.specs.Limits.{most_data}
 use Rattle.osdp_msg.specs.declared.command.Command.{Command}
 use Rattle.osdp_msg.specs.declared.event.Event.{Event}
 use Rattle.osdp_controller.specs.Machine as controllers
@@ -10,6 +9,7 @@ use Rattle.osdp_controller.specs.States.{is_closed}
 use Rattle.osdp_controller.specs.declared.fault.ControllerFault.{ControllerFault}
 use Rattle.osdp_controller.specs.declared.fault.ControllerFault.TheVariants.{Full}
 use Rattle.osdp_controller_laws.specs.Calls.{longest_wait}
+use Rattle.osdp_reader.specs.Queue.{bytes_waiting, lacks_room}
 use Rattle.osdp_reader.specs.declared.handler.Answer.{Answer}
 use Rattle.osdp_link_laws.specs.Clean as clean
 use Rattle.osdp_link_laws.specs.Link as link
@@ -26,7 +26,7 @@ use Rattle.osdp_sim.specs.Account.{Account, lists_of}
 use Rattle.osdp_sim.specs.Rounds.{clean as clean_rounds, rounds}
 use Rattle.osdp_sim.specs.Runs.{AreSettings, FitAlong, Stops, is_well, run}
 use Rattle.osdp_sim.specs.Schedules.{first_fault}
-use Rattle.osdp_sim.specs.State.{SimState, set_up}
+use Rattle.osdp_sim.specs.State.{SimState, room_for, set_up}
 use Rattle.osdp_sim.specs.Steps as steps
 use Rattle.osdp_sim.specs.Steps.{StepFits, after_step, fault_of, moment_after}
 use Rattle.osdp_sim.specs.declared.config.SimConfig.{SimConfig}
@@ -40,12 +40,13 @@ use Rattle.osdp_sim_laws.specs.Clean.{GoesInTurn, IsInTurn, IsOrder}
 use Rattle.osdp_sim_laws.specs.Moves.{clock_after, first_link, in_bytes, moves_of}
 use Rattle.osdp_sim_laws.specs.OneLink.{OneLink}
 use Rattle.osdp_sim_laws.specs.Progress.{IsRun}
-use Rattle.osdp_sim_laws.proofs.Accepting.{Accepts, among_few, accepts_commands, accepts_events, submit_is}
+use Rattle.osdp_sim_laws.proofs.Accepting.{Accepts, among_few, accepts_commands, accepts_events, each_order_fits, none_commands, none_events, submit_is}
 use Rattle.osdp_sim_laws.proofs.Coming.{count_of, moments_of, round_in_time, rounds_are, rounds_within, steps_in_time}
 use Rattle.osdp_sim_laws.proofs.Ends.{HaveEnded, run_ended}
 use Rattle.osdp_sim_laws.proofs.Holding.{IsWithin, begins, goes_from_first, no_account, run_within, steps_within}
 use Rattle.osdp_sim_laws.proofs.Moments.{LinkInTime, clock_on, last_moment}
 use Rattle.osdp_sim.proofs.Schedules.{holds_on, runs_on, well_on}
+use Rattle.osdp_sim_laws.proofs.Room.{OrderFits, ShortCommands, ShortEvents, place_for_command, place_for_event}
 use Rattle.osdp_sim_laws.proofs.Schedules.{Follows, GoesFrom, goes_from, goes_on, run_both, schedule_follows}
 
 -- ---- orders
@@ -150,6 +151,8 @@ module _ {H : Type 0} (answer_of : H → Command → Answer) (after : H → Comm
   record IsFilled (config : SimConfig) (s : SimState H) : Type 0 where
     pub commands : s.controller.capacity ≡ config.commands
     pub events : s.reader.queue.capacity ≡ config.events
+    pub command_room : s.controller.room ≡ (room_for config.commands).bytes
+    pub event_room : s.reader.queue.room ≡ (room_for config.events).bytes
     pub waiting : length s.account.issued ≡ length s.controller.waiting
     pub queue : length s.account.queued ≡ length s.reader.queue.events
     pub issued : length s.account.issued ≤ config.commands
@@ -163,6 +166,8 @@ module _ {H : Type 0} (answer_of : H → Command → Answer) (after : H → Comm
       record {
         commands = h.commands;
         events = h.events;
+        command_room = h.command_room;
+        event_room = h.event_room;
         waiting = omega (arith, h.waiting, length-append s.account.issued (c ∷ []), length-append s.controller.waiting (c ∷ []));
         queue = h.queue;
         issued = omega (arith, h.waiting, h.commands, less, length-append s.account.issued (c ∷ []));
@@ -170,39 +175,30 @@ module _ {H : Type 0} (answer_of : H → Command → Answer) (after : H → Comm
       }
 
   queued_filled : (config : SimConfig) (full : Bool) (e : Event) (s : SimState H)
-      → (full ≡ false → length s.reader.queue.events ≡ s.reader.queue.capacity → ⊥) → IsFilled config s → IsFilled config (steps.queued full e s)
+      → (full ≡ false → length s.reader.queue.events < s.reader.queue.capacity) → IsFilled config s → IsFilled config (steps.queued full e s)
   queued_filled config true e s room h = h
   queued_filled config false e s room h =
+      let less = room refl in
       record {
         commands = h.commands;
         events = h.events;
+        command_room = h.command_room;
+        event_room = h.event_room;
         waiting = h.waiting;
         queue = omega (arith, h.queue, length-append s.account.queued (e ∷ []), length-append s.reader.queue.events (e ∷ []));
         issued = h.issued;
-        queued = one_more (length s.account.queued) (length s.reader.queue.events) s.reader.queue.capacity config.events
-            (length (s.account.queued ++ e ∷ [])) h.queue h.events h.queued (length-append s.account.queued (e ∷ [])) (room refl);
+        queued = omega (arith, h.queue, h.events, less, length-append s.account.queued (e ∷ []));
       }
-    where
-      one_more : (a q k n m : ℕ) → a ≡ q → k ≡ n → a ≤ n → m ≡ a + 1 → (q ≡ k → ⊥) → m ≤ n
-      one_more a q k n m same room few more differ = elim (eqb_tells q k) [
-        | inl is ↦ absurd (differ is.1)
-        | inr other ↦ below a q k n m same room few more other.1
-      ]
-        where
-          below : (a q k n m : ℕ) → a ≡ q → k ≡ n → a ≤ n → m ≡ a + 1 → (q ≡ k → ⊥) → m ≤ n
-          below a q k n m same room few more differ = omega (arith, same, room, few, more, differ)
 
   has_room : (c : Command) (s : SimState H) → controllers.submit_refusal c s.controller ≡ None → length s.controller.waiting < s.controller.capacity
   has_room c s none = elim (submit_is c s.controller) [
     | inl (refused, poll) ↦ absurd (refused none)
-    | inr (is, one) ↦ elim (leb_tells s.controller.capacity (length s.controller.waiting)) [
-      | inl full ↦ absurd (let e = sym none ∙ is ∙ ap (λ b. if b then None else Some Full) (le-ltb (length s.controller.waiting) s.controller.capacity full.1) in cc)
-      | inr room ↦ room.1
-    ]
+    | inr (is, one) ↦ place_for_command c s.controller (accepted (controllers.has_room c s.controller) (sym is ∙ none))
   ]
-
-  not_full : (n m : ℕ) → (n == m) ≡ false → n ≡ m → ⊥
-  not_full n m is same = elim (eqb_tells n m) [ inl e ↦ absurd (let f = sym is ∙ e.0 in cc) | inr other ↦ other.1 same ]
+    where
+      accepted : (b : Bool) → (if b then None else Some Full) ≡ None → b ≡ true
+      accepted true e = refl
+      accepted false e = absurd cc
 
   there_filled : (config : SimConfig) (there : Bool) (s t : SimState H) → IsFilled config s → IsFilled config t → IsFilled config (if there then t else s)
   there_filled config true s t before later = later
@@ -215,10 +211,10 @@ module _ {H : Type 0} (answer_of : H → Command → Answer) (after : H → Comm
       orders_filled config orders _ are.1
       (there_filled config (number == 1) s (steps.issued fault c s) h (issued_filled config fault c s (has_room c s) h))
   orders_filled config (Queue number e ∷ orders) s are h =
-      let full = length s.reader.queue.events == s.reader.queue.capacity in
+      let full = lacks_room e s.reader.queue in
       orders_filled config orders _ are.1
       (there_filled config (number == 1) s (steps.queued full e s) h
-      (queued_filled config full e s (not_full (length s.reader.queue.events) s.reader.queue.capacity) h))
+      (queued_filled config full e s (place_for_event e s.reader.queue) h))
   orders_filled config (Busy number busy ∷ orders) s are h = absurd are.0
   orders_filled config (Wait wait ∷ orders) s are h = absurd are.0
   orders_filled config (ToReader move ∷ orders) s are h = absurd are.0
@@ -229,17 +225,32 @@ module _ {H : Type 0} (answer_of : H → Command → Answer) (after : H → Comm
   abbrev AreIssued : SimConfig → List SimStep → Account → Type 0
   AreIssued config orders a = (a.issued ≡ take config.commands (commands_of orders)) × (a.queued ≡ take config.events (events_of orders))
 
-  orders_issued : (config : SimConfig) (handler : H) (orders : List SimStep) → Each IsOrder orders
+  all_filled : (config : SimConfig) (handler : H) (orders : List SimStep) → Each IsOrder orders → IsFilled config (run answer_of after orders (set_up config handler))
+  all_filled config handler orders are =
+      orders_filled config orders (set_up config handler) are
+      (record {
+        commands = refl;
+        events = refl;
+        command_room = refl;
+        event_room = refl;
+        waiting = refl;
+        queue = refl;
+        issued = omega arith;
+        queued = omega arith;
+      })
+
+  orders_issued : (config : SimConfig) (handler : H) (orders : List SimStep) → Each IsOrder orders → Each OrderFits orders
       → AreIssued config orders (run answer_of after orders (set_up config handler)).account
-  orders_issued config handler orders are =
+  orders_issued config handler orders are fit =
       let s = set_up config handler in
       let last = (run answer_of after orders s).account in
-      let filled = orders_filled config orders s are
-      (record { commands = refl; events = refl; waiting = refl; queue = refl; issued = omega arith; queued = omega arith }) in (
+      let filled = all_filled config handler orders are in (
         exactly config.commands (commands_of orders) last.issued
-            (subst (λ n. Accepts n (commands_of orders) [] last.issued) (all_of config.commands) (accepts_commands answer_of after orders 0 s (omega arith))) filled.issued,
+            (subst (λ n. Accepts n (commands_of orders) [] last.issued) (all_of config.commands)
+            (accepts_commands answer_of after orders 0 s (none_commands answer_of after config handler) fit)) filled.issued,
         exactly config.events (events_of orders) last.queued
-            (subst (λ n. Accepts n (events_of orders) [] last.queued) (all_of config.events) (accepts_events answer_of after orders 0 s (omega arith))) filled.queued,
+            (subst (λ n. Accepts n (events_of orders) [] last.queued) (all_of config.events)
+            (accepts_events answer_of after orders 0 s (none_events answer_of after config handler) fit)) filled.queued,
       )
     where
       all_of : (n : ℕ) → n - 0 ≡ n
@@ -250,18 +261,37 @@ module _ {H : Type 0} (answer_of : H → Command → Answer) (after : H → Comm
       let few = among_few is.new all is.among in
       is.list ∙ ap (λ l. before ++ l) (no_more is.new (omega (arith, few, ap length none))) ∙ append-nil before
 
-  clean_issued : (config : SimConfig) (handler : H) (orders : List SimStep) (n : ℕ) → Each IsOrder orders
+  -- no message of a round is out of its range: there is none
+  clean_fit : (n : ℕ) → Each OrderFits (clean_rounds n)
+  clean_fit n = (tt, tt, tt, rounds_fit n)
+    where
+      rounds_fit : (n : ℕ) → Each OrderFits (rounds n 50)
+      rounds_fit zero = tt
+      rounds_fit (suc n) = (tt, tt, tt, rounds_fit n)
+
+  clean_issued : (config : SimConfig) (handler : H) (orders : List SimStep) (n : ℕ) → Each IsOrder orders → Each OrderFits orders
       → AreIssued config orders (run answer_of after (clean_rounds n) (run answer_of after orders (set_up config handler))).account
-  clean_issued config handler orders n are =
+  clean_issued config handler orders n are fit =
       let s = run answer_of after orders (set_up config handler) in
       let last = (run answer_of after (clean_rounds n) s).account in
-      let first = orders_issued config handler orders are in
-      let k = length s.controller.waiting in
-      let j = length s.reader.queue.events in (
+      let first = orders_issued config handler orders are fit in
+      let filled = all_filled config handler orders are in
+      let k = length s.controller.waiting + controllers.bytes_waiting s.controller.waiting in
+      let j = length s.reader.queue.events + bytes_waiting s.reader.queue.events in
+      let commands : ShortCommands k s.controller = record {
+        few = omega arith;
+        bytes = omega arith;
+        ample = filled.command_room ∙ ap (λ (places : ℕ). places * (1 + most_data)) (sym filled.commands);
+      } in
+      let events : ShortEvents j s.reader.queue = record {
+        few = omega arith;
+        bytes = omega arith;
+        ample = filled.event_room ∙ ap (λ (places : ℕ). places * (1 + most_data)) (sym filled.events);
+      } in (
         nothing_new (s.controller.capacity - k) (commands_of (clean_rounds n)) s.account.issued last.issued
-            (accepts_commands answer_of after (clean_rounds n) k s (omega arith)) (rounds_order n 50).0 ∙ first.0,
+            (accepts_commands answer_of after (clean_rounds n) k s commands (clean_fit n)) (rounds_order n 50).0 ∙ first.0,
         nothing_new (s.reader.queue.capacity - j) (events_of (clean_rounds n)) s.account.queued last.queued
-            (accepts_events answer_of after (clean_rounds n) j s (omega arith)) (rounds_order n 50).1 ∙ first.1,
+            (accepts_events answer_of after (clean_rounds n) j s events (clean_fit n)) (rounds_order n 50).1 ∙ first.1,
       )
 
   -- ---- the lists of one session
@@ -358,7 +388,7 @@ module _ {H : Type 0} (answer_of : H → Command → Answer) (after : H → Comm
       let lasts : is_closed end.controller.session.state ≡ false =
       ap (λ (s : SimState H). is_closed s.controller.session.state) whole.carried.state ∙ subst (λ k. is_closed k.controller.session.state ≡ false) joined found.1 in
       let over = subst HaveEnded ended (run_ended answer_of after given.told (orders ++ more) start is.well refl) in
-      let accepted = clean_issued config handler orders n are in
+      let accepted = clean_issued config handler orders n are (each_order_fits answer_of after orders start fits.0) in
       subst (λ s. IsInTurn answer_of after config handler orders n s.account) (sym ended)
       (in_turn config handler orders n end.account last.account (length moments) (count_of n 50 opening) accepted lists turn (no_end end lasts over lists.sessions))
     where

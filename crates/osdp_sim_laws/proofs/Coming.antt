@@ -26,7 +26,7 @@ use Rattle.osdp_link_laws.specs.Ends.{count}
 use Rattle.osdp_sim.specs.Account.{Account}
 use Rattle.osdp_sim.specs.Rounds.{rounds}
 use Rattle.osdp_sim.specs.Runs.{FitAlong, is_well, run}
-use Rattle.osdp_sim.specs.State.{SimState, set_up}
+use Rattle.osdp_sim.specs.State.{SimState, room_for, set_up}
 use Rattle.osdp_sim.specs.Steps.{StepFits, after_step, fault_of, moment_after}
 use Rattle.osdp_sim.specs.declared.config.SimConfig.{SimConfig}
 use Rattle.osdp_sim.specs.declared.step.SimStep.{SimStep}
@@ -241,7 +241,7 @@ module _ {H : Type 0} (answer_of : H → Command → Answer) (after : H → Comm
       let first_lists = as_long given config handler device before ms clock first kept in
       let last_lists = as_long given config handler device end (ms ++ ns) (clock_after more clock) whole both in
       let timely = steps_in_time wait steps 0 l (omega arith) (omega arith, long) in
-      let range : IsInRange l.controller.session = ranges.later (new_machine config.controller config.commands) (Begin 0 ∷ []) (ranges.new config.controller config.commands) in
+      let range : IsInRange l.controller.session = ranges.later (new_machine config.controller config.commands (room_for config.commands).bytes) (Begin 0 ∷ []) (ranges.new config.controller config.commands (room_for config.commands).bytes) in
       let quiet = clear_link given config handler steps more is within clear in
       let moves = subst (λ list. headline.MovesFit answer_of after list later) (rounds_are m wait clock) two.next.moves in
       let found = in_time l ms (moments_of m wait clock) begun range first.moves quiet (are_late m wait clock later timely.0 timely.1) moves in

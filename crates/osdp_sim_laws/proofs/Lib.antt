@@ -12,3 +12,4 @@ pub mod Moments
 pub mod Schedules
 pub mod Answered
 pub mod Resting
+pub mod Room

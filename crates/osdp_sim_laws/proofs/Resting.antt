@@ -23,7 +23,7 @@ use Rattle.osdp_link_laws.proofs.Stages.{Each}
 use Rattle.osdp_sim.proofs.Schedules.{holds_on, well_on}
 use Rattle.osdp_sim.specs.Rounds.{round, rounds}
 use Rattle.osdp_sim.specs.Runs.{run}
-use Rattle.osdp_sim.specs.State.{SimState, set_up}
+use Rattle.osdp_sim.specs.State.{SimState, room_for, set_up}
 use Rattle.osdp_sim.specs.Steps.{StepFits, after_step, fault_of, moment_after}
 use Rattle.osdp_sim.specs.declared.config.SimConfig.{SimConfig}
 use Rattle.osdp_sim.specs.declared.step.SimStep.{SimStep}
@@ -124,7 +124,7 @@ module _ {H : Type 0} (answer_of : H → Command → Answer) (after : H → Comm
   module _ (given : OneLink answer_of after) (rests : progress.ComesToRest answer_of after) (ranges : StaysInRange) (comes : ComesDue) where
     first_range : (config : SimConfig) (handler : H) → IsInRange (first_link config handler).controller.session
     first_range config handler =
-        ranges.later (new_machine config.controller config.commands) (Begin 0 ∷ []) (ranges.new config.controller config.commands)
+        ranges.later (new_machine config.controller config.commands (room_for config.commands).bytes) (Begin 0 ∷ []) (ranges.new config.controller config.commands (room_for config.commands).bytes)
 
     -- the link after the rounds
     rests_at : (config : SimConfig) (handler : H) (steps : List SimStep) (m wait : ℕ) → IsRun answer_of after config handler (steps ++ rounds (suc m) wait)

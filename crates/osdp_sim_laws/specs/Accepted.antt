@@ -7,13 +7,13 @@ use Rattle.osdp_reader.specs.declared.handler.Answer.{Answer}
 use Rattle.osdp_link_laws.specs.Headline.{IsBeginning}
 use Rattle.osdp_link_laws.specs.Sessions.{IsAmong}
 use Rattle.osdp_sim.specs.Account.{Account}
-use Rattle.osdp_sim.specs.Runs.{RunEnds, steps_done}
+use Rattle.osdp_sim.specs.Runs.{steps_done}
 use Rattle.osdp_sim.specs.declared.account.Account as declared
 use Rattle.osdp_sim.specs.declared.config.SimConfig.{SimConfig}
 use Rattle.osdp_sim.specs.declared.fault.Fault.{Fault}
 use Rattle.osdp_sim.specs.declared.step.SimStep.{SimStep}
 use Rattle.osdp_sim.specs.declared.step.SimStep.TheVariants.{Issue, Queue}
-use Rattle.osdp_sim_laws.specs.Accounts.{account_in}
+use Rattle.osdp_sim_laws.specs.Accounts.{IsAnswer, account_in}
 
 -- what a step orders, where it names the reader of this number
 abbrev pub if_named : {A : Type 0} → ℕ → ℕ → List A → List A
@@ -58,4 +58,4 @@ module _ {H : Type 0} (answer_of : H → Command → Answer) (after : H → Comm
   -- whatever the steps are
   abbrev pub AcceptsByRoom : Type 0
   AcceptsByRoom = (config : SimConfig) (handler : H) (steps : List SimStep) (answer : Result declared.Account (Fault declared.Account))
-      → RunEnds answer_of after config handler steps answer → IsAcceptedByRoom config (steps_done steps answer) (account_in answer)
+      → IsAnswer answer_of after config handler steps answer → IsAcceptedByRoom config (steps_done steps answer) (account_in answer)

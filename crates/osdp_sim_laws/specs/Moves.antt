@@ -10,7 +10,7 @@ use Rattle.osdp_link_laws.specs.Link as link
 use Rattle.osdp_link_laws.specs.Link.{Delivered, Delivery, Link, Lost, Repeated, new_account}
 use Rattle.osdp_sim.specs.Account.{Account}
 use Rattle.osdp_sim.specs.Runs.{AreSettings, FitAlong, is_well, run}
-use Rattle.osdp_sim.specs.State.{SimState, set_up}
+use Rattle.osdp_sim.specs.State.{SimState, room_for, set_up}
 use Rattle.osdp_sim.specs.Steps.{moment_after}
 use Rattle.osdp_sim.specs.declared.config.SimConfig.{SimConfig}
 use Rattle.osdp_sim.specs.declared.step.Move as way
@@ -67,8 +67,8 @@ module _ {H : Type 0} where
   -- the link at the beginning of a schedule
   abbrev pub first_link : SimConfig → H → Link H
   first_link config handler = record {
-    controller = after_begin 0 (new_machine config.controller config.commands);
-    reader = new_reader config.reader handler config.events;
+    controller = after_begin 0 (new_machine config.controller config.commands (room_for config.commands).bytes);
+    reader = new_reader config.reader handler (room_for config.events);
     to_reader = [];
     to_controller = [];
     account = new_account [] [];

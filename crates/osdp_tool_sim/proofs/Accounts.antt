@@ -14,6 +14,7 @@ use Rattle.osdp_sim.specs.declared.fault.Cause.TheVariants as cause
 use Rattle.osdp_sim.specs.declared.fault.Fault.{Fault}
 use Rattle.osdp_sim.specs.declared.step.SimStep.{SimStep}
 use Rattle.osdp_sim.specs.Account.{Account, lists_of}
+use Rattle.osdp_sim.specs.State.{room_for}
 use Rattle.osdp_sim_bus.specs.Runs.{RunEnds, Stops, StopsAt, lists_of_all, steps_done}
 use Rattle.osdp_sim_bus.specs.State.{Given}
 use Rattle.osdp_sim_bus_laws.specs.Accepted.{AcceptsEach}
@@ -29,16 +30,16 @@ use Rattle.osdp_tool_sim.proofs.Stopped.{stop_is_told}
 
 abbrev pub Ends : Script → Result (Vec declared.Account) (Fault (Vec declared.Account)) → Type 0
 Ends script r =
-    RunEnds handler_answer handler_after (default_config script.check 64) (readers_from 1 script.readers.items) (steps_of script) r
+    RunEnds handler_answer handler_after (default_config script.check (room_for 64)) (readers_from 1 script.readers.items) (steps_of script) r
 
 -- the settings, the readers and the steps, as they are called here
 pub bus_as : (script : Script) (config : BusConfig) (readers : List (Given ScriptReader)) (steps : List SimStep)
-    (r : Result (Vec declared.Account) (Fault (Vec declared.Account))) → config ≡ default_config script.check 64
+    (r : Result (Vec declared.Account) (Fault (Vec declared.Account))) → config ≡ default_config script.check (room_for 64)
     → readers ≡ readers_from 1 script.readers.items → steps ≡ steps_of script → RunEnds handler_answer handler_after config readers steps r
     → Ends script r
 bus_as script config readers steps r e f g ends =
-    subst (λ (s : List SimStep). RunEnds handler_answer handler_after (default_config script.check 64) (readers_from 1 script.readers.items) s r) g
-    (subst (λ (k : List (Given ScriptReader)). RunEnds handler_answer handler_after (default_config script.check 64) k steps r) f
+    subst (λ (s : List SimStep). RunEnds handler_answer handler_after (default_config script.check (room_for 64)) (readers_from 1 script.readers.items) s r) g
+    (subst (λ (k : List (Given ScriptReader)). RunEnds handler_answer handler_after (default_config script.check (room_for 64)) k steps r) f
     (subst (λ (c : BusConfig). RunEnds handler_answer handler_after c readers steps r) e ends))
 
 -- what holds of each reader of the script
@@ -52,15 +53,15 @@ each_as script readers told e holds =
 
 abbrev pub Accepted : Script → Result (Vec declared.Account) (Fault (Vec declared.Account)) → Type 0
 Accepted script r =
-    AcceptsEach (default_config script.check 64) (readers_from 1 script.readers.items) (steps_done (steps_of script) r) (accounts_in r)
+    AcceptsEach (default_config script.check (room_for 64)) (readers_from 1 script.readers.items) (steps_done (steps_of script) r) (accounts_in r)
 
 pub accepted_as : (script : Script) (config : BusConfig) (readers : List (Given ScriptReader)) (steps : List SimStep)
-    (r : Result (Vec declared.Account) (Fault (Vec declared.Account))) → config ≡ default_config script.check 64
+    (r : Result (Vec declared.Account) (Fault (Vec declared.Account))) → config ≡ default_config script.check (room_for 64)
     → readers ≡ readers_from 1 script.readers.items → steps ≡ steps_of script → AcceptsEach config readers (steps_done steps r) (accounts_in r)
     → Accepted script r
 accepted_as script config readers steps r e f g accepts =
-    subst (λ (s : List SimStep). AcceptsEach (default_config script.check 64) (readers_from 1 script.readers.items) (steps_done s r) (accounts_in r)) g
-    (subst (λ (k : List (Given ScriptReader)). AcceptsEach (default_config script.check 64) k (steps_done steps r) (accounts_in r)) f
+    subst (λ (s : List SimStep). AcceptsEach (default_config script.check (room_for 64)) (readers_from 1 script.readers.items) (steps_done s r) (accounts_in r)) g
+    (subst (λ (k : List (Given ScriptReader)). AcceptsEach (default_config script.check (room_for 64)) k (steps_done steps r) (accounts_in r)) f
     (subst (λ (c : BusConfig). AcceptsEach c readers (steps_done steps r) (accounts_in r)) e accepts))
 
 pub each_ok : (script : Script) (told : Vec declared.Account) → Ends script (Ok told) → Holds script (lists_of_all told.items)
@@ -69,7 +70,7 @@ each_ok script told ends holds accepts = record { run_is = (ends.1, ends.2); ses
 
 -- a step was refused, and the bus and the readers were set up
 stopped_at : (script : Script) (why : Cause) (at : ℕ) (end : Result (Unit {0}) ToolFault) (told : List Account) → EndsBy why at end
-    → Stops handler_answer handler_after at why told (default_config script.check 64) (readers_from 1 script.readers.items) (steps_of script)
+    → Stops handler_answer handler_after at why told (default_config script.check (room_for 64)) (readers_from 1 script.readers.items) (steps_of script)
     → (1 ≤ at) × StopsAt handler_answer handler_after at why told (steps_of script) (line_of script)
 stopped_at script cause.HoldsPacket zero end told is stops = absurd stops.0
 stopped_at script cause.NotQuiet zero end told is stops = absurd stops.0
@@ -87,7 +88,7 @@ each_stopped script fault end ends holds accepts is =
     record {
       run_is = told.0;
       sessions = holds stops.0;
-      accepted = subst (λ (taken : List SimStep). AcceptsEach (default_config script.check 64) (readers_from 1 script.readers.items) taken lists) (sym told.1)
+      accepted = subst (λ (taken : List SimStep). AcceptsEach (default_config script.check (room_for 64)) (readers_from 1 script.readers.items) taken lists) (sym told.1)
           (accepts stops.0);
     }
 

@@ -18,13 +18,14 @@ use Rattle.osdp_sim.specs.declared.fault.Cause.{Cause}
 use Rattle.osdp_sim.specs.declared.fault.Cause.TheVariants as cause
 use Rattle.osdp_sim.specs.declared.fault.Fault.{Fault}
 use Rattle.osdp_sim.specs.Account.{Account}
+use Rattle.osdp_sim.specs.State.{room_for}
 use Rattle.osdp_sim_bus.specs.Runs as several
 use Rattle.osdp_sim_bus.specs.Runs.{are_apart, is_at, is_reader_in_range, lists_of_all}
 use Rattle.osdp_tool_sim.specs.Several.{readers_from}
 use Rattle.osdp_tool_sim.proofs.Accounts.{Ends}
 
-bus_set : (check : CheckKind) → IsBusConfig (default_config check 64)
-bus_set check = bus_in_range check 64 3 (omega arith, omega arith) (omega arith, omega arith)
+bus_set : (check : CheckKind) → IsBusConfig (default_config check (room_for 64))
+bus_set check = bus_in_range check (room_for 64) 3 ((omega arith, omega arith), omega arith, omega arith) (omega arith, omega arith)
 
 as_many : (number : ℕ) (readers : List (ℕ × ℕ)) → length (readers_from number readers) ≡ length readers
 as_many number [] = refl
@@ -55,7 +56,7 @@ all_apart number (reader ∷ readers) apart =
     and_from _ _ (ap not (none_at reader.0 (number + 1) readers apart.0)) (all_apart (number + 1) readers apart.1)
 
 several_set : (script : Script) → AreReaders script.readers.items
-    → several.AreSettings (default_config script.check 64) (readers_from 1 script.readers.items)
+    → several.AreSettings (default_config script.check (room_for 64)) (readers_from 1 script.readers.items)
 several_set script readers =
     let most = readers.most in
     let count = as_many 1 script.readers.items in
@@ -66,7 +67,7 @@ several_set script readers =
     }
 
 several_stops : (script : Script) (at : ℕ) (told : List Account) → AreReaders script.readers.items
-    → several.Stops handler_answer handler_after at cause.OutOfRange told (default_config script.check 64) (readers_from 1 script.readers.items) (steps_of script) → ⊥
+    → several.Stops handler_answer handler_after at cause.OutOfRange told (default_config script.check (room_for 64)) (readers_from 1 script.readers.items) (steps_of script) → ⊥
 several_stops script zero told readers stops = stops.0 (several_set script readers)
 several_stops script (suc before) told readers stops = stops.1.cause
 
@@ -75,4 +76,4 @@ pub several_in_range : (script : Script) (fault : Fault (Vec declared.Account)) 
 several_in_range script fault readers ends is =
     several_stops script fault.step (lists_of_all fault.account.items) readers
     (subst (λ (why : Cause). several.Stops handler_answer handler_after fault.step why (lists_of_all fault.account.items)
-    (default_config script.check 64) (readers_from 1 script.readers.items) (steps_of script)) is ends)
+    (default_config script.check (room_for 64)) (readers_from 1 script.readers.items) (steps_of script)) is ends)

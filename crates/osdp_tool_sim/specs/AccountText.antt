@@ -1,5 +1,5 @@
 -- The text of an account: lines, each of which is a list of words.
-use Rattle.std.specs.Prelude.{ℕ, ◌+◌, List, [], ◌∷◌, ◌++◌, codes, length, map}
+use Rattle.std.specs.Prelude.{◌≡◌, ℕ, ◌+◌, Bool, true, false, List, [], ◌∷◌, ◌++◌, codes, length, map}
 use Rattle.osdp_controller.specs.Causes.{cause_name}
 use Rattle.osdp_msg.specs.declared.command.Command.{Command}
 use Rattle.osdp_msg.specs.declared.event.Event.{Event}
@@ -25,8 +25,11 @@ abbrev pub command_line : List ℕ → Command → List Word
 command_line name command = plain name ∷ command_words command
 
 -- a command that was settled, and its answer
+abbrev pub settled_words : Command × Reply → List Word
+settled_words (command, answer) = command_words command ++ plain (codes "=") ∷ reply_words answer
+
 abbrev pub settled_line : Command × Reply → List Word
-settled_line (command, answer) = plain (codes "settled") ∷ (command_words command ++ plain (codes "=") ∷ reply_words answer)
+settled_line pair = plain (codes "settled") ∷ settled_words pair
 
 abbrev pub reported_line : Event → List Word
 reported_line event = plain (codes "reported") ∷ event_words event
@@ -35,8 +38,11 @@ abbrev pub end_name : End → List ℕ
 end_name (Lost cause) = cause_name cause
 end_name Moved = codes "moved"
 
+abbrev pub end_words : End → List Word
+end_words end = plain (end_name end) ∷ []
+
 abbrev pub ended_line : End → List Word
-ended_line end = plain (codes "ended") ∷ plain (end_name end) ∷ []
+ended_line end = plain (codes "ended") ∷ end_words end
 
 -- the counts, and then the lists in this order; what was issued and what was queued is only counted
 abbrev pub account_lines : ℕ → Account → List (List Word)
@@ -54,6 +60,15 @@ line_text words = text_of words ++ codes "\n"
 abbrev pub lines_text : List (List Word) → List ℕ
 lines_text [] = []
 lines_text (line ∷ lines) = line_text line ++ lines_text lines
+
+-- lines that begin by the name of their list
+abbrev pub named : List ℕ → List (List Word) → List (List Word)
+named name lines = map (λ words. plain name ∷ words) lines
+
+-- of these lines the first is added to a text, after the name of its list, and the others are left; or none is left
+abbrev pub AddsNext : List (List Word) → List (List Word) → List ℕ → List ℕ → List ℕ → Bool → Type 0
+AddsNext [] after name old new added = (added ≡ false) × (after ≡ []) × (new ≡ old)
+AddsNext (words ∷ others) after name old new added = (added ≡ true) × (after ≡ others) × (new ≡ old ++ line_text (plain name ∷ words))
 
 abbrev pub account_text : ℕ → Account → List ℕ
 account_text reader a = lines_text (account_lines reader a)

@@ -8,6 +8,7 @@ use Rattle.osdp_script.specs.Identity.{script_config}
 use Rattle.osdp_script.specs.declared.handler.ScriptReader.{ScriptReader}
 use Rattle.osdp_session.specs.Sessions.{HoldsInSessions}
 use Rattle.osdp_sim.specs.Account.{Account}
+use Rattle.osdp_sim.specs.State.{room_for}
 use Rattle.osdp_sim_bus.specs.State.{Given, LineState, accounts, set_up}
 use Rattle.osdp_sim_bus.specs.Steps.{after_step, fault_of}
 use Rattle.osdp_sim_bus_laws.specs.Accepted.{AcceptsEach}
@@ -23,7 +24,7 @@ readers_from number (reader ∷ readers) =
 
 -- the bus and the readers at first
 abbrev pub line_of : Script → LineState ScriptReader
-line_of script = set_up (default_config script.check 64) (readers_from 1 script.readers.items)
+line_of script = set_up (default_config script.check (room_for 64)) (readers_from 1 script.readers.items)
 
 -- These accounts are told of a script, and this end: they are those of its run, in the order of the readers. Of each reader, session by
 -- session, each command was taken once and in order, with its answer, and each event was reported once and in order; and of the steps taken
@@ -31,4 +32,4 @@ line_of script = set_up (default_config script.check 64) (readers_from 1 script.
 pub record TellsEach (script : Script) (told : List Account) (end : Result (Unit {0}) ToolFault) : Type 0 where
   pub run_is : RunTells (after_step handler_answer handler_after) fault_of accounts end told (steps_of script) (line_of script)
   pub sessions : EachMeets (HoldsInSessions handler_answer handler_after) (readers_from 1 script.readers.items) told
-  pub accepted : AcceptsEach (default_config script.check 64) (readers_from 1 script.readers.items) (steps_taken end (steps_of script)) told
+  pub accepted : AcceptsEach (default_config script.check (room_for 64)) (readers_from 1 script.readers.items) (steps_taken end (steps_of script)) told

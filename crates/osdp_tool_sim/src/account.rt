@@ -4,7 +4,7 @@ ghost use Rattle.std.specs.Prelude.{◌≡◌, ◌++◌, OnOk, IfOk, string_byte
 ghost use Rattle.osdp_sim.specs.Account.{lists_of};
 ghost use Rattle.osdp_tool_sim.specs.AccountText.{account_text, counts_line, line_text};
 
-use crate::lines::{EndsLeft, push_list};
+use crate::lines::{CommandsLeft, EndsLeft, EventsLeft, push_list};
 use osdp_sim::Account;
 use std::alloc::{AllocError, Global};
 
@@ -32,10 +32,10 @@ pub fn account_text(alloc: Global, number: usize, account: &Account) -> Result<S
 {
     let mut text = String::new(alloc);
     push_counts(&mut text, number, account)?;
-    push_list(&mut text, "taken", account.taken.left())?;
+    push_list(&mut text, "taken", CommandsLeft(account.taken.left()))?;
     push_list(&mut text, "settled", account.settled.left())?;
-    push_list(&mut text, "unsettled", account.unsettled.left())?;
-    push_list(&mut text, "reported", account.reported.left())?;
+    push_list(&mut text, "unsettled", CommandsLeft(account.unsettled.left()))?;
+    push_list(&mut text, "reported", EventsLeft(account.reported.left()))?;
     push_list(&mut text, "ended", EndsLeft(&account.ends))?;
     Ok(text)
 }

@@ -1,53 +1,15 @@
 //! Lines of an account.
 
-ghost use Rattle.std.specs.Prelude.{◌≡◌, ◌∷◌, ◌++◌, [], List, MatchOption, OnOk, codes, map, string_bytes};
+ghost use Rattle.std.specs.Prelude.{◌≡◌, ◌++◌, List, IfOk, OnOk, map, string_bytes};
 ghost use Rattle.osdp_msg.specs.CommandText.{command_words};
 ghost use Rattle.osdp_msg.specs.Events.{event_words};
-ghost use Rattle.osdp_msg.specs.ReplyText.{reply_words};
-ghost use Rattle.osdp_words.specs.Word.{Word, plain};
-ghost use Rattle.osdp_tool_sim.specs.AccountText.{end_name, lines_text, line_text};
+ghost use Rattle.osdp_sim.specs.Kept.{commands_of, events_of};
+ghost use Rattle.osdp_words.specs.Word.{Word};
+ghost use Rattle.osdp_tool_sim.specs.AccountText.{AddsNext, end_name, end_words, lines_text, named, settled_words};
 
-use osdp_msg::{Command, Event, Reply};
-use osdp_sim::message::Message;
+use osdp_msg::{Command, Event};
 use osdp_sim::{End, KeptLeft, SettledLeft};
 use std::alloc::AllocError;
-
-/// An item of a list of an account.
-pub(crate) trait Listed: Drop {
-    /// What stands in its line after the name of the list.
-    ghost words: { Self → List Word };
-
-    /// The line of the item, which begins by the name of its list.
-    fn push_line(&self, text: &mut String, name: &str) -> Result<(), AllocError>
-        ensures { OnOk result (string_bytes text.new ≡ string_bytes text.old ++ line_text (plain name.now ∷ words self.now)) };
-}
-
-impl Listed for Command {
-    ghost words = { command_words };
-
-    fn push_line(&self, text: &mut String, name: &str) -> Result<(), AllocError> {
-        write!(text, "{name} {self}\n")
-    }
-}
-
-/// A command that was settled, and its answer.
-impl Listed for (Command, Reply) {
-    ghost words = { λ pair. command_words pair.0 ++ plain (codes "=") ∷ reply_words pair.1 };
-
-    fn push_line(&self, text: &mut String, name: &str) -> Result<(), AllocError> {
-        let command = &self.0;
-        let answer = &self.1;
-        write!(text, "{name} {command} = {answer}\n")
-    }
-}
-
-impl Listed for Event {
-    ghost words = { event_words };
-
-    fn push_line(&self, text: &mut String, name: &str) -> Result<(), AllocError> {
-        write!(text, "{name} {self}\n")
-    }
-}
 
 /// How a session ended, in one word.
 fn end_name(end: End) -> &'static str
@@ -59,74 +21,93 @@ fn end_name(end: End) -> &'static str
     }
 }
 
-impl Listed for End {
-    ghost words = { λ end. plain (end_name end) ∷ [] };
+/// The items of a list of an account whose lines are still to come.
+pub(crate) trait LinesLeft: Drop {
+    /// What stands in each line after the name of the list.
+    ghost left: { Self → List (List Word) };
 
-    fn push_line(&self, text: &mut String, name: &str) -> Result<(), AllocError> {
-        let end = end_name(*self);
-        write!(text, "{name} {end}\n")
+    /// Takes the first of them, if one is left, and adds its line, which begins by the name of its list. Whether one was left.
+    fn push_next(&mut self, text: &mut String, name: &str) -> Result<bool, AllocError>
+        ensures { IfOk result (AddsNext (left self.old) (left self.new) name.now (string_bytes text.old) (string_bytes text.new)) };
+}
+
+/// Commands.
+#[derive(Drop)]
+pub(crate) struct CommandsLeft<'a>(pub(crate) KeptLeft<'a>);
+
+impl<'a> LinesLeft for CommandsLeft<'a> {
+    ghost left = { λ commands. map command_words (commands_of commands.0) };
+
+    fn push_next(&mut self, text: &mut String, name: &str) -> Result<bool, AllocError> {
+        let Some(bytes) = self.0.next() else {
+            return Ok(false);
+        };
+        let command = Command::kept(bytes);
+        write!(text, "{name} {command}\n")?;
+        Ok(true)
     }
 }
 
-/// The items of a list of an account that are still to come.
-pub(crate) trait ItemsLeft: Drop {
-    /// An item.
-    type Item: Listed;
+/// Commands that were settled, each with its answer.
+impl<'a> LinesLeft for SettledLeft<'a> {
+    ghost left = { λ pairs. map settled_words pairs };
 
-    ghost left: { Self → List Self.Item };
-
-    /// Takes the first of them.
-    fn take_first(&mut self) -> Option<Self::Item>
-        ensures { MatchOption result ((left self.old ≡ []) × (left self.new ≡ [])) (λ first. left self.old ≡ first ∷ left self.new) };
-}
-
-impl<'a, M: Message + Listed> ItemsLeft for KeptLeft<'a, M> {
-    type Item = M;
-
-    ghost left = { λ items. items };
-
-    fn take_first(&mut self) -> Option<M> {
-        self.next()
+    fn push_next(&mut self, text: &mut String, name: &str) -> Result<bool, AllocError> {
+        let Some((command, answer)) = self.next() else {
+            return Ok(false);
+        };
+        write!(text, "{name} {command} = {answer}\n")?;
+        Ok(true)
     }
 }
 
-impl<'a> ItemsLeft for SettledLeft<'a> {
-    type Item = (Command, Reply);
+/// Events.
+#[derive(Drop)]
+pub(crate) struct EventsLeft<'a>(pub(crate) KeptLeft<'a>);
 
-    ghost left = { λ items. items };
+impl<'a> LinesLeft for EventsLeft<'a> {
+    ghost left = { λ events. map event_words (events_of events.0) };
 
-    fn take_first(&mut self) -> Option<(Command, Reply)> {
-        self.next()
+    fn push_next(&mut self, text: &mut String, name: &str) -> Result<bool, AllocError> {
+        let Some(bytes) = self.0.next() else {
+            return Ok(false);
+        };
+        let event = Event::kept(bytes);
+        write!(text, "{name} {event}\n")?;
+        Ok(true)
     }
 }
 
-/// How sessions ended, those still to come.
+/// How sessions ended.
 #[derive(Drop)]
 pub(crate) struct EndsLeft<'a>(pub(crate) &'a [End]);
 
-impl<'a> ItemsLeft for EndsLeft<'a> {
-    type Item = End;
+impl<'a> LinesLeft for EndsLeft<'a> {
+    ghost left = { λ ends. map end_words ends.0.now };
 
-    ghost left = { λ ends. ends.0.now };
-
-    fn take_first(&mut self) -> Option<End> {
-        let (first, rest) = self.0.split_first()?;
+    fn push_next(&mut self, text: &mut String, name: &str) -> Result<bool, AllocError> {
+        let Some((first, rest)) = self.0.split_first() else {
+            return Ok(false);
+        };
         self.0 = rest;
-        Some(*first)
+        let end = end_name(*first);
+        write!(text, "{name} {end}\n")?;
+        Ok(true)
     }
 }
 
 /// The lines of a list of an account, each of which begins by its name.
-pub(crate) fn push_list<L: ItemsLeft>(
+pub(crate) fn push_list<L: LinesLeft>(
     text: &mut String,
     name: &str,
     items: L,
 ) -> Result<(), AllocError>
-    ensures { OnOk result (string_bytes text.new ≡ string_bytes text.old ++ lines_text (map (λ item. plain name.now ∷ L.Item.words item) (L.left items))) }
+    ensures { OnOk result (string_bytes text.new ≡ string_bytes text.old ++ lines_text (named name.now (L.left items))) }
 {
     let mut items = items;
-    'lines: while let Some(item) = items.take_first() {
-        item.push_line(text, name)?;
+    'lines: loop {
+        if !items.push_next(text, name)? {
+            return Ok(());
+        }
     }
-    Ok(())
 }

@@ -1,9 +1,11 @@
 //! A script of several readers.
 
 ghost use Rattle.std.specs.Prelude.{◌≡◌, ◌≤◌, ◌<◌, ◌^◌, ℕ, length, IfErr, IfOk, map, string_bytes};
+ghost use Rattle.osdp_bus.specs.Settings.{default_config};
 ghost use Rattle.osdp_script.specs.Script.{steps_of};
 ghost use Rattle.osdp_script.specs.Settings.{AreReaders};
 ghost use Rattle.osdp_sim.specs.Account.{lists_of};
+ghost use Rattle.osdp_sim.specs.State.{room_for};
 ghost use Rattle.osdp_sim_bus.specs.Runs.{lists_of_all};
 ghost use Rattle.osdp_tool_sim.specs.AccountText.{texts_from};
 ghost use Rattle.osdp_tool_sim.specs.Several.{TellsEach, readers_from};
@@ -12,7 +14,8 @@ ghost use Rattle.osdp_tool_sim.specs.Told.{IsTextOfEach};
 use crate::account::account_text;
 use crate::told::{COMMANDS, Told, stopped};
 use osdp_bus::BusConfig;
-use osdp_frame::Address;
+use osdp_frame::{Address, CheckKind};
+use osdp_msg::Room;
 use osdp_reader::ReaderConfig;
 use osdp_script::{Script, ScriptReader, script_config};
 use osdp_session::run_bus_schedule;
@@ -38,6 +41,13 @@ fn readers_of(
     Ok(made)
 }
 
+/// The settings of a line with several readers.
+fn settings(check: CheckKind) -> BusConfig
+    ensures { result ≡ default_config check (room_for COMMANDS) }
+{
+    BusConfig::new(check, Room::of(COMMANDS))
+}
+
 /// Runs a script of several readers.
 fn run_several(alloc: Global, script: &Script) -> Result<Told<Vec<Account>>, ToolFault>
     requires steps { length (steps_of script.now) < 2 ^ 64 }
@@ -48,7 +58,7 @@ fn run_several(alloc: Global, script: &Script) -> Result<Told<Vec<Account>>, Too
     let Ok(readers) = readers_of(alloc, &script.readers) else {
         return Err(ToolFault::NoMemory);
     };
-    let config = BusConfig::new(script.check, COMMANDS);
+    let config = settings(script.check);
     match run_bus_schedule(alloc, &config, readers, script.schedule()) {
         Ok(what) => Ok(Told { what, end: Ok(()) }),
         Err(fault) => stopped(fault),

@@ -6,7 +6,7 @@ use Rattle.osdp_session.proofs.laws.holds_of_each_run.Goals as goal
 pub returns-clause-link : goal.returns-clause-link
 returns-clause-link g c config handler steps answer run = record {
   run = run;
-  room = c.accepts_by_room.ensures config handler steps answer run.ends;
+  room = c.accepts_by_room.ensures config handler steps answer run;
   once = c.schedule_holds_once.ensures.once config handler steps answer run;
   sessions = λ begun.
       c.holds_in_sessions.ensures.each config.reader handler (account_in answer) (c.schedule_holds_once.ensures.row config handler steps answer run begun);

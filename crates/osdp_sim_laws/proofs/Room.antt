@@ -1,0 +1,221 @@
+-- Room for what waits, however long each message is.
+use Rattle.std.proofs.Common.{◌≡◌, ◌<◌, ◌≤◌, ◌+◌, ◌-◌, ◌*◌, ◌&&◌, ℕ, arith, Bool, true, false, ltb, leb, if◌then◌else◌, List, [], ◌∷◌, ◌++◌, length, drop, inl, inr, refl, sym, ap, ◌∙◌}
+use Rattle.std.proofs.lemmas.Bool.{lt-ltb, ltb-true}
+use Rattle.std.proofs.lemmas.Bool.Decides.{leb_tells}
+use Rattle.std.proofs.lemmas.List.{length-append}
+use Rattle.std.specs.Prelude.{not}
+use Rattle.osdp_frame.specs.Packet.{next_sequence}
+use Rattle.osdp_msg.specs.CommandTable.{CommandFits, command_code, command_counts_agree, command_data, command_fault, command_length_allowed}
+use Rattle.osdp_msg.specs.Events.{EventFits, event_reply}
+use Rattle.osdp_msg.specs.Limits.{most_data}
+use Rattle.osdp_msg.specs.ReplyTable.{ReplyFits, reply_code, reply_counts_agree, reply_data, reply_fault, reply_length_allowed}
+use Rattle.osdp_msg.specs.declared.command.Command.{Command}
+use Rattle.osdp_msg.specs.declared.event.Event.{Event}
+use Rattle.osdp_msg.specs.declared.reply.Reply.{Reply}
+use Rattle.osdp_msg.proofs.Commands.{commands}
+use Rattle.osdp_msg.proofs.Replies.{replies}
+use Rattle.osdp_msg.proofs.Table.{bounded}
+use Rattle.osdp_controller.specs.Machine as controllers
+use Rattle.osdp_controller.specs.Machine.{Machine}
+use Rattle.osdp_controller.specs.Ticking.{Ticked, begins, gives_up, sends_frame, stays, ticks_in, tries_again}
+use Rattle.osdp_controller.specs.declared.exchange.Exchange.TheVariants.{Opening, Polling}
+use Rattle.osdp_controller.specs.declared.session.Session.{Session}
+use Rattle.osdp_controller.specs.declared.state.State.{State}
+use Rattle.osdp_controller.specs.declared.state.State.TheVariants.{Closed, Quiet, Idle, Waiting, Pausing}
+use Rattle.osdp_reader.specs.Queue as reader
+use Rattle.osdp_reader.specs.Queue.{Queue as EventQueue}
+use Rattle.osdp_link_laws.proofs.Lines.{both}
+use Rattle.osdp_link_laws.proofs.Stages.{Each}
+use Rattle.osdp_sim.specs.Schedules.{HoldsAlong}
+use Rattle.osdp_sim.specs.declared.step.SimStep.{SimStep}
+use Rattle.osdp_sim.specs.declared.step.SimStep.TheVariants.{Issue, Queue}
+
+-- ---- how long a message is
+
+pub command_is_short : (c : Command) → CommandFits c → controllers.command_size c ≤ 1 + most_data
+unfolding command_fault
+command_is_short c fits =
+    let code = command_code c in
+    let bytes = command_data c in
+    let well = commands.well code bytes c (record { code_is = refl; data_is = refl; fits = fits }) in
+    let few = bounded (command_length_allowed code (length bytes)) (length bytes) (command_counts_agree code bytes) well in
+    omega (arith, few)
+
+reply_is_short : (r : Reply) → ReplyFits r → length (reply_data r) ≤ most_data
+unfolding reply_fault
+reply_is_short r fits =
+    let code = reply_code r in
+    let bytes = reply_data r in
+    let well = replies.well code bytes r (record { code_is = refl; data_is = refl; fits = fits }) in
+    bounded (reply_length_allowed code (length bytes)) (length bytes) (reply_counts_agree code bytes) well
+
+pub event_is_short : (e : Event) → EventFits e → reader.event_size e ≤ 1 + most_data
+event_is_short e fits = let few = reply_is_short (event_reply e) fits in omega (arith, few)
+
+-- a step's command or event has its fields in their ranges
+abbrev pub OrderFits : SimStep → Type 0
+OrderFits (Issue number command) = CommandFits command
+OrderFits (Queue number event) = EventFits event
+OrderFits _ = Unit {0}
+
+-- so it is of each step of a run whose steps fit
+pub orders_fit : {S : Type 0} (taking : SimStep → S → S) (Fits : SimStep → S → Type 0) → ((step : SimStep) (s : S) → Fits step s → OrderFits step)
+    → (list : List SimStep) (s : S) → HoldsAlong taking Fits list s → Each OrderFits list
+orders_fit taking Fits fits [] s along = tt
+orders_fit taking Fits fits (step ∷ list) s along = (fits step s along.0, orders_fit taking Fits fits list (taking step s) along.1)
+
+-- ---- what waits
+
+-- No more than so many messages wait, with no more bytes than the longest of them would have, and there is room for as many as may wait.
+pub record IsShort (k n size places room : ℕ) : Type 0 where
+  pub few : n ≤ k
+  pub bytes : size ≤ k * (1 + most_data)
+  pub ample : room ≡ places * (1 + most_data)
+
+abbrev pub ShortCommands : ℕ → Machine → Type 0
+ShortCommands k m = IsShort k (length m.waiting) (controllers.bytes_waiting m.waiting) m.capacity m.room
+
+abbrev pub ShortEvents : ℕ → EventQueue → Type 0
+ShortEvents k q = IsShort k (length q.events) (reader.bytes_waiting q.events) q.capacity q.room
+
+-- where there is no room for a message as many wait as may
+no_room : (k n size places room more : ℕ) → IsShort k n size places room → more ≤ 1 + most_data
+    → (ltb n places && leb more (room - size)) ≡ false → places ≤ k
+no_room k n size places room more is fits refused = elim (leb_tells places n) [
+  | inl full ↦ omega (arith, is.few, full.1)
+  | inr place ↦ elim (leb_tells more (room - size)) [
+    | inl left ↦ absurd (let e = sym refused ∙ ap (λ b. b && leb more (room - size)) (lt-ltb n places place.1) ∙ left.0 in cc)
+    | inr less ↦ omega (arith, is.bytes, is.ample, fits, less.1)
+  ]
+]
+
+pub no_room_for_command : (k : ℕ) (c : Command) (m : Machine) → ShortCommands k m → CommandFits c → controllers.has_room c m ≡ false → m.capacity ≤ k
+no_room_for_command k c m is fits refused =
+    no_room k (length m.waiting) (controllers.bytes_waiting m.waiting) m.capacity m.room (controllers.command_size c) is (command_is_short c fits) refused
+
+pub no_room_for_event : (k : ℕ) (e : Event) (q : EventQueue) → ShortEvents k q → EventFits e → reader.lacks_room e q ≡ true → q.capacity ≤ k
+no_room_for_event k e q is fits refused =
+    no_room k (length q.events) (reader.bytes_waiting q.events) q.capacity q.room (reader.event_size e) is (event_is_short e fits)
+    (not_so (reader.has_room e q) refused)
+  where
+    not_so : (b : Bool) → not b ≡ true → b ≡ false
+    not_so true e = absurd cc
+    not_so false e = refl
+
+-- a message that has room has a place
+left_true : (a b : Bool) → (a && b) ≡ true → a ≡ true
+left_true true b e = refl
+left_true false b e = absurd cc
+
+pub place_for_command : (c : Command) (m : Machine) → controllers.has_room c m ≡ true → length m.waiting < m.capacity
+place_for_command c m is =
+    ltb-true (length m.waiting) m.capacity
+    (left_true (ltb (length m.waiting) m.capacity) (leb (controllers.command_size c) (m.room - controllers.bytes_waiting m.waiting)) is)
+
+pub place_for_event : (e : Event) (q : EventQueue) → reader.lacks_room e q ≡ false → length q.events < q.capacity
+place_for_event e q is =
+    ltb-true (length q.events) q.capacity
+    (left_true (ltb (length q.events) q.capacity) (leb (reader.event_size e) (q.room - reader.bytes_waiting q.events)) (so (reader.has_room e q) is))
+  where
+    so : (b : Bool) → not b ≡ false → b ≡ true
+    so true e = refl
+    so false e = absurd cc
+
+-- one more waits
+commands_bytes : (cs ds : List Command) → controllers.bytes_waiting (cs ++ ds) ≡ controllers.bytes_waiting cs + controllers.bytes_waiting ds
+commands_bytes [] ds = omega arith
+commands_bytes (c ∷ cs) ds = let rest = commands_bytes cs ds in omega (arith, rest)
+
+events_bytes : (es fs : List Event) → reader.bytes_waiting (es ++ fs) ≡ reader.bytes_waiting es + reader.bytes_waiting fs
+events_bytes [] fs = omega arith
+events_bytes (e ∷ es) fs = let rest = events_bytes es fs in omega (arith, rest)
+
+pub one_more_command : (k : ℕ) (c : Command) (m : Machine) → CommandFits c → ShortCommands k m → ShortCommands (k + 1) (controllers.after_submit c m)
+one_more_command k c m fits is = record {
+  few = omega (arith, is.few, length-append m.waiting (c ∷ []));
+  bytes = omega (arith, is.bytes, commands_bytes m.waiting (c ∷ []), command_is_short c fits);
+  ample = is.ample;
+}
+
+pub one_more_event : (k : ℕ) (e : Event) (q : EventQueue) → EventFits e → ShortEvents k q → ShortEvents (k + 1) (reader.queued e q)
+one_more_event k e q fits is = record {
+  few = omega (arith, is.few, length-append q.events (e ∷ []));
+  bytes = omega (arith, is.bytes, events_bytes q.events (e ∷ []), event_is_short e fits);
+  ample = is.ample;
+}
+
+-- no more wait than before, with no more bytes, and there is room for as many
+pub record FewCommands (m n : Machine) : Type 0 where
+  pub waiting : length n.waiting ≤ length m.waiting
+  pub bytes : controllers.bytes_waiting n.waiting ≤ controllers.bytes_waiting m.waiting
+  pub capacity : n.capacity ≡ m.capacity
+  pub room : n.room ≡ m.room
+
+pub record FewEvents (q p : EventQueue) : Type 0 where
+  pub events : length p.events ≤ length q.events
+  pub bytes : reader.bytes_waiting p.events ≤ reader.bytes_waiting q.events
+  pub capacity : p.capacity ≡ q.capacity
+  pub room : p.room ≡ q.room
+
+pub same_commands : (m : Machine) → FewCommands m m
+same_commands m = record { waiting = omega arith; bytes = omega arith; capacity = refl; room = refl }
+
+pub same_events : (q : EventQueue) → FewEvents q q
+same_events q = record { events = omega arith; bytes = omega arith; capacity = refl; room = refl }
+
+pub fewer_commands : (m n o : Machine) → FewCommands m n → FewCommands n o → FewCommands m o
+fewer_commands m n o one more = record {
+  waiting = omega (arith, one.waiting, more.waiting);
+  bytes = omega (arith, one.bytes, more.bytes);
+  capacity = more.capacity ∙ one.capacity;
+  room = more.room ∙ one.room;
+}
+
+pub fewer_events : (q p o : EventQueue) → FewEvents q p → FewEvents p o → FewEvents q o
+fewer_events q p o one more = record {
+  events = omega (arith, one.events, more.events);
+  bytes = omega (arith, one.bytes, more.bytes);
+  capacity = more.capacity ∙ one.capacity;
+  room = more.room ∙ one.room;
+}
+
+pub commands_stay_short : (k : ℕ) (m n : Machine) → FewCommands m n → ShortCommands k m → ShortCommands k n
+commands_stay_short k m n few is = record {
+  few = omega (arith, is.few, few.waiting);
+  bytes = omega (arith, is.bytes, few.bytes);
+  ample = few.room ∙ is.ample ∙ ap (λ (places : ℕ). places * (1 + most_data)) (sym few.capacity);
+}
+
+pub events_stay_short : (k : ℕ) (q p : EventQueue) → FewEvents q p → ShortEvents k q → ShortEvents k p
+events_stay_short k q p few is = record {
+  few = omega (arith, is.few, few.events);
+  bytes = omega (arith, is.bytes, few.bytes);
+  ample = few.room ∙ is.ample ∙ ap (λ (places : ℕ). places * (1 + most_data)) (sym few.capacity);
+}
+
+-- ---- what a tick and a packet leave
+
+-- a tick makes no command wait
+abbrev pub Few : List Command → Ticked → Type 0
+Few w t = (length t.waiting ≤ length w) × (controllers.bytes_waiting t.waiting ≤ controllers.bytes_waiting w)
+
+as_many : (w : List Command) → (length w ≤ length w) × (controllers.bytes_waiting w ≤ controllers.bytes_waiting w)
+as_many w = (omega arith, omega arith)
+
+pub tick_few : (state : State) (s : Session) (w : List Command) → Few w (ticks_in state s w)
+tick_few Closed s w = as_many w
+tick_few (Quiet until) s w = both (Few w) (leb until s.greatest) (begins Opening 0 s w) (stays s w) (as_many w) (as_many w)
+tick_few (Idle due) s [] =
+    both (Few []) (leb due s.greatest) (begins Polling (next_sequence s.number) s []) (stays s []) (as_many []) (as_many [])
+tick_few (Idle due) s (c ∷ w) = (omega arith, omega arith)
+tick_few (Waiting until k o) s w =
+    both (Few w) (leb until s.greatest) (tries_again k o s w) (stays s w)
+    (both (Few w) (ltb k s.config.sends) (sends_frame (k + 1) o s w) (gives_up o s w) (as_many w) (as_many w)) (as_many w)
+tick_few (Pausing until o) s w = both (Few w) (leb until s.greatest) (sends_frame 1 o s w) (stays s w) (as_many w) (as_many w)
+
+-- .. and no packet makes an event wait
+pub dropped : (b : Bool) (es : List Event)
+    → (length (if b then drop 1 es else es) ≤ length es) × (reader.bytes_waiting (if b then drop 1 es else es) ≤ reader.bytes_waiting es)
+dropped true [] = (omega arith, omega arith)
+dropped true (e ∷ es) = (omega arith, omega arith)
+dropped false es = (omega arith, omega arith)
