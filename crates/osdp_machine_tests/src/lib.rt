@@ -3,5 +3,7 @@
 //! They stand in a crate of their own since a crate with tests is proved twice.
 #![tactic(auto)]
 
+pub mod bench;
+
 #[cfg(test)]
 mod tests;

@@ -13,7 +13,7 @@ fn tells(rt: &impl Abort, reader: &mut Reader<Door>, row: &str, told: Option<Com
     let (given, sent) = row.split_once(' ').expect(rt, "a reply");
     let response = response_to_digits(rt, reader, given);
     assert!(rt; is_spelled(response.bytes(), sent), "{sent}");
-    assert!(rt; response.comset() == told);
+    assert!(rt; response.comset == told);
 }
 
 /// COMSET 5 38400 with number 1.

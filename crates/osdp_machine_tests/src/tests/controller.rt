@@ -5,8 +5,8 @@ mod withdrawing;
 
 use crate::tests::identity::config_at;
 use osdp_controller::*;
-use osdp_frame::{Address, CheckKind, Framer, Item};
-use osdp_msg::{Command, Reply};
+use osdp_frame::{Address, Burst, CheckKind, Framer, Item};
+use osdp_msg::{Command, Reply, Room, Spelling};
 use osdp_test_packets::{bytes_of, is_spelled};
 use std::alloc::Global;
 use std::process::Abort;
@@ -48,12 +48,18 @@ fn config(rt: &impl Abort) -> ControllerConfig {
 }
 
 fn new_controller(rt: &impl Abort, alloc: Global, capacity: usize) -> Controller {
-    let made = Controller::new(alloc, config(rt), capacity);
+    let made = Controller::new(alloc, config(rt), Room::of(capacity));
     made.ok().expect(rt, "a controller")
 }
 
-fn command(rt: &impl Abort, words: &[&str]) -> Command {
-    Command::parse(words).ok().expect(rt, "a command")
+/// The command of these words. Its bytes stand in `place`.
+fn command<'a>(rt: &impl Abort, words: &[&str], place: &'a mut Spelling) -> Command<'a> {
+    Command::parse(words, place).ok().expect(rt, "a command")
+}
+
+/// Whether two commands are the same.
+fn is_same(one: &Command<'_>, other: &Command<'_>) -> bool {
+    one.write().as_slice() == other.write().as_slice()
 }
 
 /// A framer of these bytes.
@@ -64,44 +70,46 @@ fn framer_of(rt: &impl Abort, bytes: &[u8]) -> Framer {
 }
 
 /// The report on the one packet of these digits.
-fn hear(rt: &impl Abort, controller: &mut Controller, digits: &str, now: u64) -> Option<Report> {
+fn hear(rt: &impl Abort, controller: &mut Controller, digits: &str, now: u64) -> KeptReport {
     let mut buffer = [0; 32];
     let mut framer = framer_of(rt, bytes_of(digits, &mut buffer).expect(rt, digits));
+    let mut report = KeptReport::new();
     match framer.next() {
-        Some(Item::Packet(frame)) => controller.on_frame(&frame, now),
-        _ => {
-            assert!(rt; false, "no packet");
-            None
-        }
+        Some(Item::Packet(frame)) => controller.hear(&frame, now, &mut report),
+        _ => assert!(rt; false, "no packet"),
     }
+    report
 }
 
 /// Nothing is told of the one packet of these digits.
 fn passes_by(rt: &impl Abort, controller: &mut Controller, digits: &str, now: u64) {
-    assert!(rt; hear(rt, controller, digits, now).is_none());
+    assert!(rt; !hear(rt, controller, digits, now).is_some());
 }
 
 /// A tick at this moment sends the packet of these digits and tells nothing.
 fn sends(rt: &impl Abort, controller: &mut Controller, now: u64, digits: &str) {
     assert!(rt; controller.due(now));
-    let step = controller.tick(now);
-    assert!(rt; step.report.is_none());
-    let frame = step.frame.expect(rt, "a frame");
-    assert!(rt; is_spelled(frame.encode().as_slice(), digits), "{digits}");
+    let mut out = Burst::new();
+    let mut report = KeptReport::new();
+    assert!(rt; controller.tick(now, &mut out, &mut report), "{digits}");
+    assert!(rt; !report.is_some());
+    assert!(rt; is_spelled(out.as_slice(), digits), "{digits}");
     assert!(rt; controller.outstanding());
 }
 
 /// A tick at this moment does nothing.
 fn stays(rt: &impl Abort, controller: &mut Controller, now: u64) {
     assert!(rt; !controller.due(now));
-    let step = controller.tick(now);
-    assert!(rt; step.report.is_none() && step.frame.is_none());
+    let mut report = KeptReport::new();
+    assert!(rt; !controller.tick(now, &mut Burst::new(), &mut report));
+    assert!(rt; !report.is_some());
 }
 
 /// A tick at this moment ends the session, since no reply came, with this command unsettled.
-fn ends(rt: &impl Abort, controller: &mut Controller, now: u64, command: &Option<Command>) {
-    let step = controller.tick(now);
-    assert!(rt; step.frame.is_none() && is_lost(&step.report, LostCause::NoReply, command));
+fn ends(rt: &impl Abort, controller: &mut Controller, now: u64, command: Option<&Command<'_>>) {
+    let mut report = KeptReport::new();
+    assert!(rt; !controller.tick(now, &mut Burst::new(), &mut report));
+    assert!(rt; is_lost(&report, LostCause::NoReply, command));
 }
 
 /// The next tick is due at this moment.
@@ -115,9 +123,9 @@ fn has_sent(rt: &impl Abort, controller: &Controller, frames: u32) {
 }
 
 /// Whether it is what an opened session tells.
-fn is_opened(rt: &impl Abort, report: &Option<Report>) -> bool {
-    match report {
-        Some(Report::Opened(id)) => *id == config_at(rt, 5).id,
+fn is_opened(rt: &impl Abort, report: &KeptReport) -> bool {
+    match report.read() {
+        Some(Report::Opened(id)) => id == config_at(rt, 5).id,
         _ => false,
     }
 }
@@ -146,31 +154,43 @@ fn opened(rt: &impl Abort, alloc: Global) -> Controller {
 }
 
 /// Whether it is what a settled command and its reply tell.
-fn is_settled(report: &Option<Report>, command: &Command, reply: &Reply) -> bool {
-    match report {
-        Some(Report::Settled(settled, answer)) => settled == command && answer == reply,
+fn is_settled(report: &KeptReport, command: &Command<'_>, reply: &Reply<'_>) -> bool {
+    match report.read() {
+        Some(Report::Settled(settled, answer)) => {
+            is_same(&settled, command) && answer.write().as_slice() == reply.write().as_slice()
+        }
         _ => false,
     }
 }
 
 /// Whether a session is told that ended for this cause, with this command unsettled.
-fn is_lost(report: &Option<Report>, cause: LostCause, command: &Option<Command>) -> bool {
-    match report {
-        Some(Report::Lost(told, unsettled)) => *told == cause && unsettled == command,
+fn is_lost(report: &KeptReport, cause: LostCause, command: Option<&Command<'_>>) -> bool {
+    let Some(Report::Lost(told, unsettled)) = report.read() else {
+        return false;
+    };
+    let is_of = match (&unsettled, command) {
+        (Some(one), Some(other)) => is_same(one, other),
+        (None, None) => true,
         _ => false,
-    }
+    };
+    told == cause && is_of
 }
 
-/// An OUT waits.
-fn submits_output(rt: &impl Abort, controller: &mut Controller) -> Command {
-    let output = command(rt, &["OUT", "0:2:0"]);
-    assert!(rt; controller.submit(output.copy()).is_ok());
+/// An OUT waits. Its bytes stand in `place`.
+fn submits_output<'a>(
+    rt: &impl Abort,
+    controller: &mut Controller,
+    place: &'a mut Spelling,
+) -> Command<'a> {
+    let output = command(rt, &["OUT", "0:2:0"], place);
+    assert!(rt; controller.submit(&output).is_ok());
     output
 }
 
 /// An OUT goes out at 411, and is settled at 420.
 fn settles_output(rt: &impl Abort, controller: &mut Controller) {
-    let output = submits_output(rt, controller);
+    let mut place = Spelling::new();
+    let output = submits_output(rt, controller, &mut place);
     is_due(rt, controller, Some(410));
     sends(rt, controller, 411, OUT_1);
     let report = hear(rt, controller, ACK_1, 420);
@@ -178,11 +198,11 @@ fn settles_output(rt: &impl Abort, controller: &mut Controller) {
 }
 
 /// The event of a report is spelled so.
-fn tells_event(rt: &impl Abort, report: Option<Report>, digits: &str) {
-    match report {
+fn tells_event(rt: &impl Abort, report: &KeptReport, digits: &str) {
+    match report.read() {
         Some(Report::Event(event)) => {
             assert!(rt;
-                is_spelled(event.to_reply().write().as_slice(), digits),
+                is_spelled(event.reply().write().as_slice(), digits),
                 "{digits}"
             );
         }
@@ -195,7 +215,7 @@ fn tells_keys(rt: &impl Abort, controller: &mut Controller) {
     is_due(rt, controller, Some(470));
     stays(rt, controller, 469);
     sends(rt, controller, 470, POLL_2);
-    tells_event(rt, hear(rt, controller, KEYPAD_2, 480), "5300023132");
+    tells_event(rt, &hear(rt, controller, KEYPAD_2, 480), "5300023132");
 }
 
 /// POLL 3 goes out three times, and the session ends at 1130.
@@ -205,7 +225,7 @@ fn loses_reader(rt: &impl Abort, controller: &mut Controller) {
     sends(rt, controller, 730, POLL_3);
     sends(rt, controller, 930, POLL_3);
     has_sent(rt, controller, 3);
-    ends(rt, controller, 1130, &None);
+    ends(rt, controller, 1130, None);
 }
 
 #[test]
@@ -247,7 +267,8 @@ fn asks_busy_reader(rt: &impl Abort, controller: &mut Controller, now: u64, fram
 #[test]
 fn a_reader_that_is_always_busy(rt: HostRuntime) {
     let mut controller = opened(&rt, rt.alloc());
-    let output = submits_output(&rt, &mut controller);
+    let mut place = Spelling::new();
+    let output = submits_output(&rt, &mut controller, &mut place);
     for count in 1..=20u32 {
         let now = 400 + 50 * u64::from(count);
         asks_busy_reader(&rt, &mut controller, now, count);
@@ -255,7 +276,7 @@ fn a_reader_that_is_always_busy(rt: HostRuntime) {
     sends(&rt, &mut controller, 1450, OUT_1);
     has_sent(&rt, &controller, 21);
     let report = hear(&rt, &mut controller, BUSY, 1450);
-    assert!(rt; is_lost(&report, LostCause::TooBusy, &Some(output)));
+    assert!(rt; is_lost(&report, LostCause::TooBusy, Some(&output)));
     has_sent(&rt, &controller, 0);
 }
 
@@ -263,32 +284,34 @@ fn a_reader_that_is_always_busy(rt: HostRuntime) {
 #[test]
 fn a_reader_that_finds_damage(rt: HostRuntime) {
     let mut controller = opened(&rt, rt.alloc());
-    let output = submits_output(&rt, &mut controller);
+    let mut place = Spelling::new();
+    let output = submits_output(&rt, &mut controller, &mut place);
     for _ in 0..3 {
         polls(&rt, &mut controller, 500, OUT_1, NAK_1);
     }
-    ends(&rt, &mut controller, 500, &Some(output));
+    ends(&rt, &mut controller, 500, Some(&output));
 }
 
 #[test]
 fn a_number_that_is_refused(rt: HostRuntime) {
     let mut controller = opened(&rt, rt.alloc());
-    let output = submits_output(&rt, &mut controller);
+    let mut place = Spelling::new();
+    let output = submits_output(&rt, &mut controller, &mut place);
     sends(&rt, &mut controller, 411, OUT_1);
     let report = hear(&rt, &mut controller, NAK_4, 412);
-    assert!(rt; is_lost(&report, LostCause::NumberRefused, &Some(output)));
+    assert!(rt; is_lost(&report, LostCause::NumberRefused, Some(&output)));
     stays(&rt, &mut controller, u64::MAX);
 }
 
 /// No controller is made with this capacity, whether there is memory or not.
 fn is_out_of_range(rt: &impl Abort, alloc: Global, capacity: usize) {
-    let made = Controller::new(alloc, config(rt), capacity);
+    let made = Controller::new(alloc, config(rt), Room::of(capacity));
     assert_eq!(rt; made.err(), Some(ControllerFault::OutOfRange));
 }
 
 /// A controller is made with this capacity.
 fn is_made(rt: &impl Abort, alloc: Global, capacity: usize) {
-    assert!(rt; Controller::new(alloc, config(rt), capacity).is_ok());
+    assert!(rt; Controller::new(alloc, config(rt), Room::of(capacity)).is_ok());
 }
 
 #[test]
@@ -303,21 +326,18 @@ fn settings_in_their_ranges(rt: HostRuntime) {
 fn settings_with_no_frame_to_send(rt: HostRuntime) {
     let mut config = config(&rt);
     config.sends = 0;
-    let made = Controller::new(rt.alloc(), config, 1);
+    let made = Controller::new(rt.alloc(), config, Room::of(1));
     assert_eq!(rt; made.err(), Some(ControllerFault::OutOfRange));
 }
 
-/// The command comes back with this fault.
+/// The command is refused with this fault.
 fn refuses(
     rt: &impl Abort,
     controller: &mut Controller,
-    command: &Command,
+    command: &Command<'_>,
     fault: ControllerFault,
 ) {
-    match controller.submit(command.copy()) {
-        Ok(()) => assert!(rt; false, "taken"),
-        Err((told, back)) => assert!(rt; told == fault && back == *command),
-    }
+    assert_eq!(rt; controller.submit(command), Err(fault));
 }
 
 #[test]
@@ -330,7 +350,7 @@ fn commands_that_are_refused(rt: HostRuntime) {
         ControllerFault::PollSubmitted,
     );
     for _ in 0..4 {
-        assert!(rt; controller.submit(Command::LocalStatus).is_ok());
+        assert!(rt; controller.submit(&Command::LocalStatus).is_ok());
     }
     refuses(
         &rt,
@@ -366,10 +386,11 @@ const COM_1: &str = "53850C00015407802500001B";
 
 /// A COMSET to address 7 is settled, and the session ends.
 fn moves(rt: &impl Abort, controller: &mut Controller) {
-    let comset = command(rt, &["COMSET", "7", "9600"]);
-    assert!(rt; controller.submit(comset).is_ok());
+    let mut place = Spelling::new();
+    let comset = command(rt, &["COMSET", "7", "9600"], &mut place);
+    assert!(rt; controller.submit(&comset).is_ok());
     sends(rt, controller, 411, COMSET_1);
-    match hear(rt, controller, COM_1, 412) {
+    match hear(rt, controller, COM_1, 412).read() {
         Some(Report::Moved(_, answered)) => assert_eq!(rt; answered.baud_rate, 9600),
         _ => assert!(rt; false, "moved"),
     }
@@ -390,7 +411,7 @@ fn another_address(rt: HostRuntime) {
 fn out_of_memory_is_told(rt: HostRuntime) {
     is_out_of_range(&rt, rt.alloc(), 0);
     is_out_of_range(&rt, rt.alloc(), 1025);
-    match Controller::new(rt.alloc(), config(&rt), 4) {
+    match Controller::new(rt.alloc(), config(&rt), Room::of(4)) {
         Ok(controller) => assert!(rt; !controller.outstanding()),
         Err(fault) => assert_eq!(rt; fault, ControllerFault::NoMemory),
     }

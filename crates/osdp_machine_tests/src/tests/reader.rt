@@ -6,38 +6,19 @@
 mod answers;
 mod damage;
 
+use crate::bench::{Bench, Given};
 use crate::tests::identity::config_at;
 use crate::tests::laws::cites;
 use crate::tests::responses::{response_to, response_to_digits};
-use arrayvec::ArrayVec;
 use osdp_frame::{Framer, Item};
-use osdp_msg::{Event, Keypad, NakReason};
+use osdp_msg::{Event, Keypad, NakReason, Room};
 use osdp_reader::*;
 use osdp_test_packets::{bytes_of, is_spelled};
 use std::alloc::Global;
-use std::mem;
 use std::process::Abort;
 
 /// The row of an ID to address 5 with number 0.
 const ID: &str = "530508000061003F Zero 53851300004553494D010101000000010000E3";
-
-/// A device that gives one answer to the first command that reaches it, and is done with all others.
-#[derive(Drop)]
-struct Bench {
-    first: Answer,
-}
-
-impl Handler for Bench {
-    ghost use Rattle.osdp_reader.specs.declared.handler.Answer.TheVariants.{Done};
-
-    ghost answer_of = { λ bench command. bench.first };
-
-    ghost after = { λ bench command. record { first = Done } };
-
-    fn answer(&mut self, _command: &osdp_msg::Command) -> Answer {
-        mem::replace(&mut self.first, Answer::Done)
-    }
-}
 
 /// A new reader whose handler gives this answer first.
 fn reader_with(
@@ -45,17 +26,15 @@ fn reader_with(
     alloc: Global,
     address: u8,
     capacity: usize,
-    first: Answer,
+    first: Given,
 ) -> Reader<Bench> {
-    let made = Reader::new(alloc, config_at(rt, address), Bench { first }, capacity);
+    let made = Reader::new(alloc, config_at(rt, address), Bench { first }, Room::of(capacity));
     made.ok().expect(rt, "a reader")
 }
 
 /// The event of these pressed keys.
-fn keys(rt: &impl Abort, pressed: &[u8]) -> Event {
-    let mut digits = ArrayVec::new();
-    assert!(rt; digits.try_extend_from_slice(pressed).is_ok());
-    Event::Keypad(Keypad { reader: 0, digits })
+fn keys<'a>(rt: &impl Abort, pressed: &'a [u8]) -> Event<'a> {
+    Event::Keypad(Keypad::new(0, pressed).expect(rt, "keys"))
 }
 
 /// How a row names a line of the table.
@@ -74,7 +53,7 @@ fn name_of(kind: Kind) -> &'static str {
 /// The packet of these digits meets this line of the table and is answered so.
 fn meets_line(rt: &impl Abort, reader: &mut Reader<Bench>, given: &str, kind: &str, sent: &str) {
     let response = response_to_digits(rt, reader, given);
-    assert!(rt; name_of(response.kind()) == kind, "{given}");
+    assert!(rt; name_of(response.kind) == kind, "{given}");
     assert!(rt; is_spelled(response.bytes(), sent), "{sent}");
 }
 
@@ -116,7 +95,7 @@ fn are_answered(rt: &impl Abort, reader: &mut Reader<Bench>, rows: &str) {
 }
 
 /// A reader at 5 that was opened by ID.
-fn opened(rt: &impl Abort, alloc: Global, capacity: usize, first: Answer) -> Reader<Bench> {
+fn opened(rt: &impl Abort, alloc: Global, capacity: usize, first: Given) -> Reader<Bench> {
     let mut reader = reader_with(rt, alloc, 5, capacity, first);
     is_answered(rt, &mut reader, ID);
     reader
@@ -124,12 +103,12 @@ fn opened(rt: &impl Abort, alloc: Global, capacity: usize, first: Answer) -> Rea
 
 /// The packets of these rows come to a reader that was opened, and are answered so.
 fn opened_are_answered(rt: &impl Abort, alloc: Global, rows: &str) {
-    are_answered(rt, &mut opened(rt, alloc, 4, Answer::Done), rows);
+    are_answered(rt, &mut opened(rt, alloc, 4, Given::Done), rows);
 }
 
 /// Keys are pressed, and there is room for the event.
 fn press(rt: &impl Abort, reader: &mut Reader<Bench>, pressed: &[u8]) {
-    assert!(rt; reader.submit_event(keys(rt, pressed)).is_ok());
+    assert!(rt; reader.submit_event(&keys(rt, pressed)));
 }
 
 /// Keys 12 are told to POLL 1 and its repeat. POLL 3 is not the next, and POLL 2 says that they were heard.
@@ -144,7 +123,7 @@ const TOLD: &str = "\
 
 #[test]
 fn an_event_is_told_until_the_next_number(rt: HostRuntime) {
-    let mut reader = opened(&rt, rt.alloc(), 4, Answer::Done);
+    let mut reader = opened(&rt, rt.alloc(), 4, Given::Done);
     assert!(rt; is_spelled(reader.stored(), "none"));
     press(&rt, &mut reader, b"12");
     are_answered(&rt, &mut reader, TOLD);
@@ -168,7 +147,7 @@ const ANEW: &str = "\
 
 #[test]
 fn number_zero_begins_anew(rt: HostRuntime) {
-    let mut reader = reader_with(&rt, rt.alloc(), 5, 4, Answer::Done);
+    let mut reader = reader_with(&rt, rt.alloc(), 5, 4, Given::Done);
     are_answered(&rt, &mut reader, OPENING);
     press(&rt, &mut reader, b"12");
     are_answered(&rt, &mut reader, ANEW);
@@ -176,7 +155,7 @@ fn number_zero_begins_anew(rt: HostRuntime) {
 
 /// An opened reader with room for so many events, which has told keys 12 to POLL 1.
 fn told_keys(rt: &impl Abort, alloc: Global, capacity: usize) -> Reader<Bench> {
-    let mut reader = opened(rt, alloc, capacity, Answer::Done);
+    let mut reader = opened(rt, alloc, capacity, Given::Done);
     press(rt, &mut reader, b"12");
     let row = "53050700016040 Taken 53850B0001530002313264";
     is_answered(rt, &mut reader, row);
@@ -187,12 +166,9 @@ fn told_keys(rt: &impl Abort, alloc: Global, capacity: usize) -> Reader<Bench> {
 const HEARD: &str = "5305070002603F Taken 538507000240DF";
 
 #[test]
-fn a_full_queue_gives_the_event_back(rt: HostRuntime) {
+fn a_full_queue_takes_no_event(rt: HostRuntime) {
     let mut reader = told_keys(&rt, rt.alloc(), 1);
-    match reader.submit_event(keys(&rt, b"9")) {
-        Ok(()) => assert!(rt; false, "the queue is full"),
-        Err(event) => assert!(rt; event == keys(&rt, b"9")),
-    }
+    assert!(rt; !reader.submit_event(&keys(&rt, b"9")));
     is_answered(&rt, &mut reader, HEARD);
     press(&rt, &mut reader, b"9");
     let row = "5305070003603E Taken 53850A0003530001398E";
@@ -227,11 +203,11 @@ fn is_moved(rt: &impl Abort, reader: &mut Reader<Bench>, comset: &str, later: &s
 /// A COMSET with number 1, then POLL 2 to address 5 and to 7; one with number 0 after POLL 1, then POLL 0 to 5 and POLL 1 to 7.
 #[test]
 fn comset_moves_the_reader(rt: HostRuntime) {
-    let mut reader = opened(&rt, rt.alloc(), 4, Answer::Done);
+    let mut reader = opened(&rt, rt.alloc(), 4, Given::Done);
     let comset = "53050C00016E078025000081 Taken 53850C00015407802500001B";
     let later = "5305070002603F Silent none\n5307070002603D Wrong 53870800024104D7";
     is_moved(&rt, &mut reader, comset, later);
-    let mut reader = opened(&rt, rt.alloc(), 4, Answer::Done);
+    let mut reader = opened(&rt, rt.alloc(), 4, Given::Done);
     is_answered(&rt, &mut reader, "53050700016040 Taken 538507000140E0");
     let comset = "53050C00006E078025000082 Zero 53850C00005407802500001C";
     let later = "53050700006041 Silent none\n5307070001603E Wrong 53870800014104D8";
@@ -246,7 +222,7 @@ const KEPT: &str = "\
 
 #[test]
 fn comset_to_its_own_address_or_none_keeps_all(rt: HostRuntime) {
-    let mut reader = opened(&rt, rt.alloc(), 4, Answer::Done);
+    let mut reader = opened(&rt, rt.alloc(), 4, Given::Done);
     are_answered(&rt, &mut reader, KEPT);
     assert_eq!(rt; reader.address().get(), 5);
     is_answered(&rt, &mut reader, "5305070003603E Taken 538507000340DE");
@@ -255,7 +231,7 @@ fn comset_to_its_own_address_or_none_keeps_all(rt: HostRuntime) {
 /// A POLL with a security block to a new reader at address 0, and POLL 1, which shows that it opened nothing.
 #[test]
 fn a_security_block_is_refused(rt: HostRuntime) {
-    let mut reader = reader_with(&rt, rt.alloc(), 0, 4, Answer::Done);
+    let mut reader = reader_with(&rt, rt.alloc(), 0, 4, Given::Done);
     for row in [
         "530009000802156025 Secured 53800800004105DF 0 none",
         "53000700016045 Wrong 53800800014104DF",
@@ -290,9 +266,9 @@ fn made(
     capacity: usize,
 ) -> Result<Reader<Bench>, ReaderFault> {
     let bench = Bench {
-        first: Answer::Done,
+        first: Given::Done,
     };
-    Reader::new(alloc, config_at(rt, address).copy(), bench, capacity)
+    Reader::new(alloc, config_at(rt, address).copy(), bench, Room::of(capacity))
 }
 
 /// Nothing waits in a new reader with these settings, and nothing is stored.

@@ -10,10 +10,12 @@ use osdp_test_packets::{PACKETS, check_anew};
 fn feed(rt: &impl Abort, controller: &mut Controller, bytes: &[u8]) -> usize {
     let mut framer = framer_of(rt, bytes);
     framer.gap();
+    let mut report = KeptReport::new();
     let mut packets = 0usize;
     for _ in 0..bytes.len() {
         if let Some(Item::Packet(frame)) = framer.next() {
-            assert!(rt; controller.on_frame(&frame, 420).is_none());
+            controller.hear(&frame, 420, &mut report);
+            assert!(rt; !report.is_some());
             packets = packets.saturating_add(1);
         }
         framer.advance();
@@ -54,7 +56,8 @@ fn feed_changes(rt: &impl Abort, controller: &mut Controller, digits: &str) -> u
 #[test]
 fn packets_with_one_byte_changed(rt: HostRuntime) {
     let mut controller = opened(&rt, rt.alloc());
-    let output = submits_output(&rt, &mut controller);
+    let mut place = Spelling::new();
+    let output = submits_output(&rt, &mut controller, &mut place);
     sends(&rt, &mut controller, 411, OUT_1);
     let mut packets = 0usize;
     for digits in PACKETS.lines() {
@@ -67,27 +70,27 @@ fn packets_with_one_byte_changed(rt: HostRuntime) {
 }
 
 /// Whether it is told that a number was refused while this command was outstanding.
-fn is_number_refused(report: &Option<Report>, command: &Command) -> bool {
-    match report {
-        Some(Report::Lost(LostCause::NumberRefused, Some(told))) => told == command,
+fn is_number_refused(report: &KeptReport, command: &Command<'_>) -> bool {
+    match report.read() {
+        Some(Report::Lost(LostCause::NumberRefused, Some(told))) => is_same(&told, command),
         _ => false,
     }
 }
 
 /// Whether it is told that the reply to this command has this code and cannot be read.
-fn is_unread(report: &Option<Report>, command: &Command, code: u8) -> bool {
-    match report {
-        Some(Report::Unread(Some(told), told_code)) => told == command && *told_code == code,
+fn is_unread(report: &KeptReport, command: &Command<'_>, code: u8) -> bool {
+    match report.read() {
+        Some(Report::Unread(Some(told), told_code)) => is_same(&told, command) && told_code == code,
         _ => false,
     }
 }
 
 /// Whether the report is what this reply to the command has to bring about.
-fn is_due_to(report: &Option<Report>, reply: &Reply, command: &Command) -> bool {
+fn is_due_to(report: &KeptReport, reply: &Reply<'_>, command: &Command<'_>) -> bool {
     match reply {
-        Reply::Busy => report.is_none(),
-        Reply::Nak(nak) => match nak.reason {
-            NakReason::CheckCharacters => report.is_none(),
+        Reply::Busy => !report.is_some(),
+        Reply::Nak(nak) => match nak.reason() {
+            NakReason::CheckCharacters => !report.is_some(),
             NakReason::UnexpectedSequence => is_number_refused(report, command),
             _ => is_settled(report, command, reply),
         },
@@ -97,14 +100,14 @@ fn is_due_to(report: &Option<Report>, reply: &Reply, command: &Command) -> bool 
 
 /// Whether the report is what a frame has to bring about while this command of 5 is outstanding with this number.
 fn is_due_report(
-    report: &Option<Report>,
+    report: &KeptReport,
     frame: &FrameView<'_>,
-    command: &Command,
+    command: &Command<'_>,
     number: u8,
 ) -> bool {
     let is_from_reader = frame.is_reply() && frame.address().get() == 5 && !frame.has_block();
     if !is_from_reader || frame.seq().get() != number {
-        return report.is_none();
+        return !report.is_some();
     }
     match Reply::read(frame.code(), frame.payload()) {
         Ok(reply) => is_due_to(report, &reply, command),
@@ -118,38 +121,42 @@ fn open(rt: &impl Abort, controller: &mut Controller) {
         let now = controller.next_deadline().expect(rt, "a deadline");
         sends(rt, controller, now, ID);
         let report = hear(rt, controller, PDID, now);
-        assert!(rt; matches!(report, Some(Report::Opened(_))));
+        assert!(rt; matches!(report.read(), Some(Report::Opened(_))));
     }
 }
 
 /// Sends the command, in a new session where none stands, and gives the number that it goes by.
-fn ask(rt: &impl Abort, controller: &mut Controller, command: &Command) -> u8 {
+fn ask(rt: &impl Abort, controller: &mut Controller, command: &Command<'_>) -> u8 {
     open(rt, controller);
-    assert!(rt; controller.submit(command.copy()).is_ok());
+    assert!(rt; controller.submit(command).is_ok());
     let now = controller.next_deadline().expect(rt, "a deadline");
-    let frame = controller.tick(now).frame.expect(rt, "a frame");
-    assert!(rt; is_spelled(frame.view().body(), "6800020000"));
-    frame.view().seq().get()
+    let mut out = Burst::new();
+    assert!(rt; controller.tick(now, &mut out, &mut KeptReport::new()));
+    let packet = out.as_slice();
+    assert!(rt; packet.len() == 11);
+    assert!(rt; is_spelled(&packet[5..10], "6800020000"));
+    packet[4] % 4
 }
 
 /// The frame brings about what it has to while this command is outstanding.
 fn answer_with_frame(
     rt: &impl Abort,
     controller: &mut Controller,
-    command: &Command,
+    command: &Command<'_>,
     number: u8,
     frame: &FrameView<'_>,
 ) {
-    let report = controller.on_frame(frame, 0);
+    let mut report = KeptReport::new();
+    controller.hear(frame, 0, &mut report);
     assert!(rt; is_due_report(&report, frame, command, number));
-    assert!(rt; controller.outstanding() == report.is_none());
+    assert!(rt; controller.outstanding() == !report.is_some());
 }
 
 /// How many packets the bytes begin with, one or none. It brings about what it has to while this command is outstanding.
 fn answer_with(
     rt: &impl Abort,
     controller: &mut Controller,
-    command: &Command,
+    command: &Command<'_>,
     number: u8,
     bytes: &[u8],
 ) -> usize {
@@ -181,7 +188,7 @@ fn changed_reply(rt: &impl Abort, packet: &[u8], number: u8, place: usize, chang
 fn answer_with_changes(
     rt: &impl Abort,
     controller: &mut Controller,
-    command: &Command,
+    command: &Command<'_>,
     packet: &[u8],
     place: usize,
 ) -> usize {
@@ -201,10 +208,10 @@ fn answer_with_changes(
 }
 
 /// Ticks alone end the session, and then another one opens.
-fn opens_again(rt: &impl Abort, controller: &mut Controller, command: &Command) {
+fn opens_again(rt: &impl Abort, controller: &mut Controller, command: &Command<'_>) {
     for _ in 0..8 {
         if let Some(deadline) = controller.next_deadline() {
-            let _ = controller.tick(deadline);
+            let _ = controller.tick(deadline, &mut Burst::new(), &mut KeptReport::new());
         }
     }
     is_due(rt, controller, None);
@@ -213,7 +220,8 @@ fn opens_again(rt: &impl Abort, controller: &mut Controller, command: &Command) 
 
 /// The bytes of the length aside, each change is a packet, or, of the kind of check, may be. A session opens after all.
 fn changes_are_answered(rt: &impl Abort, alloc: Global, packet: &[u8], place: usize) {
-    let output = command(rt, &["OUT", "0:2:0"]);
+    let mut bytes = Spelling::new();
+    let output = command(rt, &["OUT", "0:2:0"], &mut bytes);
     let mut controller = new_controller(rt, alloc, 1);
     let packets = answer_with_changes(rt, &mut controller, &output, packet, place);
     assert!(rt; packets == 256 || place == 4 && packets >= 128);

@@ -11,19 +11,23 @@ const OUT_3_ON: &str = "53050B000268030200002E";
 
 /// An order for an output waits.
 fn orders(rt: &impl Abort, controller: &mut Controller, record: &str) {
-    let order = command(rt, &["OUT", record]);
-    assert!(rt; controller.submit(order).is_ok());
+    let mut place = Spelling::new();
+    let order = command(rt, &["OUT", record], &mut place);
+    assert!(rt; controller.submit(&order).is_ok());
 }
 
 /// The command that is taken back is the order for this output.
 fn takes_back(rt: &impl Abort, controller: &mut Controller, record: &str) {
-    let order = command(rt, &["OUT", record]);
-    assert!(rt; controller.withdraw() == Some(order));
+    let mut place = Spelling::new();
+    let order = command(rt, &["OUT", record], &mut place);
+    let first = controller.withdrawable().expect(rt, "a command");
+    assert!(rt; is_same(&first, &order));
+    assert!(rt; controller.withdraw());
 }
 
 /// No command is taken back, and as many wait as before.
 fn takes_none_back(rt: &impl Abort, controller: &mut Controller, waiting: usize) {
-    assert!(rt; controller.withdraw().is_none());
+    assert!(rt; controller.withdrawable().is_none() && !controller.withdraw());
     assert_eq!(rt; controller.waiting(), waiting);
 }
 
@@ -33,8 +37,9 @@ fn loses_first_order(rt: &impl Abort, controller: &mut Controller) {
     takes_none_back(rt, controller, 3);
     sends(rt, controller, 611, OUT_0_ON);
     sends(rt, controller, 811, OUT_0_ON);
-    let first = command(rt, &["OUT", "0:2:0"]);
-    ends(rt, controller, 1011, &Some(first));
+    let mut place = Spelling::new();
+    let first = command(rt, &["OUT", "0:2:0"], &mut place);
+    ends(rt, controller, 1011, Some(&first));
     assert!(rt; controller.is_closed());
 }
 
@@ -52,7 +57,8 @@ fn settles(rt: &impl Abort, controller: &mut Controller, now: u64, row: (&str, &
     let (record, packet, ack) = row;
     sends(rt, controller, now, packet);
     let report = hear(rt, controller, ack, now);
-    let order = command(rt, &["OUT", record]);
+    let mut place = Spelling::new();
+    let order = command(rt, &["OUT", record], &mut place);
     assert!(rt; is_settled(&report, &order, &Reply::Ack));
 }
 

@@ -18,29 +18,22 @@ fn what_is_no_command_is_refused(rt: HostRuntime) {
     for row in NO_COMMANDS.lines() {
         opened_are_answered(&rt, rt.alloc(), row);
     }
-    let mut reader = reader_with(&rt, rt.alloc(), 5, 4, Answer::Done);
+    let mut reader = reader_with(&rt, rt.alloc(), 5, 4, Given::Done);
     are_answered(&rt, &mut reader, NO_COMMAND_AT_ZERO);
 }
 
-/// One byte of this value.
-fn one_byte<const N: usize>(value: u8) -> ArrayVec<u8, N> {
-    let mut bytes = ArrayVec::new();
-    let _ = bytes.try_push(value);
-    bytes
-}
-
 /// The handler's answer that has this name in the table below.
-fn answer_of(name: &str) -> Answer {
+fn answer_of(name: &str) -> Given {
     match name {
-        "local" => Answer::Local(1, 0),
-        "list" => Answer::List(one_byte(1)),
-        "done" => Answer::Done,
-        "maker" => Answer::Maker([0x53, 0x49, 0x4d], one_byte(1)),
-        "length" => Answer::Refuse(NakReason::CommandLength),
-        "code" => Answer::Refuse(NakReason::UnknownCommand),
-        "number" => Answer::Refuse(NakReason::UnexpectedSequence),
-        "record" => Answer::Refuse(NakReason::RecordNotProcessed),
-        _ => Answer::Refuse(NakReason::from(77)),
+        "local" => Given::Local(1, 0),
+        "list" => Given::List(1),
+        "done" => Given::Done,
+        "maker" => Given::Maker(1),
+        "length" => Given::Refuse(NakReason::CommandLength),
+        "code" => Given::Refuse(NakReason::UnknownCommand),
+        "number" => Given::Refuse(NakReason::UnexpectedSequence),
+        "record" => Given::Refuse(NakReason::RecordNotProcessed),
+        _ => Given::Refuse(NakReason::from(77)),
     }
 }
 
@@ -75,7 +68,7 @@ fn is_told(rt: &impl Abort, alloc: Global, row: &str) {
     let mut reader = opened(rt, alloc, 4, answer_of(name));
     for kind in [Kind::Taken, Kind::Repeat] {
         let response = response_to_digits(rt, &mut reader, given);
-        assert_eq!(rt; response.kind(), kind, "{row}");
+        assert_eq!(rt; response.kind, kind, "{row}");
         assert!(rt; is_spelled(response.bytes(), sent), "{sent}");
     }
 }
@@ -97,7 +90,7 @@ const REPEAT: &str = "\
 
 #[test]
 fn a_repeat_does_not_reach_the_handler(rt: HostRuntime) {
-    let refusal = Answer::Refuse(NakReason::UnknownCommand);
+    let refusal = Given::Refuse(NakReason::UnknownCommand);
     let mut reader = opened(&rt, rt.alloc(), 4, refusal);
     are_answered(&rt, &mut reader, REPEAT);
 }

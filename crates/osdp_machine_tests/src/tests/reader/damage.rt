@@ -2,6 +2,7 @@
 
 use super::*;
 use crate::tests::damage::{changed, checked_count};
+use crate::tests::responses::{Response, response_of};
 use osdp_check::{Check, Crc16};
 use osdp_test_packets::{PACKETS, check_anew};
 
@@ -10,13 +11,13 @@ fn hand_over(rt: &impl Abort, reader: &mut Reader<Bench>, run: &[u8]) -> (usize,
     let mut framer = Framer::new();
     assert_eq!(rt; framer.push(run), run.len());
     framer.gap();
-    let mut answer = Response::Silent;
+    let mut answer = Response::silent();
     let mut count: usize = 0;
     for _ in 0..=run.len() {
         match framer.next() {
             None => break,
             Some(Item::Packet(packet)) => {
-                answer = reader.on_frame(&packet);
+                answer = response_of(reader, &packet);
                 count = count.saturating_add(1);
             }
             Some(Item::Skipped(_) | Item::Refused(_)) => {}
@@ -31,12 +32,12 @@ const DAMAGED: &str = "53001400016B0001000101075300070000604624";
 
 #[test]
 fn a_packet_within_a_damaged_one_is_answered(rt: HostRuntime) {
-    let mut reader = reader_with(&rt, rt.alloc(), 0, 4, Answer::Done);
+    let mut reader = reader_with(&rt, rt.alloc(), 0, 4, Given::Done);
     let mut buffer = [0; 32];
     let run = bytes_of(DAMAGED, &mut buffer).expect(&rt, DAMAGED);
     let (count, answer) = hand_over(&rt, &mut reader, run);
     assert_eq!(rt; count, 1);
-    assert_eq!(rt; answer.kind(), Kind::Zero);
+    assert_eq!(rt; answer.kind, Kind::Zero);
     assert!(rt; is_spelled(answer.bytes(), "538007000040E6"));
 }
 
@@ -47,7 +48,7 @@ fn changes_at(rt: &impl Abort, reader: &mut Reader<Bench>, packet: &[u8], place:
         let run = changed(rt, packet, place, change);
         assert!(rt; packet.len() <= 32);
         let (packets, answer) = hand_over(rt, reader, &run[..packet.len()]);
-        assert_eq!(rt; answer.kind(), Kind::Silent);
+        assert_eq!(rt; answer.kind, Kind::Silent);
         count = count.saturating_add(packets);
     }
     count
@@ -67,7 +68,7 @@ fn changes_of(rt: &impl Abort, reader: &mut Reader<Bench>, digits: &str) -> usiz
 /// One changed byte leaves no packet but `53000800B060EBAA`: with another kind of check the byte EB is data, and AA the checksum.
 #[test]
 fn no_changed_byte_stops_a_reader(rt: HostRuntime) {
-    let mut reader = opened(&rt, rt.alloc(), 4, Answer::Done);
+    let mut reader = opened(&rt, rt.alloc(), 4, Given::Done);
     let mut count: usize = 0;
     for digits in PACKETS.lines() {
         count = count.saturating_add(changes_of(&rt, &mut reader, digits));
@@ -87,20 +88,20 @@ fn id_to(rt: &impl Abort, address: u8) -> [u8; 8] {
 fn meets(rt: &impl Abort, reader: &mut Reader<Bench>, run: &[u8]) -> Response {
     match response_to(rt, reader, run) {
         Some(response) => response,
-        None => Response::Silent,
+        None => Response::silent(),
     }
 }
 
 /// An ID with number 0 comes to the reader at this address, and is answered.
 fn opens(rt: &impl Abort, reader: &mut Reader<Bench>, address: u8) {
     let answer = meets(rt, reader, &id_to(rt, address));
-    assert_eq!(rt; answer.kind(), Kind::Zero);
+    assert_eq!(rt; answer.kind, Kind::Zero);
 }
 
 /// A reader at this address that was opened by ID; at 5 for the configuration address.
 fn opened_at(rt: &impl Abort, alloc: Global, named: u8) -> Reader<Bench> {
     let address = if named >= 127 { 5 } else { named };
-    let mut reader = reader_with(rt, alloc, address, 4, Answer::Done);
+    let mut reader = reader_with(rt, alloc, address, 4, Given::Done);
     opens(rt, &mut reader, address);
     reader
 }
@@ -170,7 +171,7 @@ impl Met {
 
     /// One more, and its answer.
     fn tell(&mut self, rt: &impl Abort, response: &Response) {
-        self.count(rt, response.kind());
+        self.count(rt, response.kind);
         for byte in response.bytes() {
             self.check.add(*byte);
         }
