@@ -5,7 +5,7 @@ use Rattle.std.proofs.lemmas.Slice.Eq.{bytes_eq-Decides}
 use Rattle.osdp_tool.specs.Job.{Words, job_of, wants_help}
 use Rattle.osdp_tool_streams.specs.declared.fault.ToolFault.TheVariants.{BadWords}
 use Rattle.osdp_tool.specs.declared.choice.Choice.{Choice}
-use Rattle.osdp_tool.specs.declared.choice.Choice.TheVariants.{Help, Version, Show, Check, Monitor, Panel, Reader, Job}
+use Rattle.osdp_tool.specs.declared.choice.Choice.TheVariants.{Help, Version, Show, Check, Monitor, Panel, Reader, Plan, Job}
 use Rattle.osdp_tool.specs.declared.choice.Topic.{Topic}
 use Rattle.osdp_tool.specs.declared.choice.Topic.TheVariants as topic
 use Rattle.osdp_tool.specs.Choice.{AskForHelp, AskOf, ChoosesByWords, IsWordsOf, choice_of, topic_named}
@@ -35,6 +35,7 @@ help_chooses topic.Make words are = asks_choose (codes "make") topic.Make refl r
 help_chooses topic.Sim words are = asks_choose (codes "sim") topic.Sim refl refl refl words are
 help_chooses topic.Panel words are = asks_choose (codes "panel") topic.Panel refl refl refl words are
 help_chooses topic.Reader words are = asks_choose (codes "reader") topic.Reader refl refl refl words are
+help_chooses topic.Plan words are = asks_choose (codes "plan") topic.Plan refl refl refl words are
 
 words_choose : (choice : Choice) (words : Words) → IsWordsOf choice words → choice_of words ≡ choice
 words_choose (Help asked) words are = help_chooses asked words are
@@ -44,6 +45,7 @@ words_choose Check words (rest, is, plain) = rw (is, plain)
 words_choose Monitor words (rest, is, plain) = rw (is, plain)
 words_choose Panel words (rest, is, plain) = rw (is, plain)
 words_choose Reader words (rest, is, plain) = rw (is, plain)
+words_choose Plan words (rest, is, plain) = rw (is, plain)
 words_choose Job words are = absurd are
 
 -- words choose something and are its words, and `job` takes none of them; or they are left to it
@@ -59,20 +61,21 @@ abbrev Names : List ℕ → Type 0
 Names name = ((asked : Topic) × IsCommand asked name) ⊎ (topic_named name ≡ Job)
 
 names : (name : List ℕ) → Names name
-names name = go (bytes_eq name (codes "show")) (bytes_eq name (codes "monitor")) (bytes_eq name (codes "check")) (bytes_eq name (codes "make")) (bytes_eq name (codes "sim")) (bytes_eq name (codes "panel")) (bytes_eq name (codes "reader")) refl refl refl refl refl refl refl
+names name = go (bytes_eq name (codes "show")) (bytes_eq name (codes "monitor")) (bytes_eq name (codes "check")) (bytes_eq name (codes "make")) (bytes_eq name (codes "sim")) (bytes_eq name (codes "panel")) (bytes_eq name (codes "reader")) (bytes_eq name (codes "plan")) refl refl refl refl refl refl refl refl
   where
     by : (asked : Topic) (command : List ℕ) → bytes_eq name command ≡ true → IsCommand asked command → Names name
     by asked command is known = inl (asked, subst (IsCommand asked) (sym (is_word name command is)) known)
 
-    go : (show monitor check make sim panel reader : Bool) → bytes_eq name (codes "show") ≡ show → bytes_eq name (codes "monitor") ≡ monitor → bytes_eq name (codes "check") ≡ check → bytes_eq name (codes "make") ≡ make → bytes_eq name (codes "sim") ≡ sim → bytes_eq name (codes "panel") ≡ panel → bytes_eq name (codes "reader") ≡ reader → Names name
-    go true monitor check make sim panel reader a b c d e f g = by topic.Show (codes "show") a (refl, (λ words are. are), refl, refl)
-    go false true check make sim panel reader a b c d e f g = by topic.Monitor (codes "monitor") b (refl, (λ words are. are), refl, refl)
-    go false false true make sim panel reader a b c d e f g = by topic.Check (codes "check") c (refl, (λ words are. are), refl, refl)
-    go false false false true sim panel reader a b c d e f g = by topic.Make (codes "make") d (refl, (λ words are. are), refl, refl)
-    go false false false false true panel reader a b c d e f g = by topic.Sim (codes "sim") e (refl, (λ words are. are), refl, refl)
-    go false false false false false true reader a b c d e f g = by topic.Panel (codes "panel") f (refl, (λ words are. are), refl, refl)
-    go false false false false false false true a b c d e f g = by topic.Reader (codes "reader") g (refl, (λ words are. are), refl, refl)
-    go false false false false false false false a b c d e f g = inr (rw (a, b, c, d, e, f, g))
+    go : (show monitor check make sim panel reader plan : Bool) → bytes_eq name (codes "show") ≡ show → bytes_eq name (codes "monitor") ≡ monitor → bytes_eq name (codes "check") ≡ check → bytes_eq name (codes "make") ≡ make → bytes_eq name (codes "sim") ≡ sim → bytes_eq name (codes "panel") ≡ panel → bytes_eq name (codes "reader") ≡ reader → bytes_eq name (codes "plan") ≡ plan → Names name
+    go true monitor check make sim panel reader plan a b c d e f g h = by topic.Show (codes "show") a (refl, (λ words are. are), refl, refl)
+    go false true check make sim panel reader plan a b c d e f g h = by topic.Monitor (codes "monitor") b (refl, (λ words are. are), refl, refl)
+    go false false true make sim panel reader plan a b c d e f g h = by topic.Check (codes "check") c (refl, (λ words are. are), refl, refl)
+    go false false false true sim panel reader plan a b c d e f g h = by topic.Make (codes "make") d (refl, (λ words are. are), refl, refl)
+    go false false false false true panel reader plan a b c d e f g h = by topic.Sim (codes "sim") e (refl, (λ words are. are), refl, refl)
+    go false false false false false true reader plan a b c d e f g h = by topic.Panel (codes "panel") f (refl, (λ words are. are), refl, refl)
+    go false false false false false false true plan a b c d e f g h = by topic.Reader (codes "reader") g (refl, (λ words are. are), refl, refl)
+    go false false false false false false false true a b c d e f g h = by topic.Plan (codes "plan") h (refl, (λ words are. are), refl, refl)
+    go false false false false false false false false a b c d e f g h = inr (rw (a, b, c, d, e, f, g, h))
 
 -- the name of a command, and a flag that asks for help
 flagged : (first : List ℕ) → (asked : Topic) × IsCommand asked first → (rest : Words) → wants_help rest ≡ true → Chooses (first ∷ rest)
@@ -120,22 +123,23 @@ after_version (word ∷ rest) plain = inr (rw plain)
 
 -- any words after the first but a flag that asks for help alone
 by_name : (first : List ℕ) (rest : Words) → wants_help rest ≡ false → Chooses (first ∷ rest)
-by_name first rest plain = go (bytes_eq first (codes "help")) (bytes_eq first (codes "show")) (bytes_eq first (codes "check")) (bytes_eq first (codes "monitor")) (bytes_eq first (codes "panel")) (bytes_eq first (codes "reader")) (bytes_eq first (codes "--help")) (bytes_eq first (codes "-h")) (bytes_eq first (codes "--version")) refl refl refl refl refl refl refl refl refl
+by_name first rest plain = go (bytes_eq first (codes "help")) (bytes_eq first (codes "show")) (bytes_eq first (codes "check")) (bytes_eq first (codes "monitor")) (bytes_eq first (codes "panel")) (bytes_eq first (codes "reader")) (bytes_eq first (codes "plan")) (bytes_eq first (codes "--help")) (bytes_eq first (codes "-h")) (bytes_eq first (codes "--version")) refl refl refl refl refl refl refl refl refl refl
   where
     by : (word : List ℕ) → bytes_eq first word ≡ true → Chooses (word ∷ rest) → Chooses (first ∷ rest)
     by word is chooses = subst (λ w. Chooses (w ∷ rest)) (sym (is_word first word is)) chooses
 
-    go : (help show check monitor panel reader long short version : Bool) → bytes_eq first (codes "help") ≡ help → bytes_eq first (codes "show") ≡ show → bytes_eq first (codes "check") ≡ check → bytes_eq first (codes "monitor") ≡ monitor → bytes_eq first (codes "panel") ≡ panel → bytes_eq first (codes "reader") ≡ reader → bytes_eq first (codes "--help") ≡ long → bytes_eq first (codes "-h") ≡ short → bytes_eq first (codes "--version") ≡ version → Chooses (first ∷ rest)
-    go true show check monitor panel reader long short version a b c d e f g h i = by (codes "help") a (after_help rest plain)
-    go false true check monitor panel reader long short version a b c d e f g h i = by (codes "show") b (inl (Show, rw plain, (rest, refl, plain), refl))
-    go false false true monitor panel reader long short version a b c d e f g h i = by (codes "check") c (inl (Check, rw plain, (rest, refl, plain), refl))
-    go false false false true panel reader long short version a b c d e f g h i = by (codes "monitor") d (inl (Monitor, rw plain, (rest, refl, plain), refl))
-    go false false false false true reader long short version a b c d e f g h i = by (codes "panel") e (inl (Panel, rw plain, (rest, refl, plain), refl))
-    go false false false false false true long short version a b c d e f g h i = by (codes "reader") f (inl (Reader, rw plain, (rest, refl, plain), refl))
-    go false false false false false false true short version a b c d e f g h i = by (codes "--help") g (after_long_help rest plain)
-    go false false false false false false false true version a b c d e f g h i = by (codes "-h") h (after_short_help rest plain)
-    go false false false false false false false false true a b c d e f g h i = by (codes "--version") i (after_version rest plain)
-    go false false false false false false false false false a b c d e f g h i = inr (rw (plain, a, b, c, d, e, f, g, h, i))
+    go : (help show check monitor panel reader plan long short version : Bool) → bytes_eq first (codes "help") ≡ help → bytes_eq first (codes "show") ≡ show → bytes_eq first (codes "check") ≡ check → bytes_eq first (codes "monitor") ≡ monitor → bytes_eq first (codes "panel") ≡ panel → bytes_eq first (codes "reader") ≡ reader → bytes_eq first (codes "plan") ≡ plan → bytes_eq first (codes "--help") ≡ long → bytes_eq first (codes "-h") ≡ short → bytes_eq first (codes "--version") ≡ version → Chooses (first ∷ rest)
+    go true show check monitor panel reader plan long short version a b c d e f g h i j = by (codes "help") a (after_help rest plain)
+    go false true check monitor panel reader plan long short version a b c d e f g h i j = by (codes "show") b (inl (Show, rw plain, (rest, refl, plain), refl))
+    go false false true monitor panel reader plan long short version a b c d e f g h i j = by (codes "check") c (inl (Check, rw plain, (rest, refl, plain), refl))
+    go false false false true panel reader plan long short version a b c d e f g h i j = by (codes "monitor") d (inl (Monitor, rw plain, (rest, refl, plain), refl))
+    go false false false false true reader plan long short version a b c d e f g h i j = by (codes "panel") e (inl (Panel, rw plain, (rest, refl, plain), refl))
+    go false false false false false true plan long short version a b c d e f g h i j = by (codes "reader") f (inl (Reader, rw plain, (rest, refl, plain), refl))
+    go false false false false false false true long short version a b c d e f g h i j = by (codes "plan") g (inl (Plan, rw plain, (rest, refl, plain), refl))
+    go false false false false false false false true short version a b c d e f g h i j = by (codes "--help") h (after_long_help rest plain)
+    go false false false false false false false false true version a b c d e f g h i j = by (codes "-h") i (after_short_help rest plain)
+    go false false false false false false false false false true a b c d e f g h i j = by (codes "--version") j (after_version rest plain)
+    go false false false false false false false false false false a b c d e f g h i j = inr (rw (plain, a, b, c, d, e, f, g, h, i, j))
 
 choose : (words : Words) → Chooses words
 choose [] = inl (Help topic.Program, refl, inl refl, refl)

@@ -25,6 +25,8 @@ pub enum Topic {
     Panel,
     /// The command `reader`.
     Reader,
+    /// The command `plan`.
+    Plan,
 }
 
 /// What the words choose.
@@ -44,6 +46,8 @@ pub enum Choice {
     Panel,
     /// A reader by lines of text runs; the words after the first are its settings.
     Reader,
+    /// The times of a line that is planned are told; the words after the first are its settings.
+    Plan,
     /// None of these: `job` says what the words choose, or that they are bad.
     Job,
 }
@@ -60,6 +64,7 @@ fn topic_named(name: &str) -> Choice
         "sim" => Choice::Help(Topic::Sim),
         "panel" => Choice::Help(Topic::Panel),
         "reader" => Choice::Help(Topic::Reader),
+        "plan" => Choice::Help(Topic::Plan),
         _ => Choice::Job,
     }
 }
@@ -86,6 +91,7 @@ fn by_first(first: &str, rest: &[&str]) -> Choice
         "monitor" => Choice::Monitor,
         "panel" => Choice::Panel,
         "reader" => Choice::Reader,
+        "plan" => Choice::Plan,
         "--help" | "-h" if rest.is_empty() => Choice::Help(Topic::Program),
         "--version" if rest.is_empty() => Choice::Version,
         _ => Choice::Job,
@@ -96,7 +102,7 @@ fn by_first(first: &str, rest: &[&str]) -> Choice
 ///
 /// No words, `help` alone, `--help` and `-h` ask for the help of the program, `help` and the name of a command, or the name and one of
 /// these flags alone, for the help of that. `--version` stands alone.
-/// After `show`, `check`, `monitor`, `panel` and `reader` any other words may stand, which are read as options, files and settings. All other words
+/// After `show`, `check`, `monitor`, `panel`, `reader` and `plan` any other words may stand, which are read as options, files and settings. All other words
 /// are for `job`.
 pub fn choose(words: &[&str]) -> Choice
     ensures { result ≡ choice_of (texts_of words.now) }
@@ -115,7 +121,7 @@ fn is_known(word: &str) -> bool
     ensures { result ≡ is_known word.now }
 {
     match word {
-        "show" | "monitor" | "check" | "make" | "sim" | "panel" | "reader" => true,
+        "show" | "monitor" | "check" | "make" | "sim" | "panel" | "reader" | "plan" => true,
         "help" | "--help" | "-h" | "--version" => true,
         _ => false,
     }

@@ -1,0 +1,2 @@
+mod FirstWrong
+pub mod Reading
