@@ -1,0 +1,5 @@
+pub mod Packets
+pub mod Known
+pub mod Findings
+pub mod Judging
+pub mod Verdicts

@@ -1,0 +1,18 @@
+//! The rules to which a device is held by its answers: what an answer shows of a rule, and what a scenario comes to. A device that follows the
+//! standard in another way than ours breaks none.
+#![tactic(auto)]
+
+mod aspect;
+mod finding;
+mod findings;
+mod judging;
+mod known;
+mod packets;
+mod verdict;
+
+pub use aspect::Aspect;
+pub use finding::Finding;
+pub use findings::prompt_finding;
+pub use judging::{count_judged, judged, noise_judged};
+pub use known::Known;
+pub use verdict::Verdict;
