@@ -1,5 +1,6 @@
 //! Accounts as text.
 
+use osdp_msg::{Command, Event};
 use osdp_sim::{Account, End};
 use std::alloc::Global;
 use std::fmt::Write;
@@ -27,7 +28,9 @@ fn tell_counts(rt: &impl Abort, text: &mut String, account: &Account) {
 }
 
 fn tell_taken(rt: &impl Abort, text: &mut String, account: &Account) {
-    for command in account.taken.left() {
+    let mut left = account.taken.left();
+    while let Some(bytes) = left.next() {
+        let command = Command::kept(bytes);
         write!(text, "taken {command}\n").expect(rt, "memory");
     }
 }
@@ -39,13 +42,17 @@ fn tell_settled(rt: &impl Abort, text: &mut String, account: &Account) {
 }
 
 fn tell_unsettled(rt: &impl Abort, text: &mut String, account: &Account) {
-    for command in account.unsettled.left() {
+    let mut left = account.unsettled.left();
+    while let Some(bytes) = left.next() {
+        let command = Command::kept(bytes);
         write!(text, "unsettled {command}\n").expect(rt, "memory");
     }
 }
 
 fn tell_reported(rt: &impl Abort, text: &mut String, account: &Account) {
-    for event in account.reported.left() {
+    let mut left = account.reported.left();
+    while let Some(bytes) = left.next() {
+        let event = Event::kept(bytes);
         write!(text, "reported {event}\n").expect(rt, "memory");
     }
 }

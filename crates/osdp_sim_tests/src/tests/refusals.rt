@@ -77,7 +77,7 @@ fn another_reader_is_not_there(rt: HostRuntime) {
 }
 
 /// A session that opens and settles a command.
-fn opens() -> [SimStep; 7] {
+fn opens() -> [SimStep<'static>; 7] {
     [
         SimStep::Issue(1, Command::LocalStatus),
         SimStep::Wait(400),

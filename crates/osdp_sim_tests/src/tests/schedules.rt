@@ -2,12 +2,11 @@
 //! after 50 ms, a frame is sent three times, 200 ms apart.
 
 use crate::tests::accounts::account_text;
-use crate::tests::steps::steps;
+use crate::tests::steps::{places, steps};
 use arrayvec::ArrayVec;
 use osdp_controller::ControllerConfig;
 use osdp_door::Door;
 use osdp_frame::{Address, CheckKind};
-use osdp_msg::PdCap;
 use osdp_reader::ReaderConfig;
 use osdp_script::script_config;
 use osdp_session::run_session;
@@ -19,9 +18,7 @@ use std::process::Abort;
 pub fn config(rt: &impl Abort) -> SimConfig {
     let address = Address::new(5).expect(rt, "an address");
     let id = script_config(1, address).id;
-    let caps = PdCap {
-        capabilities: ArrayVec::new(),
-    };
+    let caps = ArrayVec::new();
     SimConfig {
         reader: ReaderConfig { address, id, caps },
         events: 4,
@@ -32,7 +29,8 @@ pub fn config(rt: &impl Abort) -> SimConfig {
 
 /// What these steps come to.
 pub fn outcome(rt: &impl Abort, alloc: Global, text: &str) -> Result<Account, Fault<Account>> {
-    let steps = steps(rt, alloc, text);
+    let mut places = places(rt, alloc, text);
+    let steps = steps(rt, alloc, text, &mut places);
     run_session(alloc, &config(rt), Door::new(), steps.as_slice())
 }
 

@@ -28,10 +28,13 @@ fn is_read(rt: &impl Abort, script: &Script) {
 /// Its steps are those of its lines.
 fn has_steps(rt: &impl Abort, script: &Script) {
     let mut steps = script.schedule();
-    assert!(rt; matches!(steps.next(), Some(SimStep::Issue(2, Command::Output(_)))));
-    assert!(rt; matches!(steps.next(), Some(SimStep::Queue(1, Event::Keypad(_)))));
-    assert!(rt; matches!(steps.next(), Some(SimStep::ToReader(Move::Damage(_)))));
-    assert!(rt; steps.next().is_none());
+    assert!(rt; matches!(steps.step(), Some(SimStep::Issue(2, Command::Output(_)))));
+    steps.pass();
+    assert!(rt; matches!(steps.step(), Some(SimStep::Queue(1, Event::Keypad(_)))));
+    steps.pass();
+    assert!(rt; matches!(steps.step(), Some(SimStep::ToReader(Move::Damage(_)))));
+    steps.pass();
+    assert!(rt; steps.step().is_none());
 }
 
 /// Where memory is refused, as `tests/machines_memory.sh` has it, that is the answer.
@@ -57,5 +60,5 @@ fn no_check_is_a_crc(rt: HostRuntime) {
     let script = script.ok().expect(&rt, "a script");
     assert_eq!(rt; script.check, CheckKind::Crc);
     assert_eq!(rt; script.readers.len(), 1);
-    assert!(rt; script.schedule().next().is_none());
+    assert!(rt; script.schedule().step().is_none());
 }

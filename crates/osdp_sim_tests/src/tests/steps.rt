@@ -1,19 +1,26 @@
 //! Schedules from text: steps, with a semicolon between any two.
 
 use osdp_frame::Burst;
-use osdp_msg::{Command, Event};
+use osdp_msg::{Command, Event, Spelling};
 use osdp_sim::{Move, SimStep};
 use std::alloc::Global;
 use std::process::Abort;
 
-fn command(rt: &impl Abort, alloc: Global, text: &str) -> Command {
-    let words: Vec<&str> = text.split(' ').collect(alloc).expect(rt, "memory");
-    Command::parse(words.as_slice()).expect(rt, "a command")
+/// A place for the bytes of the message of each row.
+pub fn places(rt: &impl Abort, alloc: Global, text: &str) -> Vec<Spelling> {
+    let mut places = Vec::new(alloc);
+    for _ in text.split("; ") {
+        places.push(Spelling::new()).expect(rt, "memory");
+    }
+    places
 }
 
-fn event(rt: &impl Abort, alloc: Global, text: &str) -> Event {
-    let words: Vec<&str> = text.split(' ').collect(alloc).expect(rt, "memory");
-    Event::parse(words.as_slice()).expect(rt, "an event")
+fn command<'a>(rt: &impl Abort, text: &str, place: &'a mut Spelling) -> Command<'a> {
+    Command::parse_line(text, place).expect(rt, "a command")
+}
+
+fn event<'a>(rt: &impl Abort, text: &str, place: &'a mut Spelling) -> Event<'a> {
+    Event::parse_line(text, place).expect(rt, "an event")
 }
 
 /// The bytes of these digits.
@@ -41,10 +48,10 @@ fn way(rt: &impl Abort, text: &str) -> Move {
 }
 
 /// The step of this name, for reader 1.
-fn step(rt: &impl Abort, alloc: Global, name: &str, rest: &str) -> SimStep {
+fn step<'a>(rt: &impl Abort, name: &str, rest: &str, place: &'a mut Spelling) -> SimStep<'a> {
     match name {
-        "issue" => SimStep::Issue(1, command(rt, alloc, rest)),
-        "queue" => SimStep::Queue(1, event(rt, alloc, rest)),
+        "issue" => SimStep::Issue(1, command(rt, rest, place)),
+        "queue" => SimStep::Queue(1, event(rt, rest, place)),
         "busy" => SimStep::Busy(1, rest == "on"),
         "wait" => SimStep::Wait(rest.parse().expect(rt, "a time")),
         "to-reader" => SimStep::ToReader(way(rt, rest)),
@@ -54,7 +61,7 @@ fn step(rt: &impl Abort, alloc: Global, name: &str, rest: &str) -> SimStep {
 }
 
 /// Time passes, and then nothing is lost.
-fn push_round(rt: &impl Abort, steps: &mut Vec<SimStep>, wait: u64) {
+fn push_round(rt: &impl Abort, steps: &mut Vec<SimStep<'_>>, wait: u64) {
     steps.push(SimStep::Wait(wait)).expect(rt, "memory");
     steps
         .push(SimStep::ToReader(Move::Deliver))
@@ -65,22 +72,29 @@ fn push_round(rt: &impl Abort, steps: &mut Vec<SimStep>, wait: u64) {
 }
 
 /// The opening, and so many rounds.
-fn push_clean(rt: &impl Abort, steps: &mut Vec<SimStep>, rounds: usize) {
+fn push_clean(rt: &impl Abort, steps: &mut Vec<SimStep<'_>>, rounds: usize) {
     push_round(rt, steps, 400);
     for _ in 0..rounds {
         push_round(rt, steps, 50);
     }
 }
 
-/// The steps of this text.
-pub fn steps(rt: &impl Abort, alloc: Global, text: &str) -> Vec<SimStep> {
+/// The steps of this text. The bytes of their messages stand in these places, one for each row.
+pub fn steps<'a>(
+    rt: &impl Abort,
+    alloc: Global,
+    text: &str,
+    places: &'a mut [Spelling],
+) -> Vec<SimStep<'a>> {
     let mut steps = Vec::new(alloc);
+    let mut places = places.iter_mut();
     for row in text.split("; ") {
+        let place = places.next().expect(rt, "a place");
         let (name, rest) = row.split_once(' ').expect(rt, "a step");
         match name {
             "clean" => push_clean(rt, &mut steps, rest.parse().expect(rt, "a count")),
             "round" => push_round(rt, &mut steps, rest.parse().expect(rt, "a time")),
-            _ => steps.push(step(rt, alloc, name, rest)).expect(rt, "memory"),
+            _ => steps.push(step(rt, name, rest, place)).expect(rt, "memory"),
         }
     }
     steps

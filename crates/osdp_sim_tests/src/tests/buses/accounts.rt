@@ -3,6 +3,7 @@
 
 use crate::tests::buses::readers::{config, readers};
 use crate::tests::buses::steps::steps;
+use crate::tests::steps::places;
 use osdp_session::run_bus;
 use osdp_sim::{Account, Cause, Fault};
 use osdp_tool_sim::account_text;
@@ -15,7 +16,8 @@ fn outcome(
     alloc: Global,
     text: &str,
 ) -> Result<Vec<Account>, Fault<Vec<Account>>> {
-    let steps = steps(rt, alloc, text);
+    let mut places = places(rt, alloc, text);
+    let steps = steps(rt, alloc, text, &mut places);
     let readers = readers(rt, alloc, &[5, 6], 4);
     run_bus(alloc, &config(), readers, steps.as_slice())
 }

@@ -2,6 +2,7 @@
 
 use osdp_bus::BusConfig;
 use osdp_frame::{Address, CheckKind};
+use osdp_msg::Room;
 use osdp_reader::ReaderConfig;
 use osdp_script::{ScriptReader, script_config};
 use osdp_session::run_bus;
@@ -11,7 +12,7 @@ use std::process::Abort;
 
 /// A bus with checks by CRC, default times and room for 64 commands each.
 pub fn config() -> BusConfig {
-    BusConfig::new(CheckKind::Crc, 64)
+    BusConfig::new(CheckKind::Crc, Room::of(64))
 }
 
 /// Readers at these addresses, each with room for so many events.
@@ -78,6 +79,6 @@ fn there_may_be_none(rt: HostRuntime) {
     let ended = outcome(&rt, rt.alloc(), &config(), &[], 4);
     assert_eq!(rt; ended.ok().expect(&rt, "accounts").len(), 0);
     let mut none = config();
-    none.capacity = 0;
+    none.room = Room::of(0);
     refuses(&rt, rt.alloc(), &none, &[], 4);
 }

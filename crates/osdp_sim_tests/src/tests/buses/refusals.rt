@@ -26,7 +26,7 @@ fn two_readers(rt: &impl Abort, alloc: Global) -> Option<Vec<(ReaderConfig, usiz
 }
 
 /// After so long a packet goes to the readers, and one comes back.
-fn round(wait: u64) -> [SimStep; 3] {
+fn round(wait: u64) -> [SimStep<'static>; 3] {
     [
         SimStep::Wait(wait),
         SimStep::ToReader(Move::Deliver),
@@ -35,7 +35,7 @@ fn round(wait: u64) -> [SimStep; 3] {
 }
 
 /// Two sessions that open, and a command that is settled in each.
-fn opens() -> [SimStep; 14] {
+fn opens() -> [SimStep<'static>; 14] {
     let one = SimStep::Issue(1, Command::LocalStatus);
     let two = SimStep::Issue(2, Command::InputStatus);
     let ([a, b, c], [d, e, f]) = (round(400), round(0));
