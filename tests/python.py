@@ -213,6 +213,18 @@ def judge_refusals():
             pass
 
 
+def judge_rooms():
+    """Of five bytes one OUT waits; of four an event of three, and no other."""
+    with osdp.Panel(room=5) as panel, osdp.Device(5, room=4) as device:
+        entry = panel.add(5)
+        panel.submit(entry, "OUT 0:5:30")
+        refused("a command without room", osdp.Status.COMMANDS_FULL, panel.submit, entry, "LSTAT")
+        device.event("LSTATR 0 1")
+        refused("an event without room", osdp.Status.EVENTS_FULL, device.event, "LSTATR 0 1")
+    refused("no room for commands", osdp.Status.PANEL_OUT_OF_RANGE, lambda: osdp.Panel(room=0))
+    refused("no room for events", osdp.Status.DEVICE_OUT_OF_RANGE, lambda: osdp.Device(5, room=0))
+
+
 def judge_device():
     """What a device is told, and what its program says to a command."""
     with osdp.Panel() as panel, osdp.Device(5, vendor=b"SIM", model=1, version=2, serial=3, firmware=(4, 5, 6), capabilities=bytes([2, 1, 4])) as device:
@@ -244,6 +256,6 @@ if __name__ == "__main__":
     judge_structs(header()), judge_functions(header()), judge_numbers(header()), judge_docs()
     for lost in ([], [41], [46], [30, 61, 66]):
         judge_session(lost)
-    judge_again(), judge_pieces(), judge_refusals(), judge_device(), judge_example()
+    judge_again(), judge_pieces(), judge_refusals(), judge_rooms(), judge_device(), judge_example()
     print(f"python: {len(faults)} faults", *faults, sep="\n")
     sys.exit(1 if faults else 0)

@@ -4,7 +4,7 @@
 #include "board.h"
 #include "osdp_site.h"
 
-enum { ADDRESS = 5, RATE = 9600, EVENTS = 4, TOO_OLD = 30000 };
+enum { ADDRESS = 5, RATE = 9600, EVENTS = 4, KEY_BYTES = 4, TOO_OLD = 30000 }; /* an event of one key has four bytes */
 
 static osdp_device device;
 static uint64_t relay_ends = UINT64_MAX; /* when the relay goes off; UINT64_MAX while it is off */
@@ -89,7 +89,7 @@ int main(void)
     uint32_t rate = RATE;
     (void)board_kept(&config.address, &rate);
     board_set_rate(rate);
-    if (osdp_device_new(&device, &config, (const uint8_t *)capabilities, sizeof capabilities) != OSDP_OK) {
+    if (osdp_device_new_with_room(&device, &config, (const uint8_t *)capabilities, sizeof capabilities, EVENTS * KEY_BYTES) != OSDP_OK) {
         board_show("no memory\n");
         return 1;
     }

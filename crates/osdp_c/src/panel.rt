@@ -10,7 +10,7 @@ ghost use Rattle.osdp_c_values.specs.Clocks.{new_clock};
 ghost use Rattle.osdp_c_values.specs.Addresses.{device_address};
 ghost use Rattle.osdp_c_values.specs.Calls.{IsDone, calls, frees, writes};
 ghost use Rattle.osdp_c.specs.CommandTexts.{IsReadCommand};
-ghost use Rattle.osdp_c_values.specs.Panels.{AddsTo, IsBurstIn, IsDueIn, MadeAs, NewPanelEnds, NewPanelWith, at_moment, begins, does, falls_silent, hears, looks_at, of_bus, on_bus, reports, retargets, sets_moment, submits_data, submits_text, ticks, withdraws, writes_address, writes_closed, writes_entries, writes_report, writes_waiting, writes_withdrawn};
+ghost use Rattle.osdp_c_values.specs.Panels.{AddsTo, IsBurstIn, IsDueIn, MadeAs, NewPanelEnds, NewPanelIn, NewPanelWith, at_moment, begins, does, falls_silent, hears, looks_at, of_bus, on_bus, reports, retargets, sets_moment, submits_data, submits_text, ticks, withdraws, writes_address, writes_closed, writes_entries, writes_report, writes_waiting, writes_withdrawn};
 
 use crate::held::{freed, on_held, put_new};
 use crate::panel_calls;
@@ -56,6 +56,22 @@ fn new_machine(
     }
 }
 
+/// Puts a panel of such settings of its bus into a handle.
+fn make(
+    alloc: Global,
+    panel: &mut PanelHandle,
+    settings: &PanelSettings,
+    config: Option<BusConfig>,
+) -> u32
+    ensures { NewPanelIn config (limit_of settings.now.clock_limit) panel.old.slot.machine result panel.new.slot.machine }
+{
+    put_new!(
+        panel,
+        new_machine(alloc, settings, config),
+        |fault| Status::Panel(fault)
+    )
+}
+
 /// A panel without devices.
 #[unsafe(no_mangle)]
 pub extern "C" fn osdp_panel_new(
@@ -65,11 +81,7 @@ pub extern "C" fn osdp_panel_new(
 ) -> u32
     ensures { NewPanelEnds settings.now panel.old.slot.machine result panel.new.slot.machine }
 {
-    put_new!(
-        panel,
-        new_machine(alloc, settings, settings.to_config()),
-        |fault| Status::Panel(fault)
-    )
+    make(alloc, panel, settings, settings.to_config())
 }
 
 /// The same with room for so many bytes of the commands that wait for a device together.
@@ -82,11 +94,7 @@ pub extern "C" fn osdp_panel_new_with_room(
 ) -> u32
     ensures { NewPanelWith bytes settings.now panel.old.slot.machine result panel.new.slot.machine }
 {
-    put_new!(
-        panel,
-        new_machine(alloc, settings, settings.config_with(bytes)),
-        |fault| Status::Panel(fault)
-    )
+    make(alloc, panel, settings, settings.config_with(bytes))
 }
 
 /// Frees a panel and all that belongs to it.
@@ -285,7 +293,7 @@ pub extern "C" fn osdp_panel_next_report(
 {
     on_held!(panel, alloc, |machine| {
         let maybe_again = machine.bus.is_maybe_again();
-        report.set(machine.bus.report(), maybe_again);
+        report.set(&machine.bus.report(), maybe_again);
         machine.bus.settle();
         Status::Done
     })

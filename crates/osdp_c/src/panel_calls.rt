@@ -136,12 +136,15 @@ pub(crate) fn withdraw(bus: &mut Bus, entry: Entry, out: &mut MessageStruct) -> 
     ensures bus { bus.new ≡ (withdraws entry bus.old).machine }
     ensures written { out.new ≡ writes_withdrawn entry bus.old out.old }
 {
-    match bus.withdrawable(entry) {
-        Ok(command) => out.set_command(command.as_ref()),
-        Err(fault) => return Status::Panel(fault),
-    }
+    let status = match bus.withdrawable(entry) {
+        Ok(command) => {
+            out.set_command(command.as_ref());
+            Status::Done
+        }
+        Err(fault) => Status::Panel(fault),
+    };
     let _ = bus.withdraw(entry);
-    Status::Done
+    status
 }
 
 /// Sets the address of a device.

@@ -6,7 +6,7 @@ ghost use Rattle.osdp_msg.specs.ReplyTable.{reply_of};
 ghost use Rattle.osdp_c_values.specs.declared.status.Status.{Status as Answered};
 ghost use Rattle.osdp_c_values.specs.Calls.{IsDone, calls, frees, writes};
 ghost use Rattle.osdp_c.specs.CommandTexts.{IsReadEvent};
-ghost use Rattle.osdp_c_values.specs.Readers.{IsEventRead, NewReaderEnds, NewReaderWith, answers_done, answers_list, answers_local, answers_maker, answers_refused, at_moment, does, falls_silent, looks, sets_busy, sets_inputs, sets_local, sets_moment, sets_outputs, sets_readers, steps, submits_read, submits_text, ticks, writes_address, writes_at, writes_closed, writes_pending, writes_silence, writes_step, writes_taken, writes_tick, writes_waiting};
+ghost use Rattle.osdp_c_values.specs.Readers.{IsEventRead, NewReaderEnds, NewReaderIn, NewReaderWith, answers_done, answers_list, answers_local, answers_maker, answers_refused, at_moment, does, falls_silent, looks, sets_busy, sets_inputs, sets_local, sets_moment, sets_outputs, sets_readers, steps, submits_read, submits_text, ticks, writes_address, writes_at, writes_closed, writes_pending, writes_silence, writes_step, writes_taken, writes_tick, writes_waiting};
 
 use crate::held::{freed, on_held, put_new};
 use crate::read::read_event;
@@ -18,6 +18,23 @@ use osdp_msg::{NakReason, Room, Spelling};
 use osdp_reader::Answer;
 use std::alloc::Global;
 
+/// Puts a reader with such room for events into a handle.
+fn make(
+    alloc: Global,
+    reader: &mut ReaderHandle,
+    room: Option<Room>,
+    settings: &ReaderSettings,
+    capabilities: &[u8],
+) -> u32
+    ensures { NewReaderIn room settings.now capabilities.now reader.old.slot.machine result reader.new.slot.machine }
+{
+    put_new!(
+        reader,
+        reader_calls::new_box(alloc, room, settings, capabilities),
+        |refused| refused
+    )
+}
+
 /// A reader to which nothing has come.
 #[unsafe(no_mangle)]
 pub extern "C" fn osdp_device_new_nonnull(
@@ -28,10 +45,12 @@ pub extern "C" fn osdp_device_new_nonnull(
 ) -> u32
     ensures { NewReaderEnds settings.now capabilities.now reader.old.slot.machine result reader.new.slot.machine }
 {
-    put_new!(
+    make(
+        alloc,
         reader,
-        reader_calls::new_box(alloc, default_room(settings.capacity), settings, capabilities),
-        |refused| refused
+        default_room(settings.capacity),
+        settings,
+        capabilities,
     )
 }
 
@@ -50,11 +69,7 @@ pub extern "C" fn osdp_device_new_with_room_nonnull(
         messages: settings.capacity as usize,
         bytes,
     };
-    put_new!(
-        reader,
-        reader_calls::new_box(alloc, Some(room), settings, capabilities),
-        |refused| refused
-    )
+    make(alloc, reader, Some(room), settings, capabilities)
 }
 
 /// Frees a reader and all that belongs to it.

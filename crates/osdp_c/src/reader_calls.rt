@@ -20,7 +20,7 @@ use std::alloc::Global;
 
 /// These records in a list of their own.
 fn own_caps(records: Records<'_, Capability>) -> ArrayVec<Capability, 477>
-    requires { length records.entry ≤ 477 }
+    requires { length records ≤ 477 }
     ensures { result.items ≡ records.entry }
 {
     let mut caps = ArrayVec::new();

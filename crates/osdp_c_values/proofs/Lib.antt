@@ -1,4 +1,5 @@
 pub mod Putting
 mod SlotForms
 mod Slots
+pub mod Turns
 pub mod Words

@@ -63,6 +63,7 @@ impl Model for ReaderMachine {
 impl ReaderMachine {
     /// Hands the packets that are held to the reader, up to and including the first that it answers, and writes what it says; or stops before
     /// that, and writes the command.
+    #[tactic(auto, using(crate::proofs::Turns::is_said))]
     pub fn settle(&mut self, answer: &mut AnswerStruct)
         ensures machine { self.new ≡ (reads_next self.old self.old.device.line).machine }
         ensures written { answer.new ≡ writes_next self.old self.old.device.line answer.old }

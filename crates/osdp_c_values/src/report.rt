@@ -1,7 +1,7 @@
 //! What a panel tells.
 
 ghost use Rattle.std.specs.Prelude.{◌≡◌};
-ghost use Rattle.std.specs.Option.{option_copied, option_map};
+ghost use Rattle.std.specs.Option.{option_copied};
 ghost use Rattle.osdp_c_values.specs.Reports.{cause_number, report_of, report_struct, tells};
 
 use crate::message::MessageStruct;
@@ -76,12 +76,12 @@ impl ReportStruct {
     }
 
     /// Writes a report where it lies, with the device of which it tells and whether it is an event that may have been reported before, or that there is none.
-    pub fn set(&mut self, report: Option<(Entry, &Report<'_>)>, maybe_again: bool)
-        ensures { self.new ≡ report_struct (option_map (λ told. (told.0, told.1.now)) report.entry) maybe_again self.old }
+    pub fn set(&mut self, report: &Option<(Entry, Report<'_>)>, maybe_again: bool)
+        ensures { self.new ≡ report_struct report.now maybe_again self.old }
     {
         match report {
             Some((entry, report)) => {
-                self.entry = entry;
+                self.entry = *entry;
                 self.tell_report(report);
                 if maybe_again {
                     self.detail = 1;
