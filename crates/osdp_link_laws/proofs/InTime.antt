@@ -38,7 +38,7 @@ module _ {H : Type 0} (answer_of : H → Command → Answer) (after : H → Comm
   outside_in_range = record {
     begin = λ now m may is. subst (λ f. IsInRange (changed_unless f m (after_begin now m)).session) may (stays.later m (Begin now ∷ []) is);
     target = λ address m may is. subst (λ f. IsInRange (changed_unless f m (after_retarget address m)).session) may (stays.later m (Target address ∷ []) is);
-    restart = λ config room set. stays.new config room;
+    restart = λ config room set. stays.new config room.messages room.bytes;
   }
 
   -- every move keeps the controller in its ranges

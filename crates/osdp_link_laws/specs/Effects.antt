@@ -56,14 +56,14 @@ WithdrawsIt event stayed kept queue t u = u ≡ record t { withdrawn = t.withdra
 -- ---- machines
 
 -- the controller is closed, with these settings and this room; nothing waits, nothing is outstanding, no number was sent and no moment seen
-pub record IsNewController (settings : ControllerConfig) (room : Room) (m : Machine) : Type 0 where
+pub record IsNewController (settings : ControllerConfig) (limits : Room) (m : Machine) : Type 0 where
   pub state : m.session.state ≡ Closed
   pub config : m.session.config ≡ settings
   pub number : m.session.number ≡ 0
   pub greatest : m.session.greatest ≡ 0
   pub waiting : m.waiting ≡ []
-  pub capacity : m.capacity ≡ room.messages
-  pub room : m.room ≡ room.bytes
+  pub capacity : m.capacity ≡ limits.messages
+  pub room : m.room ≡ limits.bytes
 
 -- ---- the line
 
