@@ -15,3 +15,4 @@ pub mod InRange
 pub mod Meanings
 pub mod Waits
 pub mod Openings
+pub mod Room

@@ -6,3 +6,4 @@ pub mod Steps
 pub mod Meanings
 pub mod Waits
 pub mod Openings
+pub mod Room

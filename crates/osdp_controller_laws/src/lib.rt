@@ -9,6 +9,7 @@ ghost use Rattle.osdp_controller_laws.specs.Commands.{CommandsByPlace, TellsEnds
 ghost use Rattle.osdp_controller_laws.specs.Laws.{CountsSends, HearsAnswers, KeepsTime, NumbersTakeTurns, TakesFront, TellsLost, TellsWhy};
 ghost use Rattle.osdp_controller_laws.specs.Meanings.{MeansWhatItSays};
 ghost use Rattle.osdp_controller_laws.specs.Openings.{OpensById};
+ghost use Rattle.osdp_controller_laws.specs.Room.{RefusesForItsPlace, StaysInRoom};
 ghost use Rattle.osdp_controller_laws.specs.Runs.{Call, NumbersByPlace, ResendsTheSame, SendsFew, StaysWell};
 ghost use Rattle.osdp_controller.specs.Machine.{IsMachine, Machine};
 ghost use Rattle.osdp_controller.specs.States.{is_closed};
@@ -145,4 +146,15 @@ pub fn ticks_come_due()
 /// Each frame that goes out is a packet, where the command that it asks is in its ranges.
 pub fn sends_packets()
     ensures { SendsPackets }
+{}
+
+/// Whatever is called, no more bytes of commands wait than there is room for.
+pub fn bytes_stay_in_their_room()
+    ensures { StaysInRoom }
+{}
+
+/// With room for each command however long, as `Room::of` has it, a command is refused for its place alone: where as many wait as may, whatever was
+/// called before. (A POLL is refused always.)
+pub fn refuses_for_its_place()
+    ensures { RefusesForItsPlace }
 {}

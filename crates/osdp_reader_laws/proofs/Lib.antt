@@ -12,3 +12,4 @@ pub mod Handlers
 pub mod FittingReplies
 pub mod QueuedOnce
 pub mod Withdrawing
+pub mod Places

@@ -3,3 +3,4 @@ pub mod Laws
 pub mod Steps
 pub mod Runs
 pub mod Withdrawing
+pub mod Places

@@ -3,6 +3,7 @@
 #![tactic(auto)]
 
 ghost use Rattle.osdp_reader_laws.specs.Laws.{ActsAtZero, ActsOnce, AnswersByWhatCame, AnswersInOrder, AnswersPlainly, AnswersTaken, AnswersTheSameAgain, AnswersTheSameStill, AnswersWhereverItIs, ChangesAnswersAlone, ForgetsWhereItMoves, HasOneSpelling, HasRoom, HearsItsAddress, IsKept, KeepsReply, KeepsWhatItTook, LosesNoEvent, RefusesBlocks, RefusesNumbers, RepeatsItsReply, RepliesToItsCommand, SaysBusy, SendsWhatItSays, StaysADevice, TakesNext, TellsItsOffer};
+ghost use Rattle.osdp_reader_laws.specs.Places.{RefusesForItsPlace};
 ghost use Rattle.osdp_reader_laws.specs.Withdrawing.{DoubtsWhatItTold, KnowsItsOffer, NeverTellsWhatIsTakenBack, TellsNoMoreWhatLapsed, ToldWhatIsInDoubt, WithdrawsOne};
 ghost use Rattle.osdp_reader_laws.specs.Steps.{AnswersPolls, AnswersWhatFits, BeginsAnew, ChangesByActing, KeepsItsSettings, LetsItsOfferGo, MovesByComsetAlone, OffersToPollsAlone, RefusesUnread, SaysWhatFits, TellsItsCommand, TellsItsComset};
 
@@ -143,4 +144,10 @@ pub fn lets_go_what_is_in_doubt<H: Handler>()
     ensures waits { DoubtsWhatItTold H.answer_of H.after }
     ensures told { ToldWhatIsInDoubt H.answer_of H.after }
     ensures gone { TellsNoMoreWhatLapsed H.answer_of H.after }
+{}
+
+/// With room for each event however long, as `Room::of` has it, an event is refused for its place alone: where as many wait as may, whatever was
+/// called before.
+pub fn refuses_for_its_place<H: Handler>()
+    ensures { RefusesForItsPlace H.answer_of H.after }
 {}

@@ -1,0 +1,179 @@
+-- What each call leaves of the commands that wait, and of the room for them.
+use Rattle.std.proofs.Common.{◌≡◌, ◌∙◌, ap, ◌≤◌, ◌+◌, ◌-◌, ◌*◌, ◌&&◌, ltb, leb, ℕ, Bool, true, false, List, [], ◌∷◌, ◌++◌, length, Option, Some, None, refl, arith}
+use Rattle.std.specs.Prelude.{if◌then◌else◌, All, drop, nat_le, nat_lt}
+use Rattle.std.proofs.lemmas.Bool.{le-leb, leb-true, ltb-true}
+use Rattle.std.proofs.lemmas.List.Elements.{All-head, All-nil, All-push, All-tail}
+use Rattle.osdp_frame.specs.Packet.{next_sequence}
+use Rattle.osdp_msg.specs.CommandTable.{CommandFits, command_code, command_data}
+use Rattle.osdp_msg.specs.Limits.{most_data}
+use Rattle.osdp_msg.specs.declared.command.Command.{Command}
+use Rattle.osdp_msg.specs.declared.command.Command.TheVariants.{Poll}
+use Rattle.osdp_msg_laws.proofs.CommandLaws.{command_laws}
+use Rattle.osdp_controller.specs.declared.exchange.Exchange.TheVariants.{Opening, Polling}
+use Rattle.osdp_controller.specs.declared.fault.ControllerFault.{ControllerFault}
+use Rattle.osdp_controller.specs.declared.session.Session.{Session}
+use Rattle.osdp_controller.specs.declared.state.State.{State}
+use Rattle.osdp_controller.specs.declared.state.State.TheVariants.{Closed, Quiet, Idle, Waiting, Pausing}
+use Rattle.osdp_controller.specs.Machine.{Machine, after_begin, after_retarget, after_submit, begin_refusal, bytes_waiting, changed_unless, command_size, has_room, new_machine, retarget_refusal, submit_refusal}
+use Rattle.osdp_controller.specs.Sessions.{seen}
+use Rattle.osdp_controller.specs.States.{is_closed}
+use Rattle.osdp_controller.specs.Ticking.{Ticked, begins, gives_up, sends_frame, stays, ticks_in, tries_again}
+use Rattle.osdp_controller.proofs.Choices.{either_way}
+use Rattle.osdp_controller_laws.specs.Room.{HasRoom, RefusesForItsPlace, StaysInRoom, SubmitsFitting}
+use Rattle.osdp_controller_laws.specs.Runs.{Call, Submit, Begin, Retarget, Withdraw, Tick, Hear, after_call, after_calls}
+
+-- ---- what waits: what a command that has room and a front that leaves keep
+
+accepted : (fault : ControllerFault) (b : Bool) → (if b then None else Some fault) ≡ None → b ≡ true
+accepted fault true h = refl
+accepted fault false h = cc
+
+finds_room : (command : Command) (m : Machine) → submit_refusal command m ≡ None → has_room command m ≡ true
+finds_room Poll m h = cc
+finds_room command m h = accepted _ (has_room command m) h
+
+-- a fact of the commands that wait, of how many may and of their bytes; and what is known of each command that is submitted
+module _ (P : List Command → ℕ → ℕ → Type 0) (Fits : Command → Type 0) where
+  record IsKeptByQueue : Type 0 where
+    pub joins : (command : Command) (m : Machine) → Fits command → has_room command m ≡ true → P m.waiting m.capacity m.room
+        → P (m.waiting ++ command ∷ []) m.capacity m.room
+    pub leaves : (command : Command) (w : List Command) (capacity room : ℕ) → P (command ∷ w) capacity room → P w capacity room
+
+  abbrev Holds : Machine → Type 0
+  Holds m = P m.waiting m.capacity m.room
+
+  unless_refused : (f : Option ControllerFault) (m n : Machine) → Holds m → (f ≡ None → Holds n) → Holds (changed_unless f m n)
+  unless_refused None m n is changed = changed refl
+  unless_refused (Some fault) m n is changed = is
+
+  withdraw_holds : (b : Bool) (w : List Command) (capacity room : ℕ) → IsKeptByQueue → P w capacity room → P (if b then drop 1 w else w) capacity room
+  withdraw_holds true [] capacity room kept is = is
+  withdraw_holds true (command ∷ w) capacity room kept is = kept.leaves command w capacity room is
+  withdraw_holds false w capacity room kept is = is
+
+  tick_holds : (state : State) (s : Session) (w : List Command) (capacity room : ℕ) → IsKeptByQueue → P w capacity room
+      → P (ticks_in state s w).waiting capacity room
+  tick_holds Closed s w capacity room kept is = is
+  tick_holds (Quiet until) s w capacity room kept is =
+      either_way (λ (t : Ticked). P t.waiting capacity room) (nat_le until s.greatest) (begins Opening 0 s w) (stays s w) (λ b. is) (λ b. is)
+  tick_holds (Idle due) s (command ∷ w) capacity room kept is = kept.leaves command w capacity room is
+  tick_holds (Idle due) s [] capacity room kept is =
+      either_way (λ (t : Ticked). P t.waiting capacity room) (nat_le due s.greatest) (begins Polling (next_sequence s.number) s []) (stays s [])
+      (λ b. is) (λ b. is)
+  tick_holds (Waiting until sends o) s w capacity room kept is =
+      either_way (λ (t : Ticked). P t.waiting capacity room) (nat_le until s.greatest) (tries_again sends o s w) (stays s w)
+      (λ b. either_way (λ (t : Ticked). P t.waiting capacity room) (nat_lt sends s.config.sends) (sends_frame (sends + 1) o s w) (gives_up o s w)
+      (λ c. is) (λ c. is))
+      (λ b. is)
+  tick_holds (Pausing until o) s w capacity room kept is =
+      either_way (λ (t : Ticked). P t.waiting capacity room) (nat_le until s.greatest) (sends_frame 1 o s w) (stays s w) (λ b. is) (λ b. is)
+
+  -- what a call submits
+  abbrev SubmitsFor : Call → Type 0
+  SubmitsFor (Submit command) = Fits command
+  SubmitsFor _ = Unit {0}
+
+  call_holds : (call : Call) (m : Machine) → IsKeptByQueue → SubmitsFor call → Holds m → Holds (after_call call m)
+  call_holds (Submit command) m kept fits is =
+      unless_refused (submit_refusal command m) m (after_submit command m) is
+      (λ free. kept.joins command m fits (finds_room command m free) is)
+  call_holds (Begin now) m kept fits is = unless_refused (begin_refusal m) m (after_begin now m) is (λ free. is)
+  call_holds (Retarget address) m kept fits is = unless_refused (retarget_refusal address m) m (after_retarget address m) is (λ free. is)
+  call_holds Withdraw m kept fits is = withdraw_holds (is_closed m.session.state) m.waiting m.capacity m.room kept is
+  call_holds (Tick now) m kept fits is =
+      tick_holds m.session.state (seen now m.session) m.waiting m.capacity m.room kept is
+  call_holds (Hear p now) m kept fits is = is
+
+-- ---- bytes within their room
+
+bytes_append : (cs ds : List Command) → bytes_waiting (cs ++ ds) ≡ bytes_waiting cs + bytes_waiting ds
+bytes_append [] ds = omega arith
+bytes_append (c ∷ cs) ds = let rest = bytes_append cs ds in omega (arith, rest)
+
+second_true : (a b : Bool) → (a && b) ≡ true → b ≡ true
+second_true true b e = e
+second_true false b e = cc
+
+room_kept : IsKeptByQueue (λ w capacity room. bytes_waiting w ≤ room) (λ command. Unit {0})
+room_kept = record {
+  joins = λ command m fits free is.
+      let bytes = leb-true (command_size command) (m.room - bytes_waiting m.waiting)
+      (second_true (nat_lt (length m.waiting) m.capacity) (nat_le (command_size command) (m.room - bytes_waiting m.waiting)) free) in
+      let sum = bytes_append m.waiting (command ∷ []) in
+      omega (arith, bytes, sum, is);
+  leaves = λ command w capacity room is. omega (arith, is);
+}
+
+any_call : (call : Call) → SubmitsFor (λ w capacity room. bytes_waiting w ≤ room) (λ command. Unit {0}) call
+any_call (Submit command) = tt
+any_call (Begin now) = tt
+any_call (Retarget address) = tt
+any_call Withdraw = tt
+any_call (Tick now) = tt
+any_call (Hear p now) = tt
+
+room_stays : (m : Machine) (calls : List Call) → HasRoom m → HasRoom (after_calls calls m)
+room_stays m [] is = is
+room_stays m (call ∷ calls) is =
+    room_stays (after_call call m) calls
+    (call_holds (λ w capacity room. bytes_waiting w ≤ room) (λ command. Unit {0}) call m room_kept (any_call call) is)
+
+pub stays_in_room : StaysInRoom
+stays_in_room = record { new = λ config capacity room. omega arith; later = room_stays }
+
+-- ---- a place alone
+
+command_is_short : (c : Command) → CommandFits c → command_size c ≤ 1 + most_data
+command_is_short c fits =
+    let short = (command_laws.fits (command_code c) (command_data c) c (record { code_is = refl; data_is = refl; fits = fits })).1 in
+    omega (arith, short)
+
+commands_are_short : (cs : List Command) → All CommandFits cs → bytes_waiting cs ≤ length cs * (1 + most_data)
+commands_are_short [] fit = omega arith
+commands_are_short (c ∷ cs) fit =
+    let first = command_is_short c (All-head CommandFits c cs fit) in
+    let rest = commands_are_short cs (All-tail CommandFits c cs fit) in
+    omega (arith, first, rest)
+
+place_alone : (n size places room more : ℕ) → size ≤ n * (1 + most_data) → places * (1 + most_data) ≤ room → more ≤ 1 + most_data
+    → (ltb n places && leb more (room - size)) ≡ ltb n places
+place_alone n size places room more held ample short = by_test (ltb n places) refl
+  where
+    by_test : (b : Bool) → ltb n places ≡ b → (b && leb more (room - size)) ≡ b
+    by_test true is = let place = ltb-true n places is in le-leb more (room - size) (omega (arith, place, held, ample, short))
+    by_test false is = refl
+
+-- the commands that wait have their fields in their ranges, and as many may wait, with as many bytes, as a controller was made for
+abbrev AreAmple : ℕ → ℕ → List Command → ℕ → ℕ → Type 0
+AreAmple places bytes w capacity room = All CommandFits w × (capacity ≡ places) × (room ≡ bytes)
+
+ample_kept : (places bytes : ℕ) → IsKeptByQueue (AreAmple places bytes) CommandFits
+ample_kept places bytes = record {
+  joins = λ command m fits free is. (All-push CommandFits m.waiting command is.0 fits, is.1, is.2);
+  leaves = λ command w capacity room is. (All-tail CommandFits command w is.0, is.1, is.2);
+}
+
+first_fits : (places bytes : ℕ) (call : Call) (calls : List Call) → SubmitsFitting (call ∷ calls)
+    → SubmitsFor (AreAmple places bytes) CommandFits call × SubmitsFitting calls
+first_fits places bytes (Submit command) calls fit = fit
+first_fits places bytes (Begin now) calls fit = (tt, fit)
+first_fits places bytes (Retarget address) calls fit = (tt, fit)
+first_fits places bytes Withdraw calls fit = (tt, fit)
+first_fits places bytes (Tick now) calls fit = (tt, fit)
+first_fits places bytes (Hear p now) calls fit = (tt, fit)
+
+ample_stays : (places bytes : ℕ) (m : Machine) (calls : List Call) → SubmitsFitting calls → AreAmple places bytes m.waiting m.capacity m.room
+    → let n = after_calls calls m in AreAmple places bytes n.waiting n.capacity n.room
+ample_stays places bytes m [] fit is = is
+ample_stays places bytes m (call ∷ calls) fit is =
+    let fits = first_fits places bytes call calls fit in
+    ample_stays places bytes (after_call call m) calls fits.1
+    (call_holds (AreAmple places bytes) CommandFits call m (ample_kept places bytes) fits.0 is)
+
+pub refuses_for_its_place : RefusesForItsPlace
+refuses_for_its_place config capacity room calls command ample fit fits =
+    let m = after_calls calls (new_machine config capacity room) in
+    let is = ample_stays capacity room (new_machine config capacity room) calls fit (All-nil CommandFits, refl, refl) in
+    place_alone (length m.waiting) (bytes_waiting m.waiting) m.capacity m.room (command_size command) (commands_are_short m.waiting is.0)
+    (omega (arith, ample, is.1, is.2)) (command_is_short command fits)
+    ∙ ap (λ (places : ℕ). nat_lt (length m.waiting) places) is.1
