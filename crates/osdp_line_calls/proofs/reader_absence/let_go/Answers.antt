@@ -1,4 +1,4 @@
-use Rattle.std.proofs.Common.{◌++◌, cond, length, string_bytes, refl, sym, ap, ◌∙◌, arith, append-nil}
+use Rattle.std.proofs.Common.{◌++◌, false, cond, length, string_bytes, refl, sym, ap, ◌∙◌, arith, append-nil}
 use Rattle.osdp_device.specs.Ages.{after_expiry, after_removal}
 use Rattle.osdp_device.specs.Device.{DeviceState}
 use Rattle.osdp_device.specs.declared.status.DeviceStatus.{DeviceStatus}
@@ -8,7 +8,7 @@ use Rattle.osdp_line_calls.proofs.LettingGo.{ages_of, goes, leaves, line_of, non
 use Rattle.osdp_line_calls.proofs.reader_absence.let_go.Goals as goal
 
 -- a device whose oldest event has left
-gone : DeviceState DeviceStatus → DeviceState DeviceStatus
+abbrev gone : DeviceState DeviceStatus → DeviceState DeviceStatus
 gone d = record d { reader = after_expiry d.reader; ages = after_removal false (length d.reader.queue.events) d.ages }
 
 pub events-smaller : goal.events-smaller

@@ -1,6 +1,8 @@
-use Rattle.std.proofs.Common.{string_bytes, arith}
+use Rattle.std.proofs.Common.{string_bytes, ap, arith}
+use Rattle.osdp_device.specs.Device.{DeviceState}
 use Rattle.osdp_device.specs.Hearing.{hears_bytes}
 use Rattle.osdp_device.specs.Status.{status_after, status_answer}
+use Rattle.osdp_device.specs.declared.status.DeviceStatus.{DeviceStatus}
 use Rattle.osdp_line_calls.proofs.ReaderTurns.{turned_on}
 use Rattle.osdp_line_calls.proofs.reader_session.hear.Goals as goal
 
@@ -10,9 +12,9 @@ returns-then-at-bytes c =
     c.args.device.now.ages c.args.now c.args.bytes.now c.turns.at c.take-at.result (string_bytes c.turns.text) (string_bytes c.say_all.new.text) c.turns.device.reader c.take-at.new.self.reader
     c.say_all.new.device.reader c.turns.device.line c.take-at.new.self.line c.say_all.new.device.line
     c.turns.device.ages c.take-at.new.self.ages c.say_all.new.device.ages (λ k. omega (arith, c.type_inv.bytes k))
-    c.turns.invariant.within c.take-at.ensures.received c.turns.invariant.way c.take-at.ensures.count c.take-at.ensures.line c.take-at.ensures.reader
+    c.turns.invariant.within c.take-at.ensures.received c.turns.invariant.way c.take-at.ensures.count (ap (λ (d : DeviceState DeviceStatus). d.line) c.take-at.ensures.device) (ap (λ (d : DeviceState DeviceStatus). d.reader) c.take-at.ensures.device)
     c.in_ok-say_all.ensures.text c.in_ok-say_all.ensures.reader c.in_ok-say_all.ensures.line
-    c.take-at.ensures.ages c.in_ok-say_all.ensures.ages).whole (omega (arith, c.if-at-bytes.true))
+    (ap (λ (d : DeviceState DeviceStatus). d.ages) c.take-at.ensures.device) c.in_ok-say_all.ensures.ages).whole (omega (arith, c.if-at-bytes.true))
 
 pub turns-smaller : goal.turns-smaller
 turns-smaller c =
@@ -20,9 +22,9 @@ turns-smaller c =
     c.args.device.now.ages c.args.now c.args.bytes.now c.turns.at c.take-at.result (string_bytes c.turns.text) (string_bytes c.say_all.new.text) c.turns.device.reader c.take-at.new.self.reader
     c.say_all.new.device.reader c.turns.device.line c.take-at.new.self.line c.say_all.new.device.line
     c.turns.device.ages c.take-at.new.self.ages c.say_all.new.device.ages (λ k. omega (arith, c.type_inv.bytes k))
-    c.turns.invariant.within c.take-at.ensures.received c.turns.invariant.way c.take-at.ensures.count c.take-at.ensures.line c.take-at.ensures.reader
+    c.turns.invariant.within c.take-at.ensures.received c.turns.invariant.way c.take-at.ensures.count (ap (λ (d : DeviceState DeviceStatus). d.line) c.take-at.ensures.device) (ap (λ (d : DeviceState DeviceStatus). d.reader) c.take-at.ensures.device)
     c.in_ok-say_all.ensures.text c.in_ok-say_all.ensures.reader c.in_ok-say_all.ensures.line
-    c.take-at.ensures.ages c.in_ok-say_all.ensures.ages).fewer (λ done. omega (arith, done, c.if-at-bytes.false))
+    (ap (λ (d : DeviceState DeviceStatus). d.ages) c.take-at.ensures.device) c.in_ok-say_all.ensures.ages).fewer (λ done. omega (arith, done, c.if-at-bytes.false))
 
 pub turns-preserved : goal.turns-preserved
 turns-preserved c =
@@ -30,6 +32,6 @@ turns-preserved c =
     c.args.device.now.ages c.args.now c.args.bytes.now c.turns.at c.take-at.result (string_bytes c.turns.text) (string_bytes c.say_all.new.text) c.turns.device.reader c.take-at.new.self.reader
     c.say_all.new.device.reader c.turns.device.line c.take-at.new.self.line c.say_all.new.device.line
     c.turns.device.ages c.take-at.new.self.ages c.say_all.new.device.ages (λ k. omega (arith, c.type_inv.bytes k))
-    c.turns.invariant.within c.take-at.ensures.received c.turns.invariant.way c.take-at.ensures.count c.take-at.ensures.line c.take-at.ensures.reader
-    c.in_ok-say_all.ensures.text c.in_ok-say_all.ensures.reader c.in_ok-say_all.ensures.line c.take-at.ensures.ages c.in_ok-say_all.ensures.ages in
+    c.turns.invariant.within c.take-at.ensures.received c.turns.invariant.way c.take-at.ensures.count (ap (λ (d : DeviceState DeviceStatus). d.line) c.take-at.ensures.device) (ap (λ (d : DeviceState DeviceStatus). d.reader) c.take-at.ensures.device)
+    c.in_ok-say_all.ensures.text c.in_ok-say_all.ensures.reader c.in_ok-say_all.ensures.line (ap (λ (d : DeviceState DeviceStatus). d.ages) c.take-at.ensures.device) c.in_ok-say_all.ensures.ages in
     record { within = t.within; way = t.way }
