@@ -4,6 +4,7 @@ use Rattle.osdp_controller.specs.Answers.{meaning_by_reply}
 use Rattle.osdp_msg.specs.declared.command.Command.{Command}
 use Rattle.osdp_msg.specs.declared.command.Command.TheVariants as command
 use Rattle.osdp_msg.specs.declared.command_fields.Communication.{Communication}
+use Rattle.osdp_msg.specs.declared.command_fields.MakerMessage.{MakerMessage}
 use Rattle.osdp_msg.specs.declared.event.Event.{Event}
 use Rattle.osdp_msg.specs.declared.event.Event.TheVariants as event
 use Rattle.osdp_msg.specs.declared.fault.MsgFault.{MsgFault}
@@ -47,9 +48,9 @@ list_suits : (c : Command) (states : List ℕ) → Suits c (list_reply c states)
 list_suits command.Poll states = (refl, refl)
 list_suits c states = (refl, refl)
 
-maker_suits : (c : Command) (vendor bytes : List ℕ) → Suits c (maker_reply c vendor bytes)
-maker_suits command.Poll vendor bytes = (refl, refl)
-maker_suits c vendor bytes = (refl, refl)
+maker_suits : (c : Command) (own : MakerMessage) → Suits c (maker_reply c own)
+maker_suits command.Poll own = (refl, refl)
+maker_suits c own = (refl, refl)
 
 refusal_suits : (c : Command) (reason : NakReason) → Suits c (refusal_reply reason)
 refusal_suits c CommandLength = (refl, refl)
@@ -60,7 +61,7 @@ for_suits answer.Done c = done_suits c
 for_suits (answer.Local tamper power) c = local_suits c tamper power
 for_suits (answer.List states) c = list_suits c states.items
 for_suits (answer.Refuse reason) c = refusal_suits c reason
-for_suits (answer.Maker vendor bytes) c = maker_suits c vendor bytes.items
+for_suits (answer.Maker own) c = maker_suits c own
 
 comset_suits : (asked : Communication) (within : Bool) → Suits (command.Comset asked) (cond within (reply.Com asked) not_processed)
 comset_suits asked true = (refl, refl)

@@ -204,7 +204,7 @@ module _ (l : PanelLine) (now : ℕ) where
 -- ---- each move
 
 move_holds : (move : PanelMove) (l : PanelLine) → Holds l → IsAllowed move l → Holds (after_move move l)
-move_holds (Restart config capacity) l holds allowed = tt
+move_holds (Restart config room) l holds allowed = tt
 move_holds (Submit c) l holds allowed =
     unless (submit_refusal c l.panel) l.panel (after_submit c l.panel) l.reached l.known holds (λ _. holds)
 move_holds Withdraw l holds allowed = holds
@@ -232,4 +232,4 @@ all_innocent (move ∷ moves) l holds allowed =
     ∙ all_innocent moves (after_move move l) (move_holds move l holds allowed.0) allowed.1
 
 pub accuses_no_panel : AccusesNoPanel
-accuses_no_panel config capacity moves allowed = all_innocent moves (new_line config capacity) tt allowed
+accuses_no_panel config room moves allowed = all_innocent moves (new_line config room) tt allowed

@@ -239,7 +239,7 @@ module _ {H : Type 0} where
     }
 
     move_holds : (move : ReaderMove H) (l : ReaderLine H) → Holds l → IsAllowed answer_of after move l → Holds (after_move answer_of after move l)
-    move_holds (Restart config handler capacity) l holds allowed = restarted l _ holds refl
+    move_holds (Restart config handler room) l holds allowed = restarted l _ holds refl
     move_holds (Queue event) l holds allowed = record { zero = holds.zero; agrees = holds.agrees; stores = holds.stores; coming = holds.coming }
     move_holds (SetBusy busy) l holds allowed = record { zero = holds.zero; agrees = holds.agrees; stores = holds.stores; coming = holds.coming }
     move_holds (SetHandler handler) l holds allowed = record { zero = holds.zero; agrees = holds.agrees; stores = holds.stores; coming = holds.coming }
@@ -264,10 +264,10 @@ module _ {H : Type 0} where
         ∙ all_innocent moves (after_move answer_of after move l) (move_holds move l holds allowed.0) allowed.1
 
     pub accuses_no_reader : AccusesNoReader answer_of after
-    accuses_no_reader config handler capacity moves allowed =
-        all_innocent moves (new_line config handler capacity) (record {
+    accuses_no_reader config handler room moves allowed =
+        all_innocent moves (new_line config handler room) (record {
           zero = λ a. zero_untaken nothing_known refl;
           agrees = agrees_untaken nothing_known None None refl;
-          stores = stores_new (new_reader config handler capacity) refl;
+          stores = stores_new (new_reader config handler room) refl;
           coming = λ q none. absurd (none_some q none);
         }) allowed

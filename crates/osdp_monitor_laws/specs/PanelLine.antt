@@ -6,6 +6,7 @@ use Rattle.osdp_controller.specs.Ticking.{ticks}
 use Rattle.osdp_frame.specs.Packet.{Packet}
 use Rattle.osdp_frame.specs.Reading.{PacketItem, SkippedItem}
 use Rattle.osdp_msg.specs.declared.command.Command.{Command}
+use Rattle.osdp_msg.specs.declared.limits.Room.{Room}
 use Rattle.osdp_monitor.specs.Line.{Knowledge, after_item, found_in, no_knowledge}
 use Rattle.osdp_monitor.specs.declared.accusation.Accusation.{Accusation}
 
@@ -30,7 +31,7 @@ pub record PanelLine : Type 0 where
 -- What may happen. The panel starts anew, with any settings; its calls are made, at any moments. Anybody else says a packet, which the panel
 -- hears at any moment. The listener skips a byte, or begins to listen: so it does after an item that was refused, too.
 pub data PanelMove : Type 0 where
-  Restart : ControllerConfig → ℕ → PanelMove
+  Restart : ControllerConfig → Room → PanelMove
   Submit : Command → PanelMove
   Withdraw : PanelMove
   Begin : ℕ → PanelMove
@@ -41,8 +42,8 @@ pub data PanelMove : Type 0 where
   Forget : PanelMove
 
 -- a new controller, and a listener who knows nothing
-abbrev pub new_line : ControllerConfig → ℕ → PanelLine
-new_line config capacity = record { panel = new_machine config capacity; reached = true; known = no_knowledge }
+abbrev pub new_line : ControllerConfig → Room → PanelLine
+new_line config room = record { panel = new_machine config room.messages room.bytes; reached = true; known = no_knowledge }
 
 -- what a device alone reads makes the listener forget everything
 abbrev pub after_sent : Option Packet → Reaches → PanelLine → PanelLine
@@ -63,7 +64,7 @@ abbrev pub sent_at : ℕ → Machine → Option Packet
 sent_at now m = (ticks now m.session m.waiting).step.frame
 
 abbrev pub after_move : PanelMove → PanelLine → PanelLine
-after_move (Restart config capacity) l = record l { panel = new_machine config capacity }
+after_move (Restart config room) l = record l { panel = new_machine config room.messages room.bytes }
 after_move (Submit command) l =
     record l { panel = changed_unless (submit_refusal command l.panel) l.panel (after_submit command l.panel) }
 after_move Withdraw l = record l { panel = after_withdraw l.panel }
@@ -106,5 +107,5 @@ panel_accusations (move ∷ moves) l = option_to_list (panel_accused_by move l) 
 
 -- whatever is called, whatever replies come, and however often it starts anew: the panel is accused of nothing
 abbrev pub AccusesNoPanel : Type 0
-AccusesNoPanel = (config : ControllerConfig) (capacity : ℕ) (moves : List PanelMove) → AreAllowed moves (new_line config capacity)
-    → panel_accusations moves (new_line config capacity) ≡ []
+AccusesNoPanel = (config : ControllerConfig) (room : Room) (moves : List PanelMove) → AreAllowed moves (new_line config room)
+    → panel_accusations moves (new_line config room) ≡ []

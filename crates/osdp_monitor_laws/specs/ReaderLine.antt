@@ -5,6 +5,7 @@ use Rattle.osdp_frame.specs.Reading.{PacketItem, SkippedItem}
 use Rattle.osdp_msg.specs.ReplyTable.{ReplyFits}
 use Rattle.osdp_msg.specs.declared.command.Command.{Command}
 use Rattle.osdp_msg.specs.declared.event.Event.{Event}
+use Rattle.osdp_msg.specs.declared.limits.Room.{Room}
 use Rattle.osdp_monitor.specs.Line.{Knowledge, after_item, found_in, no_knowledge}
 use Rattle.osdp_monitor.specs.declared.accusation.Accusation.{Accusation}
 use Rattle.osdp_reader.specs.declared.config.ReaderConfig.{ReaderConfig}
@@ -28,7 +29,7 @@ pub record ReaderLine (H : Type 0) : Type 0 where
 -- Anybody else says a packet. The answer comes, and the listener reads it or doesn't. The listener skips a byte, or begins to listen: so it
 -- does after an item that was refused, too.
 pub data ReaderMove (H : Type 0) : Type 0 where
-  Restart : ReaderConfig → H → ℕ → ReaderMove H
+  Restart : ReaderConfig → H → Room → ReaderMove H
   Queue : Event → ReaderMove H
   SetBusy : Bool → ReaderMove H
   SetHandler : H → ReaderMove H
@@ -48,9 +49,9 @@ accused_in (Some q) known = (found_in known q).accusation
 
 module _ {H : Type 0} where
   -- a new reader, and a listener who knows nothing
-  abbrev pub new_line : ReaderConfig → H → ℕ → ReaderLine H
-  new_line config handler capacity =
-      record { reader = new_reader config handler capacity; answer = None; known = no_knowledge }
+  abbrev pub new_line : ReaderConfig → H → Room → ReaderLine H
+  new_line config handler room =
+      record { reader = new_reader config handler room; answer = None; known = no_knowledge }
 
   -- the reader hears a packet
   abbrev pub heard : Outcome H → ReaderLine H → ReaderLine H
@@ -78,7 +79,7 @@ module _ {H : Type 0} where
 
   module _ (answer_of : H → Command → Answer) (after : H → Command → H) where
     abbrev pub after_move : ReaderMove H → ReaderLine H → ReaderLine H
-    after_move (Restart config handler capacity) l = record l { reader = new_reader config handler capacity }
+    after_move (Restart config handler room) l = record l { reader = new_reader config handler room }
     after_move (Queue event) l = record l { reader = after_submit event l.reader }
     after_move (SetBusy busy) l = record l { reader = after_set_busy busy l.reader }
     after_move (SetHandler handler) l = record l { reader = after_set_handler handler l.reader }
@@ -106,6 +107,6 @@ module _ {H : Type 0} where
     -- whatever is said, whatever its handler does, whatever events come, and however often it is busy or starts anew: the reader is accused of
     -- nothing
     abbrev pub AccusesNoReader : Type 0
-    AccusesNoReader = (config : ReaderConfig) (handler : H) (capacity : ℕ) (moves : List (ReaderMove H))
-        → AreAllowed moves (new_line config handler capacity)
-        → reader_accusations moves (new_line config handler capacity) ≡ []
+    AccusesNoReader = (config : ReaderConfig) (handler : H) (room : Room) (moves : List (ReaderMove H))
+        → AreAllowed moves (new_line config handler room)
+        → reader_accusations moves (new_line config handler room) ≡ []
