@@ -1,4 +1,4 @@
-//! The program `osdp`: packets are read, made and listened to, and scripts, panels and readers are run.
+//! The program `osdp`: packets are read, made and listened to, scripts, panels and readers are run, and lines are planned.
 #![tactic(auto)]
 
 use osdp_line_calls::{
@@ -10,6 +10,7 @@ use osdp_tool::{
     unknown_command, without_formats,
 };
 use osdp_tool_inputs::{Reads, do_all, read_words};
+use osdp_tool_plan::{plan, planned};
 use osdp_tool_sim::sim;
 use osdp_tool_streams::{ToolFault, Watched, flush_out, write_out};
 use std::process::ExitCode;
@@ -48,6 +49,15 @@ fn run_captures(rt: &HostRuntime, reads: Reads, words: &[&str]) -> Result<u8, To
     }
 }
 
+/// Prints how long the line takes that the words after the command's name plan.
+fn run_plan(rt: &HostRuntime, words: &[&str]) -> Result<(), ToolFault> {
+    plan(
+        rt.alloc(),
+        after_name(words),
+        &mut Watched::new(rt.stdout()),
+    )
+}
+
 /// Does the job that the words choose.
 fn run_job(rt: &HostRuntime, words: &[&str]) -> Result<(), ToolFault> {
     let mut output = Watched::new(rt.stdout());
@@ -69,6 +79,7 @@ fn run(rt: &HostRuntime) -> Result<u8, ToolFault> {
         Choice::Monitor => return run_captures(rt, Reads::Monitor, &words),
         Choice::Panel => run_machine::<LinePanel>(rt, &words)?,
         Choice::Reader => run_machine::<LineDevice>(rt, &words)?,
+        Choice::Plan => run_plan(rt, &words)?,
         Choice::Job => run_job(rt, &words)?,
     }
     Ok(0)
@@ -84,7 +95,17 @@ fn wrong_setting<'a>(words: &'a [&'a str]) -> Option<WrongSetting<'a>> {
         | Choice::Show
         | Choice::Check
         | Choice::Monitor
+        | Choice::Plan
         | Choice::Job => None,
+    }
+}
+
+/// Says what is wrong with the words of a plan.
+fn tell_wrong_plan(rt: &HostRuntime, words: &[&str]) {
+    if choose(words) == Choice::Plan {
+        if let Err(wrong) = planned(after_name(words)) {
+            let _ = eprintln!(rt; "{wrong}");
+        }
     }
 }
 
@@ -96,6 +117,7 @@ fn tell_wrong(rt: &HostRuntime, words: &[&str]) {
     if let Some(wrong) = wrong_setting(words) {
         let _ = eprintln!(rt; "{wrong}");
     }
+    tell_wrong_plan(rt, words);
 }
 
 /// Says more of bad words, after it was said that they are bad.

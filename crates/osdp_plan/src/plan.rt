@@ -1,7 +1,7 @@
 //! What is planned.
 
 ghost use Rattle.std.specs.Prelude.{◌≡◌};
-ghost use Rattle.osdp_plan.specs.Plans.{default_plan, only_polls};
+ghost use Rattle.osdp_plan.specs.Plans.{IsPlan, default_plan, only_polls};
 
 use osdp_frame::CheckKind;
 
@@ -63,7 +63,8 @@ impl Plan {
 
     /// The same line while nothing but a POLL and its ACK passes.
     pub fn only_polls(self) -> Plan
-        ensures { result ≡ only_polls self }
+        ensures plan { result ≡ only_polls self }
+        ensures range { IsPlan self → IsPlan result }
     {
         let longest = if self.check == CheckKind::Sum { 7 } else { 8 };
         Plan { longest, ..self }

@@ -19,6 +19,7 @@ usage: osdp COMMAND [WORD]...
   sim      run a script of a line between a controller and its readers
   panel    run a panel by lines of text
   reader   run a reader by lines of text
+  plan     print how long a line takes that is planned
   help     print this, or the help of a command: osdp help show
 
   -h, --help  print this
@@ -27,7 +28,7 @@ usage: osdp COMMAND [WORD]...
 Each command reads standard input, or the files that are named, and writes standard output. Secure Channel is
 not read or spoken. The status is 0, or 1 where show, check or monitor met a refusal, or monitor accused an
 end. It is 2 at bad words or bad input, 3 where a read or a write failed, and 4 without memory. Of several
-files it is the greatest. The manual: man osdp, man osdp-monitor, man osdp-panel, man osdp-reader.
+files it is the greatest. The manual: man osdp, man osdp-monitor, man osdp-panel, man osdp-plan, man osdp-reader.
 ";
 
 const SHOW: &str =
@@ -319,6 +320,48 @@ Examples:
   waiting 1
 ";
 
+const PLAN: &str = "osdp plan: tells how long a line takes that is planned
+
+usage: osdp plan [SETTING VALUE]...
+
+  readers N         how many readers are on the line, 1 to 16: 1
+  rate N            how many bits pass in a second, 300 to 1000000: 9600
+  check sum         the check that packets end with; check crc: crc
+  longest N         how many bytes the longest packet has, 8 to 1440: 32
+  answer MS         how long a reader thinks before it answers, at most: 5
+  hold MS           for how long a driver, an adapter or a network holds a packet back: 0
+  late MS           how late the panel's program is: 1
+  orders N          how many orders of its reader wait before an order or a card, 0 to 1024: 0
+  reply-wait MS     how long an answer is waited for: 200
+  poll-interval MS  from an answer to the next POLL: 50
+  sends N           how often a packet is sent while no answer comes, 1 to 255: 3
+  busy-wait MS      from a BUSY to the next send: 50
+  busy-limit N      how often a reader may answer BUSY in one exchange, 0 to 255: 20
+  quiet-wait MS     how long a device is left quiet before a session opens: 400
+
+Input: none. A byte has ten bits on the wire. The settings from reply-wait on are those of osdp panel.
+
+Times are in milliseconds, each the longest: where all readers answer in time, where one of the others is
+silent, and at worst, whatever comes from the line. Then a line for each setting that would make them shorter.
+
+  POLL round  from a POLL of a reader to its next, while nothing else passes
+  order       from an order's acceptance to its packet
+  card        from a card at the reader to its report
+  told lost   from the last answer of a reader that falls silent until it is told
+
+A setting that is too short for its line is refused, with what it has to be.
+
+Examples:
+
+  $ osdp plan readers 16 | grep -E '^(order|card)'
+  order               1168        1699      218944
+  card                1291        1822           -
+
+  $ osdp plan readers 16 rate 115200 | grep -E '^(order|card)'
+  order                192         784      218944
+  card                 254         846           -
+";
+
 /// The help of a topic.
 pub fn help_text(topic: Topic) -> &'static str
     ensures { IsHelpOf topic result.now }
@@ -332,5 +375,6 @@ pub fn help_text(topic: Topic) -> &'static str
         Topic::Sim => SIM,
         Topic::Panel => PANEL,
         Topic::Reader => READER,
+        Topic::Plan => PLAN,
     }
 }

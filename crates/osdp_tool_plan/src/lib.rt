@@ -1,0 +1,10 @@
+//! The command `plan`: how long a line takes that is planned, by its settings.
+#![tactic(auto)]
+
+mod command;
+mod setting;
+mod text;
+
+pub use command::{WrongPlan, plan, planned};
+pub use setting::{PlanSetting, Planned, read_plan};
+pub use text::plan_text;
