@@ -1,5 +1,5 @@
 -- Without a COMSET neither end goes to another address.
-use Rattle.std.proofs.Common.{◌≡◌, ◌+◌, ℕ, Bool, true, false, ◌==◌, arith, leb, ltb, List, [], ◌∷◌, ◌++◌, length, Option, Some, None, IfSome, Ok, refl, sym, subst}
+use Rattle.std.proofs.Common.{◌≡◌, ◌+◌, ℕ, Bool, true, false, arith, leb, ltb, List, [], ◌∷◌, ◌++◌, Option, Some, None, IfSome, Ok, refl, sym, subst}
 use Rattle.std.proofs.lemmas.List.{append-nil}
 use Rattle.std.specs.Prelude.{option_to_list}
 use Rattle.osdp_frame.specs.Packet.{Packet, next_sequence}

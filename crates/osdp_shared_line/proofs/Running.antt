@@ -1,6 +1,5 @@
 -- From the beginning over each list of moves: nobody else hears what a site says, and each site is its link.
-use Rattle.std.proofs.Common.{◌≡◌, ◌≢◌, ◌+◌, ℕ, zero, suc, List, [], ◌∷◌, ◌++◌, length, Some, IfSome, refl, sym, subst, ap, ◌∙◌, inl, inr, arith}
-use Rattle.std.specs.Prelude.{◌==◌}
+use Rattle.std.proofs.Common.{◌≡◌, ◌≢◌, ◌+◌, ℕ, zero, suc, List, [], ◌∷◌, ◌++◌, Some, IfSome, refl, sym, subst, ap, ◌∙◌, inl, inr, arith}
 use Rattle.osdp_msg.specs.declared.limits.Room.{Room}
 use Rattle.osdp_frame.specs.Packet.{Packet}
 use Rattle.osdp_msg.specs.CommandTable.{CommandFits}
