@@ -12,9 +12,8 @@ HERE = os.path.dirname(os.path.abspath(__file__))
 PROGRAM = os.path.join(HERE, "..", "crates", "osdp_bench", "out", "osdp_bench")
 # Each kind of work, with the ratio that is wanted.
 WANTED = {
-    "poll": 0.2, "poll_into": 0.5, "out": 0.2, "out_into": 0.6, "turn_into": None, "repeat": None, "poll_heard": None, "out_heard": None,
-    "repeat_heard": 0.5, "ignored": 0.5, "idle": None, "idle_into": 0.5, "encode": None, "encode_to": 0.9, "framer_sum": 0.7,
-    "framer_crc": 0.9, "crc": 0.9, "session_poll": 1.0, "session_out": 0.7,
+    "poll": 0.5, "out": 0.6, "turn": None, "poll_heard": None, "out_heard": None, "repeat": 0.5, "ignored": 0.5, "idle": 0.5,
+    "encode": None, "encode_to": 0.9, "framer_sum": 0.7, "framer_crc": 0.9, "crc": 0.9, "session_poll": 1.0, "session_out": 0.7,
 }
 
 

@@ -55,20 +55,9 @@ impl Link {
         link.exchange().then_some(link)
     }
 
-    /// What is due goes to the reader, and its answer, found in its bytes, to the controller.
+    /// What is due goes to the reader, and its answer to the controller. Each packet goes out as bytes and is found in them.
     #[inline(never)]
     fn exchange(&mut self) -> bool {
-        self.now += 2;
-        let Step::Send(packet) = self.controller.tick(self.now) else { return false };
-        let response = self.reader.hear(&packet);
-        let Some(reply) = View::first(response.bytes()) else { return false };
-        black_box(&self.controller.hear(&reply, self.now));
-        !self.controller.outstanding()
-    }
-
-    /// The same, where the packet goes out as bytes and is found in them.
-    #[inline(never)]
-    fn exchange_by_bytes(&mut self) -> bool {
         self.now += 2;
         let Step::Send(packet) = self.controller.tick(self.now) else { return false };
         self.burst.write_view(&packet);
@@ -94,19 +83,9 @@ fn polls(count: u64) -> Option<u64> {
     Some(times(count, |_| link.exchange()))
 }
 
-fn polls_by_bytes(count: u64) -> Option<u64> {
-    let mut link = Link::new(1)?;
-    Some(times(count, |_| link.exchange_by_bytes()))
-}
-
 fn outs(count: u64) -> Option<u64> {
     let mut link = Link::new(1000)?;
     Some(times(count, |_| link.submit() && link.exchange()))
-}
-
-fn outs_by_bytes(count: u64) -> Option<u64> {
-    let mut link = Link::new(1000)?;
-    Some(times(count, |_| link.submit() && link.exchange_by_bytes()))
 }
 
 /// A controller alone: it writes a POLL, and hears its ACK.
@@ -227,14 +206,12 @@ pub fn done(kind: &str, count: u64) -> Option<u64> {
     match kind {
         "poll" => polls(count),
         "out" => outs(count),
-        "poll_into" => polls_by_bytes(count),
-        "out_into" => outs_by_bytes(count),
-        "turn_into" => turns(count),
+        "turn" => turns(count),
         "poll_heard" => heard(&[0x60], count),
         "out_heard" => heard(&[0x68, 3, 2, 0, 0], count),
-        "repeat" | "repeat_heard" => repeats(count),
+        "repeat" => repeats(count),
         "ignored" => ignored(count),
-        "idle" | "idle_into" => idle(count),
+        "idle" => idle(count),
         "encode" | "encode_to" => Some(encoded(count)),
         "framer_sum" => Some(framed(false, count)),
         "framer_crc" => Some(framed(true, count)),

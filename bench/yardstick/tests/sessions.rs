@@ -99,10 +99,10 @@ fn schedules_that_stop() {
 
 #[test]
 fn work_comes_out() {
-    for kind in ["poll", "out", "poll_into", "out_into", "turn_into", "poll_heard", "out_heard", "repeat", "repeat_heard", "ignored", "idle"] {
+    for kind in ["poll", "out", "turn", "poll_heard", "out_heard", "repeat", "ignored", "idle"] {
         assert_eq!(done(kind, 250), Some(250), "{kind}");
     }
-    for kind in ["idle_into", "encode", "encode_to", "framer_sum", "framer_crc", "crc", "session_poll", "session_out"] {
+    for kind in ["encode", "encode_to", "framer_sum", "framer_crc", "crc", "session_poll", "session_out"] {
         assert_eq!(done(kind, 250), Some(250), "{kind}");
     }
     assert_eq!(done("dim", 1), None);

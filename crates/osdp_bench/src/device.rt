@@ -4,7 +4,7 @@ ghost use Rattle.osdp_reader.specs.declared.handler.Answer.TheVariants.{Done};
 
 use osdp_controller::{Controller, ControllerConfig};
 use osdp_frame::{Address, CheckKind, FrameView, Header, Seq};
-use osdp_msg::Command;
+use osdp_msg::{Command, Room, Spelling};
 use osdp_reader::{Answer, Handler, Reader};
 use osdp_script::script_config;
 use std::alloc::Global;
@@ -21,8 +21,8 @@ impl Handler for Device {
 
     ghost after = { λ device command. device };
 
-    fn answer(&mut self, command: &Command) -> Answer {
-        let _ = command;
+    fn answer<'a>(&mut self, command: &Command<'_>, place: &'a mut Spelling) -> Answer<'a> {
+        let _ = (command, place);
         Answer::Done
     }
 }
@@ -32,7 +32,7 @@ pub fn controller(alloc: Global, poll_interval: u32) -> Option<Controller> {
     let mut config = ControllerConfig::new(Address::new(5)?, CheckKind::Crc);
     config.poll_interval = poll_interval;
     config.quiet_wait = 1;
-    let mut controller = Controller::new(alloc, config, 4).ok()?;
+    let mut controller = Controller::new(alloc, config, Room::of(4)).ok()?;
     controller.begin(0).ok()?;
     Some(controller)
 }
@@ -40,7 +40,7 @@ pub fn controller(alloc: Global, poll_interval: u32) -> Option<Controller> {
 /// The reader of a link.
 pub fn reader(alloc: Global) -> Option<Reader<Device>> {
     let config = script_config(1, Address::new(5)?);
-    Reader::new(alloc, config, Device { is_on: true }, 4).ok()
+    Reader::new(alloc, config, Device { is_on: true }, Room::of(4)).ok()
 }
 
 /// Both ends of a link.

@@ -1,8 +1,8 @@
 //! The kinds of work.
 
-use crate::exchanges::{Asked, ByValue, Lent, exchanges, turns};
-use crate::heard::{heard, repeats_heard};
-use crate::hearing::{idle_ticks, idle_ticks_into, ignored_frames, repeats};
+use crate::exchanges::{Asked, exchanges, turns};
+use crate::heard::{heard, repeats};
+use crate::hearing::{idle_ticks, ignored_frames};
 use crate::packets::{checks, encoded, encoded_to, framed};
 use crate::sessions::{out_rounds, poll_rounds};
 use osdp_frame::CheckKind;
@@ -15,26 +15,18 @@ pub enum Work {
     Polls,
     /// An OUT and its ACK over both machines.
     Outs,
-    /// A POLL and its ACK over both machines, written into what is lent.
-    PollsInto,
-    /// An OUT and its ACK over both machines, written into what is lent.
-    OutsInto,
-    /// A POLL and its ACK at a controller alone, written into what is lent.
+    /// A POLL and its ACK at a controller alone.
     Turns,
-    /// A packet that a reader has answered already.
-    Repeats,
-    /// A POLL with the next number to a reader alone, by the call that fills a place of the caller's.
+    /// A POLL with the next number to a reader alone.
     PollHeard,
     /// The same of an OUT.
     OutHeard,
-    /// The same of a packet that it has answered already.
-    RepeatHeard,
+    /// A packet that a reader has answered already.
+    Repeats,
     /// A reply that a controller has no exchange for.
     Ignored,
     /// A tick with nothing due.
     Idle,
-    /// A tick with nothing due, by the call that writes into what is lent.
-    IdleInto,
     /// A POLL written as bytes, in a burst of its own.
     Encode,
     /// A POLL written as bytes, in a burst that is there.
@@ -57,16 +49,12 @@ impl Work {
         match name {
             "poll" => Some(Work::Polls),
             "out" => Some(Work::Outs),
-            "poll_into" => Some(Work::PollsInto),
-            "out_into" => Some(Work::OutsInto),
-            "turn_into" => Some(Work::Turns),
-            "repeat" => Some(Work::Repeats),
+            "turn" => Some(Work::Turns),
             "poll_heard" => Some(Work::PollHeard),
             "out_heard" => Some(Work::OutHeard),
-            "repeat_heard" => Some(Work::RepeatHeard),
+            "repeat" => Some(Work::Repeats),
             "ignored" => Some(Work::Ignored),
             "idle" => Some(Work::Idle),
-            "idle_into" => Some(Work::IdleInto),
             "encode" => Some(Work::Encode),
             "encode_to" => Some(Work::EncodeTo),
             "framer_sum" => Some(Work::FramerSum),
@@ -81,18 +69,14 @@ impl Work {
     /// Does it so many times, and tells how often it came out as it should. None where there is no memory.
     pub fn done(self, alloc: Global, count: u64) -> Option<u64> {
         match self {
-            Work::Polls => exchanges(alloc, Asked::Poll, &mut ByValue, count),
-            Work::Outs => exchanges(alloc, Asked::Out, &mut ByValue, count),
-            Work::PollsInto => exchanges(alloc, Asked::Poll, &mut Lent::new(), count),
-            Work::OutsInto => exchanges(alloc, Asked::Out, &mut Lent::new(), count),
+            Work::Polls => exchanges(alloc, Asked::Poll, count),
+            Work::Outs => exchanges(alloc, Asked::Out, count),
             Work::Turns => turns(alloc, count),
-            Work::Repeats => repeats(alloc, count),
             Work::PollHeard => heard(alloc, &[0x60], count),
             Work::OutHeard => heard(alloc, &[0x68, 3, 2, 0, 0], count),
-            Work::RepeatHeard => repeats_heard(alloc, count),
+            Work::Repeats => repeats(alloc, count),
             Work::Ignored => ignored_frames(alloc, count),
             Work::Idle => idle_ticks(alloc, count),
-            Work::IdleInto => idle_ticks_into(alloc, count),
             Work::Encode => encoded(count),
             Work::EncodeTo => encoded_to(count),
             Work::FramerSum => framed(CheckKind::Sum, count),

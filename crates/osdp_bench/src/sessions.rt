@@ -13,14 +13,18 @@ use std::alloc::Global;
 const ROUNDS: usize = 100;
 
 /// Time passes, and then nothing is lost.
-fn push_round(steps: &mut Vec<SimStep>, wait: u64) -> Option<()> {
+fn push_round(steps: &mut Vec<SimStep<'_>>, wait: u64) -> Option<()> {
     steps.push(SimStep::Wait(wait)).ok()?;
     steps.push(SimStep::ToReader(Move::Deliver)).ok()?;
     steps.push(SimStep::ToController(Move::Deliver)).ok()
 }
 
 /// The steps of a session that opens and goes on for so many rounds. In each round this command is asked, or else a POLL.
-fn schedule(alloc: Global, command: Option<&Command>, rounds: usize) -> Option<Vec<SimStep>> {
+fn schedule<'a>(
+    alloc: Global,
+    command: Option<&Command<'a>>,
+    rounds: usize,
+) -> Option<Vec<SimStep<'a>>> {
     let mut steps = Vec::new(alloc);
     push_round(&mut steps, 400)?;
     for _ in 0..rounds {
@@ -47,8 +51,8 @@ fn config() -> Option<SimConfig> {
 fn run(
     alloc: Global,
     config: &SimConfig,
-    command: Option<&Command>,
-    steps: &[SimStep],
+    command: Option<&Command<'_>>,
+    steps: &[SimStep<'_>],
     rounds: usize,
 ) -> Option<u64> {
     let account = run_session(alloc, config, Device { is_on: true }, steps).ok()?;
@@ -60,7 +64,7 @@ fn run(
 }
 
 /// So many rounds, in sessions of `ROUNDS` and one of those that are left.
-fn rounds(alloc: Global, command: Option<&Command>, count: u64) -> Option<u64> {
+fn rounds(alloc: Global, command: Option<&Command<'_>>, count: u64) -> Option<u64> {
     let config = config()?;
     let steps = schedule(alloc, command, ROUNDS)?;
     let left = (count % ROUNDS as u64) as usize;
@@ -88,6 +92,7 @@ pub fn out_rounds(alloc: Global, count: u64) -> Option<u64> {
         control: 2,
         timer: 0,
     };
-    let command = Command::Output(Outputs::new(&[record])?);
+    let records = [record];
+    let command = Command::Output(Outputs::new(&records)?);
     rounds(alloc, Some(&command), count)
 }
