@@ -68,7 +68,7 @@ impl Known {
 
 /// Whose turn a number is.
 #[derive(Clone, Copy, Debug, PartialEq, Eq)]
-pub(crate) enum Turn {
+pub enum Turn {
     /// Number 0, or the number after the last.
     New,
     /// The last number.

@@ -14,5 +14,5 @@ pub use aspect::Aspect;
 pub use finding::Finding;
 pub use findings::prompt_finding;
 pub use judging::{count_judged, judged, noise_judged};
-pub use known::Known;
+pub use known::{Known, Turn};
 pub use verdict::Verdict;

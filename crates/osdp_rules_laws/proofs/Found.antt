@@ -1,0 +1,44 @@
+-- Another answer to a packet that comes again is found.
+use Rattle.std.proofs.Common.{◌≡◌, ◌≢◌, ◌⊎◌, ◌<◌, ℕ, Bool, true, false, cond, eqb, not, nat_lt, ◌&&◌, ◌||◌, Option, Some, None, Result, Ok, Err, refl, sym, ap, subst, inl, inr, ◌∙◌, arith}
+use Rattle.std.proofs.lemmas.Bool.{and_left, cond-false, cond-true, eq-eqb, false_from_ne_true, lt-ltb, ne_eqb, or_from}
+use Rattle.osdp_frame.specs.Packet.{Packet}
+use Rattle.osdp_msg.specs.declared.command.Command.{Command}
+use Rattle.osdp_msg.specs.declared.fault.MsgFault.{MsgFault}
+use Rattle.osdp_msg.specs.declared.fault.MsgFault.TheVariants.{UnknownCode, Length, Count}
+use Rattle.osdp_msg.specs.declared.reply.Reply.{Reply}
+use Rattle.osdp_rules.specs.Findings.{again_finding, block_finding, code_finding, fit_finding, fit_read, is_answer, is_fitting, kept_if, length_finding, must_have, new_finding, quiet_finding, read_finding, refusal_finding, repeat_finding, taken_finding, turned_away, wrong_finding}
+use Rattle.osdp_rules.specs.Judging.{answer_judged, judged, sent_judged, turn_judged}
+use Rattle.osdp_rules.specs.Known.{last_number, turn_of}
+use Rattle.osdp_rules.specs.Packets.{asked, code_of, has_reason, is_busy, is_nak, is_to, same_check, same_packet, told}
+use Rattle.osdp_rules.specs.declared.aspect.Aspect.{Aspect}
+use Rattle.osdp_rules.specs.declared.aspect.Aspect.TheVariants as rule
+use Rattle.osdp_rules.specs.declared.finding.Finding.{Finding}
+use Rattle.osdp_rules.specs.declared.finding.Finding.TheVariants.{Nothing, Kept, Either, Broken}
+use Rattle.osdp_rules.specs.declared.known.Known.{Known}
+use Rattle.osdp_rules.specs.declared.known.Known.TheVariants.{Gone, Unknown, Opened, Took}
+use Rattle.osdp_rules.specs.declared.known.Turn.{Turn}
+use Rattle.osdp_rules.specs.declared.known.Turn.TheVariants.{New, Again, Out, NobodyKnows}
+use Rattle.osdp_rules_laws.specs.Laws.{FindsAddress, FindsAnotherAnswer, FindsBlock, FindsBusyNumber, FindsCheck, FindsHeardNoise, FindsNumber, FindsSecondAnswer, FindsTakenCode, FindsTakenLength, FindsTakenOutOfTurn, FindsTalk, FindsTurnedAway, FindsUnfit, FindsUnread, FindsUnserved, IsNewAnswer}
+use Rattle.osdp_rules_laws.proofs.Fine.{broken_kept}
+use Rattle.osdp_rules_laws.proofs.Meeting.{again_last}
+use Rattle.osdp_rules_laws.proofs.Same.{is_packet, packet_is, same_kind}
+
+-- an answer to a packet without a block is judged by the turn of its number
+at_turn : (aspect : Aspect) (address : ℕ) (k : Known) (p a : Packet) (turn : Turn) → is_to address p ≡ true → p.block ≡ false
+    → has_reason 1 a ≡ false → turn_of (last_number k) p.sequence ≡ turn
+    → sent_judged aspect address k p (Some a) ≡ turn_judged turn aspect k p a
+at_turn aspect address k p a turn to plain undamaged is =
+    let later = turn_judged (turn_of (last_number k) p.sequence) aspect k p a in
+    cond-true (is_to address p) (answer_judged aspect k p a) (quiet_finding aspect true) to
+    ∙ cond-false (has_reason 1 a) Nothing (cond p.block (block_finding aspect a) later) undamaged
+    ∙ cond-false p.block (block_finding aspect a) later plain
+    ∙ ap (λ t. turn_judged t aspect k p a) is
+
+pub finds_another_answer : FindsAnotherAnswer
+finds_another_answer address p first a to plain above undamaged busy other =
+    at_turn rule.Repeat address (Took p first) p a Again to plain undamaged
+    (again_last p.sequence p.sequence (ne_eqb p.sequence 0 above) (eq-eqb p.sequence p.sequence refl))
+    ∙ cond-true (same_packet p p) (again_finding first a) Nothing (is_packet p)
+    ∙ cond-false (same_packet first a) Kept (cond (is_busy a) Either Broken)
+    (false_from_ne_true (same_packet first a) (λ e. other (sym (packet_is first a e))))
+    ∙ cond-false (is_busy a) Either Broken busy

@@ -1,0 +1,9 @@
+pub mod Fine
+pub mod Same
+pub mod Replies
+pub mod Reading
+pub mod Meeting
+pub mod Steps
+pub mod Along
+pub mod Found
+pub mod Open

@@ -1,0 +1,64 @@
+//! What the rules to which a device is held come to, said apart from them: whom they never accuse, what they leave open, and what they find. The
+//! functions do nothing: their contracts are laws.
+#![tactic(auto)]
+
+ghost use Rattle.osdp_rules_laws.specs.Laws.{AnyRefusalIsOne, BreaksNoRule, DamageBreaksNothing, FindsAddress, FindsAnotherAnswer, FindsBlock, FindsBusyNumber, FindsCheck, FindsHeardNoise, FindsNumber, FindsSecondAnswer, FindsTakenCode, FindsTakenLength, FindsTakenOutOfTurn, FindsTalk, FindsTurnedAway, FindsUnfit, FindsUnread, FindsUnserved, MayBeBusy, SilenceBreaksNothing};
+
+use osdp_reader::Handler;
+
+/// Whatever is sent to a reader of ours, in whatever state it is, whatever its handler answers, whatever its device does between two packets, and
+/// whatever the line loses: no rule is broken.
+pub fn breaks_no_rule<H: Handler>()
+    ensures { BreaksNoRule H.answer_of H.after }
+{
+    osdp_msg_laws::reply_of_reads_the_table();
+    osdp_msg_laws::replies_fit_a_packet();
+}
+
+/// Silence and NAK 1 show nothing: what wasn't heard may be lost.
+pub fn losses_break_nothing()
+    ensures silence { SilenceBreaksNothing }
+    ensures damage { DamageBreaksNothing }
+{}
+
+/// What the standard leaves open breaks no rule: any reason of a refusal, BUSY at any packet and with either number.
+pub fn leaves_open()
+    ensures refusals { AnyRefusalIsOne }
+    ensures busy { MayBeBusy }
+{}
+
+/// An answer with another address, check or number than its packet, or with a security block, breaks its rule.
+pub fn finds_wrong_heads()
+    ensures address { FindsAddress }
+    ensures check { FindsCheck }
+    ensures number { FindsNumber }
+    ensures block { FindsBlock }
+{}
+
+/// So does the answer of another command, the refusal of POLL, ID or CAP, and a reply with a wrong length or count.
+pub fn finds_wrong_replies()
+    ensures unfit { FindsUnfit }
+    ensures unserved { FindsUnserved }
+    ensures unread { FindsUnread }
+    ensures busy { FindsBusyNumber }
+{}
+
+/// A command that isn't one and is neither refused nor put off breaks its rule.
+pub fn finds_taken_nonsense()
+    ensures code { FindsTakenCode }
+    ensures length { FindsTakenLength }
+{}
+
+/// A new number that is refused, a number out of turn that isn't, and another answer to a packet that comes again break their rules.
+pub fn finds_wrong_turns()
+    ensures refused { FindsTurnedAway }
+    ensures taken { FindsTakenOutOfTurn }
+    ensures again { FindsAnotherAnswer }
+{}
+
+/// An answer to what isn't to the device, to bytes without a packet, and a second answer break their rules.
+pub fn finds_talk()
+    ensures others { FindsTalk }
+    ensures noise { FindsHeardNoise }
+    ensures second { FindsSecondAnswer }
+{}

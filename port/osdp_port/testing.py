@@ -1,0 +1,149 @@
+"""`test device`: plays the scenarios against a device, and hands what was sent and heard to `osdp test`, which judges it."""
+import time
+
+from .console import wait_for
+from .faults import BAD_WORDS, Stop
+from .program import Stream
+from .scenarios import NAMES, SCENARIOS
+
+TRIES = 3  # how often a packet is sent while nothing is heard
+ANSWER = 1.0  # seconds that an answer is waited for
+QUIET = 0.3  # .. where none is expected
+GAP = 0.03  # seconds of silence after which an answer is over
+ALLOWS = ("silence", "out", "led", "buz", "text", "comset")  # what --may may name; out:N is output N
+NOISE = bytes.fromhex("00FF5A5300A5")
+
+
+def crc(data):
+    """The CRC of a packet: polynomial 1021, first 1D0F."""
+    register = 0x1D0F
+    for byte in data:
+        register ^= byte << 8
+        for _ in range(8):
+            register = (register << 1 ^ (0x1021 if register & 0x8000 else 0)) & 0xFFFF
+    return register
+
+
+def packet(address, number, body, check, is_reply=False, block=b""):
+    """The bytes of a packet."""
+    size = 5 + len(block) + len(body) + (2 if check == "crc" else 1)
+    control = number | (4 if check == "crc" else 0) | (8 if block else 0)
+    head = bytes((0x53, address | (0x80 if is_reply else 0), size & 0xFF, size >> 8, control)) + block + body
+    return head + (crc(head).to_bytes(2, "little") if check == "crc" else bytes(((-sum(head)) & 0xFF,)))
+
+
+def damaged(how, address, check):
+    """Bytes that hold no packet."""
+    whole = packet(address, 1, b"\x60", check)
+    if how == "badcheck":
+        return whole[:-1] + bytes((whole[-1] ^ 0x5A,))
+    if how == "long":
+        return whole[:2] + bytes((whole[2] + 40,)) + whole[3:]
+    if how == "short":
+        return whole[:2] + bytes((5,)) + whole[3:]
+    if how == "start":
+        return b"\x35" + whole[1:]
+    if how == "cut":
+        return whole[:-2]
+    return NOISE
+
+
+class Player:
+    """Plays scenarios on a port. `write` gets each line for `osdp test`."""
+
+    def __init__(self, port, console, address, may, write, check="crc"):
+        self.port, self.console, self.address, self.may, self.write, self.check = port, console, address, may, write, check
+        self.start = time.monotonic()
+
+    def moment(self):
+        return int((time.monotonic() - self.start) * 1000)
+
+    def hears(self, sent, wait):
+        """Sends bytes. The bytes that came after them, without their echo, and after how many milliseconds."""
+        self.port.read()
+        self.port.write(sent)
+        begun, came, first = time.monotonic(), b"", None
+        last = begun
+        limit = wait + 12 * len(sent) / self.port.rate
+        while self.port.is_there and not self.console.stops:
+            now = time.monotonic()
+            if now > begun + limit + (1.0 if came else 0) or (came and now > last + GAP):
+                break
+            wait_for(self.port, self.console, 0.005, lines=False)
+            read = self.port.read()
+            if read:
+                came, last = came + read, time.monotonic()
+                if came == sent:
+                    came = b""
+                elif first is None:
+                    first = last
+        came = came.removeprefix(sent)
+        took = (first or time.monotonic()) - begun - 12 * len(sent) / self.port.rate
+        return came[:4000], max(0, int(took * 1000))
+
+    def sends(self, rule, verb, sent, is_answered):
+        """One exchange, again while nothing is heard."""
+        for _ in range(TRIES if is_answered else 1):
+            moment = self.moment()
+            heard, delay = self.hears(sent, ANSWER if is_answered else QUIET)
+            self.write(f"{verb}s {rule} {moment} {sent.hex().upper()} {delay} {heard.hex().upper() or 'none'}")
+            if heard:
+                return
+
+    def step(self, rule, words):
+        verb, number, *how = words
+        if verb == "wait":
+            time.sleep(int(number) / 1000)
+            return
+        check = "sum" if "sum" in how else "crc" if "crc" in how else self.check
+        if number == "-":
+            self.sends(rule, verb, damaged(how[0], self.address, check), False)
+            return
+        body = how[0][1:] if how[0][0] == "x" else NAMES[how[0]].format(out=self.may.get("out", 0))
+        address = (self.address + 1) % 127 if "other" in how else self.address
+        made = packet(address, int(number), bytes.fromhex(body), check, "reply" in how, b"\x02\x15" if "block" in how else b"")
+        self.sends(rule, verb, b"\xFF\xFF" * ("filled" in how) + made, "other" not in how and "reply" not in how)
+
+    def plays(self, rule):
+        needs, steps = SCENARIOS[rule]
+        if needs and needs not in self.may:
+            self.write(f"skips {rule} --may={needs}{':N' if needs == 'out' else ''}")
+            return
+        for step in steps.split("; "):
+            if self.console.stops or not self.port.is_there:
+                return
+            self.step(rule, step.split())
+
+    def goes(self):
+        self.write(f"device {self.address}")
+        for rule in SCENARIOS:
+            self.plays(rule)
+
+
+def allowed(words):
+    """What --may allows: names, and the number of an output."""
+    may = {}
+    for word in words:
+        name, _, number = word.partition(":")
+        if name not in ALLOWS or (name == "out" and not (number.isdigit() and int(number) < 256)) or (name != "out" and number):
+            raise Stop(f"--may {word}: one of {', '.join(ALLOWS)}, with out:N", BAD_WORDS)
+        may[name] = int(number or 0)
+    return may
+
+
+def test(words, port, console, osdp):
+    """Tests the device at an address. The status: that of `osdp test`."""
+    judge = Stream(osdp, ["test", *(["--tap"] if words.get("--tap") else [])], console)
+    kept = open(words.get("--trace"), "w", encoding="ascii") if words.get("--trace") else None
+
+    def write(line):
+        judge.write(line.encode() + b"\n")
+        if kept:
+            kept.write(line + "\n")
+    try:
+        Player(port, console, int(words.rest[1]), allowed(words.get("--may", "").split(",") if words.get("--may") else []), write,
+               "sum" if words.get("--sum") else "crc").goes()
+    finally:
+        if kept:
+            kept.close()
+    return judge.ends()

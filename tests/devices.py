@@ -1,0 +1,787 @@
+"""Devices for `osdp test`, written from the standard and not from our code: one that is right, wrong ones, each with the rules that it breaks, and
+ones that follow the standard in another way than ours, which break none.
+
+    devices.py OSDP          plays the scenarios against each of them, without a port, and holds the verdicts to what is said here
+    devices.py OSDP NAME     prints the lines and the verdicts of one of them
+    devices.py --serve NAME  is that device on standard input and output, for a pseudo terminal"""
+import random
+import subprocess
+import sys
+from pathlib import Path
+
+sys.path.insert(0, str(Path(__file__).resolve().parent.parent / "port"))
+from osdp_port.scenarios import SCENARIOS  # noqa: E402
+from osdp_port.testing import Player, crc, packet  # noqa: E402
+
+ALL = {"silence": 0, "out": 1, "led": 0, "buz": 0, "text": 0, "comset": 0}
+PDID = bytes.fromhex("4553494D0101010000000102") [:12]
+LENGTHS = {0x60: (0,), 0x61: (1,), 0x62: (1,), 0x64: (0,), 0x65: (0,), 0x66: (0,), 0x67: (0,), 0x6A: (5,), 0x6E: (5,)}
+
+
+class Device:
+    """A device at an address that keeps the rules."""
+
+    delay = 5
+
+    def __init__(self, address=5):
+        self.address, self.last, self.stored, self.events, self.asked = address, None, b"", [], 0
+
+    # ---- what the wrong ones do otherwise
+
+    def is_mine(self, address):
+        return address in (self.address, 0x7F)
+
+    def check_of(self, asked):
+        return asked
+
+    def number_of(self, number, body):
+        return number
+
+    def address_of(self, address):
+        return address
+
+    def block_of(self):
+        return b""
+
+    def checks(self, data, check):
+        return crc(data[:-2]) == int.from_bytes(data[-2:], "little") if check == "crc" else sum(data) & 0xFF == 0
+
+    def takes(self, number):
+        """Whether a number is 0 or the next one."""
+        return number == 0 or (self.last is not None and number == self.last % 3 + 1)
+
+    def refused(self, number):
+        return b"\x41\x04"
+
+    def repeats(self, number, check):
+        return self.stored
+
+    def secured(self):
+        return b"\x41\x05"
+
+    def unknown(self, code):
+        return b"\x41\x03"
+
+    def wrong_length(self, code):
+        return b"\x41\x02"
+
+    def poll(self, number):
+        return self.events[0] if self.events and number else b"\x40"
+
+    def id(self):
+        return b"\x45" + PDID
+
+    def cap(self):
+        return bytes.fromhex("46020104080100")
+
+    def status(self, code):
+        return {0x64: b"\x48\x00\x00", 0x65: b"\x49\x00", 0x66: b"\x4A\x00\x00\x00\x00", 0x67: b"\x4B\x00"}[code]
+
+    def acts(self, code):
+        return b"\x40"
+
+    def is_busy(self):
+        return False
+
+    def busy(self, number, check):
+        return packet(self.address, 0, b"\x79", check, True)
+
+    def damaged(self, rest):
+        """What is said to bytes at 53 that are no packet."""
+        return b""
+
+    def noise(self, byte):
+        return b""
+
+    def sent(self, answer):
+        return answer
+
+    # ---- what it does
+
+    def is_long(self, code, data):
+        if code in LENGTHS:
+            return len(data) not in LENGTHS[code]
+        if code == 0x68:
+            return not data or len(data) % 4 != 0
+        if code == 0x69:
+            return not data or len(data) % 14 != 0
+        if code == 0x6B:
+            return len(data) < 6 or data[5] != len(data) - 6
+        return code == 0x80 and len(data) < 3
+
+    def does(self, body, number):
+        code, data = body[0], body[1:]
+        if code not in LENGTHS and code not in (0x68, 0x69, 0x6B, 0x80):
+            return self.unknown(code)
+        if self.is_long(code, data):
+            return self.wrong_length(code)
+        if code == 0x60:
+            return self.poll(number)
+        if code == 0x61:
+            return self.id()
+        if code == 0x62:
+            return self.cap()
+        if code in (0x64, 0x65, 0x66, 0x67):
+            return self.status(code)
+        if code == 0x6E:
+            return b"\x54" + data
+        return self.acts(code)
+
+    def takes_packet(self, data):
+        """The answer to a packet whose check is right."""
+        address, control = data[1], data[4]
+        check, number = ("crc", control & 3) if control & 4 else ("sum", control & 3)
+        if not self.is_mine(address):
+            return b""
+        kind, at = self.check_of(check), self.address_of(address & 0x7F)
+        body = data[5:-2 if check == "crc" else -1]
+        if control & 8:
+            return packet(at, number, self.secured(), kind, True)
+        if number and number == self.last:
+            return self.repeats(number, check)
+        if not self.takes(number):
+            return packet(at, self.number_of(number, b"\x41\x04"), self.refused(number), kind, True)
+        if self.is_busy():
+            return self.busy(number, check)
+        if number:
+            self.leaves()
+        said = self.does(body, number)
+        answer = packet(at, self.number_of(number, said), said, kind, True, self.block_of())
+        self.last = number
+        if number:
+            self.stored = answer
+        return answer
+
+    def leaves(self):
+        """An event that was told is over at the next number."""
+        if self.stored and self.stored[5:6] in (b"\x50", b"\x53") and self.events:
+            self.events.pop(0)
+
+    def hears(self, data):
+        """The answer to the bytes between two silences."""
+        answer = b""
+        while data:
+            if data[0] != 0x53:
+                answer += self.noise(data[0])
+                data = data[1:]
+                continue
+            size = int.from_bytes(data[2:4], "little") if len(data) >= 4 else 0
+            check = "crc" if len(data) > 4 and data[4] & 4 else "sum"
+            if not 7 <= size <= len(data) or not self.checks(data[:size], check):
+                answer += self.damaged(data)
+                data = data[1:]
+                continue
+            answer += self.takes_packet(data[:size])
+            data = data[size:]
+        return self.sent(answer)
+
+
+class Played(Player):
+    """Plays without a port and without time. `loses` is how often in a hundred a packet or an answer is lost."""
+
+    def __init__(self, device, write, loses=0, may=None):
+        super().__init__(None, type("", (), {"stops": False})(), 5, ALL if may is None else may, write)
+        self.port = type("", (), {"is_there": True, "rate": 9600})()
+        self.device, self.now, self.loses, self.dice = device, 0, loses, random.Random(7)
+
+    def moment(self):
+        return self.now
+
+    def hears(self, sent, wait):
+        came = b""
+        if self.dice.randrange(100) >= self.loses:
+            came = self.device.hears(sent)
+            if self.dice.randrange(100) < self.loses:
+                came = b""
+        self.now += self.device.delay if came else int(wait * 1000)
+        return came, self.device.delay if came else int(wait * 1000)
+
+    def step(self, rule, words):
+        if words[0] == "wait":
+            self.now += int(words[1])
+            getattr(self.device, "waits", lambda: None)()
+        else:
+            super().step(rule, words)
+
+
+WRONG = {}
+TOLERANT = {}
+
+
+def wrong(*rules):
+    def add(kind):
+        WRONG[kind.__name__] = (kind, set(rules))
+        return kind
+    return add
+
+
+def tolerant(kind):
+    TOLERANT[kind.__name__] = kind
+    return kind
+
+
+FIT = set(range(43, 54))
+
+
+@wrong(1)
+class AnswersFromAnotherAddress(Device):
+    def address_of(self, address):
+        return address ^ 1
+
+
+@wrong(2)
+class AnswersSumByCrc(Device):
+    def check_of(self, asked):
+        return "crc"
+
+
+@wrong(3)
+class AnswersCrcBySum(Device):
+    def check_of(self, asked):
+        return "sum"
+
+
+@wrong(4)
+class AnswersZeroByOne(Device):
+    def number_of(self, number, body):
+        return number or 1
+
+
+@wrong(5)
+class AnswersOneByZero(Device):
+    def number_of(self, number, body):
+        return 0 if number == 1 else number
+
+
+@wrong(6)
+class AnswersTwoByThree(Device):
+    def number_of(self, number, body):
+        return 3 if number == 2 and body[0] != 0x41 else number
+
+
+@wrong(7)
+class AnswersThreeByZero(Device):
+    def number_of(self, number, body):
+        return 0 if number == 3 and body[0] != 0x41 else number
+
+
+@wrong(8)
+class AddsABlock(Device):
+    def block_of(self):
+        return b"\x02\x11"
+
+
+@wrong(9)
+class AnswersTwice(Device):
+    def sent(self, answer):
+        return answer + answer
+
+
+@wrong(10)
+class IsLate(Device):
+    delay = 500
+
+
+@wrong(11)
+class IsBusyWithNumberThree(Device):
+    count = 0
+
+    def is_busy(self):
+        self.count += 1
+        return self.count % 5 == 0
+
+    def busy(self, number, check):
+        return packet(self.address, 0 if number == 3 else 3, b"\x79", check, True)
+
+
+@wrong(12)
+class RefusesZeroInASession(Device):
+    def takes(self, number):
+        return (number == 0 and self.last != 1) or (number != 0 and super().takes(number))
+
+
+@wrong(13)
+class CountsToFour(Device):
+    def takes(self, number):
+        return number == 0 or (self.last is not None and number == (self.last + 1) % 4)
+
+
+@wrong(14)
+class ForgetsAtAWrongNumber(Device):
+    def refused(self, number):
+        self.last = None
+        return b"\x41\x04"
+
+
+@wrong(15)
+class ForgetsAtDamage(Device):
+    def damaged(self, rest):
+        self.last = None
+        return b""
+
+
+@wrong(16)
+class FollowsOthers(Device):
+    def takes_packet(self, data):
+        if not self.is_mine(data[1]) and self.last is not None:
+            self.last = data[4] & 3
+        return super().takes_packet(data)
+
+
+@wrong(18)
+class RefusesAfterSilence(Device):
+    is_long_ago = False
+
+    def waits(self):
+        self.is_long_ago = True
+
+    def takes(self, number):
+        past, self.is_long_ago = self.is_long_ago, False
+        return not past and super().takes(number)
+
+
+@wrong(19)
+class PollsAnew(Device):
+    def repeats(self, number, check):
+        return packet(self.address, number, b"\x41\x04", check, True) if self.stored[5] == 0x40 else self.stored
+
+
+@wrong(20)
+class IdIsAnewEachTime(Device):
+    def repeats(self, number, check):
+        return packet(self.address, number, b"\x40", check, True) if self.stored[5] == 0x45 and number == 1 else self.stored
+
+
+@wrong(21)
+class CapIsAnewEachTime(Device):
+    def repeats(self, number, check):
+        return packet(self.address, number, b"\x46", check, True) if self.stored[5] == 0x46 else self.stored
+
+
+@wrong(22)
+class RepeatsOnceAlone(Device):
+    copies = 0
+
+    def takes(self, number):
+        self.copies = 0
+        return super().takes(number)
+
+    def repeats(self, number, check):
+        self.copies += 1
+        return self.stored if self.copies == 1 else packet(self.address, number, b"\x41\x04", check, True)
+
+
+@wrong(23)
+class RefusesARepeatOtherwise(Device):
+    def repeats(self, number, check):
+        return packet(self.address, number, b"\x40", check, True) if self.stored[5] == 0x41 else self.stored
+
+
+@wrong(24)
+class StoresNothingAtThree(Device):
+    def repeats(self, number, check):
+        return packet(self.address, number, b"\x40", check, True) if number == 3 and self.stored[5] == 0x45 else self.stored
+
+
+@wrong(19, 20, 21, 22, 23, 24)
+class StoresNoReply(Device):
+    def repeats(self, number, check):
+        return packet(self.address, number, b"\x41\x04", check, True)
+
+
+@wrong(22)
+class ForgetsACardWhenItsAckIsLost(Device):
+    """It has an event, tells it once, and says ACK to the same POLL."""
+
+    def __init__(self, address=5):
+        super().__init__(address)
+        self.told = 0
+
+    def repeats(self, number, check):
+        self.told += 1
+        return packet(self.address, number, b"\x40", check, True) if self.stored[5] == 0x45 and number == 2 else self.stored
+
+
+@wrong(25, 26, 27, 28, 29)
+class TakesAnyNumber(Device):
+    def takes(self, number):
+        return True
+
+
+@wrong(25)
+class TakesTwoAfterZero(Device):
+    def takes(self, number):
+        return super().takes(number) or (self.last == 0 and number == 2)
+
+
+@wrong(26)
+class TakesThreeAfterZero(Device):
+    def takes(self, number):
+        return super().takes(number) or (self.last == 0 and number == 3)
+
+
+@wrong(14, 27)
+class TakesThreeAfterOne(Device):
+    def takes(self, number):
+        return super().takes(number) or (self.last == 1 and number == 3)
+
+
+@wrong(28)
+class TakesOneAfterTwo(Device):
+    def takes(self, number):
+        return super().takes(number) or (self.last == 2 and number == 1)
+
+
+@wrong(29)
+class TakesTwoAfterThree(Device):
+    def takes(self, number):
+        return super().takes(number) or (self.last == 3 and number == 2)
+
+
+@wrong(30)
+class ReadsNoChecksum(Device):
+    def checks(self, data, check):
+        return check == "sum" or super().checks(data, check)
+
+
+@wrong(15, 31)
+class ReadsNoCrc(Device):
+    def checks(self, data, check):
+        return check == "crc" or super().checks(data, check)
+
+
+@wrong(15, 30, 31)
+class ReadsNoCheck(Device):
+    def checks(self, data, check):
+        return True
+
+
+@wrong(32)
+class PassesOverALongLength(Device):
+    def damaged(self, rest):
+        return packet(self.address, 1, b"\x40", "crc", True) if len(rest) > 4 and rest[2] == 48 else b""
+
+
+@wrong(33)
+class PassesOverAShortLength(Device):
+    def damaged(self, rest):
+        return packet(self.address, 1, b"\x40", "crc", True) if len(rest) > 4 and rest[2] == 5 else b""
+
+
+@wrong(34)
+class ReadsAnyStart(Device):
+    def noise(self, byte):
+        return packet(self.address, 1, b"\x40", "crc", True) if byte == 0x35 else b""
+
+
+@wrong(35)
+class AnswersBeforeTheEnd(Device):
+    def damaged(self, rest):
+        return packet(self.address, 1, b"\x40", "crc", True) if len(rest) == 6 and rest[2] == 8 else b""
+
+
+@wrong(36)
+class AnswersNoise(Device):
+    def noise(self, byte):
+        return packet(self.address, 0, b"\x40", "crc", True) if byte == 0x5A else b""
+
+
+@wrong(16, 37)
+class AnswersOthers(Device):
+    def is_mine(self, address):
+        return address < 0x80
+
+
+@wrong(38)
+class AnswersReplies(Device):
+    def is_mine(self, address):
+        return address & 0x7F in (self.address, 0x7F)
+
+
+@wrong(12, 40, 43)
+class RefusesPolls(Device):
+    def poll(self, number):
+        return b"\x41\x09"
+
+
+@wrong(41)
+class RefusesIds(Device):
+    def id(self):
+        return b"\x41\x03"
+
+
+@wrong(42)
+class RefusesCaps(Device):
+    def cap(self):
+        return b"\x41\x03"
+
+
+@wrong(43)
+class AnswersPollsByPdid(Device):
+    def poll(self, number):
+        return b"\x45" + PDID
+
+
+@wrong(44)
+class AnswersIdsByAck(Device):
+    def id(self):
+        return b"\x40"
+
+
+@wrong(45)
+class AnswersCapsByAck(Device):
+    def cap(self):
+        return b"\x40"
+
+
+@wrong(46)
+class AnswersLstatByAck(Device):
+    def status(self, code):
+        return b"\x40" if code == 0x64 else super().status(code)
+
+
+@wrong(47)
+class AnswersIstatByOstatr(Device):
+    def status(self, code):
+        return b"\x4A\x00" if code == 0x65 else super().status(code)
+
+
+@wrong(48)
+class AnswersOstatByIstatr(Device):
+    def status(self, code):
+        return b"\x49\x00" if code == 0x66 else super().status(code)
+
+
+@wrong(49)
+class AnswersRstatByAck(Device):
+    def status(self, code):
+        return b"\x40" if code == 0x67 else super().status(code)
+
+
+@wrong(50)
+class AnswersOutByPdid(Device):
+    def acts(self, code):
+        return b"\x45" + PDID if code == 0x68 else b"\x40"
+
+
+@wrong(51)
+class AnswersLedByOstatr(Device):
+    def acts(self, code):
+        return b"\x4A\x00" if code == 0x69 else b"\x40"
+
+
+@wrong(53)
+class AnswersTextByLstatr(Device):
+    def acts(self, code):
+        return b"\x48\x00\x00" if code == 0x6B else b"\x40"
+
+
+@wrong(54)
+class PdidIsShort(Device):
+    def id(self):
+        return b"\x45" + PDID[:11]
+
+
+@wrong(55)
+class PdcapIsCutOff(Device):
+    def cap(self):
+        return bytes.fromhex("460201")
+
+
+@wrong(56)
+class LstatrIsLong(Device):
+    def status(self, code):
+        return b"\x48\x00\x00\x00" if code == 0x64 else super().status(code)
+
+
+@wrong(23, 57, 58)
+class TakesUnknownCodes(Device):
+    count = 0
+
+    def unknown(self, code):
+        return b"\x40"
+
+
+@wrong(59, 60, 61, 62, 63, 64, 65, 66, 67, 68, 69, 70)
+class TakesWrongLengths(Device):
+    def wrong_length(self, code):
+        return b"\x40"
+
+
+@wrong(60)
+class AsksNoByteOfAnId(Device):
+    def wrong_length(self, code):
+        return self.id() if code == 0x61 else b"\x41\x02"
+
+
+@wrong(69)
+class CountsNoCharacters(Device):
+    def wrong_length(self, code):
+        return b"\x40" if code == 0x6B else b"\x41\x02"
+
+
+# ---- the standard otherwise
+
+@tolerant
+class Right(Device):
+    pass
+
+
+@tolerant
+class IsSlow(Device):
+    delay = 190
+
+
+@tolerant
+class SaysNakOfDetail(Device):
+    def unknown(self, code):
+        return b"\x41\x03" + bytes((code,))
+
+    def wrong_length(self, code):
+        return b"\x41\x02\x00\x01"
+
+
+@tolerant
+class RefusesByNine(Device):
+    def unknown(self, code):
+        return b"\x41\x09"
+
+    def wrong_length(self, code):
+        return b"\x41\x09"
+
+    def refused(self, number):
+        return b"\x41\x01"
+
+
+@tolerant
+class FillsWithFf(Device):
+    def sent(self, answer):
+        return b"\xFF" + answer if answer else b""
+
+
+@tolerant
+class SetsReservedBits(Device):
+    def sent(self, answer):
+        if not answer:
+            return b""
+        head = answer[:4] + bytes((answer[4] | 0x20,)) + answer[5:-2 if answer[4] & 4 else -1]
+        return head + (crc(head).to_bytes(2, "little") if answer[4] & 4 else bytes(((-sum(head)) & 0xFF,)))
+
+
+@tolerant
+class IsBusyNowAndThen(Device):
+    count = 0
+
+    def is_busy(self):
+        self.count += 1
+        return self.count % 4 == 0
+
+
+@tolerant
+class IsBusyWithItsNumber(IsBusyNowAndThen):
+    def busy(self, number, check):
+        return packet(self.address, number, b"\x79", check, True)
+
+
+@tolerant
+class SaysNakOneToDamage(Device):
+    def damaged(self, rest):
+        return packet(self.address, 0, b"\x41\x01", "crc", True)
+
+
+@tolerant
+class IsSilentToBlocks(Device):
+    def takes_packet(self, data):
+        return b"" if data[4] & 8 else super().takes_packet(data)
+
+
+@tolerant
+class HasNoOutputsAndInputs(Device):
+    def status(self, code):
+        return b"\x41\x03" if code in (0x65, 0x66) else super().status(code)
+
+    def acts(self, code):
+        return b"\x41\x09"
+
+
+@tolerant
+class HasACard(Device):
+    def __init__(self, address=5):
+        super().__init__(address)
+        self.events = [bytes.fromhex("5000001A0012345640")] * 3
+
+
+def lines_of(device, loses=0, may=None):
+    lines = []
+    Played(device, lines.append, loses, may).goes()
+    return lines
+
+
+def verdicts(osdp, lines):
+    """The numbers of the rules by their verdicts, and the report."""
+    done = subprocess.run([*osdp, "test"], input="\n".join(lines) + "\n", capture_output=True, text=True, check=False)
+    found = {}
+    for line in done.stdout.splitlines():
+        words = line.split()
+        if words and words[0].isdigit():
+            found.setdefault(words[1].rstrip(":,"), set()).add(int(words[0]))
+    return found, done
+
+
+def holds(osdp):
+    """Whether each device has the verdicts that are said of it."""
+    bad = 0
+    for name, (kind, rules) in WRONG.items():
+        found, done = verdicts(osdp, lines_of(kind()))
+        broken = found.get("broken", set())
+        if broken != rules or done.returncode != 1:
+            print(f"{name}: broken {sorted(broken)}, expected {sorted(rules)}, status {done.returncode} {done.stderr.strip()}")
+            bad += 1
+    for name, kind in TOLERANT.items():
+        for loses in (0, 10):
+            found, done = verdicts(osdp, lines_of(kind(), loses))
+            if found.get("broken") or done.returncode:
+                print(f"{name}: broken {sorted(found.get('broken', ()))} at {loses} losses of 100, status {done.returncode} {done.stderr.strip()}")
+                bad += 1
+    found, _ = verdicts(osdp, lines_of(Device()))
+    if set(SCENARIOS) - found.get("ok", set()) - {11}:
+        print(f"Right: not ok {sorted(set(SCENARIOS) - found.get('ok', set()))}")
+        bad += 1
+    print(f"devices: {len(WRONG)} wrong, {len(TOLERANT)} right in other ways, {bad} with another verdict")
+    return bad
+
+
+def main(words):
+    if words[:1] == ["--serve"]:
+        device = (WRONG.get(words[1], (None,))[0] or TOLERANT[words[1]])()
+        serves(device)
+        return 0
+    osdp = words[0].split()
+    if len(words) > 1:
+        lines = lines_of((WRONG.get(words[1], (None,))[0] or TOLERANT[words[1]])())
+        print("\n".join(lines))
+        print(verdicts(osdp, lines)[1].stdout)
+        return 0
+    return 1 if holds(osdp) else 0
+
+
+def serves(device):
+    """The device on standard input and output: bytes come, and a silence of 20 ms ends a run."""
+    import os
+    import select
+    held = b""
+    while True:
+        ready, _, _ = select.select([0], [], [], 0.02 if held else None)
+        if ready:
+            read = os.read(0, 4096)
+            if not read:
+                return
+            held += read
+        else:
+            answer, held = device.hears(held), b""
+            if answer:
+                os.write(1, answer)
+
+
+if __name__ == "__main__":
+    sys.exit(main(sys.argv[1:]))
