@@ -13,9 +13,12 @@ from datetime import datetime, timedelta, timezone
 from html.parser import HTMLParser
 from pathlib import Path
 
+import jsonschema
+
 TOP = Path(__file__).resolve().parent.parent
 PROGRAM = str(Path(sys.argv[1]).resolve())
 START = datetime(2026, 3, 1, 23, 59, 50, tzinfo=timezone.utc)
+FORM = jsonschema.Draft202012Validator(json.loads((TOP / "docs/report.schema.json").read_text()))
 POLL, ACK, OUT, RAW = 0x60, 0x40, 0x68, 0x50
 faults = 0
 
@@ -201,6 +204,8 @@ def objects(text, *words):
     kinds = {}
     for each in report(text, "--json", *words).splitlines():
         each = json.loads(each)
+        for fault in FORM.iter_errors(each):
+            tell(f"docs/report.schema.json refuses {each}", "nothing", fault.message)
         kinds.setdefault(each["kind"], []).append(each)
     return kinds
 
@@ -225,6 +230,8 @@ def looks_at_objects():
     asks("late answers", {(5, 310, 200)}, {(each["address"], each["took"], each["waited"]) for each in late_ones["late"]})
     asks("each is told", len(late_ones["late"]), sum(each["text"].startswith("a late answer") for each in late_ones["told"]))
     asks("no capture", {"line"}, set(objects("")))
+    wrong = [{"kind": "late", "address": 5, "took": 310}, {"kind": "late", "address": 128, "took": 310, "waited": 200}, {**five, "online": 1}, {**five, "more": 0}, {"kind": "page"}]
+    asks("what the schema refuses", [False] * len(wrong), [FORM.is_valid(each) for each in wrong])
 
 
 def looks_at_late(loss):
