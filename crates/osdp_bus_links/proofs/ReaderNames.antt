@@ -7,6 +7,7 @@ use Rattle.osdp_msg.specs.ReplyTable.{ReplyFits}
 use Rattle.osdp_msg.specs.declared.command.Command.{Command}
 use Rattle.osdp_msg.specs.declared.command.Command.TheVariants as command
 use Rattle.osdp_msg.specs.declared.command_fields.Communication.{Communication}
+use Rattle.osdp_msg.specs.declared.command_fields.MakerMessage.{MakerMessage}
 use Rattle.osdp_msg.specs.declared.event.Event.{Event}
 use Rattle.osdp_msg.specs.declared.event.Event.TheVariants as event
 use Rattle.osdp_msg.specs.declared.fault.MsgFault.{MsgFault}
@@ -60,9 +61,9 @@ list_com command.OutputStatus states d is = cc
 list_com command.ReaderStatus states d is = cc
 list_com _ states d is = cc
 
-maker_com : (c : Command) (vendor bytes : List ℕ) (d : Communication) → maker_reply c vendor bytes ≡ reply.Com d → ⊥
-maker_com (command.Maker m) vendor bytes d is = cc
-maker_com _ vendor bytes d is = cc
+maker_com : (c : Command) (own : MakerMessage) (d : Communication) → maker_reply c own ≡ reply.Com d → ⊥
+maker_com (command.Maker m) own d is = cc
+maker_com _ own d is = cc
 
 refusal_com : (n : NakReason) (d : Communication) → refusal_reply n ≡ reply.Com d → ⊥
 refusal_com reason.CommandLength d is = cc
@@ -74,7 +75,7 @@ handled_com answer.Done c d is = done_com c d is
 handled_com (answer.Local tamper power) c d is = local_com c tamper power d is
 handled_com (answer.List states) c d is = list_com c states.items d is
 handled_com (answer.Refuse n) c d is = refusal_com n d is
-handled_com (answer.Maker vendor bytes) c d is = maker_com c vendor bytes.items d is
+handled_com (answer.Maker own) c d is = maker_com c own d is
 
 set_com : (e : Communication) (small : Bool) (d : Communication) → cond small (reply.Com e) not_processed ≡ reply.Com d → cond small (Some e.address) None ≡ Some d.address
 set_com e true d is = ap (λ (f : Communication). Some f.address) (let same : e ≡ d = cc in same)

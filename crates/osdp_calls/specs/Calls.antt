@@ -1,6 +1,6 @@
 -- What the calls of a bus and its devices do to a line in use. What a call makes of the bus, of a reader and of what has come on its line is the
 -- definition that the call's own contract cites; what it reads, who speaks and the accounts are said here.
-use Rattle.std.specs.Prelude.{ℕ, ◌++◌, max, Bool, true, false, ◌==◌, if◌then◌else◌, List, [], ◌∷◌, map, length, Option, Some, None, Result, Ok, Err, option_to_list}
+use Rattle.std.specs.Prelude.{ℕ, ◌++◌, max, Bool, true, false, if◌then◌else◌, List, [], ◌∷◌, map, length, Option, Some, None, Result, Ok, Err, option_to_list}
 use Rattle.osdp_frame.specs.Items.{items, whole_packets}
 use Rattle.osdp_frame.specs.Packet.{Packet}
 use Rattle.osdp_frame.specs.Reading.{RunItem, PacketItem, SkippedItem, RefusedItem}
