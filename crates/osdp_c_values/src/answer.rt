@@ -7,6 +7,7 @@ ghost use Rattle.osdp_c_values.specs.Answers.{kind_number, moves, order_number, 
 use crate::arrays::BurstStruct;
 use crate::message::MessageStruct;
 use osdp_device::{Order, Settled, order_of, ordered};
+use osdp_frame::Burst;
 use osdp_msg::{Command, Communication};
 use osdp_reader::{Heard, Kind};
 
@@ -106,13 +107,13 @@ impl AnswerStruct {
     }
 
     /// Writes what is said.
-    fn set_said(&mut self, heard: &Heard<'_>, bytes: &[u8])
-        ensures { self.new ≡ says (said_by heard.now bytes.now) self.old }
+    fn set_said(&mut self, heard: &Heard<'_>, out: &Burst)
+        ensures { self.new ≡ says (said_by heard.now out.now.items) self.old }
     {
         self.kind = kind_number(heard.kind);
-        self.set_order(heard, bytes);
+        self.set_order(heard, out.as_slice());
         self.set_moved(heard.comset());
-        self.burst.set(bytes);
+        self.burst.set(out.as_slice());
     }
 
     /// Writes that the device stops before a command.
@@ -127,11 +128,11 @@ impl AnswerStruct {
     }
 
     /// Writes what a turn comes to: the command that it is about, and the bytes that are sent back.
-    pub fn set_settled(&mut self, settled: Settled, command: Option<Command<'_>>, bytes: &[u8])
-        ensures { self.new ≡ turn_struct (settled_pending settled command.entry) (said_if (settled_kind settled) command.entry bytes.now) self.old }
+    pub fn set_settled(&mut self, settled: Settled, command: Option<Command<'_>>, out: &Burst)
+        ensures { self.new ≡ turn_struct (settled_pending settled command.entry) (said_if (settled_kind settled) command.entry out.now.items) self.old }
     {
         match (settled, command) {
-            (Settled::Said(kind), command) => self.set_said(&Heard { kind, command }, bytes),
+            (Settled::Said(kind), command) => self.set_said(&Heard { kind, command }, out),
             (Settled::Pending, Some(command)) => self.set_pending(&command),
             (Settled::Pending, None) | (Settled::Nothing, _) => self.set_nothing(),
         }

@@ -2,7 +2,9 @@
 
 ghost use Rattle.std.specs.Prelude.{◌≡◌};
 ghost use Rattle.osdp_bus.specs.Ticking.{bus_ticks};
+ghost use Rattle.osdp_c_values.specs.Answers.{turn_struct};
 ghost use Rattle.osdp_c_values.specs.Panels.{IsSentIn, ticked};
+ghost use Rattle.osdp_device.specs.Lent.{said_if, settled_kind, settled_pending};
 ghost use Rattle.osdp_frame.specs.Receiving.{count_taken};
 ghost use Rattle.osdp_c_values.specs.Readers.{reads_next, steps, writes_next, writes_step};
 
@@ -11,7 +13,7 @@ use crate::arrays::BurstStruct;
 use crate::clock::Clock;
 use crate::place::Place;
 use osdp_bus::Bus;
-use osdp_device::{Device, ProgramAnswers};
+use osdp_device::{Device, ProgramAnswers, Settled};
 use osdp_frame::Burst;
 use std::marker::Model;
 
@@ -69,7 +71,7 @@ impl ReaderMachine {
         ensures written { answer.new ≡ writes_next self.old self.old.device.line answer.old }
     {
         let settled = self.device.settle(&mut self.sent.value);
-        answer.set_settled(settled, self.device.command(), self.sent.value.as_slice());
+        write_settled(&self.device, settled, &self.sent.value, answer);
     }
 
     /// Bytes have come up to a moment: tells how many of them were taken, and writes what the reader says, or the command before which it
@@ -83,4 +85,16 @@ impl ReaderMachine {
         self.settle(answer);
         count
     }
+}
+
+/// Writes what a turn of a device comes to, whose answer stands in `out`.
+fn write_settled(
+    device: &Device<ProgramAnswers>,
+    settled: Settled,
+    out: &Burst,
+    answer: &mut AnswerStruct,
+)
+    ensures { answer.new ≡ turn_struct (settled_pending settled device.now.command) (said_if (settled_kind settled) device.now.command out.now.items) answer.old }
+{
+    answer.set_settled(settled, device.command(), out);
 }
