@@ -74,7 +74,10 @@ pub trait SimulatedLine {
 }
 
 /// Takes the steps of a list where they lie, up to the first that is refused or finds no memory.
-pub fn run_listed<L: SimulatedLine>(line: L, steps: &[SimStep<'_>]) -> Result<L::Told, Fault<L::Told>>
+pub fn run_listed<L: SimulatedLine>(
+    line: L,
+    steps: &[SimStep<'_>],
+) -> Result<L::Told, Fault<L::Told>>
     requires { L.IsReady line }
     ensures ends { RunsTo L.after_step L.fault_of L.lists_of L.account_of steps.now (L.state_of line) result }
     ensures fits { HoldsAlong L.after_step L.StepFits (steps_done steps.now result) (L.state_of line) }

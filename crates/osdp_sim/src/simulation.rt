@@ -58,7 +58,11 @@ fn begun(alloc: Global, config: &SimConfig) -> Result<Controller, Cause>
         × (c ≡ controllers.after_begin 0 (controllers.new_machine config.now.controller config.now.commands (room_for config.now.commands).bytes))) }
     ensures cause { IfErr result (λ cause. IsControllerCause cause config.now) }
 {
-    let mut controller = match Controller::new(alloc, config.controller, Room::of(config.commands)) {
+    let mut controller = match Controller::new(
+        alloc,
+        config.controller,
+        Room::of(config.commands),
+    ) {
         Ok(controller) => controller,
         Err(ControllerFault::OutOfRange) => return Err(Cause::OutOfRange),
         Err(
@@ -84,7 +88,12 @@ impl<H: Handler> Simulation<H> {
             return Err(Cause::OutOfRange);
         }
         let controller = begun(alloc, config)?;
-        let Ok(reader) = Reader::new(alloc, config.reader.copy(), handler, Room::of(config.events)) else {
+        let Ok(reader) = Reader::new(
+            alloc,
+            config.reader.copy(),
+            handler,
+            Room::of(config.events),
+        ) else {
             return Err(Cause::NoMemory);
         };
         let mut account = Account::new(alloc);

@@ -1,5 +1,5 @@
 -- Which orders are accepted: by the room that there is.
-use Rattle.std.proofs.Common.{◌≡◌, ◌⊎◌, ◌≤◌, ◌+◌, ◌-◌, ℕ, zero, suc, arith, Bool, true, false, ◌==◌, if◌then◌else◌, leb, eqb, List, [], ◌∷◌, ◌++◌, length, take, drop, Option, Some, None, Result, Ok, Err, inl, inr, refl, sym, subst, ap, ◌∙◌, append_assoc}
+use Rattle.std.proofs.Common.{◌≡◌, ◌⊎◌, ◌≤◌, ◌+◌, ◌-◌, ℕ, zero, suc, arith, Bool, true, false, ◌==◌, if◌then◌else◌, eqb, List, [], ◌∷◌, ◌++◌, length, take, Option, Some, None, Result, Ok, Err, inl, inr, refl, sym, subst, ap, ◌∙◌, append_assoc}
 use Rattle.std.proofs.lemmas.Bool.Decides.{eqb_tells}
 use Rattle.std.proofs.lemmas.List.{append-nil, length-append, take_all}
 use Rattle.osdp_frame.specs.Items.{packets_in}
@@ -127,7 +127,7 @@ module _ {H : Type 0} where
 
 module _ {H : Type 0} (answer_of : H → Command → Answer) (after : H → Command → H) where
   begun_few : (c : Result Command MsgFault) (r : ReaderState H) (p : Packet) → FewEvents r.queue (reader.begun answer_of after c r p).reader.queue
-  begun_few (Err fault) r p = same_events r.queue
+  begun_few (Err fault) r p = record { events = omega arith; bytes = omega arith; capacity = refl; room = refl }
   begun_few (Ok c) r p = moved_few (reader.new_address c) r.queue _ (record { events = omega arith; bytes = omega arith; capacity = refl; room = refl })
 
   taken_few : (c : Result Command MsgFault) (r : ReaderState H) (p : Packet) → FewEvents r.queue (reader.taken answer_of after c r p).reader.queue

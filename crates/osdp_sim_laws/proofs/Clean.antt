@@ -263,11 +263,11 @@ module _ {H : Type 0} (answer_of : H → Command → Answer) (after : H → Comm
 
   -- no message of a round is out of its range: there is none
   clean_fit : (n : ℕ) → Each OrderFits (clean_rounds n)
-  clean_fit n = (tt, tt, tt, rounds_fit n)
+  clean_fit n = (tt, (tt, (tt, rounds_fit n)))
     where
       rounds_fit : (n : ℕ) → Each OrderFits (rounds n 50)
       rounds_fit zero = tt
-      rounds_fit (suc n) = (tt, tt, tt, rounds_fit n)
+      rounds_fit (suc n) = (tt, (tt, (tt, rounds_fit n)))
 
   clean_issued : (config : SimConfig) (handler : H) (orders : List SimStep) (n : ℕ) → Each IsOrder orders → Each OrderFits orders
       → AreIssued config orders (run answer_of after (clean_rounds n) (run answer_of after orders (set_up config handler))).account
