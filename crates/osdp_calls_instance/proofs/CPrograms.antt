@@ -2,10 +2,11 @@
 use Rattle.std.proofs.Common.{◌≡◌, ℕ, Bool, true, false, cond, List, [], ◌∷◌, map, Option, Some, None, Result, Ok, Err, refl, sym, subst, ap, ◌∙◌, arith}
 use Rattle.osdp_msg.specs.CommandTable.{command_of}
 use Rattle.osdp_msg.specs.NakReasons.{reason_of}
+use Rattle.osdp_msg.specs.declared.capability.Capability.{Capability}
 use Rattle.osdp_msg.specs.declared.command.Command.{Command}
 use Rattle.osdp_msg.specs.declared.event.Event.{Event}
 use Rattle.osdp_msg.specs.declared.fault.MsgFault.{MsgFault}
-use Rattle.osdp_msg.specs.declared.reply_fields.PdCap.{PdCap}
+use Rattle.osdp_msg.specs.declared.limits.Room.{Room}
 use Rattle.osdp_bus.specs.Buses.{BusState, new_bus}
 use Rattle.osdp_bus.specs.Machine.{AddEnds, add_refusal, after_add, changed_unless}
 use Rattle.osdp_bus.specs.declared.config.BusConfig.{BusConfig}
@@ -21,6 +22,7 @@ use Rattle.osdp_device.specs.declared.question.Question.{Question}
 use Rattle.osdp_device.specs.declared.question.Question.TheVariants.{Answered, Asked, NotAsked}
 use Rattle.osdp_link_laws.proofs.Lines.{each_all}
 use Rattle.osdp_link_laws.proofs.Stages.{Each}
+use Rattle.osdp_reader.specs.Queue.{lacks_room}
 use Rattle.osdp_reader.specs.State.{ReaderState, new_reader}
 use Rattle.osdp_reader.specs.declared.handler.Answer.{Answer}
 use Rattle.osdp_reader.specs.declared.handler.Answer.TheVariants as answer
@@ -29,7 +31,7 @@ use Rattle.osdp_c_values.specs.Calls.{Done}
 use Rattle.osdp_c_values.specs.Clocks.{accepts, new_clock, sees}
 use Rattle.osdp_c_values.specs.Panels as panel
 use Rattle.osdp_c_values.specs.Readers as reader
-use Rattle.osdp_c_values.specs.Settings.{bus_config_of, limit_of}
+use Rattle.osdp_c_values.specs.Settings.{bus_config_of, bus_config_with, limit_of}
 use Rattle.osdp_c_values.specs.Statuses.{number}
 use Rattle.osdp_c_values.specs.declared.machine.PanelMachine.{PanelMachine}
 use Rattle.osdp_c_values.specs.declared.machine.ReaderMachine.{ReaderMachine}
@@ -44,7 +46,7 @@ use Rattle.osdp_calls.specs.Ends.{Held, takes_event}
 use Rattle.osdp_calls.specs.Sayings.{AddsMakeTheBus, NoneRefused}
 use Rattle.osdp_calls_instance.proofs.LinePrograms.{bus_same, own_device, panels_own}
 use Rattle.osdp_calls_instance.specs.CPrograms as c
-use Rattle.osdp_calls_instance.specs.CPrograms.{AddsEach, DeviceCall, DeviceCallFits, MakesAnew, PanelCall, answer_calls, c_device, c_panel, device_call, device_calls, event_calls, event_read, if_read, panel_call, panel_calls, settle_calls, settles_by, submitted, told_states}
+use Rattle.osdp_calls_instance.specs.CPrograms.{AddsEach, DeviceCall, DeviceCallFits, MakesAnew, MakesAnewBy, PanelCall, answer_calls, c_device, c_panel, device_call, device_calls, event_calls, event_read, if_read, panel_call, panel_calls, settle_calls, settles_by, submitted, told_states}
 use Rattle.osdp_calls_instance.specs.OwnCalls.{AreDeviceCalls, ArePanelCalls, IsOfDevice, IsOfPanel, bus_after_each, device_after_each}
 
 -- ---- a panel
@@ -169,41 +171,45 @@ all_added (address ∷ addresses) m last (next, out, out', (r, b', ends, done, i
           (sym (add_done (add_refusal (device_address address) m.bus) (device_address address) m.bus a.fine));
     }
 
-record NewMade (settings : PanelSettings) (made : Option PanelMachine) : Type 0 where
+record NewMade (given : Option BusConfig) (settings : PanelSettings) (made : Option PanelMachine) : Type 0 where
   config : BusConfig
-  settings_are : bus_config_of settings ≡ Some config
+  settings_are : given ≡ Some config
   is : made ≡ Some (record { bus = new_bus config; clock = new_clock (limit_of settings.clock_limit); sent = tt })
 
-new_made : (settings : PanelSettings) (made : Option PanelMachine) (config : Option BusConfig) (r : Result BusState BusFault)
-    → bus_config_of settings ≡ config → panel.MadeAs config r → number status.Done ≡ number (panel.made_status r)
-    → made ≡ panel.made_in (limit_of settings.clock_limit) r → NewMade settings made
-new_made settings made None r are makes done is =
+new_made : (settings : PanelSettings) (made : Option PanelMachine) (given : Option BusConfig) (r : Result BusState BusFault)
+    → panel.MadeAs given r → number status.Done ≡ number (panel.made_status r)
+    → made ≡ panel.made_in (limit_of settings.clock_limit) r → NewMade given settings made
+new_made settings made None r makes done is =
     absurd (let e : 0 ≡ 25 = done ∙ ap (λ x. number (panel.made_status x)) makes in omega (arith, e))
-new_made settings made (Some config) (Ok b) are makes done is = record {
+new_made settings made (Some config) (Ok b) makes done is = record {
   config = config;
-  settings_are = are;
+  settings_are = refl;
   is = is ∙ ap (λ x. Some (record { bus = x; clock = new_clock (limit_of settings.clock_limit); sent = tt })) makes.1;
 }
-new_made settings made (Some config) (Err fault.NoMemory) are makes done is = absurd (let e : 0 ≡ 21 = done in omega (arith, e))
-new_made settings made (Some config) (Err fault.TooMany) are makes done is = absurd (let e : 0 ≡ 22 = done in omega (arith, e))
-new_made settings made (Some config) (Err fault.AddressTaken) are makes done is = absurd (let e : 0 ≡ 23 = done in omega (arith, e))
-new_made settings made (Some config) (Err fault.NoEntry) are makes done is = absurd (let e : 0 ≡ 24 = done in omega (arith, e))
-new_made settings made (Some config) (Err fault.OutOfRange) are makes done is = absurd (let e : 0 ≡ 25 = done in omega (arith, e))
-new_made settings made (Some config) (Err fault.AddressOutOfRange) are makes done is = absurd (let e : 0 ≡ 26 = done in omega (arith, e))
-new_made settings made (Some config) (Err fault.Full) are makes done is = absurd (let e : 0 ≡ 33 = done in omega (arith, e))
-new_made settings made (Some config) (Err fault.PollSubmitted) are makes done is = absurd (let e : 0 ≡ 34 = done in omega (arith, e))
-new_made settings made (Some config) (Err fault.NotClosed) are makes done is = absurd (let e : 0 ≡ 35 = done in omega (arith, e))
+new_made settings made (Some config) (Err fault.NoMemory) makes done is = absurd (let e : 0 ≡ 21 = done in omega (arith, e))
+new_made settings made (Some config) (Err fault.TooMany) makes done is = absurd (let e : 0 ≡ 22 = done in omega (arith, e))
+new_made settings made (Some config) (Err fault.AddressTaken) makes done is = absurd (let e : 0 ≡ 23 = done in omega (arith, e))
+new_made settings made (Some config) (Err fault.NoEntry) makes done is = absurd (let e : 0 ≡ 24 = done in omega (arith, e))
+new_made settings made (Some config) (Err fault.OutOfRange) makes done is = absurd (let e : 0 ≡ 25 = done in omega (arith, e))
+new_made settings made (Some config) (Err fault.AddressOutOfRange) makes done is = absurd (let e : 0 ≡ 26 = done in omega (arith, e))
+new_made settings made (Some config) (Err fault.Full) makes done is = absurd (let e : 0 ≡ 33 = done in omega (arith, e))
+new_made settings made (Some config) (Err fault.PollSubmitted) makes done is = absurd (let e : 0 ≡ 34 = done in omega (arith, e))
+new_made settings made (Some config) (Err fault.NotClosed) makes done is = absurd (let e : 0 ≡ 35 = done in omega (arith, e))
 
-pub makes_anew : AddsMakeTheBus → MakesAnew
-makes_anew adds settings m freed made last addresses frees news each =
-    let new = subst (λ o. panel.NewPanelEnds settings o (number status.Done) made) frees.machine news in
-    let n = new_made settings made (bus_config_of settings) new.0 refl new.1 new.2 new.3 in
+made_anew_by : AddsMakeTheBus → (config_of : PanelSettings → Option BusConfig)
+    → MakesAnewBy config_of (λ settings before answer after. panel.NewPanelIn (config_of settings) (limit_of settings.clock_limit) before answer after)
+made_anew_by adds config_of settings m freed made last addresses frees news each =
+    let new = subst (λ o. panel.NewPanelIn (config_of settings) (limit_of settings.clock_limit) o (number status.Done) made) frees.machine news in
+    let n = new_made settings made (config_of settings) new.0 new.1 new.2 new.3 in
     let first : PanelMachine = record { bus = new_bus n.config; clock = new_clock (limit_of settings.clock_limit); sent = tt } in
     let all = all_added addresses first last (subst (λ o. AddsEach addresses o last) n.is each) in (
       n.config,
       n.settings_are,
       all.is ∙ ap (λ b. Some (record first { bus = b })) (adds n.config (map device_address addresses) all.none),
     )
+
+pub makes_anew : AddsMakeTheBus → MakesAnew
+makes_anew adds = record { each = made_anew_by adds bus_config_of; bytes = λ bytes. made_anew_by adds (bus_config_with bytes) }
 
 -- ---- a device
 
@@ -235,11 +241,11 @@ event_so false k event m = refl
 
 text_so : (k : ℕ) (o : Option Event) (m : ReaderMachine) → held_in (reader.submits_text o m).machine ≡ after_these (event_calls k o) (held_in m)
 text_so k None m = refl
-text_so k (Some event) m = event_so (reader.is_full m.device.reader) k event m
+text_so k (Some event) m = event_so (lacks_room event m.device.reader.queue) k event m
 
 read_so : (k : ℕ) (r : Result Event Status) (m : ReaderMachine)
     → held_in (reader.submits_read r m).machine ≡ after_these (event_calls k (event_read r)) (held_in m)
-read_so k (Ok event) m = event_so (reader.is_full m.device.reader) k event m
+read_so k (Ok event) m = event_so (lacks_room event m.device.reader.queue) k event m
 read_so k (Err refused) m = refl
 
 asked_so : (asked : Bool) (k : ℕ) (a : Answer) (m : ReaderMachine)
@@ -272,12 +278,12 @@ seen_so : (ok : Bool) (now : ℕ) (call : ReaderMachine → Done ReaderMachine) 
 seen_so true now call calls m is = is
 seen_so false now call calls m is = refl
 
-same_model : (settings : ReaderSettings) (caps : PdCap) (m : ReaderMachine) → DeviceCallFits (c.DeviceMade settings caps) m
-    → held_in (reader.new_machine settings caps) ≡ after_these (device_calls 0 (c.DeviceMade settings caps) m) (held_in m)
-same_model settings caps m fits =
+same_model : (room : Room) (settings : ReaderSettings) (caps : ArrayVec Capability) (m : ReaderMachine) → DeviceCallFits (c.DeviceMade room settings caps) m
+    → held_in (reader.new_machine_in room settings caps) ≡ after_these (device_calls 0 (c.DeviceMade room settings caps) m) (held_in m)
+same_model room settings caps m fits =
     (λ i. record {
       reader = new_reader (record { address = settings.address; id = fits.0 i; caps = fits.1 i })
-          new_program settings.capacity;
+          new_program room;
       line = new_line settings.gap;
     })
 
@@ -306,7 +312,7 @@ device_is k (c.AnswerRefused reason) m fits =
     answer_so k (Some (answer.Refuse (reason_of reason))) m
 device_is k (c.AnswerMaker vendor bytes) m fits = answer_so k (reader.maker_answer vendor bytes) m
 device_is k c.LooksIn m fits = refl
-device_is k (c.DeviceMade settings caps) m fits = same_model settings caps m fits
+device_is k (c.DeviceMade room settings caps) m fits = same_model room settings caps m fits
 
 -- whose calls these are
 one_own : (k : ℕ) (ok : Bool) (call : Call ProgramAnswers) → IsOfDevice k call → Each (IsOfDevice k) (cond ok (call ∷ []) [])
@@ -361,7 +367,7 @@ device_end k (c.AnswerRefused reason) m =
     answer_own k (Some (answer.Refuse (reason_of reason))) m
 device_end k (c.AnswerMaker vendor bytes) m = answer_own k (reader.maker_answer vendor bytes) m
 device_end k c.LooksIn m = tt
-device_end k (c.DeviceMade settings caps) m = (own_device k, tt)
+device_end k (c.DeviceMade room settings caps) m = (own_device k, tt)
 
 pub devices_are : AreDeviceCalls program_answer program_after c_device
 devices_are = record {

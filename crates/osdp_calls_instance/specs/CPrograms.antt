@@ -3,10 +3,11 @@ use Rattle.std.specs.Prelude.{◌≡◌, ℕ, not, ◌==◌, if◌then◌else◌
 use Rattle.arrayvec.specs.ArrayVec.{ArrayVec}
 use Rattle.osdp_msg.specs.CommandTable.{command_of}
 use Rattle.osdp_msg.specs.NakReasons.{reason_of}
+use Rattle.osdp_msg.specs.declared.capability.Capability.{Capability}
 use Rattle.osdp_msg.specs.declared.command.Command.{Command}
 use Rattle.osdp_msg.specs.declared.event.Event.{Event}
 use Rattle.osdp_msg.specs.declared.fault.MsgFault.{MsgFault}
-use Rattle.osdp_msg.specs.declared.reply_fields.PdCap.{PdCap}
+use Rattle.osdp_msg.specs.declared.limits.Room.{Room}
 use Rattle.osdp_bus.specs.declared.config.BusConfig.{BusConfig}
 use Rattle.osdp_bus_laws.specs.Calls as bus
 use Rattle.osdp_device.specs.Deciding.{is_asked, pending_of}
@@ -29,7 +30,7 @@ use Rattle.osdp_c_values.specs.declared.settings.PanelSettings.{PanelSettings}
 use Rattle.osdp_c_values.specs.declared.status.Status.{Status}
 use Rattle.osdp_c_values.specs.declared.status.Status.TheVariants as status
 use Rattle.osdp_c_values.specs.Statuses.{number}
-use Rattle.osdp_c_values.specs.Settings.{bus_config_of, id_of, limit_of}
+use Rattle.osdp_c_values.specs.Settings.{bus_config_of, bus_config_with, id_of, limit_of}
 use Rattle.osdp_c_values.specs.Addresses.{device_address}
 use Rattle.osdp_c_values.specs.Calls.{Done, IsDone, frees}
 use Rattle.osdp_c_values.specs.Panels as panel
@@ -114,7 +115,7 @@ c_panel = record {
   calls = panel_calls;
 }
 
--- what leads to a panel that is made anew: its handle is freed, and the contracts of `osdp_panel_new` and of an `osdp_panel_add` for each of these
+-- what leads to a panel that is made anew: its handle is freed, and the contracts of the call that makes it and of an `osdp_panel_add` for each of these
 -- numbers are met, each with the answer that it is done
 abbrev pub AddsEach : List ℕ → Option PanelMachine → Option PanelMachine → Type 0
 AddsEach [] m last = last ≡ m
@@ -122,16 +123,21 @@ AddsEach (address ∷ addresses) m last =
     (next : Option PanelMachine) × (out : ℕ) × (out' : ℕ)
     × panel.AddsTo (device_address address) m (number status.Done) next out out' × AddsEach addresses next last
 
-abbrev pub MakesAnew : Type 0
-MakesAnew = (settings : PanelSettings) (m : PanelMachine) (freed made last : Option PanelMachine) (addresses : List ℕ)
-    → IsDone (frees (Some m)) (number status.Done) freed → panel.NewPanelEnds settings freed (number status.Done) made → AddsEach addresses made last
-    → (config : BusConfig) × (bus_config_of settings ≡ Some config)
+abbrev pub MakesAnewBy : (PanelSettings → Option BusConfig) → (PanelSettings → Option PanelMachine → ℕ → Option PanelMachine → Type 0) → Type 0
+MakesAnewBy config_of NewEnds = (settings : PanelSettings) (m : PanelMachine) (freed made last : Option PanelMachine) (addresses : List ℕ)
+    → IsDone (frees (Some m)) (number status.Done) freed → NewEnds settings freed (number status.Done) made → AddsEach addresses made last
+    → (config : BusConfig) × (config_of settings ≡ Some config)
     × (last ≡ Some (panel_made config (limit_of settings.clock_limit) (map device_address addresses)))
+
+-- by the call that makes it with room for each command, and by the one with room for so many bytes of them
+pub record MakesAnew : Type 0 where
+  pub each : MakesAnewBy bus_config_of panel.NewPanelEnds
+  pub bytes : (bytes : ℕ) → MakesAnewBy (bus_config_with bytes) (panel.NewPanelWith bytes)
 
 -- ---- a device
 
 -- the calls of a device's handle: of a text, or of a code and data, what was read of it, and `LooksIn` for each call that only tells something. Made
--- anew: freed, and made with these settings, and with what it could do before.
+-- anew: freed, and made with this room for events and these settings, and with what it could do before.
 pub data DeviceCall : Type 0 where
   SetStates : StateList → List ℕ → DeviceCall
   SetLocal : ℕ → ℕ → DeviceCall
@@ -149,7 +155,7 @@ pub data DeviceCall : Type 0 where
   AnswerRefused : ℕ → DeviceCall
   AnswerMaker : List ℕ → List ℕ → DeviceCall
   LooksIn : DeviceCall
-  DeviceMade : ReaderSettings → PdCap → DeviceCall
+  DeviceMade : Room → ReaderSettings → ArrayVec Capability → DeviceCall
 
 -- each by its definition
 abbrev pub device_call : DeviceCall → ReaderMachine → Done ReaderMachine
@@ -169,7 +175,7 @@ device_call (AnswerList states) m = reader.answers_list states m
 device_call (AnswerRefused reason) m = reader.answers_refused reason m
 device_call (AnswerMaker vendor bytes) m = reader.answers_maker vendor bytes m
 device_call LooksIn m = reader.does m
-device_call (DeviceMade settings caps) m = reader.does (reader.new_machine settings caps)
+device_call (DeviceMade room settings caps) m = reader.does (reader.new_machine_in room settings caps)
 
 -- the handler is another
 abbrev pub told_status : ℕ → DeviceStatus → ReaderMachine → List (Call ProgramAnswers)
@@ -223,11 +229,11 @@ device_calls k (AnswerList states) m = answer_calls k (reader.list_answer states
 device_calls k (AnswerRefused reason) m = answer_calls k (Some (answer.Refuse (reason_of reason))) m
 device_calls k (AnswerMaker vendor bytes) m = answer_calls k (reader.maker_answer vendor bytes) m
 device_calls k LooksIn m = []
-device_calls k (DeviceMade settings caps) m = NewDevice k settings.address new_program settings.capacity settings.gap ∷ []
+device_calls k (DeviceMade room settings caps) m = NewDevice k settings.address new_program room settings.gap ∷ []
 
 -- a device that is made anew is the same model, and can do the same
 abbrev pub DeviceCallFits : DeviceCall → ReaderMachine → Type 0
-DeviceCallFits (DeviceMade settings caps) m = (id_of settings ≡ m.device.reader.config.id) × (caps ≡ m.device.reader.config.caps)
+DeviceCallFits (DeviceMade room settings caps) m = (id_of settings ≡ m.device.reader.config.id) × (caps ≡ m.device.reader.config.caps)
 DeviceCallFits _ m = Unit {0}
 
 abbrev pub c_device : DeviceKind ProgramAnswers

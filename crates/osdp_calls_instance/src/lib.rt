@@ -48,7 +48,8 @@ fn stands_on_calls<H: Handler>()
 
 /// Whatever a panel's program in C and its devices' programs in C call, power losses among it, is a list of calls of a line in use: each call of a handle
 /// is the calls that `panel_calls` and `device_calls` name, and brings the bus and the devices to where these bring them. So the promises hold of
-/// them where these calls keep the premises. A panel whose handle is freed, made and given its devices, each call done, is one made anew.
+/// them where these calls keep the premises. A panel whose handle is freed, made and given its devices, each call done, is one made anew, whether it is
+/// made with room for each command or for so many bytes of them.
 pub fn calls_for_c_are_calls()
     ensures anew { MakesAnew }
     ensures line { CallTheLine c_panel c_device program_answer program_after }
