@@ -282,7 +282,7 @@ module _ {H : Type 0} (answer_of : H → Command → Answer) (after : H → Comm
       let machine = controller_config given.0.address config in
       record {
         time = (omega arith, long);
-        range = ranges.later (new_machine machine config.capacity) (Begin 0 ∷ []) (ranges.new machine config.capacity);
+        range = ranges.later (new_machine machine config.room.messages config.room.bytes) (Begin 0 ∷ []) (ranges.new machine config.room.messages config.room.bytes);
       }
 
   mapped : (config : BusConfig) (readers : List (Given H)) (P : Device → Type 0) → ((given : Given H) → P (begun_device config given))

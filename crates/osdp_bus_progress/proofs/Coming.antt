@@ -351,7 +351,7 @@ module _ {H : Type 0} (answer_of : H → Command → Answer) (after : H → Comm
             let last_net = run answer_of after (round_moves m) n in
             let last_follows = goes m (omega arith) in
             let machine = controller_config l.given.0.address config in
-            let range : IsInRange old.controller.session = ranges.later (new_machine machine config.capacity) (Begin 0 ∷ []) (ranges.new machine config.capacity) in
+            let range : IsInRange old.controller.session = ranges.later (new_machine machine config.room.messages config.room.bytes) (Begin 0 ∷ []) (ranges.new machine config.room.messages config.room.bytes) in
             let through = in_time old ms has.moments begun range l.its.fits
             (subst progress.IsClear l.moved (clear_at k t.0 t.1))
             (subst (progress.AreLate answer_of after has.moments) l.moved has.late)

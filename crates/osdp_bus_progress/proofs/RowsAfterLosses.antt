@@ -46,7 +46,7 @@ both_sessions =
 pub four_rounds : AcceptsByRoom handler_answer handler_after → AnswerRecovers handler_answer handler_after → FourRoundsBringThree
 four_rounds accepts recovers account is lasts =
     let a = lists_of account in
-    let room = accepts config new_handler ((one_lost ++ clear one_lost) ++ rounds 4 400) (Ok account) is.ends in
+    let room = accepts config new_handler ((one_lost ++ clear one_lost) ++ rounds 4 400) (Ok account) is in
     let issued : a.issued ≡ out ∷ buz ∷ [] = room.issued.every (omega arith) in
     let queued : a.queued ≡ first_key ∷ [] = room.queued.every (omega arith) in
     let moves : All SetsNoAddress a.issued = subst (All SetsNoAddress) (sym issued) no_moves in
@@ -101,10 +101,10 @@ six_rounds accepts recovers counts told is a b first second a_lasts b_lasts =
     let a_is : one.0 ≡ a = same_item (sym one.1 ∙ first) in
     let b_is : two.0 ≡ b = same_item (sym two.1 ∙ second) in
     let a_issued : a.issued ≡ out ∷ [] =
-    subst (λ (x : Account). x.issued ≡ out ∷ []) a_is ((one.2.issued no_out_comset).every (omega arith)) in
+    subst (λ (x : Account). x.issued ≡ out ∷ []) a_is ((one.2.issued refl no_out_comset).every (omega arith)) in
     let a_queued : a.queued ≡ [] = subst (λ (x : Account). x.queued ≡ []) a_is (one.2.queued.every (omega arith)) in
     let b_issued : b.issued ≡ buz ∷ [] =
-    subst (λ (x : Account). x.issued ≡ buz ∷ []) b_is ((two.2.issued no_buz_comset).every (omega arith)) in
+    subst (λ (x : Account). x.issued ≡ buz ∷ []) b_is ((two.2.issued refl no_buz_comset).every (omega arith)) in
     let b_queued : b.queued ≡ first_key ∷ [] = subst (λ (x : Account). x.queued ≡ first_key ∷ []) b_is (two.2.queued.every (omega arith)) in
     let none = each_of_two (λ (x : Account). All SetsNoAddress x.issued) list many
     (λ x at. subst (λ (y : Account). All SetsNoAddress y.issued) (same_item (sym first ∙ at)) (subst (All SetsNoAddress) (sym a_issued) no_out_moves))

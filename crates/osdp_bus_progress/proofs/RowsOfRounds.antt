@@ -23,7 +23,7 @@ is_config = controller_in_range 5 Crc 3 (omega arith) (omega arith, omega arith)
 is_set : AreSettings config
 is_set = record {
   reader = record { address = omega arith; some = omega arith; limit = omega arith };
-  controller = record { config_in_range = is_config; room = omega arith; limit = omega arith };
+  controller = record { config_in_range = is_config; room = omega arith; limit = omega arith; bytes = (omega arith, omega arith) };
 }
 
 pub no_moves : All SetsNoAddress (out ∷ buz ∷ [])
@@ -42,7 +42,7 @@ are_orders =
 
 pub three_rounds : AcceptsByRoom handler_answer handler_after → GoesInTurn handler_answer handler_after → ThreeRoundsSettleTwoAndReportOne
 three_rounds accepts turns account is =
-    let room : IsAcceptedByRoom config (orders ++ clean 3) (lists_of account) = accepts config new_handler (orders ++ clean 3) (Ok account) is.ends in
+    let room : IsAcceptedByRoom config (orders ++ clean 3) (lists_of account) = accepts config new_handler (orders ++ clean 3) (Ok account) is in
     let issued : (lists_of account).issued ≡ out ∷ buz ∷ [] = room.issued.every (omega arith) in
     let queued : (lists_of account).queued ≡ first_key ∷ second_key ∷ [] = room.queued.every (omega arith) in
     let moves : All SetsNoAddress (lists_of account).issued = subst (All SetsNoAddress) (sym issued) no_moves in

@@ -11,6 +11,7 @@ use Rattle.osdp_script.specs.Identity.{script_config}
 use Rattle.osdp_script.specs.declared.handler.ScriptReader.{ScriptReader}
 use Rattle.osdp_sim.specs.Account.{Account, lists_of}
 use Rattle.osdp_sim.specs.Rounds.{rounds}
+use Rattle.osdp_sim.specs.State.{room_for}
 use Rattle.osdp_sim.specs.declared.account.Account as declared
 use Rattle.osdp_sim.specs.declared.step.Move.TheVariants.{Drop}
 use Rattle.osdp_sim.specs.declared.step.SimStep.{SimStep}
@@ -43,7 +44,7 @@ FourRoundsBringThree = (account : declared.Account)
 
 -- `check crc`, `reader 5 4`, `reader 6 4`
 abbrev pub bus : BusConfig
-bus = default_config Crc 64
+bus = default_config Crc (room_for 64)
 
 abbrev pub readers : List (Given ScriptReader)
 readers = (script_config 1 5, 4, new_handler) ∷ (script_config 2 6, 4, new_handler) ∷ []
