@@ -173,6 +173,7 @@ all_choose words = record {
         is_none Monitor of is = cc
         is_none Panel of is = cc
         is_none Reader of is = cc
+        is_none Plan of is = cc
         is_none Job of is = of
 
     no_words : ((choice : Choice) → ¬ IsWordsOf choice words) → choice_of words ≡ Job
