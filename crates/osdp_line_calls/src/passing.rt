@@ -59,7 +59,7 @@ fn push_reading(
     code: u8,
     reading: Result<Reply<'_>, MsgFault>,
 ) -> Result<(), AllocError>
-    ensures { OnOk result (string_bytes text.new ≡ string_bytes text.old ++ passed_line entry number (passed_reading number code reading)) }
+    ensures { OnOk result (string_bytes text.new ≡ string_bytes text.old ++ passed_line entry number (passed_reading number code reading.entry)) }
 {
     match reading {
         Ok(reply) => {
