@@ -12,9 +12,7 @@ use osdp_c_values::{
 };
 use osdp_device::{Ages, Device, Expired, ProgramAnswers};
 use osdp_frame::{Address, Burst, CheckKind, FrameView, Header, Seq, is_time};
-use osdp_msg::{
-    Capability, Event, MAX_DATA, MakerMessage, MsgFault, Records, Reply, Room, States,
-};
+use osdp_msg::{Capability, Event, MAX_DATA, MakerMessage, MsgFault, Records, Reply, Room, States};
 use osdp_reader::{Answer, Kind, Reader, ReaderConfig, ReaderFault};
 use std::alloc::Global;
 
@@ -81,7 +79,14 @@ fn new_machine(
     };
     let clock = Clock::new(settings.clock_limit());
     let sent = Place::new(Burst::new());
-    match Box::new(alloc, ReaderMachine { device, clock, sent }) {
+    match Box::new(
+        alloc,
+        ReaderMachine {
+            device,
+            clock,
+            sent,
+        },
+    ) {
         Ok(machine) => Ok(machine),
         Err(_) => Err(ReaderFault::NoMemory),
     }
@@ -171,10 +176,7 @@ pub(crate) fn read_event_at(code: u8, body: &[u8]) -> Result<Event<'_>, Status>
 }
 
 /// Puts the event after those that wait that was read of a reply's code and data.
-pub(crate) fn submit_data(
-    machine: &mut ReaderMachine,
-    read: &Result<Event<'_>, Status>,
-) -> Status
+pub(crate) fn submit_data(machine: &mut ReaderMachine, read: &Result<Event<'_>, Status>) -> Status
     ensures status { result ≡ (submits_read read.now machine.old).status }
     ensures machine { machine.new ≡ (submits_read read.now machine.old).machine }
 {
