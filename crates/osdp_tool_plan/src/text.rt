@@ -207,7 +207,7 @@ fn push_change_name(text: &mut String, setting: PlanSetting) -> Result<(), Alloc
 }
 
 /// Writes what comes of a setting, where it is worth while.
-#[tactic(auto, unfolding(crate::specs::Text::change_text))]
+#[tactic(auto, unfolding(crate::specs::Text::change_text), using(crate::proofs::Ranges::set_in_range))]
 fn push_change(
     text: &mut String,
     worth: bool,
