@@ -1,4 +1,4 @@
-use Rattle.std.proofs.Common.{◌++◌, false, cond, length, string_bytes, refl, sym, ap, ◌∙◌, arith, append-nil}
+use Rattle.std.proofs.Common.{◌++◌, false, length, string_bytes, refl, sym, ap, ◌∙◌, arith, append-nil}
 use Rattle.osdp_device.specs.Ages.{after_expiry, after_removal}
 use Rattle.osdp_device.specs.Device.{DeviceState}
 use Rattle.osdp_device.specs.declared.status.DeviceStatus.{DeviceStatus}
