@@ -6,10 +6,11 @@ ghost use Rattle.std.specs.VecDeque.{deque_capacity, deque_len};
 ghost use Rattle.osdp_sim.specs.Line.{bytes_of, handed};
 ghost use Rattle.osdp_sim.specs.Steps.{SaysFit};
 ghost use Rattle.osdp_sim_bus.specs.Room.{HasPlace, sites_of};
-ghost use Rattle.osdp_sim_bus.specs.Steps.{hears_run, site_hears, site_says};
+ghost use Rattle.osdp_sim_bus.specs.Steps.{changed_site, hears_run, site_hears, site_is_told, site_says};
 
 use crate::site::ReaderSite;
-use osdp_bus::Bus;
+use osdp_bus::{Bus, Entry};
+use osdp_controller::Report;
 use osdp_frame::{Burst, FrameView};
 use osdp_reader::Handler;
 use osdp_sim::Move;
@@ -56,6 +57,16 @@ pub fn hear_all<H: Handler>(
 {
     for site in sites.iter_mut() {
         site.hear(packet, out, line);
+    }
+}
+
+/// A report goes to the account of its entry's reader, if there is one.
+pub fn tell<H: Handler>(sites: &mut [ReaderSite<H>], entry: Entry, report: &Report<'_>)
+    requires { All HasPlace sites.old }
+    ensures { sites_of sites.new ≡ changed_site entry (site_is_told report.now) (sites_of sites.old) }
+{
+    if entry < sites.len() {
+        sites[entry].account.tell(report);
     }
 }
 

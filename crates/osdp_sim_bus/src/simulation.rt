@@ -6,7 +6,7 @@ ghost use Rattle.osdp_sim_bus.specs.Room.{HasPlace, HasRoom, state_of};
 ghost use Rattle.osdp_sim_bus.specs.State.{AreSent, LineState};
 ghost use Rattle.osdp_sim_bus.specs.Steps.{DamageIsBytes, StepFits, after_step, is_quiet, is_there, refuses_reopen, takes_report};
 
-use crate::line::{grow_all, hand_in, handed, hear_all};
+use crate::line::{grow_all, hand_in, handed, hear_all, tell};
 use crate::site::ReaderSite;
 use osdp_bus::Bus;
 use osdp_frame::Burst;
@@ -70,9 +70,7 @@ impl<H: Handler> Simulation<H> {
         let Some((entry, report)) = self.bus.report() else {
             return
         };
-        if entry < self.sites.len() {
-            self.sites[entry].account.tell(&report);
-        }
+        tell(&mut self.sites, entry, &report);
         self.bus.settle();
     }
 }

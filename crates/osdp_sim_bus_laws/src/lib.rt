@@ -54,8 +54,8 @@ pub fn each_account_holds_once<H: Handler>()
 }
 
 /// Whatever a schedule over a bus says, for each reader: of the commands for it, POLL left out, some are accepted, each once and in their order.
-/// Where none is a COMSET, all are accepted where no more are than the settings leave room for; else the first of them, as many as that.
-/// So it is of its events, with the room that it has for them.
+/// Where none is a COMSET, and the bus has room for as many as may wait however long each is, all are accepted where they are no more than
+/// that; else the first of them, as many as may wait. So it is of its events, with the room that it has for them.
 pub fn each_accepts_by_room<H: Handler>()
     ensures { EachAccepts H.answer_of H.after }
 {}
