@@ -57,7 +57,10 @@ impl Plan {
         ensures time { result ≡ round_time (config_of self.now) self.now.late }
         ensures bound { result ≤ 2 ^ 31 }
     {
-        times(u64::from(self.sends), u64::from(self.reply_wait) + u64::from(self.late))
+        times(
+            u64::from(self.sends),
+            u64::from(self.reply_wait) + u64::from(self.late),
+        )
     }
 
     /// The longest exchange that the settings allow.
@@ -123,6 +126,9 @@ impl Plan {
         ensures { result ≡ lost_wait others self.now }
     {
         let turns = self.turns(others, u64::from(self.readers).saturating_sub(1));
-        u64::from(self.poll_interval) + u64::from(self.late) + turns + (self.silent() + u64::from(self.late))
+        u64::from(self.poll_interval)
+            + u64::from(self.late)
+            + turns
+            + (self.silent() + u64::from(self.late))
     }
 }

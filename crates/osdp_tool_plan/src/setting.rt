@@ -87,7 +87,10 @@ impl PlanSetting {
             PlanSetting::Late(late) => Plan { late, ..plan },
             PlanSetting::Orders(orders) => Plan { orders, ..plan },
             PlanSetting::ReplyWait(reply_wait) => Plan { reply_wait, ..plan },
-            PlanSetting::PollInterval(poll_interval) => Plan { poll_interval, ..plan },
+            PlanSetting::PollInterval(poll_interval) => Plan {
+                poll_interval,
+                ..plan
+            },
             PlanSetting::Sends(sends) => Plan { sends, ..plan },
             PlanSetting::BusyWait(busy_wait) => Plan { busy_wait, ..plan },
             PlanSetting::BusyLimit(busy_limit) => Plan { busy_limit, ..plan },

@@ -130,7 +130,13 @@ fn push_order(text: &mut String, plan: &Plan) -> Result<(), AllocError>
     let all = plan.order_wait(Others::Answer);
     let one = plan.order_wait(Others::OneSilent);
     let worst = plan.order_wait(Others::Hostile);
-    push_row(text, "order       ", Some(all), beside(plan, one), Some(worst))
+    push_row(
+        text,
+        "order       ",
+        Some(all),
+        beside(plan, one),
+        Some(worst),
+    )
 }
 
 /// Writes the line of a card.
@@ -153,7 +159,13 @@ fn push_lost(text: &mut String, plan: &Plan) -> Result<(), AllocError>
     let all = plan.lost_wait(Others::Answer);
     let one = plan.lost_wait(Others::OneSilent);
     let worst = plan.lost_wait(Others::Hostile);
-    push_row(text, "told lost   ", Some(all), beside(plan, one), Some(worst))
+    push_row(
+        text,
+        "told lost   ",
+        Some(all),
+        beside(plan, one),
+        Some(worst),
+    )
 }
 
 /// Writes all lines of figures.
@@ -248,7 +260,12 @@ fn push_changes(text: &mut String, plan: &Plan) -> Result<(), AllocError>
     text.push_str("as planned            ")?;
     push_waits(text, plan)?;
     push_change(text, plan.rate < 115_200, PlanSetting::Rate(115_200), plan)?;
-    push_change(text, plan.poll_interval > 10, PlanSetting::PollInterval(10), plan)?;
+    push_change(
+        text,
+        plan.poll_interval > 10,
+        PlanSetting::PollInterval(10),
+        plan,
+    )?;
     push_shortest_wait(text, plan)?;
     push_change(text, plan.sends > 2, PlanSetting::Sends(2), plan)?;
     push_change(text, plan.readers > 1, PlanSetting::Readers(half), plan)
