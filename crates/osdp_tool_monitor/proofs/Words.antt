@@ -1,5 +1,5 @@
 -- The option that words begin with.
-use Rattle.std.proofs.Common.{◌≡◌, ◌↔◌, ℕ, List, [], ◌∷◌, ◌++◌, Option, Some, None, refl, ap, subst, ◌∙◌}
+use Rattle.std.proofs.Common.{◌≡◌, ◌↔◌, ℕ, List, ◌∷◌, ◌++◌, Option, Some, None, refl, ap, subst, ◌∙◌}
 use Rattle.std.specs.Prelude.{map, IfSome}
 use Rattle.std.specs.Fmt.{decimal}
 use Rattle.osdp_tool_monitor.specs.Options.{OptionFits, TakesOption, name_of, name_text, numbers_of}
