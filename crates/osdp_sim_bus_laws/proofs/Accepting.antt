@@ -432,5 +432,5 @@ module _ {H : Type 0} (answer_of : H → Command → Answer) (after : H → Comm
 
   pub each_accepts : EachAccepts answer_of after
   each_accepts config readers steps answer is was k given at =
-      answers answer_of after (λ told. (a : Account) × (slice_get told k ≡ Some a) × AcceptsFor config.room.messages given.1 (suc k) (steps_done steps answer) a)
+      answers answer_of after (λ told. (a : Account) × (slice_get told k ≡ Some a) × AcceptsFor config.room given.1 (suc k) (steps_done steps answer) a)
       config readers steps answer is was (λ taken. all_accepted config readers (steps_done steps answer) is.fits k given at)
