@@ -51,7 +51,7 @@ static void new_panel(void)
         before = bytes_given;
         status = osdp_panel_new(&panel, &config);
     }
-    demand(status == OSDP_OK && bytes_given - before == counted(7064));
+    demand(status == OSDP_OK && bytes_given - before == counted(6872));
     demand(osdp_panel_new(&panel, &config) == OSDP_IN_USE);
     demand(osdp_panel_add(&panel, 127, &entry) == OSDP_PANEL_OUT_OF_RANGE);
 }
@@ -66,7 +66,7 @@ static void add_device(size_t i)
         before = bytes_given;
         status = osdp_panel_add(&panel, address, &entry);
     }
-    demand(status == OSDP_OK && entry == i && bytes_given - before == counted(1768 + 1456 + 4 * 1648));
+    demand(status == OSDP_OK && entry == i && bytes_given - before == counted(1600 + 1456 + 4 * 1435));
     demand(osdp_panel_add(&panel, address, &entry) == OSDP_ADDRESS_TAKEN && entry == i);
 }
 
@@ -88,7 +88,7 @@ static void new_reader(int i, uint32_t address)
         before = bytes_given;
         status = osdp_device_new(&readers[i], &config, capabilities, 6);
     }
-    demand(status == OSDP_OK && bytes_given - before == counted(14048 + 2 * 1464));
+    demand(status == OSDP_OK && bytes_given - before == counted(13872 + 2 * 1443));
     demand(osdp_device_new(&readers[i], &config, capabilities, 6) == OSDP_IN_USE);
     demand(osdp_device_set_outputs(&readers[i], states, 2) == OSDP_OK);
     demand(osdp_device_set_inputs(&readers[i], states, 2) == OSDP_OK);

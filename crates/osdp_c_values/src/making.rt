@@ -1,6 +1,6 @@
 //! Commands made of structs of plain fields.
 
-ghost use Rattle.std.specs.Prelude.{◌≡◌, ◌≤◌, length, map, option_map, Some};
+ghost use Rattle.std.specs.Prelude.{◌≡◌, ◌≤◌, [], length, map, option_map, Some};
 ghost use Rattle.osdp_msg.specs.CommandFields.{records_within};
 ghost use Rattle.osdp_msg.specs.declared.command.Command.TheVariants as command;
 ghost use Rattle.osdp_c_values.specs.Making.{buzzer_in, led_record, made, made_comset, made_led, made_maker, made_out, output_record, text_in};
@@ -119,31 +119,31 @@ fn led_record(given: &LedStruct) -> LedRecord
     }
 }
 
-/// What a function makes of each struct of a list, in their order.
-macro_rules! each_made {
-    ($given:ident, $record:ident) => {{
-        let mut records = ArrayVec::new();
+/// Puts what a function makes of each struct of a list into another list, in their order. A list that were handed back would take its place twice.
+macro_rules! put_each {
+    ($given:ident, $record:ident, $records:ident) => {
         for one in $given {
-            records.push($record(one));
+            $records.push($record(one));
         }
-        records
-    }};
+    };
 }
 
-/// The records of outputs, in their order.
-fn output_records(given: &[OutputStruct]) -> ArrayVec<OutputRecord, 358>
-    requires { length given.now ≤ 358 }
-    ensures { result.items ≡ map output_record given.now }
+/// Puts the records of outputs into an empty list, in their order.
+fn put_outputs(given: &[OutputStruct], records: &mut ArrayVec<OutputRecord, 358>)
+    requires room { length given.now ≤ 358 }
+    requires empty { records.old.items ≡ [] }
+    ensures { records.new.items ≡ map output_record given.now }
 {
-    each_made!(given, output_record)
+    put_each!(given, output_record, records)
 }
 
-/// The records of LEDs, in their order.
-fn led_records(given: &[LedStruct]) -> ArrayVec<LedRecord, 102>
-    requires { length given.now ≤ 102 }
-    ensures { result.items ≡ map led_record given.now }
+/// Puts the records of LEDs into an empty list, in their order.
+fn put_leds(given: &[LedStruct], records: &mut ArrayVec<LedRecord, 102>)
+    requires room { length given.now ≤ 102 }
+    requires empty { records.old.items ≡ [] }
+    ensures { records.new.items ≡ map led_record given.now }
 {
-    each_made!(given, led_record)
+    put_each!(given, led_record, records)
 }
 
 impl MessageStruct {
@@ -169,7 +169,8 @@ impl MessageStruct {
         if given.len() > 358 {
             return self.make(None);
         }
-        let records = output_records(given);
+        let mut records = ArrayVec::new();
+        put_outputs(given, &mut records);
         self.make(Outputs::new(records.as_slice()).map(Command::Output))
     }
 
@@ -181,7 +182,8 @@ impl MessageStruct {
         if given.len() > 102 {
             return self.make(None);
         }
-        let records = led_records(given);
+        let mut records = ArrayVec::new();
+        put_leds(given, &mut records);
         self.make(Leds::new(records.as_slice()).map(Command::Led))
     }
 

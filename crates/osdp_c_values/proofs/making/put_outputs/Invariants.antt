@@ -1,6 +1,6 @@
 use Rattle.std.proofs.Common.{◌≡◌, ◌++◌, drop, map}
 use Rattle.osdp_c_values.specs.Making.{output_record}
-use Rattle.osdp_c_values.proofs.making.output_records.Given as goal
+use Rattle.osdp_c_values.proofs.making.put_outputs.Given as goal
 
 abbrev pub invariant-loop-one : goal.invariant-loop-one
 invariant-loop-one l = l.records.items ++ map output_record (drop l.one-index l.given) ≡ map output_record l.given
