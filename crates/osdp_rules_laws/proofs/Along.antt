@@ -76,11 +76,10 @@ module _ {H : Type 0} where
         → Follows answer_of after r xs → AreFine (findings answer_of after aspect address k xs)
     all_fine aspect address k r [] knows follows = tt
     all_fine aspect address k r (x ∷ xs) knows follows =
-        let here = knows_still address k r x.reader knows follows.0 in
-        (
+        let here = knows_still address k r x.reader knows follows.0 in (
           one_fine aspect address k x here follows.1,
           all_fine aspect address (known_after address x.packet (heard_in answer_of after x) k) (reader_after answer_of after x) xs
-          (one_known address k x here) follows.2,
+              (one_known address k x here) follows.2,
         )
 
     pub breaks_no_rule : BreaksNoRule answer_of after

@@ -81,7 +81,7 @@ module _ {H : Type 0} where
       → IsFine (sent_judged aspect r.config.address k p (Some a))
   by_known aspect k r p a turn to plain zero knows is fine =
       elim (knows_last r.config.address k r knows) [
-        inl none ↦ here_fine aspect r.config.address k p a NobodyKnows to plain (ap (λ o. turn_of o p.sequence) none ∙ unknown_above p.sequence zero) tt
+        | inl none ↦ here_fine aspect r.config.address k p a NobodyKnows to plain (ap (λ o. turn_of o p.sequence) none ∙ unknown_above p.sequence zero) tt
         | inr same ↦ here_fine aspect r.config.address k p a turn to plain (ap (λ o. turn_of o p.sequence) same ∙ is) fine
       ]
 
@@ -198,7 +198,7 @@ module _ {H : Type 0} where
         (fits_said (taken answer_of after (command_in p) r p).said acts.said acts.says fits)))
     by_kind reads aspect k r p Busy met knows fits =
         elim met.number [
-          inl zero ↦ here_fine aspect r.config.address k p (reply_packet p 0 reply.Busy) New met.to met.plain
+          | inl zero ↦ here_fine aspect r.config.address k p (reply_packet p 0 reply.Busy) New met.to met.plain
               (new_at_zero (last_number k) p.sequence zero) (fine_busy reads aspect p)
           | inr next ↦ by_known aspect k r p (reply_packet p 0 reply.Busy) New met.to met.plain next.2.zero knows
               (ap (λ o. turn_of o p.sequence) next.1 ∙ new_next next.0 p.sequence next.2) (fine_busy reads aspect p)
@@ -214,7 +214,7 @@ module _ {H : Type 0} where
     by_kind reads aspect k r p Wrong met knows fits =
         let a = reply_packet p p.sequence (refused UnexpectedSequence) in
         elim met.number.1 [
-          inl none ↦ by_known aspect k r p a NobodyKnows met.to met.plain met.number.0 knows
+          | inl none ↦ by_known aspect k r p a NobodyKnows met.to met.plain met.number.0 knows
               (ap (λ o. turn_of o p.sequence) none ∙ unknown_above p.sequence met.number.0) tt
           | inr out ↦ by_known aspect k r p a Out met.to met.plain met.number.0 knows
               (ap (λ o. turn_of o p.sequence) out.1 ∙ out_further out.0 p.sequence out.2) (wrong_fine aspect p p.sequence)
