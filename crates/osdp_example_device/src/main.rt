@@ -34,29 +34,15 @@ fn new_device(alloc: Global) -> Option<Doors> {
     let config = ReaderConfig { address, id, caps };
     let mut program = ProgramAnswers::new();
     let _ = program.status.outputs.try_extend_from_slice(&[0, 0]);
-    Device::new(
-        alloc,
-        Reader::new(alloc, config, program, Room::of(64)).ok()?,
-        20,
-    )
-    .ok()
-}
-
-/// Whether a command is an OUT of which a part may not be done.
-fn is_barred(command: Option<Command<'_>>) -> bool {
-    if let Some(Command::Output(out)) = command {
-        for record in out.records() {
-            if !may_be_done(record.output, record.control) {
-                return true;
-            }
-        }
-    }
-    false
+    let reader = Reader::new(alloc, config, program, Room::of(64)).ok()?;
+    Device::new(alloc, reader, 20).ok()
 }
 
 /// An OUT that may not be done is refused before it is answered. All else is answered as it was set.
 fn decide(device: &mut Doors) {
-    if is_barred(device.command()) {
+    if let Some(Command::Output(out)) = device.command()
+        && out.records().any(|it| !may_be_done(it.output, it.control))
+    {
         let _ = device.answer_next(&Answer::Refuse(NakReason::RecordNotProcessed));
     }
 }
@@ -77,14 +63,12 @@ fn hear(rt: &HostRuntime, device: &mut Doors, mut bytes: &[u8], now: u64) -> io:
     device.tick(now);
     for _ in 0..10_000 {
         let (turn, unsent) = device.turn(bytes, now, &mut out);
-        let acted = match turn.settled {
-            Settled::Said(kind) => act(rt, &device.heard(kind), out.as_slice()),
-            Settled::Nothing | Settled::Pending => Ok(()),
-        };
+        let kind = turn.settled.kind();
+        let acted = kind.map(|kind| act(rt, &device.heard(kind), out.as_slice()));
         if let Some(unsent) = unsent {
             send(rt, unsent.bytes(&out))?;
         }
-        acted?;
+        acted.unwrap_or(Ok(()))?;
         bytes = &bytes[turn.taken..];
         match turn.settled {
             Settled::Pending => decide(device),

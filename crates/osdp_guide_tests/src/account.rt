@@ -56,7 +56,7 @@ pub fn order(rt: &impl Abort, number: usize) -> OutputRecord {
 }
 
 /// The number of an order.
-fn number_of(rt: &impl Abort, command: &Command<'_>) -> usize {
+pub fn number_of(rt: &impl Abort, command: &Command<'_>) -> usize {
     match command {
         Command::Output(outputs) => {
             let mut records = outputs.records();
@@ -108,9 +108,8 @@ impl Account {
         *own = fate;
     }
 
-    /// The device has taken an order: no order before it is open, and none is taken twice, or after a later one.
-    pub fn takes(&mut self, rt: &impl Abort, command: &Command<'_>) {
-        let number = number_of(rt, command);
+    /// The device has taken the order of this number: no order before it is open, and none is taken twice, or after a later one.
+    pub fn takes(&mut self, rt: &impl Abort, number: usize) {
         assert!(rt;
             number >= self.next_taken && number < self.issued,
             "order {number} is taken again, or too late"

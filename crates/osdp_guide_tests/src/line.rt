@@ -1,6 +1,6 @@
 //! The line: all that was said, in its order, and how far each end has read it.
 
-use crate::account::{Account, card, order};
+use crate::account::{Account, card, number_of, order};
 use crate::dice::Dice;
 use crate::ends::{new_bus, new_device};
 use arrayvec::ArrayVec;
@@ -140,13 +140,14 @@ impl Line {
                 return;
             };
             let heard = site.device.heard(kind);
-            if let Some(command) = taken(&heard) {
-                site.account.takes(rt, command);
-            }
             assert!(rt;
                 matches!(again(&heard), None | Some(Command::Id(_))),
                 "an order at number 0"
             );
+            let number = taken(&heard).map(|command| number_of(rt, command));
+            if let Some(number) = number {
+                site.account.takes(rt, number);
+            }
             if !out.is_empty() {
                 self.says(rt, device, false, out.as_slice());
             }
