@@ -21,8 +21,7 @@ impl Handler for Device {
 
     ghost after = { λ device command. device };
 
-    fn answer<'a>(&mut self, command: &Command<'_>, place: &'a mut Spelling) -> Answer<'a> {
-        let _ = (command, place);
+    fn answer<'a>(&mut self, _command: &Command<'_>, _place: &'a mut Spelling) -> Answer<'a> {
         Answer::Done
     }
 }
