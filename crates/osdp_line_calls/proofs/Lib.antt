@@ -7,9 +7,7 @@ pub mod PanelCalls
 mod Listening
 pub mod PassedOver
 pub mod Ranges
-pub mod Reading
 pub mod Running
-mod FirstWrong
 pub mod Speaking
 pub mod Stopping
 pub mod AnsweringLines

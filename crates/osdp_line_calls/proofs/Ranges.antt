@@ -13,8 +13,8 @@ use Rattle.osdp_line_calls.specs.declared.panel_command.PanelSetting.TheVariants
 use Rattle.osdp_line_calls.specs.declared.reader_command.ReaderSetting.{ReaderSetting}
 use Rattle.osdp_line_calls.specs.declared.reader_command.ReaderSetting.TheVariants as reader
 use Rattle.osdp_line_calls.specs.declared.reader_command.ReaderSettings.{ReaderSettings}
-use Rattle.osdp_line_calls.proofs.Reading.{some_same}
-use Rattle.osdp_line_calls.specs.Settings.{SettingFits}
+use Rattle.osdp_settings.proofs.Reading.{some_same}
+use Rattle.osdp_settings.specs.Settings.{SettingFits}
 use Rattle.osdp_line_calls.specs.PanelSettings as panel
 use Rattle.osdp_line_calls.specs.ReaderSettings as of_reader
 

@@ -10,8 +10,7 @@ pub mod Passing
 pub mod PassingLaws
 pub mod PanelSessions
 pub mod PanelLines
-pub mod Settings
-pub mod Wrong
+pub mod Values
 pub mod Rooms
 pub mod PanelSettings
 pub mod ReaderSettings

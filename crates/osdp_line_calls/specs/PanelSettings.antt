@@ -10,7 +10,8 @@ use Rattle.osdp_words.specs.Word.{plain, number}
 use Rattle.osdp_line_calls.specs.declared.panel_command.PanelSetting.{PanelSetting}
 use Rattle.osdp_line_calls.specs.declared.panel_command.PanelSetting.TheVariants.{Check, ReplyWait, PollInterval, Sends, BusyWait, BusyLimit, QuietWait, Gap, Capacity}
 use Rattle.osdp_line_calls.specs.Rooms.{room_for}
-use Rattle.osdp_line_calls.specs.Settings.{Entry, IsSends, Make, SettingFits, setting_words}
+use Rattle.osdp_line_calls.specs.Values.{IsSends}
+use Rattle.osdp_settings.specs.Settings.{Entry, Make, SettingFits, setting_words}
 
 -- the name of each, its value as a word, and the range that is asked of it
 abbrev pub entry : PanelSetting → Entry

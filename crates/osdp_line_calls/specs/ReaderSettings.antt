@@ -12,7 +12,8 @@ use Rattle.osdp_line_calls.specs.declared.reader_command.ReaderSetting.TheVarian
 use Rattle.osdp_line_calls.specs.declared.reader_command.ReaderSettings.{ReaderSettings}
 use Rattle.osdp_line_calls.specs.declared.reader_absence.Absence.{Absence}
 use Rattle.osdp_line_calls.specs.ReaderCalls.{switch_word}
-use Rattle.osdp_line_calls.specs.Settings.{Entry, IsTriple, IsVendor, Make, SettingFits, setting_words}
+use Rattle.osdp_line_calls.specs.Values.{IsTriple, IsVendor}
+use Rattle.osdp_settings.specs.Settings.{Entry, Make, SettingFits, setting_words}
 
 -- the name of each, its value as a word, and the range that is asked of it
 abbrev pub entry : ReaderSetting → Entry

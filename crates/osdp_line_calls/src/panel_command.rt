@@ -8,20 +8,20 @@ ghost use Rattle.osdp_words.specs.Word.{texts};
 ghost use Rattle.osdp_line_calls.specs.PanelSettings.{defaults, entry, put, with_setting};
 ghost use Rattle.osdp_line_calls.specs.Rooms.{room_for};
 ghost use Rattle.osdp_line_calls.specs.Runs.{IsPanelOf};
-ghost use Rattle.osdp_line_calls.specs.Settings.{ReadsSettings, SettingFits, setting_words};
-ghost use Rattle.osdp_line_calls.specs.Wrong.{IsWrong};
+ghost use Rattle.osdp_settings.specs.Settings.{ReadsSettings, SettingFits, setting_words};
+ghost use Rattle.osdp_settings.specs.Wrong.{IsWrong};
 
 use crate::panel_session::LinePanel;
 use crate::run::LineCommand;
-use crate::settings::{Configured, read_settings};
 use crate::values::{room, sends, time};
-use crate::wrong::WrongSetting;
 use osdp_bus::BusConfig;
 use osdp_frame::CheckKind;
 use osdp_msg::{MAX_MESSAGE, Room};
+use osdp_settings::{Configured, WrongSetting, read_settings};
 use osdp_tool_streams::ToolFault;
 use osdp_words::number_u8;
 use std::alloc::Global;
+use std::marker::Model;
 
 /// What one setting of a panel sets. Times are in milliseconds, 1 to 3,600,000.
 #[derive(Clone, Copy, Debug, PartialEq, Eq)]
@@ -94,7 +94,21 @@ impl PanelSetting {
     }
 }
 
-impl Configured for BusConfig {
+/// The settings of a bus, which words set.
+#[derive(Drop)]
+struct BusSettings {
+    config: BusConfig,
+}
+
+impl Model for BusSettings {
+    ghost use Rattle.osdp_bus.specs.declared.config.BusConfig.{BusConfig};
+
+    ghost Value = { BusConfig };
+
+    ghost view = { λ s. s.config };
+}
+
+impl Configured for BusSettings {
     type Setting = PanelSetting;
 
     ghost entry = { entry };
@@ -105,18 +119,20 @@ impl Configured for BusConfig {
 
     ghost is_in_range = { IsBusConfig };
 
-    fn default_settings() -> BusConfig {
-        BusConfig::new(CheckKind::Crc, room_for(64))
+    fn default_settings() -> BusSettings {
+        BusSettings {
+            config: BusConfig::new(CheckKind::Crc, room_for(64)),
+        }
     }
 
     fn parse(name: &str, value: &str) -> Option<PanelSetting> {
         PanelSetting::parse(name, value)
     }
 
-    fn set(self, setting: PanelSetting) -> Option<BusConfig> {
-        let mut config = self;
-        setting.set(&mut config);
-        Some(config)
+    fn set(self, setting: PanelSetting) -> Option<BusSettings> {
+        let mut settings = self;
+        setting.set(&mut settings.config);
+        Some(settings)
     }
 }
 
@@ -127,7 +143,8 @@ pub fn panel_settings<'a>(words: &'a [&'a str]) -> Result<BusConfig, WrongSettin
     ensures range { IfOk result IsBusConfig }
     ensures wrong { IfErr result (λ wrong. IsWrong (setting_words entry) (SettingFits entry) put defaults (texts words.now) wrong) }
 {
-    read_settings(words)
+    let settings = read_settings::<BusSettings>(words)?;
+    Ok(settings.config)
 }
 
 impl LineCommand for LinePanel {

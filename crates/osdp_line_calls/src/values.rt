@@ -6,7 +6,7 @@ ghost use Rattle.osdp_msg.specs.Limits.{IsRoom};
 ghost use Rattle.osdp_words.specs.Reading.{Reads};
 ghost use Rattle.osdp_words.specs.Word.{number, numbers};
 ghost use Rattle.osdp_line_calls.specs.ReaderCalls.{switch_word};
-ghost use Rattle.osdp_line_calls.specs.Settings.{IsSends, IsTriple};
+ghost use Rattle.osdp_line_calls.specs.Values.{IsSends, IsTriple};
 
 use osdp_frame::{Address, is_time};
 use osdp_msg::is_room;

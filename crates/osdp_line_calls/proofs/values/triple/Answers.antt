@@ -1,7 +1,7 @@
 use Rattle.std.proofs.Common.{◌≡◌, ℕ, List, [], ◌∷◌, Some, slice_index_or, refl, sym, subst}
 use Rattle.osdp_words.specs.Reading.{Reads}
 use Rattle.osdp_words.specs.Word.{numbers}
-use Rattle.osdp_line_calls.specs.Settings.{IsTriple}
+use Rattle.osdp_line_calls.specs.Values.{IsTriple}
 use Rattle.osdp_line_calls.proofs.values.triple.Goals as goal
 
 three : (ns : List ℕ) → IsTriple ns → slice_index_or ns 0 0 ∷ slice_index_or ns 1 0 ∷ slice_index_or ns 2 0 ∷ [] ≡ ns
