@@ -30,8 +30,11 @@ turn_text p = decimal (answered_time p) ++ (codes " ms, " ++ (decimal (wire_time
 unfoldable pub polls_turn : Plan → List ℕ
 polls_turn p = codes "a POLL and its ACK: " ++ turn_text (only_polls p)
 
+unfoldable pub longest_name : ℕ → List ℕ
+longest_name bytes = codes "a packet and its answer of " ++ (decimal bytes ++ codes " bytes each: ")
+
 unfoldable pub longest_turn : Plan → List ℕ
-longest_turn p = codes "a packet and its answer of " ++ (decimal p.longest ++ (codes " bytes each: " ++ turn_text p))
+longest_turn p = longest_name p.longest ++ turn_text p
 
 -- ---- how long it takes, in ms at the most
 
@@ -70,11 +73,14 @@ change_name (Sends n) = codes "sends         " ++ left n
 change_name (Readers n) = codes "readers       " ++ left n
 change_name _ = codes "as planned            "
 
+unfoldable pub all_waits : Plan → List ℕ
+all_waits p = figure (Some (order_wait Answer p)) ++ (figure (Some (card_wait Answer p)) ++ figure (Some (lost_wait Answer p)))
+
+unfoldable pub one_waits : Plan → List ℕ
+one_waits p = figure (beside p (order_wait OneSilent p)) ++ (figure (beside p (card_wait OneSilent p)) ++ figure (beside p (lost_wait OneSilent p)))
+
 unfoldable pub waits_text : Plan → List ℕ
-waits_text p =
-    figure (Some (order_wait Answer p)) ++ (figure (Some (card_wait Answer p)) ++ (figure (Some (lost_wait Answer p))
-    ++ (figure (beside p (order_wait OneSilent p)) ++ (figure (beside p (card_wait OneSilent p)) ++ (figure (beside p (lost_wait OneSilent p))
-    ++ codes "\n")))))
+waits_text p = all_waits p ++ (one_waits p ++ codes "\n")
 
 -- a line of what is changed and what comes of it, where it is worth while
 unfoldable pub change_text : Bool → PlanSetting → Plan → List ℕ
@@ -87,14 +93,21 @@ changes_heading = codes "                        all answer                     
 abbrev pub least_wait : Plan → ℕ
 least_wait p = answered_time p + 1
 
+-- of the line and of the panel's wait between POLLs
+unfoldable pub pace_changes : Plan → List ℕ
+pace_changes p = change_text (nat_lt p.rate 115200) (Rate 115200) p ++ change_text (nat_lt 10 p.poll_interval) (PollInterval 10) p
+
+unfoldable pub wait_change : Plan → List ℕ
+wait_change p = change_text (nat_lt (least_wait p) p.reply_wait) (ReplyWait (least_wait p)) p
+
+unfoldable pub count_changes : Plan → List ℕ
+count_changes p = change_text (nat_lt 2 p.sends) (Sends 2) p ++ change_text (nat_lt 1 p.readers) (Readers ((p.readers + 1) / 2)) p
+
+unfoldable pub as_planned : Plan → List ℕ
+as_planned p = codes "as planned            " ++ waits_text p
+
 unfoldable pub changes_text : Plan → List ℕ
-changes_text p =
-    codes "as planned            " ++ (waits_text p
-    ++ (change_text (nat_lt p.rate 115200) (Rate 115200) p
-    ++ (change_text (nat_lt 10 p.poll_interval) (PollInterval 10) p
-    ++ (change_text (nat_lt (least_wait p) p.reply_wait) (ReplyWait (least_wait p)) p
-    ++ (change_text (nat_lt 2 p.sends) (Sends 2) p
-    ++ change_text (nat_lt 1 p.readers) (Readers ((p.readers + 1) / 2)) p)))))
+changes_text p = as_planned p ++ (pace_changes p ++ (wait_change p ++ count_changes p))
 
 abbrev pub plan_text : Plan → List ℕ
 plan_text p = polls_turn p ++ (longest_turn p ++ (codes "\n" ++ (heading ++ (rows_text p ++ (codes "\n" ++ (changes_heading ++ changes_text p))))))

@@ -1,11 +1,10 @@
 //! The text of a plan's figures.
 
-ghost use Rattle.std.specs.Prelude.{◌≡◌, ◌++◌, nat_lt, OnOk, IfOk, replicate, string_bytes};
+ghost use Rattle.std.specs.Prelude.{◌≡◌, ◌++◌, OnOk, IfOk, replicate, string_bytes};
 ghost use Rattle.osdp_plan.specs.Plans.{IsPlan};
 ghost use Rattle.osdp_settings.specs.Settings.{SettingFits};
-ghost use Rattle.osdp_tool_plan.specs.declared.setting.PlanSetting.TheVariants.{ReplyWait};
 ghost use Rattle.osdp_tool_plan.specs.Settings.{entry};
-ghost use Rattle.osdp_tool_plan.specs.Text.{beside, change_name, change_text, card_row, changes_heading, changes_text, column, figure, heading, least_wait, left, longest_turn, lost_row, order_row, plan_text, polls_turn, round_row, row, rows_text, turn_text, waits_text};
+ghost use Rattle.osdp_tool_plan.specs.Text.{all_waits, as_planned, beside, card_row, change_name, change_text, changes_heading, changes_text, column, count_changes, figure, heading, left, longest_name, longest_turn, lost_row, one_waits, order_row, pace_changes, plan_text, polls_turn, round_row, row, rows_text, turn_text, wait_change, waits_text};
 
 use crate::setting::PlanSetting;
 use itoa::Buffer;
@@ -81,14 +80,21 @@ fn push_polls_turn(text: &mut String, plan: &Plan) -> Result<(), AllocError>
     push_turn(text, &plan.only_polls())
 }
 
+/// Writes how long the longest packets are.
+#[tactic(auto, unfolding(crate::specs::Text::longest_name))]
+fn push_longest_name(text: &mut String, bytes: u32) -> Result<(), AllocError>
+    ensures { OnOk result (string_bytes text.new ≡ string_bytes text.old ++ longest_name bytes) }
+{
+    write!(text, "a packet and its answer of {bytes} bytes each: ")
+}
+
 /// Writes the turn of the longest packets.
 #[tactic(auto, unfolding(crate::specs::Text::longest_turn))]
 fn push_longest_turn(text: &mut String, plan: &Plan) -> Result<(), AllocError>
     requires { IsPlan plan.now }
     ensures { OnOk result (string_bytes text.new ≡ string_bytes text.old ++ longest_turn plan.now) }
 {
-    let longest = plan.longest;
-    write!(text, "a packet and its answer of {longest} bytes each: ")?;
+    push_longest_name(text, plan.longest)?;
     push_turn(text, plan)
 }
 
@@ -180,18 +186,36 @@ fn push_rows(text: &mut String, plan: &Plan) -> Result<(), AllocError>
     push_lost(text, plan)
 }
 
-/// Writes the waits of a plan that differs in a setting.
+/// Writes the waits where all readers answer.
+#[tactic(auto, unfolding(crate::specs::Text::all_waits))]
+fn push_all_waits(text: &mut String, plan: &Plan) -> Result<(), AllocError>
+    requires { IsPlan plan.now }
+    ensures { OnOk result (string_bytes text.new ≡ string_bytes text.old ++ all_waits plan.now) }
+{
+    push_column(text, plan.order_wait(Others::Answer))?;
+    push_column(text, plan.card_wait(Others::Answer))?;
+    push_column(text, plan.lost_wait(Others::Answer))
+}
+
+/// Writes the waits beside a reader that is silent.
+#[tactic(auto, unfolding(crate::specs::Text::one_waits))]
+fn push_one_waits(text: &mut String, plan: &Plan) -> Result<(), AllocError>
+    requires { IsPlan plan.now }
+    ensures { OnOk result (string_bytes text.new ≡ string_bytes text.old ++ one_waits plan.now) }
+{
+    push_figure(text, beside(plan, plan.order_wait(Others::OneSilent)))?;
+    push_figure(text, beside(plan, plan.card_wait(Others::OneSilent)))?;
+    push_figure(text, beside(plan, plan.lost_wait(Others::OneSilent)))
+}
+
+/// Writes the waits of a plan.
 #[tactic(auto, unfolding(crate::specs::Text::waits_text))]
 fn push_waits(text: &mut String, plan: &Plan) -> Result<(), AllocError>
     requires { IsPlan plan.now }
     ensures { OnOk result (string_bytes text.new ≡ string_bytes text.old ++ waits_text plan.now) }
 {
-    push_column(text, plan.order_wait(Others::Answer))?;
-    push_column(text, plan.card_wait(Others::Answer))?;
-    push_column(text, plan.lost_wait(Others::Answer))?;
-    push_figure(text, beside(plan, plan.order_wait(Others::OneSilent)))?;
-    push_figure(text, beside(plan, plan.card_wait(Others::OneSilent)))?;
-    push_figure(text, beside(plan, plan.lost_wait(Others::OneSilent)))?;
+    push_all_waits(text, plan)?;
+    push_one_waits(text, plan)?;
     text.push_str("\n")
 }
 
@@ -238,10 +262,10 @@ fn push_change(
 }
 
 /// Writes what comes of the shortest wait for an answer that the line allows.
-#[tactic(auto, unfolding(crate::specs::Text::change_text))]
+#[tactic(auto, unfolding(crate::specs::Text::wait_change, crate::specs::Text::change_text))]
 fn push_shortest_wait(text: &mut String, plan: &Plan) -> Result<(), AllocError>
     requires { IsPlan plan.now }
-    ensures { OnOk result (string_bytes text.new ≡ string_bytes text.old ++ change_text (nat_lt (least_wait plan.now) plan.now.reply_wait) (ReplyWait (least_wait plan.now)) plan.now) }
+    ensures { OnOk result (string_bytes text.new ≡ string_bytes text.old ++ wait_change plan.now) }
 {
     let wait = plan.answered() + 1;
     if wait >= u64::from(plan.reply_wait) {
@@ -250,25 +274,52 @@ fn push_shortest_wait(text: &mut String, plan: &Plan) -> Result<(), AllocError>
     push_change(text, true, PlanSetting::ReplyWait(wait as u32), plan)
 }
 
-/// Writes what would make the waits shorter, a line each.
-#[tactic(auto, unfolding(crate::specs::Text::changes_text))]
-fn push_changes(text: &mut String, plan: &Plan) -> Result<(), AllocError>
+/// Writes what comes of a greater rate, and of less time between POLLs.
+#[tactic(auto, unfolding(crate::specs::Text::pace_changes))]
+fn push_pace_changes(text: &mut String, plan: &Plan) -> Result<(), AllocError>
     requires { IsPlan plan.now }
-    ensures { OnOk result (string_bytes text.new ≡ string_bytes text.old ++ changes_text plan.now) }
+    ensures { OnOk result (string_bytes text.new ≡ string_bytes text.old ++ pace_changes plan.now) }
 {
-    let half = (plan.readers + 1) / 2;
-    text.push_str("as planned            ")?;
-    push_waits(text, plan)?;
     push_change(text, plan.rate < 115_200, PlanSetting::Rate(115_200), plan)?;
     push_change(
         text,
         plan.poll_interval > 10,
         PlanSetting::PollInterval(10),
         plan,
-    )?;
-    push_shortest_wait(text, plan)?;
+    )
+}
+
+/// Writes what comes of fewer sends, and of a second line.
+#[tactic(auto, unfolding(crate::specs::Text::count_changes))]
+fn push_count_changes(text: &mut String, plan: &Plan) -> Result<(), AllocError>
+    requires { IsPlan plan.now }
+    ensures { OnOk result (string_bytes text.new ≡ string_bytes text.old ++ count_changes plan.now) }
+{
+    let half = (plan.readers + 1) / 2;
     push_change(text, plan.sends > 2, PlanSetting::Sends(2), plan)?;
     push_change(text, plan.readers > 1, PlanSetting::Readers(half), plan)
+}
+
+/// Writes the plan as it is.
+#[tactic(auto, unfolding(crate::specs::Text::as_planned))]
+fn push_as_planned(text: &mut String, plan: &Plan) -> Result<(), AllocError>
+    requires { IsPlan plan.now }
+    ensures { OnOk result (string_bytes text.new ≡ string_bytes text.old ++ as_planned plan.now) }
+{
+    text.push_str("as planned            ")?;
+    push_waits(text, plan)
+}
+
+/// Writes the plan, and what would make its waits shorter, a line each.
+#[tactic(auto, unfolding(crate::specs::Text::changes_text))]
+fn push_changes(text: &mut String, plan: &Plan) -> Result<(), AllocError>
+    requires { IsPlan plan.now }
+    ensures { OnOk result (string_bytes text.new ≡ string_bytes text.old ++ changes_text plan.now) }
+{
+    push_as_planned(text, plan)?;
+    push_pace_changes(text, plan)?;
+    push_shortest_wait(text, plan)?;
+    push_count_changes(text, plan)
 }
 
 /// Writes the heading of the figures.
