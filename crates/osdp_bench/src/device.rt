@@ -1,28 +1,34 @@
 //! The device of the bench, and both ends of its link.
 
-ghost use Rattle.osdp_reader.specs.declared.handler.Answer.TheVariants.{Done};
+ghost use Rattle.std.specs.Prelude.{if◌then◌else◌};
+ghost use Rattle.osdp_msg.specs.declared.nak.NakReason.TheVariants.{RecordNotProcessed};
+ghost use Rattle.osdp_reader.specs.declared.handler.Answer.TheVariants.{Done, Refuse};
 
 use osdp_controller::{Controller, ControllerConfig};
 use osdp_frame::{Address, CheckKind, FrameView, Header, Seq};
-use osdp_msg::{Command, Room, Spelling};
+use osdp_msg::{Command, NakReason, Room, Spelling};
 use osdp_reader::{Answer, Handler, Reader};
 use osdp_script::script_config;
 use std::alloc::Global;
 
-/// A device that does all that it is told.
+/// A device that does all that it is told, where it is on.
 #[derive(Clone, Copy, Debug)]
 pub struct Device {
-    /// Whether it is there.
+    /// Whether it does what it is told.
     pub is_on: bool,
 }
 
 impl Handler for Device {
-    ghost answer_of = { λ device command. Done };
+    ghost answer_of = { λ device command. if device.is_on then Done else Refuse RecordNotProcessed };
 
     ghost after = { λ device command. device };
 
     fn answer<'a>(&mut self, _command: &Command<'_>, _place: &'a mut Spelling) -> Answer<'a> {
-        Answer::Done
+        if self.is_on {
+            Answer::Done
+        } else {
+            Answer::Refuse(NakReason::RecordNotProcessed)
+        }
     }
 }
 
