@@ -71,6 +71,7 @@ impl<H: Handler> Device<H> {
 
     /// As `new`, of ages that were made before: for a program with little stack, which hands no device on. None where the gap is out of its range, or
     /// the ages have room for another number of events than the reader.
+    #[inline(always)]
     pub fn with_ages(reader: Reader<H>, ages: Ages, gap: u32) -> Option<Device<H>>
         ensures range { IsSome result ↔ (IsTime gap × (ages.room ≡ reader.queue.capacity)) }
         ensures reader { IfSome result (λ d. d.reader ≡ reader) }

@@ -210,7 +210,9 @@ fn put(row: &mut Vec<u8>, own: &[u8])
     ensures items { row.new.items ≡ row.old.items ++ own.now }
     ensures capacity { vec_capacity row.old ≤ vec_capacity row.new }
 {
-    let _ = row.extend_from_slice(own);
+    for byte in own {
+        row.push_reserved(*byte);
+    }
 }
 
 /// Moves the bytes that aren't gone to the front of a row, where so many more have no place after them. How many in front are gone then.
