@@ -1,0 +1,385 @@
+//! The rules, each with what it looks at and what asks for it.
+
+use osdp_rules::Aspect;
+
+/// What asks for a rule.
+#[derive(Clone, Copy)]
+pub enum Ground {
+    /// The standard.
+    Asked,
+    /// The standard leaves it open: what else is done is told.
+    Open,
+}
+
+/// A rule.
+#[derive(Clone, Copy)]
+pub struct Rule {
+    /// What it looks at.
+    pub aspect: Aspect,
+    /// What asks for it.
+    pub ground: Ground,
+    /// What it says.
+    pub says: &'static str,
+}
+
+/// The rules; they are numbered from 1.
+pub const RULES: [Rule; 70] = [
+    Rule {
+        aspect: Aspect::Address,
+        ground: Ground::Asked,
+        says: "an answer has the address of its packet",
+    },
+    Rule {
+        aspect: Aspect::Check,
+        ground: Ground::Asked,
+        says: "a checksum is answered with a checksum",
+    },
+    Rule {
+        aspect: Aspect::Check,
+        ground: Ground::Asked,
+        says: "a CRC is answered with a CRC",
+    },
+    Rule {
+        aspect: Aspect::Number,
+        ground: Ground::Asked,
+        says: "the answer to number 0 has number 0",
+    },
+    Rule {
+        aspect: Aspect::Number,
+        ground: Ground::Asked,
+        says: "the answer to number 1 has number 1",
+    },
+    Rule {
+        aspect: Aspect::Number,
+        ground: Ground::Asked,
+        says: "the answer to number 2 has number 2",
+    },
+    Rule {
+        aspect: Aspect::Number,
+        ground: Ground::Asked,
+        says: "the answer to number 3 has number 3",
+    },
+    Rule {
+        aspect: Aspect::Plain,
+        ground: Ground::Asked,
+        says: "an answer to a plain packet has no security block",
+    },
+    Rule {
+        aspect: Aspect::Single,
+        ground: Ground::Asked,
+        says: "a packet has one answer",
+    },
+    Rule {
+        aspect: Aspect::Prompt,
+        ground: Ground::Asked,
+        says: "an answer begins within 200 ms",
+    },
+    Rule {
+        aspect: Aspect::Busy,
+        ground: Ground::Open,
+        says: "BUSY has number 0",
+    },
+    Rule {
+        aspect: Aspect::Turn,
+        ground: Ground::Asked,
+        says: "number 0 is taken at any time",
+    },
+    Rule {
+        aspect: Aspect::Turn,
+        ground: Ground::Asked,
+        says: "1 follows 0, 2 follows 1, 3 follows 2 and 1 follows 3",
+    },
+    Rule {
+        aspect: Aspect::Turn,
+        ground: Ground::Asked,
+        says: "after a refused number the next one is taken",
+    },
+    Rule {
+        aspect: Aspect::Turn,
+        ground: Ground::Asked,
+        says: "after damaged bytes the next number is taken",
+    },
+    Rule {
+        aspect: Aspect::Turn,
+        ground: Ground::Asked,
+        says: "after another device's packet the next number is taken",
+    },
+    Rule {
+        aspect: Aspect::Turn,
+        ground: Ground::Asked,
+        says: "bytes FF before a packet are passed over",
+    },
+    Rule {
+        aspect: Aspect::Turn,
+        ground: Ground::Asked,
+        says: "after 8 seconds of silence number 0 is taken",
+    },
+    Rule {
+        aspect: Aspect::Repeat,
+        ground: Ground::Asked,
+        says: "a POLL that comes again has the answer that it had",
+    },
+    Rule {
+        aspect: Aspect::Repeat,
+        ground: Ground::Asked,
+        says: "an ID that comes again has the answer that it had",
+    },
+    Rule {
+        aspect: Aspect::Repeat,
+        ground: Ground::Asked,
+        says: "a CAP that comes again has the answer that it had",
+    },
+    Rule {
+        aspect: Aspect::Repeat,
+        ground: Ground::Asked,
+        says: "a third copy has the answer that the first had",
+    },
+    Rule {
+        aspect: Aspect::Repeat,
+        ground: Ground::Asked,
+        says: "a refused command that comes again is refused again",
+    },
+    Rule {
+        aspect: Aspect::Repeat,
+        ground: Ground::Asked,
+        says: "an answer that was lost comes again at number 3",
+    },
+    Rule {
+        aspect: Aspect::Wrong,
+        ground: Ground::Asked,
+        says: "number 2 after 0 is refused by NAK 4",
+    },
+    Rule {
+        aspect: Aspect::Wrong,
+        ground: Ground::Asked,
+        says: "number 3 after 0 is refused by NAK 4",
+    },
+    Rule {
+        aspect: Aspect::Wrong,
+        ground: Ground::Asked,
+        says: "number 3 after 1 is refused by NAK 4",
+    },
+    Rule {
+        aspect: Aspect::Wrong,
+        ground: Ground::Asked,
+        says: "number 1 after 2 is refused by NAK 4",
+    },
+    Rule {
+        aspect: Aspect::Wrong,
+        ground: Ground::Asked,
+        says: "number 2 after 3 is refused by NAK 4",
+    },
+    Rule {
+        aspect: Aspect::Deaf,
+        ground: Ground::Asked,
+        says: "a wrong checksum is not answered",
+    },
+    Rule {
+        aspect: Aspect::Deaf,
+        ground: Ground::Asked,
+        says: "a wrong CRC is not answered",
+    },
+    Rule {
+        aspect: Aspect::Deaf,
+        ground: Ground::Asked,
+        says: "a length that is too great is not answered",
+    },
+    Rule {
+        aspect: Aspect::Deaf,
+        ground: Ground::Asked,
+        says: "a length that is too small is not answered",
+    },
+    Rule {
+        aspect: Aspect::Deaf,
+        ground: Ground::Asked,
+        says: "another start of message is not answered",
+    },
+    Rule {
+        aspect: Aspect::Deaf,
+        ground: Ground::Asked,
+        says: "a packet that is cut off is not answered",
+    },
+    Rule {
+        aspect: Aspect::Deaf,
+        ground: Ground::Asked,
+        says: "noise is not answered",
+    },
+    Rule {
+        aspect: Aspect::Quiet,
+        ground: Ground::Asked,
+        says: "another device's packet is not answered",
+    },
+    Rule {
+        aspect: Aspect::Quiet,
+        ground: Ground::Asked,
+        says: "a reply is not answered",
+    },
+    Rule {
+        aspect: Aspect::Block,
+        ground: Ground::Open,
+        says: "a security block that the device lacks is refused by NAK 5",
+    },
+    Rule {
+        aspect: Aspect::Served,
+        ground: Ground::Asked,
+        says: "POLL is not refused",
+    },
+    Rule {
+        aspect: Aspect::Served,
+        ground: Ground::Asked,
+        says: "ID is not refused",
+    },
+    Rule {
+        aspect: Aspect::Served,
+        ground: Ground::Asked,
+        says: "CAP is not refused",
+    },
+    Rule {
+        aspect: Aspect::Fit,
+        ground: Ground::Asked,
+        says: "POLL is answered by ACK or an event",
+    },
+    Rule {
+        aspect: Aspect::Fit,
+        ground: Ground::Asked,
+        says: "ID is answered by PDID",
+    },
+    Rule {
+        aspect: Aspect::Fit,
+        ground: Ground::Asked,
+        says: "CAP is answered by PDCAP",
+    },
+    Rule {
+        aspect: Aspect::Fit,
+        ground: Ground::Asked,
+        says: "LSTAT is answered by LSTATR",
+    },
+    Rule {
+        aspect: Aspect::Fit,
+        ground: Ground::Asked,
+        says: "ISTAT is answered by ISTATR",
+    },
+    Rule {
+        aspect: Aspect::Fit,
+        ground: Ground::Asked,
+        says: "OSTAT is answered by OSTATR",
+    },
+    Rule {
+        aspect: Aspect::Fit,
+        ground: Ground::Asked,
+        says: "RSTAT is answered by RSTATR",
+    },
+    Rule {
+        aspect: Aspect::Fit,
+        ground: Ground::Asked,
+        says: "OUT is answered by ACK or OSTATR",
+    },
+    Rule {
+        aspect: Aspect::Fit,
+        ground: Ground::Asked,
+        says: "LED is answered by ACK",
+    },
+    Rule {
+        aspect: Aspect::Fit,
+        ground: Ground::Asked,
+        says: "BUZ is answered by ACK",
+    },
+    Rule {
+        aspect: Aspect::Fit,
+        ground: Ground::Asked,
+        says: "TEXT is answered by ACK",
+    },
+    Rule {
+        aspect: Aspect::Read,
+        ground: Ground::Asked,
+        says: "PDID has twelve bytes of data",
+    },
+    Rule {
+        aspect: Aspect::Read,
+        ground: Ground::Asked,
+        says: "PDCAP has three bytes for each capability",
+    },
+    Rule {
+        aspect: Aspect::Read,
+        ground: Ground::Asked,
+        says: "LSTATR has two bytes of data",
+    },
+    Rule {
+        aspect: Aspect::Code,
+        ground: Ground::Asked,
+        says: "the unknown code 00 is refused by NAK 3",
+    },
+    Rule {
+        aspect: Aspect::Code,
+        ground: Ground::Asked,
+        says: "the unknown code 5F is refused by NAK 3",
+    },
+    Rule {
+        aspect: Aspect::Length,
+        ground: Ground::Asked,
+        says: "a POLL with data is refused by NAK 2",
+    },
+    Rule {
+        aspect: Aspect::Length,
+        ground: Ground::Asked,
+        says: "an ID without data is refused by NAK 2",
+    },
+    Rule {
+        aspect: Aspect::Length,
+        ground: Ground::Asked,
+        says: "a CAP without data is refused by NAK 2",
+    },
+    Rule {
+        aspect: Aspect::Length,
+        ground: Ground::Asked,
+        says: "an LSTAT with data is refused by NAK 2",
+    },
+    Rule {
+        aspect: Aspect::Length,
+        ground: Ground::Asked,
+        says: "an ISTAT with data is refused by NAK 2",
+    },
+    Rule {
+        aspect: Aspect::Length,
+        ground: Ground::Asked,
+        says: "an OSTAT with data is refused by NAK 2",
+    },
+    Rule {
+        aspect: Aspect::Length,
+        ground: Ground::Asked,
+        says: "an RSTAT with data is refused by NAK 2",
+    },
+    Rule {
+        aspect: Aspect::Length,
+        ground: Ground::Asked,
+        says: "an OUT of three bytes is refused by NAK 2",
+    },
+    Rule {
+        aspect: Aspect::Length,
+        ground: Ground::Asked,
+        says: "an LED of thirteen bytes is refused by NAK 2",
+    },
+    Rule {
+        aspect: Aspect::Length,
+        ground: Ground::Asked,
+        says: "a BUZ of four bytes is refused by NAK 2",
+    },
+    Rule {
+        aspect: Aspect::Length,
+        ground: Ground::Asked,
+        says: "a TEXT whose length is not its characters is refused by NAK 2",
+    },
+    Rule {
+        aspect: Aspect::Length,
+        ground: Ground::Asked,
+        says: "a COMSET of four bytes is refused by NAK 2",
+    },
+];
+
+/// The rule of a number.
+pub(crate) fn rule_of(number: usize) -> Option<Rule> {
+    if number == 0 || number > RULES.len() {
+        return None;
+    }
+    Some(RULES[number - 1])
+}

@@ -1,0 +1,176 @@
+//! A device under test, line by line.
+
+use crate::exchange::{Exchange, Said, said_in};
+use crate::found::{Heard, shown};
+use crate::packets::packets;
+use crate::report::{Counts, Form, push_counts, push_fault, push_skipped, push_verdict};
+use crate::rules::Rule;
+use osdp_frame::Address;
+use osdp_rules::{Finding, Known, Verdict};
+use osdp_words::all_words_in;
+use std::alloc::{AllocError, Global};
+use std::mem::replace;
+
+/// The rule whose lines are read.
+#[derive(Drop)]
+struct Current {
+    number: usize,
+    rule: Rule,
+    verdict: Verdict,
+    /// The lines of the exchange that broke it.
+    fault: String,
+}
+
+/// What was read of a test so far.
+#[derive(Drop)]
+pub(crate) struct Tested {
+    alloc: Global,
+    form: Form,
+    address: Address,
+    known: Known,
+    current: Option<Current>,
+    counts: Counts,
+}
+
+/// One more.
+fn add(count: &mut usize) {
+    *count = count.saturating_add(1);
+}
+
+impl Tested {
+    /// Nothing was read yet.
+    pub(crate) fn new(alloc: Global, form: Form) -> Tested {
+        Tested {
+            alloc,
+            form,
+            address: Address::new(0).unwrap(),
+            known: Known::Unknown,
+            current: None,
+            counts: Counts {
+                ok: 0,
+                either: 0,
+                broken: 0,
+                unclear: 0,
+                skipped: 0,
+            },
+        }
+    }
+
+    /// Whether a rule was broken.
+    pub(crate) fn has_broken(&self) -> bool {
+        self.counts.broken > 0
+    }
+
+    /// The lines of a rule are over: its verdict is told.
+    fn end_rule(&mut self, text: &mut String) -> Result<(), AllocError> {
+        let Some(current) = self.current.take() else {
+            return Ok(());
+        };
+        match current.verdict {
+            Verdict::Unclear => add(&mut self.counts.unclear),
+            Verdict::Ok => add(&mut self.counts.ok),
+            Verdict::Either => add(&mut self.counts.either),
+            Verdict::Broken => add(&mut self.counts.broken),
+        }
+        push_verdict(
+            text,
+            self.form,
+            current.number,
+            &current.rule,
+            current.verdict,
+        )?;
+        text.push_str(current.fault.as_str())
+    }
+
+    /// The lines of a rule begin, unless they have begun.
+    fn begin_rule(
+        &mut self,
+        number: usize,
+        rule: Rule,
+        text: &mut String,
+    ) -> Result<(), AllocError> {
+        if let Some(current) = &self.current {
+            if current.number == number {
+                return Ok(());
+            }
+        }
+        self.end_rule(text)?;
+        self.current = Some(Current {
+            number,
+            rule,
+            verdict: Verdict::Unclear,
+            fault: String::new(self.alloc),
+        });
+        Ok(())
+    }
+
+    /// What an exchange shows goes into the verdict on its rule.
+    fn judge(&mut self, exchange: &Exchange, found: Finding) -> Result<(), AllocError> {
+        let form = self.form;
+        let Some(current) = &mut self.current else {
+            return Ok(());
+        };
+        let is_first = current.verdict != Verdict::Broken;
+        current.verdict = current.verdict.after(found);
+        if found == Finding::Broken && is_first {
+            push_fault(&mut current.fault, form, exchange)?;
+        }
+        Ok(())
+    }
+
+    /// An exchange: it is judged, and what is known of the device follows it.
+    fn take(&mut self, exchange: &Exchange, text: &mut String) -> Result<(), AllocError> {
+        self.begin_rule(exchange.number, exchange.rule, text)?;
+        let sent = packets(exchange.sent.as_slice(), false);
+        let answers = packets(exchange.heard.as_slice(), true);
+        let heard = Heard {
+            packet: sent.view(),
+            answer: answers.view(),
+            count: answers.count,
+            delay: exchange.delay,
+        };
+        if exchange.is_asked {
+            let found = shown(exchange.rule.aspect, self.address, &self.known, &heard);
+            self.judge(exchange, found)?;
+        }
+        if let Some(packet) = &heard.packet {
+            let known = replace(&mut self.known, Known::Unknown);
+            self.known = known.after(self.address, packet, &heard.answer);
+        }
+        Ok(())
+    }
+
+    /// The device under test is at this address. Whether a device may be there.
+    fn set_device(&mut self, number: u8) -> bool {
+        match Address::device(number) {
+            Some(address) => {
+                self.address = address;
+                true
+            }
+            None => false,
+        }
+    }
+
+    /// What a line says. Whether it is a line of a test.
+    pub(crate) fn take_line(&mut self, line: &str, text: &mut String) -> Result<bool, AllocError> {
+        let words = all_words_in(self.alloc, line)?;
+        match said_in(words.as_slice()) {
+            None => return Ok(false),
+            Some(Said::Nothing) => {}
+            Some(Said::Device(number)) => return Ok(self.set_device(number)),
+            Some(Said::Exchange(exchange)) => self.take(&exchange, text)?,
+            Some(Said::Skips(number, rule, why)) => {
+                self.end_rule(text)?;
+                add(&mut self.counts.skipped);
+                push_skipped(text, self.form, number, &rule, why)?;
+            }
+        }
+        Ok(true)
+    }
+
+    /// The lines are over.
+    pub(crate) fn end(&mut self, text: &mut String) -> Result<(), AllocError> {
+        self.end_rule(text)?;
+        push_counts(text, self.form, &self.counts)
+    }
+}
