@@ -47,7 +47,7 @@ fn are_in_range(room: Room, settings: &ReaderSettings) -> bool
     settings.address <= 126 && room.is_right() && is_time(settings.gap)
 }
 
-/// A reader to which nothing has come, on the heap. It is put there in one function with its making, which takes less stack.
+/// A reader to which nothing has come, on the heap. It is put there in one function with its making, and without `?`, which takes less stack.
 fn new_machine(
     alloc: Global,
     room: Option<Room>,
@@ -73,7 +73,10 @@ fn new_machine(
     let Ok(ages) = Ages::new(alloc, room.messages) else {
         return Err(ReaderFault::NoMemory);
     };
-    let reader = Reader::new(alloc, config, ProgramAnswers::new(), room)?;
+    let reader = match Reader::new(alloc, config, ProgramAnswers::new(), room) {
+        Ok(reader) => reader,
+        Err(fault) => return Err(fault),
+    };
     let Some(device) = Device::with_ages(reader, ages, settings.gap) else {
         return Err(ReaderFault::OutOfRange);
     };
