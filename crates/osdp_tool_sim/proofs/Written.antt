@@ -89,6 +89,18 @@ pub named_map : {A : Type 0} (name : List ℕ) (words : A → List Word) (items 
 named_map name words [] = refl
 named_map name words (x ∷ items) = ap (λ l. (plain name ∷ words x) ∷ l) (named_map name words items)
 
+-- .. as they are told of a list of an account
+pub told_items : {A : Type 0} (name : List ℕ) (words : A → List Word) (items given : List A) (text new : List ℕ) → given ≡ items
+    → new ≡ text ++ lines_text (named name (map words given)) → new ≡ text ++ lines_text (map (λ item. plain name ∷ words item) items)
+told_items {A} name words items given text new same written =
+    written ∙ ap (λ (l : List A). text ++ lines_text (named name (map words l))) same ∙ ap (λ l. text ++ lines_text l) (named_map name words items)
+
+pub told_list : {A B : Type 0} (name : List ℕ) (words : B → List Word) (kept : A → B) (strings given : List A) (text new : List ℕ) → given ≡ strings
+    → new ≡ text ++ lines_text (named name (map words (map kept given)))
+    → new ≡ text ++ lines_text (map (λ item. plain name ∷ words item) (map kept strings))
+told_list name words kept strings given text new same written =
+    told_items name words (map kept strings) (map kept given) text new (ap (map kept) same) written
+
 -- the two halves of the line of counts, which are written one after the other
 halves : (old mid new n i t s u q r : List ℕ)
     → mid ≡ old ++ (codes "reader " ++ (n ++ (codes " issued " ++ (i ++ (codes " taken " ++ (t ++ (codes " settled " ++ (s ++ (codes " unsettled " ++ u)))))))))
