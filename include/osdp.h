@@ -23,7 +23,8 @@
  *             wait, in four. `osdp_device_new` takes 13,872 bytes, and 1,443 for each event that may wait, in four. With a room in
  *             bytes it is 2 for each command and 10 for each event, and the room. `free` gives all back. No other call takes
  *             memory. Where there is none, a call says so, and nothing has changed.
- * Stack.      Each call takes at most 17 KiB of stack, and those of a panel's line 14, as measured and counted on 64-bit x86.
+ * Stack.      Each call takes at most 4 KiB of stack, but `osdp_command_text` and `osdp_reply_text` 6 and `osdp_device_new` 17, as
+ *             measured and counted on 64-bit x86.
  * Targets.    64-bit x86 and ARM. What is lowered from the proved module of 64-bit x86 by `tools/retarget` is tested, and not proved: 32-bit ARM, RISC-V, x86
  *             and WebAssembly, and 64-bit ARM. There a count or a length is an `osdp_size`, of 64 bits.
  *
