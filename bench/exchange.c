@@ -169,23 +169,23 @@ static double rate(long count)
 
 static void print_depths(void)
 {
-    print_depth("osdp_panel_submit_text", submit, 16000);
-    print_depth("osdp_device_event_text", event, 16000);
-    print_depth("osdp_device_event", event_read, 12000);
+    print_depth("osdp_panel_submit_text", submit, 4096);
+    print_depth("osdp_device_event_text", event, 4096);
+    print_depth("osdp_device_event", event_read, 4096);
     now += 50;
-    print_depth("osdp_panel_tick", tick, 12000);
-    print_depth("osdp_device_step", step, 12000);
-    print_depth("osdp_panel_bytes", bytes, 12000);
-    print_depth("osdp_panel_next_report", next_report, 12000);
-    print_depth("osdp_panel_next_deadline", next_deadline, 12000);
+    print_depth("osdp_panel_tick", tick, 4096);
+    print_depth("osdp_device_step", step, 4096);
+    print_depth("osdp_panel_bytes", bytes, 4096);
+    print_depth("osdp_panel_next_report", next_report, 4096);
+    print_depth("osdp_panel_next_deadline", next_deadline, 4096);
     message = answer.command;
     demand(report.kind == OSDP_REPORT_SETTLED && message.code == 0x68, "the order was not settled");
-    print_depth("osdp_command_text", text, 16000);
+    print_depth("osdp_command_text", text, 6200);
     now += 50; /* the next POLL is answered by the event */
     tick();
     step();
-    print_depth("osdp_panel_bytes, event", bytes, 12000);
-    print_depth("osdp_panel_next_report, event", next_report, 12000);
+    print_depth("osdp_panel_bytes, event", bytes, 4096);
+    print_depth("osdp_panel_next_report, event", next_report, 4096);
     demand(report.kind == OSDP_REPORT_EVENT, "no event was told");
 }
 
@@ -203,8 +203,8 @@ int main(int count, char **words)
         printf("%.0f\n", rate(atol(words[1])));
         return 0;
     }
-    print_line("osdp_panel_new and add", panel_depth, 24000);
-    print_line("osdp_device_new", reader_depth, 24000);
+    print_line("osdp_panel_new and add", panel_depth, 6000);
+    print_line("osdp_device_new", reader_depth, 17000);
     exchange();
     print_depths();
     return 0;
