@@ -3,6 +3,7 @@ ones that follow the standard in another way than ours, which break none.
 
     devices.py OSDP          plays the scenarios against each of them, without a port, and holds the verdicts to what is said here
     devices.py OSDP NAME     prints the lines and the verdicts of one of them
+    devices.py --report OSDP NAME  prints its report, where nothing more is allowed
     devices.py --serve NAME  is that device on standard input and output, for a pseudo terminal"""
 import random
 import subprocess
@@ -14,7 +15,7 @@ from osdp_port.scenarios import SCENARIOS  # noqa: E402
 from osdp_port.testing import Player, crc, packet  # noqa: E402
 
 ALL = {"silence": 0, "out": 1, "led": 0, "buz": 0, "text": 0, "comset": 0}
-PDID = bytes.fromhex("4553494D0101010000000102") [:12]
+PDID = bytes.fromhex("53494D010101000000010203")
 LENGTHS = {0x60: (0,), 0x61: (1,), 0x62: (1,), 0x64: (0,), 0x65: (0,), 0x66: (0,), 0x67: (0,), 0x6A: (5,), 0x6E: (5,)}
 
 
@@ -220,9 +221,6 @@ def tolerant(kind):
     return kind
 
 
-FIT = set(range(43, 54))
-
-
 @wrong(1)
 class AnswersFromAnotherAddress(Device):
     def address_of(self, address):
@@ -265,8 +263,10 @@ class AnswersThreeByZero(Device):
         return 0 if number == 3 and body[0] != 0x41 else number
 
 
-@wrong(8)
+@wrong(8, *range(57, 71))
 class AddsABlock(Device):
+    """What stands after a block is no message: so its refusals are none either."""
+
     def block_of(self):
         return b"\x02\x11"
 
@@ -294,7 +294,7 @@ class IsBusyWithNumberThree(Device):
         return packet(self.address, 0 if number == 3 else 3, b"\x79", check, True)
 
 
-@wrong(12)
+@wrong(12, 18)
 class RefusesZeroInASession(Device):
     def takes(self, number):
         return (number == 0 and self.last != 1) or (number != 0 and super().takes(number))
@@ -340,7 +340,7 @@ class RefusesAfterSilence(Device):
         return not past and super().takes(number)
 
 
-@wrong(19)
+@wrong(19, 22)
 class PollsAnew(Device):
     def repeats(self, number, check):
         return packet(self.address, number, b"\x41\x04", check, True) if self.stored[5] == 0x40 else self.stored
@@ -420,7 +420,7 @@ class TakesThreeAfterZero(Device):
         return super().takes(number) or (self.last == 0 and number == 3)
 
 
-@wrong(14, 27)
+@wrong(27)
 class TakesThreeAfterOne(Device):
     def takes(self, number):
         return super().takes(number) or (self.last == 1 and number == 3)
@@ -444,13 +444,13 @@ class ReadsNoChecksum(Device):
         return check == "sum" or super().checks(data, check)
 
 
-@wrong(15, 31)
+@wrong(31)
 class ReadsNoCrc(Device):
     def checks(self, data, check):
         return check == "crc" or super().checks(data, check)
 
 
-@wrong(15, 30, 31)
+@wrong(30, 31)
 class ReadsNoCheck(Device):
     def checks(self, data, check):
         return True
@@ -486,7 +486,7 @@ class AnswersNoise(Device):
         return packet(self.address, 0, b"\x40", "crc", True) if byte == 0x5A else b""
 
 
-@wrong(16, 37)
+@wrong(37)
 class AnswersOthers(Device):
     def is_mine(self, address):
         return address < 0x80
@@ -498,7 +498,7 @@ class AnswersReplies(Device):
         return address & 0x7F in (self.address, 0x7F)
 
 
-@wrong(12, 40, 43)
+@wrong(40)
 class RefusesPolls(Device):
     def poll(self, number):
         return b"\x41\x09"
@@ -570,6 +570,12 @@ class AnswersLedByOstatr(Device):
         return b"\x4A\x00" if code == 0x69 else b"\x40"
 
 
+@wrong(52)
+class AnswersBuzByIstatr(Device):
+    def acts(self, code):
+        return b"\x49\x00" if code == 0x6A else b"\x40"
+
+
 @wrong(53)
 class AnswersTextByLstatr(Device):
     def acts(self, code):
@@ -594,10 +600,8 @@ class LstatrIsLong(Device):
         return b"\x48\x00\x00\x00" if code == 0x64 else super().status(code)
 
 
-@wrong(23, 57, 58)
+@wrong(57, 58)
 class TakesUnknownCodes(Device):
-    count = 0
-
     def unknown(self, code):
         return b"\x40"
 
@@ -755,6 +759,9 @@ def main(words):
     if words[:1] == ["--serve"]:
         device = (WRONG.get(words[1], (None,))[0] or TOLERANT[words[1]])()
         serves(device)
+        return 0
+    if words[:1] == ["--report"]:
+        print(verdicts([words[1]], lines_of(WRONG[words[2]][0](), may={}))[1].stdout, end="")
         return 0
     osdp = words[0].split()
     if len(words) > 1:

@@ -18,13 +18,14 @@ from pathlib import Path
 TOP = Path(__file__).resolve().parent.parent
 PROGRAM = Path(sys.argv[1]).resolve()
 ENVIRONMENT = {**os.environ, "PATH": f"{PROGRAM.parent}:{os.environ['PATH']}"}
-TOPICS = ("show", "monitor", "check", "make", "sim", "panel", "reader", "plan")
+TOPICS = ("show", "monitor", "check", "make", "sim", "panel", "reader", "plan", "test")
 # which part of a page has the rows of a help's part: the part of the help is what stands before its rows
 PARTS = {"show": [("OPTIONS, OPTIONS OF SHOW", "usage")], "monitor": [("OPTIONS", "usage")], "check": [("OPTIONS", "usage")],
          "sim": [("SCRIPTS", "Input")],
          "panel": [("SETTINGS", "usage"), ("CALLS", "Input"), ("COMMANDS", "Commands"), ("ANSWERS", "Answers")],
          "reader": [("SETTINGS", "usage"), ("CALLS", "Input"), ("EVENTS", "Events"), ("ANSWERS", "Answers")],
-         "plan": [("SETTINGS", "usage"), ("FIGURES", "Times")]}
+         "plan": [("SETTINGS", "usage"), ("FIGURES", "Times")],
+         "test": [("OPTIONS", "usage"), ("INPUT", "Input")]}
 # a text for each command of `help panel` and each event of `help reader`, after the calls that hand it over
 HANDED = {"panel": ("Commands", "add 5\nsubmit 1 ", ["ID 0", "CAP 0", "LSTAT", "ISTAT", "OSTAT", "RSTAT", "OUT 0:5:30", "LED 0:0:0:0:0:0:0:0:1:1:0:2:0", "BUZ 0 2 1 1 1",
                                                      "TEXT 0 1 0 1 1 48454C4C4F", "COMSET 7 9600", "MFG 53494D 00"]),
@@ -211,7 +212,7 @@ def main():
     whole = asked("help")
     if asked() != whole or asked("--help") != whole or asked("-h") != whole:
         tell("no words, --help or -h print something else than help")
-    pages = {name: page(name) for name in ("osdp", "osdp-monitor", "osdp-panel", "osdp-plan", "osdp-reader")}
+    pages = {name: page(name) for name in ("osdp", "osdp-monitor", "osdp-panel", "osdp-plan", "osdp-reader", "osdp-test")}
     commands = [name for name, _ in rows(part_of(whole, "usage")) if re.match(r"[a-z]", name)]
     if commands != [*TOPICS, "help"]:
         tell("the commands of help", [*TOPICS, "help"], commands)

@@ -1,7 +1,7 @@
 """The program: its words, its port, and what it does there."""
 import time
 
-from . import VERSION, find, listen
+from . import VERSION, find, listen, testing
 from .advice import Advice
 from .console import Console, wait_for
 from .faults import BAD_WORDS, FAILED, Stop
@@ -120,9 +120,9 @@ def does_command(words, console):
         place = (place.address, place.rate) if place else (named[0], words.rate)
         return reader(words, opened(words, place[1], console), console, osdp, kept, place)
     port = opened(words, words.rate, console)
-    if words.command != "find":
+    if words.command not in ("find", "test"):
         console.say(f"{words.command} at {port.path} {port.rate}: Ctrl-C ends it")
-    does = {"monitor": listen.monitor, "show": listen.show, "trace": listen.trace, "find": find.find}[words.command]
+    does = {"monitor": listen.monitor, "show": listen.show, "trace": listen.trace, "find": find.find, "test": testing.test}[words.command]
     return does(words, port, console, osdp)
 
 

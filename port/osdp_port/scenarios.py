@@ -29,7 +29,7 @@ SCENARIOS = {
     13: ("", "open 0 ID; ask 1 POLL; ask 2 POLL; ask 3 POLL; ask 1 POLL; ask 2 POLL"),
     14: ("", f"{OPEN}; {TURN}; open 3 POLL; ask 2 POLL"),
     15: ("", f"{OPEN}; {TURN}; open - badcheck; ask 2 POLL"),
-    16: ("", f"{OPEN}; {TURN}; open 2 POLL other; ask 2 POLL"),
+    16: ("", f"{OPEN}; {TURN}; open 3 POLL other; ask 2 POLL"),
     17: ("", "ask 0 ID filled; ask 1 POLL filled"),
     18: ("silence", f"{OPEN}; {TURN}; wait 8200; ask 0 ID"),
     19: ("", f"{OPEN}; {TURN}; ask 1 POLL; open 2 POLL; ask 2 POLL; open 3 POLL; ask 3 POLL"),

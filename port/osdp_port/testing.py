@@ -82,12 +82,12 @@ class Player:
         return came[:4000], max(0, int(took * 1000))
 
     def sends(self, rule, verb, sent, is_answered):
-        """One exchange, again while nothing is heard."""
+        """One exchange, again while nothing is heard, or the device is busy."""
         for _ in range(TRIES if is_answered else 1):
             moment = self.moment()
             heard, delay = self.hears(sent, ANSWER if is_answered else QUIET)
             self.write(f"{verb}s {rule} {moment} {sent.hex().upper()} {delay} {heard.hex().upper() or 'none'}")
-            if heard:
+            if heard and heard.lstrip(b"\xFF")[5:6] != b"\x79":
                 return
 
     def step(self, rule, words):

@@ -10,6 +10,7 @@ usage: osdp-port [OPTION].. PORT RATE COMMAND
   panel ADDRESSES        a panel of these devices, as 5,6 or 0-5; orders are typed
   reader ADDRESS         a reader at this address; cards and keys are typed
   find                   which devices are there, at which rate and check
+  test device ADDRESS    which rules the device at this address keeps
   trace FILE             writes down all that goes over the line
 
 PORT is a name such as /dev/ttyUSB0, or rfc2217://HOST:PORT or socket://HOST:PORT.
@@ -20,9 +21,12 @@ After ADDRESSES or ADDRESS settings of osdp may stand: panel 5 check sum reply-w
   --address N            of monitor and show: this device alone
   --every N              of monitor: the table each N seconds
   --keep FILE            of panel and reader: where the devices are after a COMSET
-  --trace FILE           of panel and reader: all that goes over the line too
+  --trace FILE           of panel, reader and test: all that goes over the line too
   --size MB              a trace that is so large is put aside: 10
   --osdpcap              a trace has a JSON object a line, as other tools read it
+  --may WORDS            of test: what it may do: silence,out:N,led,buz,text,comset
+  --sum                  of test: packets end with a checksum, and not with a CRC
+  --tap                  of test: verdicts by the Test Anything Protocol
   --set-address N        of find: the device gets this address
   --set-rate R           of find: the device gets this rate
   --plain                no moments before the lines
@@ -36,13 +40,13 @@ no device), 2 bad words, 3 the port fails, 4 no memory, 127 a program is missing
 man osdp-port has more.
 """
 MOST_RATE = 4000000
-COMMANDS = ("monitor", "show", "panel", "reader", "find", "trace")
-FLAGS = ("--all", "--osdpcap", "--plain")
+COMMANDS = ("monitor", "show", "panel", "reader", "find", "test", "trace")
+FLAGS = ("--all", "--osdpcap", "--plain", "--sum", "--tap")
 VALUES = {"--address": "an address", "--every": "seconds", "--keep": "a file", "--trace": "a file", "--size": "megabytes", "--set-address": "an address",
-          "--set-rate": "a rate", "--osdp": "a path"}
+          "--set-rate": "a rate", "--may": "what is allowed", "--osdp": "a path"}
 NUMBERS = {"--address": (0, 126), "--every": (1, 3600000), "--size": (1, 100000), "--set-address": (0, 126), "--set-rate": (1, MOST_RATE)}
 FITS = {"--all": ("monitor", "show", "panel", "reader"), "--address": ("monitor", "show"), "--every": ("monitor",), "--keep": ("panel", "reader"),
-        "--trace": ("panel", "reader"), "--size": ("panel", "reader", "trace"), "--osdpcap": ("panel", "reader", "trace"), "--set-address": ("find",), "--set-rate": ("find",)}
+        "--trace": ("panel", "reader", "test"), "--may": ("test",), "--sum": ("test",), "--tap": ("test",), "--size": ("panel", "reader", "trace"), "--osdpcap": ("panel", "reader", "trace"), "--set-address": ("find",), "--set-rate": ("find",)}
 
 
 def bad(why):
@@ -90,24 +94,27 @@ class Words:
         for option in self.options:
             if option in FITS and self.command not in FITS[option]:
                 bad(f"{option} is no option of {self.command}")
-        needed = {"panel": "ADDRESSES, as 5,6 or 0-5", "reader": "ADDRESS, as 5", "trace": "FILE"}.get(self.command)
+        needed = {"panel": "ADDRESSES, as 5,6 or 0-5", "reader": "ADDRESS, as 5", "trace": "FILE", "test": "device"}.get(self.command)
         if needed and not self.rest:
             bad(f"word 4 is missing: {needed}")
-        most = {"panel": None, "reader": None, "trace": 1}.get(self.command, 0)
+        most = {"panel": None, "reader": None, "trace": 1, "test": 2}.get(self.command, 0)
         if most is not None and len(self.rest) > most:
             bad(f"word {most + 4}, {self.rest[most]}: nothing more stands there")
+
+        if self.command == "test" and (self.rest[0] != "device" or len(self.rest) != 2 or len(addresses(self.rest[1], 5)) != 1):
+            bad(f"word 4, {' '.join(self.rest)}: device ADDRESS, as device 5")
 
     def get(self, option, otherwise=None):
         return self.options.get(option, otherwise)
 
 
-def addresses(word):
+def addresses(word, place=4):
     """The addresses of a list such as 5,6 or 0-5."""
     found = []
     for part in word.split(","):
         first, dash, last = part.partition("-")
         ends = [first, last] if dash else [first, first]
         if not all(is_number(end, 0, 126) for end in ends) or int(ends[0]) > int(ends[1]):
-            bad(f"word 4, {part or 'nothing'}: addresses are numbers from 0 to 126, as 5,6 or 0-5")
+            bad(f"word {place}, {part or 'nothing'}: addresses are numbers from 0 to 126, as 5,6 or 0-5")
         found += range(int(ends[0]), int(ends[1]) + 1)
     return found

@@ -1,4 +1,4 @@
-//! The program `osdp`: packets are read, made and listened to, scripts, panels and readers are run, and lines are planned.
+//! The program `osdp`: packets are read, made and listened to, scripts, panels and readers are run, lines are planned, and devices are tested.
 #![tactic(auto)]
 
 use osdp_line_calls::{
@@ -13,6 +13,7 @@ use osdp_tool_inputs::{Reads, do_all, read_words};
 use osdp_tool_plan::{plan, planned};
 use osdp_tool_sim::sim;
 use osdp_tool_streams::{ToolFault, Watched, flush_out, write_out};
+use osdp_tool_test::{HELP, test};
 use std::process::ExitCode;
 
 /// Prints a text.
@@ -58,6 +59,29 @@ fn run_plan(rt: &HostRuntime, words: &[&str]) -> Result<(), ToolFault> {
     )
 }
 
+/// Whether the words ask for the help of `test`.
+fn asks_test_help(words: &[&str]) -> bool {
+    matches!(words, ["help", "test"] | ["test", "--help" | "-h"])
+}
+
+/// Whether the words are those of `test`.
+fn is_test(words: &[&str]) -> bool {
+    match words {
+        [first, ..] => *first == "test",
+        [] => false,
+    }
+}
+
+/// Tells which rules a device keeps, by the lines of standard input. The status.
+fn run_test(rt: &HostRuntime, words: &[&str]) -> Result<u8, ToolFault> {
+    test(
+        rt.alloc(),
+        after_name(words),
+        &mut Watched::new(rt.stdin()),
+        &mut Watched::new(rt.stdout()),
+    )
+}
+
 /// Does the job that the words choose.
 fn run_job(rt: &HostRuntime, words: &[&str]) -> Result<(), ToolFault> {
     let mut output = Watched::new(rt.stdout());
@@ -71,6 +95,13 @@ fn run_job(rt: &HostRuntime, words: &[&str]) -> Result<(), ToolFault> {
 fn run(rt: &HostRuntime) -> Result<u8, ToolFault> {
     let arguments = arguments(rt)?;
     let words = lent(rt.alloc(), &arguments)?;
+    if asks_test_help(&words) {
+        print(rt, HELP)?;
+        return Ok(0);
+    }
+    if is_test(&words) {
+        return run_test(rt, &words);
+    }
     match choose(&words) {
         Choice::Help(topic) => print(rt, help_text(topic))?,
         Choice::Version => print(rt, VERSION)?,
@@ -111,6 +142,9 @@ fn tell_wrong_plan(rt: &HostRuntime, words: &[&str]) {
 
 /// Says which word names no command, and which words are no settings, where some aren't.
 fn tell_wrong(rt: &HostRuntime, words: &[&str]) {
+    if is_test(words) {
+        return;
+    }
     if let Some(word) = unknown_command(words) {
         let _ = eprintln!(rt; "osdp: no command: {word}; try: osdp help");
     }

@@ -20,6 +20,7 @@ usage: osdp COMMAND [WORD]...
   panel    run a panel by lines of text
   reader   run a reader by lines of text
   plan     print how long a line takes that is planned
+  test     tell which rules a device keeps, by what it answered
   help     print this, or the help of a command: osdp help show
 
   -h, --help  print this
