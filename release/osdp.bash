@@ -2,14 +2,15 @@
 
 _osdp_words() {
   case $1 in
-    '') echo 'show monitor check make sim panel reader help --help --version -h' ;;
+    '') echo 'show monitor check make sim panel reader plan help --help --version -h' ;;
     show) echo '--raw --osdpcap --xxd --stamped --hex --join --times --no-polls --address' ;;
     monitor) echo '--raw --osdpcap --xxd --stamped --hex --packets --talk --standard --recorded --gap --every' ;;
     check) echo '--raw --osdpcap --xxd --stamped --hex --join' ;;
     make) echo 'sum crc' ;;
     panel) echo 'check reply-wait poll-interval sends busy-wait busy-limit quiet-wait gap capacity' ;;
     reader) echo 'address vendor model version serial firmware cap room gap expire presence' ;;
-    help) echo 'show monitor check make sim panel reader' ;;
+    plan) echo 'readers rate check longest answer hold late orders reply-wait poll-interval sends busy-wait busy-limit quiet-wait' ;;
+    help) echo 'show monitor check make sim panel reader plan' ;;
   esac
 }
 

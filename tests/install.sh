@@ -21,7 +21,7 @@ cmp -s "$there/bin/osdp" "$1" || fail 'another program than the one that is prov
 { [ $? -eq 3 ] && grep -qF "/nowhere/port isn't there" "$work/said"; } || { cat "$work/said"; fail 'osdp-port does not find the program or pyserial'; }
 printf '53050700006041\n' | "$there/bin/osdp-report" >"$work/said" 2>&1
 { [ $? -eq 0 ] && grep -qF 'Nothing was judged' "$work/said"; } || { cat "$work/said"; fail 'osdp-report makes no page'; }
-for page in osdp osdp-monitor osdp-panel osdp-port osdp-reader osdp-report; do
+for page in osdp osdp-monitor osdp-panel osdp-plan osdp-port osdp-reader osdp-report; do
   MANPATH=$there/share/man man "$page" 2>/dev/null | grep -q SYNOPSIS || fail "man $page finds no page"
 done
 [ "$(find "$there" -name '*.new' -o -name __pycache__ -o -name target -o -name out | wc -l)" -eq 0 ] || fail 'work of a build was put in place'

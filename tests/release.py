@@ -16,7 +16,7 @@ from pathlib import Path
 
 TOP = Path(__file__).resolve().parent.parent
 PROGRAM = sys.argv[1]
-COMMANDS = ("show", "monitor", "check", "make", "sim", "panel", "reader", "help")
+COMMANDS = ("show", "monitor", "check", "make", "sim", "panel", "reader", "plan", "help")
 faults = []
 
 
@@ -34,7 +34,7 @@ def wanted_after(command):
     rows = help_of(command).split("\n\n")[2] if command != "help" else ""
     if command in ("show", "monitor", "check"):
         return {*re.findall(r"^  (--[\w-]+)", rows, re.M), "--hex"}  # which the manual page names
-    if command in ("panel", "reader"):
+    if command in ("panel", "reader", "plan"):
         return set(re.findall(r"^  ([a-z-]+) ", rows, re.M))
     return {"make": {"sum", "crc"}, "sim": set(), "help": set(COMMANDS) - {"help"}}[command]
 
