@@ -1,4 +1,4 @@
-//! The program `osdp`: packets are read, made and listened to, scripts, panels and readers are run, lines are planned, and devices are tested.
+//! The program `osdp`: packets are read, made and listened to, scripts, panels and readers run, lines planned, devices tested.
 #![tactic(auto)]
 
 use osdp_line_calls::{
