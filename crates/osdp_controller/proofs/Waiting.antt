@@ -1,10 +1,10 @@
 -- Commands that wait as their bytes.
-use Rattle.std.proofs.Common.{◌≡◌, ◌+◌, ◌-◌, ◌≤◌, ◌<◌, ◌&&◌, Bool, true, false, ℕ, List, [], ◌∷◌, ◌++◌, length, map, drop, Some, refl, sym, ap, ◌∙◌, subst, arith, length-append}
-use Rattle.std.specs.List.{All, list_any}
-use Rattle.std.specs.Prelude.{nat_le, nat_lt, slice_get}
+use Rattle.std.proofs.Common.{◌≡◌, ◌+◌, ◌-◌, ◌≤◌, ◌<◌, ◌&&◌, Bool, true, false, ℕ, List, [], ◌∷◌, ◌++◌, length, map, drop, refl, sym, ap, ◌∙◌, subst, arith, length-append}
+use Rattle.std.specs.List.{All}
+use Rattle.std.specs.Prelude.{nat_le, nat_lt}
 use Rattle.std.proofs.lemmas.Bool.{ltb-true}
 use Rattle.std.proofs.lemmas.List.{length-map, length-drop}
-use Rattle.std.proofs.lemmas.List.Elements.{All-append, All-drop, All-head, All-push, All-tail}
+use Rattle.std.proofs.lemmas.List.Elements.{All-drop, All-head, All-push, All-tail}
 use Rattle.osdp_msg.specs.declared.command.Command.{Command}
 use Rattle.osdp_msg.specs.declared.command.Command.TheVariants.{Poll, Id, Cap, LocalStatus, InputStatus, OutputStatus, ReaderStatus, Output, Led, Buzzer, Text, Comset, Maker}
 use Rattle.osdp_msg.specs.CommandTable.{command_code, command_data}
@@ -13,10 +13,10 @@ use Rattle.osdp_msg.specs.Limits.{most_data}
 use Rattle.osdp_controller.specs.declared.session.Session.{Session}
 use Rattle.osdp_controller.specs.Comsets.{has_comset, is_comset}
 use Rattle.osdp_controller.specs.Commands.{IsCommand}
-use Rattle.osdp_controller.specs.Waiting.{IsController, machine_of}
-use Rattle.osdp_controller.specs.Machine.{IsMachine, IsSession, IsSubmitted, bytes_waiting, command_size}
+use Rattle.osdp_controller.specs.Waiting.{IsController}
+use Rattle.osdp_controller.specs.Machine.{IsSession, IsSubmitted, bytes_waiting, command_size}
 use Rattle.osdp_controller.proofs.Choices.{first_true}
-use Rattle.osdp_ring.specs.Ring.{Strings, begins, fits_in, has_first, popped, pushed, pushed_if, total}
+use Rattle.osdp_ring.specs.Ring.{Strings, begins, fits_in, has_first, popped, pushed_if, total}
 
 -- what was written is kept as itself
 pub is_command : (c : Command) (bytes : List ℕ) → length bytes ≤ 1 + most_data → bytes ≡ command_code c ∷ command_data c → command_kept bytes ≡ c → IsCommand bytes
