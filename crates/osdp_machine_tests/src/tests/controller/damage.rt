@@ -79,9 +79,12 @@ fn is_number_refused(report: &KeptReport, command: &Command<'_>) -> bool {
 
 /// Whether it is told that the reply to this command has this code and cannot be read.
 fn is_unread(report: &KeptReport, command: &Command<'_>, code: u8) -> bool {
-    match report.read() {
-        Some(Report::Unread(Some(told), told_code)) => is_same(&told, command) && told_code == code,
-        _ => false,
+    let Some(Report::Unread(told, told_code)) = report.read() else {
+        return false;
+    };
+    match &told {
+        Some(told) => is_same(told, command) && told_code == code,
+        None => false,
     }
 }
 
