@@ -1,5 +1,5 @@
 -- The run of a schedule over a bus, as `run_bus` runs it: which calls of a line in use it is.
-use Rattle.std.specs.Prelude.{◌≡◌, ℕ, suc, zero, ◌-◌, ◌==◌, ◌≤◌, max, Bool, true, List, [], ◌∷◌, ◌++◌, length, map, Some, None, if◌then◌else◌, slice_get}
+use Rattle.std.specs.Prelude.{◌≡◌, ℕ, suc, zero, ◌-◌, ◌≤◌, max, Bool, true, List, [], ◌∷◌, ◌++◌, length, map, Some, None, if◌then◌else◌, slice_get}
 use Rattle.osdp_frame.specs.Bytes.{AreBytes}
 use Rattle.osdp_frame.specs.Held.{new_run}
 use Rattle.osdp_frame.specs.Items.{packets_in}
