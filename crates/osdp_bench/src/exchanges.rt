@@ -103,9 +103,7 @@ pub fn turns(alloc: Global, count: u64) -> Option<u64> {
     for place in 0..count {
         now = now.saturating_add(2);
         let ack = packet(true, 5, (place % 3) as u8 + 1, &body)?;
-        let sent = link
-            .controller
-            .tick(now, &mut line.out, &mut line.report);
+        let sent = link.controller.tick(now, &mut line.out, &mut line.report);
         link.controller.hear(&ack, now, &mut line.report);
         done = done.saturating_add(u64::from(sent && !link.controller.outstanding()));
     }

@@ -4,6 +4,5 @@
 #![tactic(auto)]
 
 pub mod bench;
-
 #[cfg(test)]
 mod tests;

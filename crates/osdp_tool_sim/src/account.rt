@@ -34,7 +34,11 @@ pub fn account_text(alloc: Global, number: usize, account: &Account) -> Result<S
     push_counts(&mut text, number, account)?;
     push_list(&mut text, "taken", CommandsLeft(account.taken.left()))?;
     push_list(&mut text, "settled", account.settled.left())?;
-    push_list(&mut text, "unsettled", CommandsLeft(account.unsettled.left()))?;
+    push_list(
+        &mut text,
+        "unsettled",
+        CommandsLeft(account.unsettled.left()),
+    )?;
     push_list(&mut text, "reported", EventsLeft(account.reported.left()))?;
     push_list(&mut text, "ended", EndsLeft(&account.ends))?;
     Ok(text)

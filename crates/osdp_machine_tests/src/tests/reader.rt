@@ -28,7 +28,12 @@ fn reader_with(
     capacity: usize,
     first: Given,
 ) -> Reader<Bench> {
-    let made = Reader::new(alloc, config_at(rt, address), Bench { first }, Room::of(capacity));
+    let made = Reader::new(
+        alloc,
+        config_at(rt, address),
+        Bench { first },
+        Room::of(capacity),
+    );
     made.ok().expect(rt, "a reader")
 }
 
@@ -265,10 +270,13 @@ fn made(
     address: u8,
     capacity: usize,
 ) -> Result<Reader<Bench>, ReaderFault> {
-    let bench = Bench {
-        first: Given::Done,
-    };
-    Reader::new(alloc, config_at(rt, address).copy(), bench, Room::of(capacity))
+    let bench = Bench { first: Given::Done };
+    Reader::new(
+        alloc,
+        config_at(rt, address).copy(),
+        bench,
+        Room::of(capacity),
+    )
 }
 
 /// Nothing waits in a new reader with these settings, and nothing is stored.
