@@ -5,10 +5,9 @@ Each run has its own settings, a program that ticks up to `late` ms late, and a 
 bound stands beside it: none may lie above, and what is said to be reached is reached. A bound with a part left out, or without one of its
 premises, is broken by some run: so the runs can fail.
 
-    times.py [SEED] [SECONDS]"""
+    times.py [SEED] [RUNS]"""
 import random
 import sys
-import time
 
 CLOSED, QUIET, IDLE, WAITING, PAUSING = "closed", "quiet", "idle", "waiting", "pausing"
 OPENING, POLLING, ORDER = "opening", "polling", "order"
@@ -441,21 +440,22 @@ class Measured:
             self.above[name] = (took, bound, what, vars(settings))
 
 
-def runs(seed, seconds, hostile, off=(), name=None):
-    """Runs for so many seconds, or until this bound is broken."""
-    measured, end, number = Measured(), time.monotonic() + seconds, 0
-    while time.monotonic() < end and not (off and name in measured.above):
+def runs(seed, most, hostile, off=(), name=None):
+    """So many runs at most: fewer where this bound is broken by one."""
+    measured = Measured()
+    for number in range(most):
+        if off and name in measured.above:
+            break
         Run(random.Random(f"{seed} {number} {hostile}"), measured, hostile, off).go(400)
-        number += 1
     return measured
 
 
 def main():
     seed = sys.argv[1] if len(sys.argv) > 1 else "1"
-    seconds = float(sys.argv[2]) if len(sys.argv) > 2 else 18
+    most = int(sys.argv[2]) if len(sys.argv) > 2 else 2000
     failed = False
-    for hostile, share in ((True, 0.4), (False, 0.2)):
-        measured = runs(seed, seconds * share, hostile)
+    for hostile in (True, False):
+        measured = runs(seed, most, hostile)
         names = ["exchange", "exchange without BUSY", "order", "opening", "silence"] if hostile else \
             ["order on a good line", "order beside a silent device", "card on a good line", "card beside a silent device", "silence on a good line"]
         for name in names:
@@ -472,7 +472,7 @@ def main():
             print(f"times: {name}: took {took} ms, above its bound of {bound}: {what} {settings}")
             failed = True
     for off, hostile, name in PREMISES:
-        measured = runs(seed, max(seconds * 0.4, 4), hostile, (off,), name)
+        measured = runs(seed, most, hostile, (off,), name)
         if name not in measured.above:
             print(f"times: {name} keeps its bound without its premise ({off}), so nothing was tried")
             failed = True

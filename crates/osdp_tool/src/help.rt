@@ -29,7 +29,8 @@ usage: osdp COMMAND [WORD]...
 Each command reads standard input, or the files that are named, and writes standard output. Secure Channel is
 not read or spoken. The status is 0, or 1 where show, check or monitor met a refusal, or monitor accused an
 end. It is 2 at bad words or bad input, 3 where a read or a write failed, and 4 without memory. Of several
-files it is the greatest. The manual: man osdp, man osdp-monitor, man osdp-panel, man osdp-plan, man osdp-reader.
+files it is the greatest. The manual: man osdp, and man osdp-monitor, osdp-panel, osdp-plan, osdp-reader and
+osdp-test.
 ";
 
 const SHOW: &str =
