@@ -29,8 +29,8 @@ fn tell_counts(rt: &impl Abort, text: &mut String, account: &Account) {
 
 fn tell_taken(rt: &impl Abort, text: &mut String, account: &Account) {
     let mut left = account.taken.left();
-    while let Some(bytes) = left.next() {
-        let command = Command::kept(bytes);
+    for _ in 0..account.taken.len() {
+        let command = Command::kept(left.next().expect(rt, "as many as are counted"));
         write!(text, "taken {command}\n").expect(rt, "memory");
     }
 }
@@ -43,16 +43,16 @@ fn tell_settled(rt: &impl Abort, text: &mut String, account: &Account) {
 
 fn tell_unsettled(rt: &impl Abort, text: &mut String, account: &Account) {
     let mut left = account.unsettled.left();
-    while let Some(bytes) = left.next() {
-        let command = Command::kept(bytes);
+    for _ in 0..account.unsettled.len() {
+        let command = Command::kept(left.next().expect(rt, "as many as are counted"));
         write!(text, "unsettled {command}\n").expect(rt, "memory");
     }
 }
 
 fn tell_reported(rt: &impl Abort, text: &mut String, account: &Account) {
     let mut left = account.reported.left();
-    while let Some(bytes) = left.next() {
-        let event = Event::kept(bytes);
+    for _ in 0..account.reported.len() {
+        let event = Event::kept(left.next().expect(rt, "as many as are counted"));
         write!(text, "reported {event}\n").expect(rt, "memory");
     }
 }

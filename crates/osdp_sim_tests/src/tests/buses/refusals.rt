@@ -25,22 +25,24 @@ fn two_readers(rt: &impl Abort, alloc: Global) -> Option<Vec<(ReaderConfig, usiz
     Some(readers)
 }
 
-/// After so long a packet goes to the readers, and one comes back.
-fn round(wait: u64) -> [SimStep<'static>; 3] {
+/// Two sessions that open, and a command that is settled in each.
+fn opens() -> [SimStep<'static>; 14] {
     [
-        SimStep::Wait(wait),
+        SimStep::Issue(1, Command::LocalStatus),
+        SimStep::Issue(2, Command::InputStatus),
+        SimStep::Wait(400),
+        SimStep::ToReader(Move::Deliver),
+        SimStep::ToController(Move::Deliver),
+        SimStep::Wait(0),
+        SimStep::ToReader(Move::Deliver),
+        SimStep::ToController(Move::Deliver),
+        SimStep::Wait(0),
+        SimStep::ToReader(Move::Deliver),
+        SimStep::ToController(Move::Deliver),
+        SimStep::Wait(0),
         SimStep::ToReader(Move::Deliver),
         SimStep::ToController(Move::Deliver),
     ]
-}
-
-/// Two sessions that open, and a command that is settled in each.
-fn opens() -> [SimStep<'static>; 14] {
-    let one = SimStep::Issue(1, Command::LocalStatus);
-    let two = SimStep::Issue(2, Command::InputStatus);
-    let ([a, b, c], [d, e, f]) = (round(400), round(0));
-    let ([g, h, i], [j, k, l]) = (round(0), round(0));
-    [one, two, a, b, c, d, e, f, g, h, i, j, k, l]
 }
 
 /// The two accounts are those of the first of these steps.
