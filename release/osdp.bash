@@ -2,7 +2,7 @@
 
 _osdp_words() {
   case $1 in
-    '') echo 'show monitor check make sim panel reader plan help --help --version -h' ;;
+    '') echo 'show monitor check make sim panel reader plan test help --help --version -h' ;;
     show) echo '--raw --osdpcap --xxd --stamped --hex --join --times --no-polls --address' ;;
     monitor) echo '--raw --osdpcap --xxd --stamped --hex --packets --talk --standard --recorded --gap --every' ;;
     check) echo '--raw --osdpcap --xxd --stamped --hex --join' ;;
@@ -10,7 +10,8 @@ _osdp_words() {
     panel) echo 'check reply-wait poll-interval sends busy-wait busy-limit quiet-wait gap capacity' ;;
     reader) echo 'address vendor model version serial firmware cap room gap expire presence' ;;
     plan) echo 'readers rate check longest answer hold late orders reply-wait poll-interval sends busy-wait busy-limit quiet-wait' ;;
-    help) echo 'show monitor check make sim panel reader plan' ;;
+    test) echo '--tap' ;;
+    help) echo 'show monitor check make sim panel reader plan test' ;;
   esac
 }
 
@@ -25,14 +26,14 @@ _osdp_port() {
   local word=${COMP_WORDS[COMP_CWORD]} before=${COMP_WORDS[COMP_CWORD - 1]} ports
   case $before in
     --keep | --trace | --osdp) COMPREPLY=($(compgen -f -- "$word")); return ;;
-    --address | --every | --size | --set-address | --set-rate) COMPREPLY=(); return ;;
+    --address | --every | --size | --set-address | --set-rate | --may) COMPREPLY=(); return ;;
   esac
   if [[ $word == -* ]]; then
-    COMPREPLY=($(compgen -W '--all --address --every --keep --trace --size --osdpcap --set-address --set-rate --plain --osdp --help --version' -- "$word"))
+    COMPREPLY=($(compgen -W '--all --address --every --keep --trace --size --osdpcap --set-address --set-rate --may --sum --tap --plain --osdp --help --version' -- "$word"))
   elif [[ $before == /dev/* || $before == *://* ]]; then
     COMPREPLY=($(compgen -W '9600 19200 38400 57600 115200 230400' -- "$word"))
   elif [[ $before =~ ^[0-9]+$ ]]; then
-    COMPREPLY=($(compgen -W 'monitor show panel reader find trace' -- "$word"))
+    COMPREPLY=($(compgen -W 'monitor show panel reader find test trace' -- "$word"))
   else
     ports=$(compgen -G '/dev/ttyUSB*'; compgen -G '/dev/ttyACM*'; compgen -G '/dev/serial/by-id/*')
     COMPREPLY=($(compgen -W "$ports" -- "$word"))
