@@ -60,7 +60,7 @@ for test in two_devices_take_turns a_pause_holds_the_line; do
 done
 # Twenty requests to set up: two for each list of messages, and settled commands are two such lists. Six by the steps.
 refuse_each osdp_sim_tests tests::refusals::out_of_memory_is_told 26 tests::refusals::memory_is_needed '.*'
-refuse_each osdp_sim_tests tests::scripts::out_of_memory_is_told 28 tests::scripts::memory_is_needed '.*'
+refuse_each osdp_sim_tests tests::scripts::out_of_memory_is_told 26 tests::scripts::memory_is_needed '.*'
 # The first request is the test's own, for the list of readers.
 refuse_each osdp_sim_tests tests::buses::refusals::out_of_memory_is_told 60 tests::buses::refusals::memory_is_needed '.*'
 exit "$failed"
