@@ -12,8 +12,8 @@ HERE = os.path.dirname(os.path.abspath(__file__))
 PROGRAM = os.path.join(HERE, "..", "crates", "osdp_bench", "out", "osdp_bench")
 # Each kind of work, with the ratio that is wanted.
 WANTED = {
-    "poll": 0.5, "out": 0.6, "turn": None, "poll_heard": None, "out_heard": None, "repeat": 0.5, "ignored": 0.5, "idle": 0.5,
-    "encode": None, "encode_to": 0.9, "framer_sum": 0.7, "framer_crc": 0.9, "crc": 0.9, "session_poll": 1.0, "session_out": 0.7,
+    "poll": 1.2, "out": 1.0, "turn": None, "poll_heard": None, "out_heard": 1.0, "repeat": 1.0, "ignored": None, "idle": 1.0,
+    "encode": None, "encode_to": 0.9, "framer_sum": 0.7, "framer_crc": 0.9, "crc": 0.9, "session_poll": 1.0, "session_out": 1.0,
 }
 
 
