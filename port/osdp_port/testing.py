@@ -131,9 +131,16 @@ def allowed(words):
     return may
 
 
+class Judge(Stream):
+    """`osdp test`, whose report is handed on as it comes."""
+
+    def prints(self, line):
+        self.console.raw(line)
+
+
 def test(words, port, console, osdp):
     """Tests the device at an address. The status: that of `osdp test`."""
-    judge = Stream(osdp, ["test", *(["--tap"] if words.get("--tap") else [])], console)
+    judge = Judge(osdp, ["test", *(["--tap"] if words.get("--tap") else [])], console)
     kept = open(words.get("--trace"), "w", encoding="ascii") if words.get("--trace") else None
 
     def write(line):
