@@ -17,11 +17,13 @@
   restart.py hold the two that show more.)
 - man/osdp.1 has each text that the program prints on standard error.
 - Each crate, script and folder that any page names is there; a name with `osdp_` may be one of the header for C too.
+- Each call, law and type that running text of any page names between backticks is a word of the tree's sources, or of the toolchain's.
 - No page, manual page or script says "behind" or "want of memory". No sentence of a page has more than 60 words, but in the list of what is left to do.
 - README has lines of at most 120 characters. docs/DEVELOPING.md has at most 120 lines, docs/ARCHITECTURE.md 300, docs/GUIDE.md 500, and no row of a table has more than
   200 characters."""
 import re
 import runpy
+import subprocess
 import sys
 import textwrap
 from pathlib import Path
@@ -385,6 +387,33 @@ def judge_sentences(page):
             faults.append(f"{page}: {len(sentence.split())} words: {sentence[:60]}")
 
 
+# Calls of the toolchain's crates that a page explains.
+OF_TOOLCHAIN = {"also_shares", "as_slices", "make_contiguous"}
+
+
+def words_of_sources():
+    """Each word of each file of the tree that is no page, and each file's name."""
+    kept = subprocess.run(["git", "ls-files"], cwd=TOP, capture_output=True, text=True, check=True).stdout.splitlines()
+    words = set(OF_TOOLCHAIN)
+    for file in kept:
+        path = TOP / file
+        if path.suffix in (".md", ".png") or not path.is_file():
+            continue
+        words.add(path.stem)
+        words.update(WORD.findall(path.read_text(errors="ignore")))
+    return words
+
+
+def judge_names(page, words):
+    """Any page: a call, law or type that it names still has that name."""
+    prose = re.sub(r"```.*?```", "", (TOP / page).read_text(), flags=re.S)
+    for said in re.findall(r"`([^`\n]+)`", prose):
+        calls = re.findall(r"(?<![\w./-])([a-z][a-z0-9]*(?:_[a-z0-9]+)+)(?![\w/])", said)
+        for name in calls + re.findall(r"^([A-Z][a-z0-9]+\w*)(?:[:(].*)?$", said):
+            if name not in words:
+                faults.append(f"{page}: no source of the tree has {name}")
+
+
 def judge_lengths():
     """The first page and the page for developers are short."""
     readme = (TOP / "README.md").read_text().splitlines()
@@ -405,8 +434,10 @@ if __name__ == "__main__":
     judge_manual()
     judge_headline()
     judge_profile()
+    every_word = words_of_sources()
     for each_page in PAGES:
         judge_page(each_page, every)
+        judge_names(each_page, every_word)
         judge_code(each_page)
         judge_links(each_page)
         judge_sentences(each_page)
