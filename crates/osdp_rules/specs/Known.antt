@@ -14,6 +14,14 @@ last_number Unknown = None
 last_number Opened = Some 0
 last_number (Took p a) = Some p.sequence
 
+-- the number of the packet to come: the one after the last, and 0 where that isn't known
+abbrev pub number_after : Option ℕ → ℕ
+number_after None = 0
+number_after (Some last) = next_sequence last
+
+abbrev pub next_number : Known → ℕ
+next_number k = number_after (last_number k)
+
 -- the turn of a number: number 0 is new, and the number after the last
 abbrev pub turn_of : Option ℕ → ℕ → Turn
 turn_of None number = if number == 0 then New else NobodyKnows

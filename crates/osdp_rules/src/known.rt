@@ -1,7 +1,7 @@
 //! What is known of a device from its answers.
 
 ghost use Rattle.std.specs.Prelude.{◌≡◌};
-ghost use Rattle.osdp_rules.specs.Known.{after_answer, known_after, last_number, turn_of};
+ghost use Rattle.osdp_rules.specs.Known.{after_answer, known_after, last_number, next_number, turn_of};
 
 use crate::packets::{asked, is_comset, is_to, takes_nothing};
 use osdp_frame::{Address, Frame, FrameView, Seq};
@@ -28,6 +28,16 @@ impl Known {
             Known::Gone | Known::Unknown => None,
             Known::Opened => Some(Seq::new(0).unwrap()),
             Known::Took(sent, _) => Some(sent.view().seq()),
+        }
+    }
+
+    /// The number of the packet to come: the one after the last that it took, and 0 where that isn't known.
+    pub fn next_number(&self) -> Seq
+        ensures { result ≡ next_number self.now }
+    {
+        match self.last_number() {
+            None => Seq::new(0).unwrap(),
+            Some(last) => last.next(),
         }
     }
 

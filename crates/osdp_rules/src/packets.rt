@@ -35,7 +35,7 @@ pub(crate) fn is_to(address: Address, packet: &FrameView<'_>) -> bool
 }
 
 /// Whether it is a BUSY.
-pub(crate) fn is_busy(answer: &FrameView<'_>) -> bool
+pub fn is_busy(answer: &FrameView<'_>) -> bool
     ensures { result ≡ is_busy answer.now }
 {
     answer.code() == 0x79
@@ -49,7 +49,7 @@ pub(crate) fn is_nak(answer: &FrameView<'_>) -> bool
 }
 
 /// Whether it is a NAK with this reason.
-pub(crate) fn has_reason(reason: u8, answer: &FrameView<'_>) -> bool
+pub fn has_reason(reason: u8, answer: &FrameView<'_>) -> bool
     ensures { result ≡ has_reason reason answer.now }
 {
     let data = answer.payload();
@@ -57,7 +57,7 @@ pub(crate) fn has_reason(reason: u8, answer: &FrameView<'_>) -> bool
 }
 
 /// Whether an answer says that the packet wasn't taken: BUSY, NAK 1 or NAK 4.
-pub(crate) fn takes_nothing(answer: &FrameView<'_>) -> bool
+pub fn takes_nothing(answer: &FrameView<'_>) -> bool
     ensures { result ≡ takes_nothing answer.now }
 {
     is_busy(answer) || (has_reason(1, answer) || has_reason(4, answer))
