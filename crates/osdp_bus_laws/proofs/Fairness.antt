@@ -25,7 +25,7 @@ use Rattle.osdp_bus_laws.proofs.Turning.{due_is_next, free_tick, next_is_due, no
 
 -- ---- calls in which no exchange begins: the turn stays, and who holds the line held it before
 
-abbrev Quiet : BusState → BusState → Type 0
+abbrev pub Quiet : BusState → BusState → Type 0
 Quiet b c = (c.first ≡ b.first) × WereHeld b.devices c.devices
 
 quiet : (b : BusState) → Quiet b b
@@ -37,10 +37,10 @@ held_on ds es fs before after j f at h = by_later (after j f at h)
     by_later : HeldBefore j es → HeldBefore j ds
     by_later (g, was, stands) = before j g was stands
 
-quiet_on : (a b c : BusState) → Quiet a b → Quiet b c → Quiet a c
+pub quiet_on : (a b c : BusState) → Quiet a b → Quiet b c → Quiet a c
 quiet_on a b c before after = (after.0 ∙ before.0, held_on a.devices b.devices c.devices before.1 after.1)
 
-quiet_run : (b : BusState) → Quiet b (ends_run b)
+pub quiet_run : (b : BusState) → Quiet b (ends_run b)
 quiet_run b = (refl, held_items b.greatest (items true b.held) b.devices)
 
 quiet_silent : (b : BusState) → Quiet b (ends_silent b)
@@ -50,16 +50,16 @@ quiet_silent b = by_test (is_silent b)
     by_test true = quiet_run b
     by_test false = quiet b
 
-quiet_seen : (now : ℕ) (b : BusState) → Quiet b (seen now b)
+pub quiet_seen : (now : ℕ) (b : BusState) → Quiet b (seen now b)
 quiet_seen now b = (refl, same_held b.devices)
 
-quiet_judged : (now : ℕ) (b : BusState) → Quiet b (judged now b)
+pub quiet_judged : (now : ℕ) (b : BusState) → Quiet b (judged now b)
 quiet_judged now b = quiet_on b (seen now b) (judged now b) (quiet_seen now b) (quiet_silent (seen now b))
 
-quiet_asking : (now : ℕ) (b : BusState) → Quiet b (asking now b)
+pub quiet_asking : (now : ℕ) (b : BusState) → Quiet b (asking now b)
 quiet_asking now b = quiet_on b (judged now b) (asking now b) (quiet_judged now b) (quiet_run (judged now b))
 
-quiet_bytes : (bytes : List ℕ) (now : ℕ) (b : BusState) → Quiet b (after_bytes bytes now b)
+pub quiet_bytes : (bytes : List ℕ) (now : ℕ) (b : BusState) → Quiet b (after_bytes bytes now b)
 quiet_bytes [] now b = quiet_seen now b
 quiet_bytes (byte ∷ bytes) now b =
     let e = judged now b in
@@ -101,7 +101,7 @@ held_added e b free j f there h = by_place (added b.devices.entries e j f there)
 abbrev pub FirstIs : BusState → Type 0
 FirstIs b = (n : ℕ) (d : Device) → device_of n b ≡ Some d → holds d ≡ true → b.first ≡ n + 1
 
-abbrev Who : Call → BusState → Type 0
+abbrev pub Who : Call → BusState → Type 0
 Who call b = ((k : ℕ) × Begins call k b) ⊎ Quiet b (after_call call b)
 
 quiet_held : (now entry : ℕ) (b : BusState) → FirstIs b → (has_report (asking now b) || not (is_held_and_due entry (asking now b))) ≡ false
@@ -155,7 +155,7 @@ module _ (now : ℕ) (b : BusState) (first : FirstIs b) where
       either_way Comes (has_report b) (stays (seen now b)) (ticks_on (judged now b)) (λ h. inr (quiet_seen now b))
       (λ none. who_by none (holder (judged now b)) refl)
 
-who : (call : Call) (b : BusState) → FirstIs b → Who call b
+pub who : (call : Call) (b : BusState) → FirstIs b → Who call b
 who (Add address) b first = inr (quiet_unless (add_refusal address b) b (after_add address b) (refl, held_added (new_device address b.config) b refl))
 who (Begin entry now) b first =
     inr (quiet_unless (begin_refusal_at entry b) b (after_begin_at entry now b)
@@ -175,15 +175,15 @@ who NextReport b first = inr (quiet b)
 turn_with : (entry : ℕ) (d : Device) (b : BusState) → (ticks_with entry (Some d) b).bus.first ≡ entry + 1
 turn_with entry d b = refl
 
-begun_ticked : (now k : ℕ) (b : BusState) → IsFree now b → (next : IsNext k (asking now b)) → bus_ticks now b ≡ ticks_with k (Some next.due.device) (asking now b)
+pub begun_ticked : (now k : ℕ) (b : BusState) → IsFree now b → (next : IsNext k (asking now b)) → bus_ticks now b ≡ ticks_with k (Some next.due.device) (asking now b)
 begun_ticked now k b free next =
     free_tick now b free ∙ ap (λ o. ticks_at o (asking now b)) (next_is_due k (asking now b) next) ∙ ap (λ o. ticks_with k o (asking now b)) next.due.there
 
-turn_after : (call : Call) (k : ℕ) (b : BusState) → Begins call k b → (after_call call b).first ≡ k + 1
+pub turn_after : (call : Call) (k : ℕ) (b : BusState) → Begins call k b → (after_call call b).first ≡ k + 1
 turn_after call k b x =
     ap (λ c. (after_call c b).first) x.tick ∙ ap (λ (t : BusTicked). t.bus.first) (begun_ticked x.now k b x.free x.next)
 
-stands_after : (call : Call) (k : ℕ) (b : BusState) → Begins call k b → IsOutstandingAt k (after_call call b)
+pub stands_after : (call : Call) (k : ℕ) (b : BusState) → Begins call k b → IsOutstandingAt k (after_call call b)
 stands_after call k b x =
     let begun = (takes_turns b).sends x.now k x.free x.next in
     subst (λ c. IsOutstandingAt k (after_call c b)) (sym x.tick) (record { device = begun.device; there = begun.there; outstanding = begun.outstanding })
@@ -199,7 +199,7 @@ begun_first call k b is x n f at h =
     let one = (sound_call call b is).devices.one k n y.device f y.there at y.outstanding h in
     turn_after call k b x ∙ ap (λ m. m + 1) one
 
-first_is : (call : Call) (b : BusState) → SoundBus b → FirstIs b → FirstIs (after_call call b)
+pub first_is : (call : Call) (b : BusState) → SoundBus b → FirstIs b → FirstIs (after_call call b)
 first_is call b is first = by_who (who call b first)
   where
     by_who : Who call b → FirstIs (after_call call b)

@@ -5,3 +5,5 @@ pub mod Beginnings
 pub mod Silence
 pub mod Instances
 pub mod Orders
+pub mod Timely
+pub mod Accepted

@@ -141,16 +141,16 @@ one_before before j same = omega arith
 as_next : (n : ℕ) → n + 1 ≡ suc n
 as_next n = omega arith
 
-next_product : (n p : ℕ) → (n + 1) * p ≡ n * p + p
+pub next_product : (n p : ℕ) → (n + 1) * p ≡ n * p + p
 next_product n p = ap (λ (k : ℕ). k * p) (as_next n) ∙ suc-mul n p
 
 module _ (late end : ℕ) (c : ControllerConfig) (more : ℕ) (many : c.sends ≡ more + 1) where
   -- the longest exchange, and what comes before the next
-  abbrev x : ℕ
+  abbrev pub x : ℕ
   x = whole late more c.busy_limit c
 
   -- the outstanding exchange ends by `e`; where none is, the next begins by `e` and so late
-  abbrev Stage : ℕ → List Call → Session → Type 0
+  abbrev pub Stage : ℕ → List Call → Session → Type 0
   Stage e calls s =
       (is_outstanding s.state ≡ true → Holds late e c more (Unit {0}) is_outstanding refl calls s)
       × (is_outstanding s.state ≡ false → Due late e 0 s.greatest calls)
@@ -163,7 +163,7 @@ module _ (late end : ℕ) (c : ControllerConfig) (more : ℕ) (many : c.sends �
     pub fits : by_end + late + j * (x + late) ≤ end
     pub stage : Stage by_end calls m.session
 
-  abbrev Order : ℕ → List Call → Machine → Type 0
+  abbrev pub Order : ℕ → List Call → Machine → Type 0
   Order left calls m =
       (m.session.greatest ≤ end) × (is_under_way m.session.state ≡ true → (j : ℕ) → left ≡ suc j → Under j calls m)
 
@@ -333,7 +333,7 @@ module _ (late end : ℕ) (c : ControllerConfig) (more : ℕ) (many : c.sends �
   order_by true j call calls m is so owed u = out_step u.by_end j call calls m is u.config u.wait u.fits owed (u.stage.0 is)
   order_by false j call calls m is so owed u = idle_step u.by_end j call calls m so is u.config u.wait u.fits owed (u.stage.1 is)
 
-  orders : (left : ℕ) (calls : List Call) (m : Machine) → Waits left calls m → KeepsTime late calls m → Order left calls m
+  pub orders : (left : ℕ) (calls : List Call) (m : Machine) → Waits left calls m → KeepsTime late calls m → Order left calls m
       → (after_calls calls m).session.greatest ≤ end
   orders left [] m waits in_time order = order.0
   orders zero (call ∷ calls) m waits in_time order = absurd (let some : 1 ≤ 0 = waits.0 in omega arith)
@@ -341,7 +341,7 @@ module _ (late end : ℕ) (c : ControllerConfig) (more : ℕ) (many : c.sends �
       orders (left_after call m (suc j)) calls (after_call call m) waits.2 in_time.1
       (order_by (is_outstanding m.session.state) j call calls m refl waits.1 in_time.0 (order.1 waits.1 j refl))
 
-first_fits_order : (g w late j : ℕ) → (g + w) + late + j ≤ g + (j + (w + late))
+pub first_fits_order : (g w late j : ℕ) → (g + w) + late + j ≤ g + (j + (w + late))
 first_fits_order g w late j = omega arith
 
 begins_within : (g n : ℕ) (late j w : ℕ) → n ≤ g + w → n ≤ g + (j + (w + late))

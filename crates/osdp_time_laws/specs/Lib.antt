@@ -1,3 +1,4 @@
+pub mod Acceptance
 pub mod Bounds
 pub mod Clock
 pub mod Instances

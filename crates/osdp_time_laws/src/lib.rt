@@ -5,6 +5,7 @@
 ghost use Rattle.std.specs.Prelude.{ℕ, List};
 ghost use Rattle.osdp_controller.specs.Machine.{Machine};
 ghost use Rattle.osdp_controller_laws.specs.Runs.{Call};
+ghost use Rattle.osdp_time_laws.specs.Acceptance.{AcceptedOrdersGoOut, StaysTimely};
 ghost use Rattle.osdp_time_laws.specs.Instances.{BoundsAreReached};
 ghost use Rattle.osdp_time_laws.specs.Laws.{ExchangesEnd, OpeningsEnd, SilenceIsTold};
 ghost use Rattle.osdp_time_laws.specs.Orders.{OrdersGoOut};
@@ -35,4 +36,15 @@ pub fn bounds_are_reached()
 /// tick, once for that exchange and once for each command before it.
 pub fn orders_go_out()
     ensures { OrdersGoOut }
+{}
+
+/// Whatever is called: what a controller waits for lies no further away than its own wait, from the greatest moment that it has seen.
+pub fn controllers_wait_their_time()
+    ensures { StaysTimely }
+{}
+
+/// An order that is accepted while a session is under way has its first frame handed out within the longest exchange and a late tick, once for the
+/// exchange that may be outstanding and once for each command that waits before it, or its session has ended by then.
+pub fn accepted_orders_go_out()
+    ensures { AcceptedOrdersGoOut }
 {}

@@ -1,0 +1,158 @@
+-- What a state waits for lies no further away than its own wait.
+use Rattle.std.proofs.Common.{◌≡◌, sym, subst, ℕ, ◌+◌, ◌≤◌, Bool, true, false, List, [], ◌∷◌, Option, Some, None, refl, arith}
+use Rattle.std.specs.Prelude.{max, nat_le, nat_lt}
+use Rattle.osdp_frame.specs.Packet.{Packet, next_sequence}
+use Rattle.osdp_msg.specs.declared.command.Command.{Command}
+use Rattle.osdp_msg.specs.declared.command_fields.Communication.{Communication}
+use Rattle.osdp_msg.specs.declared.reply.Reply.{Reply}
+use Rattle.osdp_msg.specs.declared.reply_fields.PdId.{PdId}
+use Rattle.osdp_controller.specs.declared.config.ControllerConfig.{ControllerConfig}
+use Rattle.osdp_controller.specs.declared.exchange.Exchange.{Exchange}
+use Rattle.osdp_controller.specs.declared.exchange.Exchange.TheVariants.{Opening, Polling, Asking}
+use Rattle.osdp_controller.specs.declared.exchange.Outstanding.{Outstanding}
+use Rattle.osdp_controller.specs.declared.fault.ControllerFault.{ControllerFault}
+use Rattle.osdp_controller.specs.declared.meaning.ReplyMeaning.{ReplyMeaning}
+use Rattle.osdp_controller.specs.declared.meaning.ReplyMeaning.TheVariants.{NotTaken, Damaged, NumberRefused, Plain, Unreadable}
+use Rattle.osdp_controller.specs.declared.report.LostCause.TheVariants as causes
+use Rattle.osdp_controller.specs.declared.session.Session.{Session}
+use Rattle.osdp_controller.specs.declared.state.State.{State}
+use Rattle.osdp_controller.specs.declared.state.State.TheVariants.{Closed, Quiet, Idle, Waiting, Pausing}
+use Rattle.osdp_controller.specs.Answers.{meaning_of}
+use Rattle.osdp_controller.specs.Hearing.{Heard, answered, answered_unread, com_of, command_answered, comset_of, hears, hears_busy, loses, moved_by, opening_answered, pausing_hears, pd_id_of, waiting_hears}
+use Rattle.osdp_controller.specs.Machine.{Machine, after_begin, after_retarget, changed_unless, refused_unless_closed, retarget_refusal, submit_refusal}
+use Rattle.osdp_controller.specs.Private.{numbered_in}
+use Rattle.osdp_controller.specs.Sessions.{later, seen}
+use Rattle.osdp_controller.specs.Ticking.{Ticked, begins, gives_up, sends_frame, stays, ticks_in, tries_again}
+use Rattle.osdp_controller.proofs.Choices.{either_way}
+use Rattle.osdp_controller_laws.specs.Runs.{Call, Submit, Begin, Retarget, Withdraw, Tick, Hear, after_call, after_calls}
+use Rattle.osdp_controller_laws.proofs.Frames.{either_frame}
+use Rattle.osdp_controller_laws.proofs.Lasting.{submit_session}
+use Rattle.osdp_time_laws.specs.Acceptance.{IsTimely, StaysTimely, WaitsItsTime}
+use Rattle.osdp_time_laws.proofs.Phases.{later_within}
+
+-- a later moment that is seen
+no_nearer : (until greatest next wait : ℕ) → greatest ≤ next → until ≤ greatest + wait → until ≤ next + wait
+no_nearer until greatest next wait on near = omega arith
+
+timely_then : (c : ControllerConfig) (state : State) (greatest next : ℕ) → greatest ≤ next → WaitsItsTime c greatest state → WaitsItsTime c next state
+timely_then c Closed greatest next on w = tt
+timely_then c (Quiet until) greatest next on w = no_nearer until greatest next c.quiet_wait on w
+timely_then c (Idle due) greatest next on w = no_nearer due greatest next c.poll_interval on w
+timely_then c (Waiting until sends o) greatest next on w = no_nearer until greatest next c.reply_wait on w
+timely_then c (Pausing until o) greatest next on w = no_nearer until greatest next c.busy_wait on w
+
+abbrev OfSession : Session → Type 0
+OfSession s = WaitsItsTime s.config s.greatest s.state
+
+timely_seen : (s : Session) (now : ℕ) → OfSession s → OfSession (seen now s)
+timely_seen s now w = timely_then s.config s.state s.greatest (max s.greatest now) (omega arith) w
+
+-- ---- ticks
+
+abbrev TickTimely : Ticked → Type 0
+TickTimely t = OfSession t.session
+
+tick_timely : (state : State) (s : Session) (w : List Command) → OfSession s → TickTimely (ticks_in state s w)
+tick_timely Closed s w is = is
+tick_timely (Quiet until) s w is =
+    either_way TickTimely (nat_le until s.greatest) (begins Opening 0 s w) (stays s w) (λ b. later_within s.config.reply_wait s) (λ b. is)
+tick_timely (Idle due) s (command ∷ w) is = later_within s.config.reply_wait s
+tick_timely (Idle due) s [] is =
+    either_way TickTimely (nat_le due s.greatest) (begins Polling (next_sequence s.number) s []) (stays s [])
+    (λ b. later_within s.config.reply_wait s) (λ b. is)
+tick_timely (Waiting until sends o) s w is =
+    either_way TickTimely (nat_le until s.greatest) (tries_again sends o s w) (stays s w)
+    (λ b. either_way TickTimely (nat_lt sends s.config.sends) (sends_frame (sends + 1) o s w) (gives_up o s w)
+    (λ f. later_within s.config.reply_wait s) (λ f. tt))
+    (λ b. is)
+tick_timely (Pausing until o) s w is =
+    either_way TickTimely (nat_le until s.greatest) (sends_frame 1 o s w) (stays s w) (λ b. later_within s.config.reply_wait s) (λ b. is)
+
+-- ---- frames
+
+abbrev HeardTimely : Heard → Type 0
+HeardTimely h = OfSession h.session
+
+busy_timely : (o : Outstanding) (s : Session) → HeardTimely (hears_busy o s)
+busy_timely o s =
+    either_way HeardTimely (nat_lt s.config.busy_limit (o.busies + 1)) (loses causes.TooBusy o s)
+    (record { session = record s { state = Pausing (later s.config.busy_wait s) (record o { busies = o.busies + 1 }) }; report = None })
+    (λ b. tt) (λ b. later_within s.config.busy_wait s)
+
+opening_timely : (id : Option PdId) (s : Session) → OfSession s → HeardTimely (opening_answered id s)
+opening_timely None s is = is
+opening_timely (Some id) s is = later_within s.config.poll_interval s
+
+command_timely : (moved : Option Communication) (command : Command) (reply : Reply) (s : Session) → HeardTimely (command_answered moved command reply s)
+command_timely None command reply s = later_within s.config.poll_interval s
+command_timely (Some d) command reply s = tt
+
+answered_timely : (x : Exchange) (reply : Reply) (s : Session) → OfSession s → HeardTimely (answered x reply s)
+answered_timely Opening reply s is = opening_timely (pd_id_of reply) s is
+answered_timely Polling reply s is = later_within s.config.poll_interval s
+answered_timely (Asking command) reply s is = command_timely (moved_by (comset_of command) (com_of reply)) command reply s
+
+unread_timely : (x : Exchange) (code : ℕ) (s : Session) → OfSession s → HeardTimely (answered_unread x code s)
+unread_timely Opening code s is = is
+unread_timely Polling code s is = later_within s.config.poll_interval s
+unread_timely (Asking command) code s is = later_within s.config.poll_interval s
+
+waiting_timely : (a : ReplyMeaning) (sends : ℕ) (o : Outstanding) (s : Session) → OfSession s → HeardTimely (waiting_hears a sends o s)
+waiting_timely NotTaken sends o s is = busy_timely o s
+waiting_timely Damaged sends o s is = let near : s.greatest ≤ s.greatest + s.config.reply_wait = omega arith in near
+waiting_timely NumberRefused sends o s is = tt
+waiting_timely (Plain reply) sends o s is = answered_timely o.exchange reply s is
+waiting_timely (Unreadable code) sends o s is = unread_timely o.exchange code s is
+
+pausing_timely : (a : ReplyMeaning) (o : Outstanding) (s : Session) → OfSession s → HeardTimely (pausing_hears a o s)
+pausing_timely NotTaken o s is = is
+pausing_timely Damaged o s is = is
+pausing_timely NumberRefused o s is = tt
+pausing_timely (Plain reply) o s is = answered_timely o.exchange reply s is
+pausing_timely (Unreadable code) o s is = unread_timely o.exchange code s is
+
+numbered_timely : (state : State) (a : ReplyMeaning) (s : Session) → OfSession s → HeardTimely (numbered_in state a s)
+numbered_timely Closed a s is = is
+numbered_timely (Quiet until) a s is = is
+numbered_timely (Idle due) a s is = is
+numbered_timely (Waiting until sends o) a s is = waiting_timely a sends o s is
+numbered_timely (Pausing until o) a s is = pausing_timely a o s is
+
+frame_timely : (p : Packet) (now : ℕ) (s : Session) → OfSession s → HeardTimely (hears p now s)
+frame_timely p now s is =
+    either_frame HeardTimely p now s (λ from number. numbered_timely s.state (meaning_of p) (seen now s) (timely_seen s now is)) (timely_seen s now is)
+
+-- ---- the other calls
+
+begin_timely : (now : ℕ) (state : State) (m : Machine) → IsTimely m → IsTimely (changed_unless (refused_unless_closed state) m (after_begin now m))
+begin_timely now Closed m is = later_within m.session.config.quiet_wait (seen now m.session)
+begin_timely now (Quiet until) m is = is
+begin_timely now (Idle due) m is = is
+begin_timely now (Waiting until sends o) m is = is
+begin_timely now (Pausing until o) m is = is
+
+at_address : (c : ControllerConfig) (address greatest : ℕ) (state : State) → WaitsItsTime c greatest state → WaitsItsTime (record c { address = address }) greatest state
+at_address c address greatest Closed w = tt
+at_address c address greatest (Quiet until) w = w
+at_address c address greatest (Idle due) w = w
+at_address c address greatest (Waiting until sends o) w = w
+at_address c address greatest (Pausing until o) w = w
+
+retarget_timely : (f : Option ControllerFault) (address : ℕ) (m : Machine) → IsTimely m → IsTimely (changed_unless f m (after_retarget address m))
+retarget_timely None address m is = at_address m.session.config address m.session.greatest m.session.state is
+retarget_timely (Some fault) address m is = is
+
+call_timely : (call : Call) (m : Machine) → IsTimely m → IsTimely (after_call call m)
+call_timely (Submit command) m is = subst OfSession (sym (submit_session (submit_refusal command m) command m)) is
+call_timely (Begin now) m is = begin_timely now m.session.state m is
+call_timely (Retarget address) m is = retarget_timely (retarget_refusal address m) address m is
+call_timely Withdraw m is = is
+call_timely (Tick now) m is = tick_timely m.session.state (seen now m.session) m.waiting (timely_seen m.session now is)
+call_timely (Hear p now) m is = frame_timely p now m.session is
+
+calls_timely : (calls : List Call) (m : Machine) → IsTimely m → IsTimely (after_calls calls m)
+calls_timely [] m is = is
+calls_timely (call ∷ calls) m is = calls_timely calls (after_call call m) (call_timely call m is)
+
+pub stays_timely : StaysTimely
+stays_timely = record { new = λ config capacity room. tt; later = λ m calls is. calls_timely calls m is }
