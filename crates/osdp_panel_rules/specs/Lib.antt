@@ -1,0 +1,4 @@
+pub mod Saying
+pub mod Known
+pub mod Findings
+pub mod Judging
