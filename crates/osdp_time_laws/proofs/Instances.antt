@@ -18,8 +18,10 @@ use Rattle.osdp_controller.specs.States.{is_idle}
 use Rattle.osdp_controller.specs.Ticking.{Ticked, begins, sends_frame, stays, ticks_in, tries_again}
 use Rattle.osdp_controller.proofs.Choices.{either_way}
 use Rattle.osdp_controller_laws.specs.Runs.{Begin, Call, Hear, Tick, after_call}
+use Rattle.osdp_controller_laws.proofs.Well.{keeps_each}
+use Rattle.osdp_time_laws.specs.Acceptance.{IsAccepted}
 use Rattle.osdp_time_laws.specs.Clock.{IsOwed}
-use Rattle.osdp_time_laws.specs.Instances.{BoundsAreReached, ack, order_calls, two_orders, busy, dead_calls, machine_in, opening_calls, outstanding_poll, short_waits, silent_calls, slow_calls}
+use Rattle.osdp_time_laws.specs.Instances.{BoundsAreReached, ack, order_calls, one_order, two_orders, busy, dead_calls, machine_in, opening_calls, outstanding_poll, short_waits, silent_calls, slow_calls}
 use Rattle.osdp_time_laws.specs.Orders.{OrderWaits}
 use Rattle.osdp_time_laws.specs.Laws.{FallsSilent, GoesOn, IsNotBusy, IsOpening, IsSilent}
 use Rattle.osdp_time_laws.proofs.Duties.{until_of}
@@ -214,6 +216,14 @@ falls = record {
   );
 }
 
+one_id : IsMachine (record (machine_in (Idle 0) 0) { waiting = Id 0 ∷ []; capacity = 2; room = 2866 })
+one_id = record {
+  session = record { config = short_config; state = tt; opening = tt };
+  capacity = (omega arith, omega arith);
+  waiting = All-cons IsSubmitted (Id 0) [] (λ same. cc) (All-nil IsSubmitted);
+  room = omega arith;
+}
+
 abbrev order_0 : Machine
 order_0 = after_call (Tick 0) two_orders
 
@@ -271,6 +281,17 @@ order_slow = record {
   );
 }
 
+order_accepted : IsAccepted 0 (Id 0) order_calls one_order
+unfolding replies.reply_of replies.reply_fault replies.reply_at
+order_accepted = record {
+  machine = keeps_each (Tick 0) (record (machine_in (Idle 0) 0) { waiting = Id 0 ∷ []; capacity = 2; room = 2866 }) one_id;
+  timely = omega arith;
+  under_way = refl;
+  accepted = refl;
+  lasts = order_slow.lasts;
+  in_time = order_slow.in_time;
+}
+
 pub bounds_reached : BoundsAreReached
 unfolding replies.reply_of replies.reply_fault replies.reply_at
 bounds_reached = record {
@@ -285,4 +306,6 @@ bounds_reached = record {
   order = refl;
   falls = falls;
   silence = refl;
+  accepted = order_accepted;
+  acceptance = refl;
 }

@@ -8,7 +8,8 @@ use Rattle.osdp_controller.specs.declared.exchange.Exchange.TheVariants.{Polling
 use Rattle.osdp_controller.specs.declared.state.State.{State}
 use Rattle.osdp_controller.specs.declared.state.State.TheVariants.{Closed, Idle, Waiting}
 use Rattle.osdp_controller.specs.Machine.{Machine}
-use Rattle.osdp_controller_laws.specs.Runs.{Call, Begin, Hear, Tick, after_call, after_calls}
+use Rattle.osdp_controller_laws.specs.Runs.{Call, Begin, Hear, Submit, Tick, after_call, after_calls}
+use Rattle.osdp_time_laws.specs.Acceptance.{IsAccepted}
 use Rattle.osdp_time_laws.specs.Bounds.{longest_exchange, opening_time, round_time, silence_time}
 use Rattle.osdp_time_laws.specs.Orders.{OrderWaits, order_time}
 use Rattle.osdp_time_laws.specs.Laws.{FallsSilent, GoesOn, IsNotBusy, IsOpening}
@@ -62,6 +63,10 @@ two_orders = record (machine_in (Idle 0) 0) { waiting = Id 0 ∷ Id 0 ∷ []; ca
 abbrev pub order_calls : List Call
 order_calls = Tick 3 ∷ Hear busy 6 ∷ Tick 6 ∷ Tick 8 ∷ Tick 11 ∷ Hear ack 14 ∷ Tick 14 ∷ []
 
+-- the same order, accepted at the moment at which the one before it has gone out
+abbrev pub one_order : Machine
+one_order = after_call (Tick 0) (record (machine_in (Idle 0) 0) { waiting = Id 0 ∷ []; capacity = 2; room = 2866 })
+
 -- the last call comes exactly so long after the moment of the call before them
 abbrev pub LastsExactly : ℕ → Call → List Call → Machine → Type 0
 LastsExactly time call calls m = (after_calls calls (after_call call m)).session.greatest ≡ (after_call call m).session.greatest + time
@@ -79,3 +84,5 @@ pub record BoundsAreReached : Type 0 where
   pub order : LastsExactly (order_time short_waits 0 0) (Tick 0) order_calls two_orders
   pub falls : FallsSilent 1 ack 0 silent_calls (machine_in outstanding_poll 1)
   pub silence : LastsExactly (silence_time short_waits 1) (Hear ack 0) silent_calls (machine_in outstanding_poll 1)
+  pub accepted : IsAccepted 0 (Id 0) order_calls one_order
+  pub acceptance : LastsExactly (order_time short_waits 0 0) (Submit (Id 0)) order_calls one_order
