@@ -35,19 +35,18 @@ abbrev pub online_judged : Sequel → ℕ → Finding
 online_judged Next wait = online_finding wait
 online_judged _ wait = Nothing
 
--- a packet after another one, which came so many milliseconds before
-abbrev pub last_judged : Aspect → Known → Packet → Packet → ℕ → Finding
-last_judged rule.Turn k p q wait = turn_finding (sequel_of p q)
-last_judged rule.Copy k p q wait = copy_finding (sequel_of p q)
-last_judged rule.Answer k p q wait = if is_answer k.said then taken_finding (sequel_of p q) else Nothing
-last_judged rule.Wait k p q wait = if k.answered then Nothing else wait_judged k.said (sequel_of p q) q.sequence wait
-last_judged rule.Online k p q wait = if k.answered then online_judged (sequel_of p q) wait else Nothing
-last_judged aspect k p q wait =
-    if k.answered then Nothing else unanswered_judged aspect k.said p q.sequence (sequel_of p q)
+-- a packet that follows another one so, with this number, so many milliseconds later
+abbrev pub last_judged : Aspect → Known → Packet → ℕ → Sequel → ℕ → Finding
+last_judged rule.Turn k p number s wait = turn_finding s
+last_judged rule.Copy k p number s wait = copy_finding s
+last_judged rule.Answer k p number s wait = if is_answer k.said then taken_finding s else Nothing
+last_judged rule.Wait k p number s wait = if k.answered then Nothing else wait_judged k.said s number wait
+last_judged rule.Online k p number s wait = if k.answered then online_judged s wait else Nothing
+last_judged aspect k p number s wait = if k.answered then Nothing else unanswered_judged aspect k.said p number s
 
 abbrev pub after_judged : Option Packet → Aspect → Known → Packet → ℕ → Finding
 after_judged None aspect k q wait = Nothing
-after_judged (Some p) aspect k q wait = last_judged aspect k p q wait
+after_judged (Some p) aspect k q wait = last_judged aspect k p q.sequence (sequel_of p q) wait
 
 -- a packet to the device
 abbrev pub sent_judged : Aspect → Known → Packet → ℕ → Finding

@@ -70,32 +70,31 @@ fn online_judged(sequel: Sequel, wait: u64) -> Finding
     }
 }
 
-/// What a packet shows after another one, which came so many milliseconds before.
+/// What a packet shows that follows another one so, with this number, so many milliseconds later.
 fn last_judged(
     aspect: Aspect,
     known: &Known,
     last: &FrameView<'_>,
-    packet: &FrameView<'_>,
+    number: u8,
+    sequel: Sequel,
     wait: u64,
 ) -> Finding
-    ensures { result ≡ last_judged aspect known.now last.now packet.now wait }
+    ensures { result ≡ last_judged aspect known.now last.now number sequel wait }
 {
-    let follows = sequel_of(last, packet);
-    let number = packet.seq().get();
     match (aspect, known.answered) {
-        (Aspect::Turn, _) => turn_finding(follows),
-        (Aspect::Copy, _) => copy_finding(follows),
+        (Aspect::Turn, _) => turn_finding(sequel),
+        (Aspect::Copy, _) => copy_finding(sequel),
         (Aspect::Answer, _) => {
             if known.said.is_answer() {
-                taken_finding(follows)
+                taken_finding(sequel)
             } else {
                 Finding::Nothing
             }
         }
-        (Aspect::Online, true) => online_judged(follows, wait),
+        (Aspect::Online, true) => online_judged(sequel, wait),
         (Aspect::Online, false) | (_, true) => Finding::Nothing,
-        (Aspect::Wait, false) => wait_judged(known.said, follows, number, wait),
-        (_, false) => unanswered_judged(aspect, known.said, last, number, follows),
+        (Aspect::Wait, false) => wait_judged(known.said, sequel, number, wait),
+        (_, false) => unanswered_judged(aspect, known.said, last, number, sequel),
     }
 }
 
@@ -120,7 +119,11 @@ fn sent_judged(aspect: Aspect, known: &Known, packet: &FrameView<'_>, wait: u64)
             }
         }
         _ => match &known.last {
-            Some(last) => last_judged(aspect, known, &last.view(), packet, wait),
+            Some(last) => {
+                let last = last.view();
+                let sequel = sequel_of(&last, packet);
+                last_judged(aspect, known, &last, packet.seq().get(), sequel, wait)
+            }
             None => Finding::Nothing,
         },
     }
