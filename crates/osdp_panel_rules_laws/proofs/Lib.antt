@@ -1,0 +1,4 @@
+pub mod Suiting
+pub mod Fitting
+pub mod Running
+pub mod Found

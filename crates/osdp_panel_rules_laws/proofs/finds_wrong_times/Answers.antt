@@ -1,0 +1,8 @@
+use Rattle.osdp_panel_rules_laws.proofs.Found.{finds_haste, finds_lateness}
+use Rattle.osdp_panel_rules_laws.proofs.finds_wrong_times.Goals as goal
+
+pub returns-clause-haste : goal.returns-clause-haste
+returns-clause-haste c = finds_haste
+
+pub returns-clause-late : goal.returns-clause-late
+returns-clause-late c = finds_lateness

@@ -1,0 +1,99 @@
+-- What the rules of panels come to: whom they never accuse, and what they find.
+use Rattle.std.specs.Prelude.{◌≡◌, ◌≢◌, ◌<◌, ℕ, Bool, true, false, List, Some, None}
+use Rattle.osdp_controller.specs.declared.config.ControllerConfig.{ControllerConfig}
+use Rattle.osdp_frame.specs.Packet.{Packet, next_sequence}
+use Rattle.osdp_msg.specs.declared.limits.Room.{Room}
+use Rattle.osdp_panel_rules.specs.Findings.{is_order}
+use Rattle.osdp_panel_rules.specs.Judging.{judged}
+use Rattle.osdp_panel_rules.specs.declared.aspect.Aspect.{Aspect}
+use Rattle.osdp_panel_rules.specs.declared.aspect.Aspect.TheVariants as rule
+use Rattle.osdp_panel_rules.specs.declared.known.Known.{Known}
+use Rattle.osdp_panel_rules.specs.declared.said.Said.{Said}
+use Rattle.osdp_panel_rules.specs.declared.said.Said.TheVariants.{Silence, Noise, Astray, Busy, Refusal}
+use Rattle.osdp_rules.specs.Verdicts.{verdict_along}
+use Rattle.osdp_rules.specs.declared.finding.Finding.TheVariants.{Broken}
+use Rattle.osdp_rules.specs.declared.verdict.Verdict.TheVariants as verdict
+use Rattle.osdp_panel_rules_laws.specs.Runs.{AreAllowed, Move, findings, new_tested}
+
+-- two rules are judged by the clock
+abbrev pub needs_clock : Aspect → Bool
+needs_clock rule.Wait = true
+needs_clock rule.Online = true
+needs_clock _ = false
+
+-- whatever its settings, whatever is called at whatever moments, whatever the device says, and whatever is lost: our panel breaks no other rule
+abbrev pub BreaksNoRule : Type 0
+BreaksNoRule = (aspect : Aspect) → needs_clock aspect ≡ false → (address : ℕ) (config : ControllerConfig) (room : Room) (moves : List Move)
+    → AreAllowed address moves (new_tested config room)
+    → verdict_along verdict.Unclear (findings address aspect moves (new_tested config room)) ≢ verdict.Broken
+
+-- ---- what the standard leaves open
+
+-- a session begins anew at any time
+abbrev pub ZeroBreaksNothing : Type 0
+ZeroBreaksNothing = (aspect : Aspect) (address : ℕ) (k : Known) (q : Packet) (wait : ℕ) → q.reply ≡ false → q.sequence ≡ 0
+    → judged aspect address k q wait ≢ Broken
+
+-- a packet comes again, whatever was said to it: that may be lost
+abbrev pub CopyBreaksNothing : Type 0
+CopyBreaksNothing = (aspect : Aspect) (address : ℕ) (k : Known) (q : Packet) (wait : ℕ) → aspect ≢ rule.Wait → q.reply ≡ false → k.last ≡ Some q
+    → judged aspect address k q wait ≢ Broken
+
+-- the next number comes after any answer since the first copy, whatever was said since
+abbrev pub AnsweredBreaksNothing : Type 0
+AnsweredBreaksNothing = (aspect : Aspect) (address : ℕ) (k : Known) (p q : Packet) (wait : ℕ) → aspect ≢ rule.Online → q.reply ≡ false
+    → k.last ≡ Some p → k.answered ≡ true → q.sequence ≡ next_sequence p.sequence → judged aspect address k q wait ≢ Broken
+
+-- the first packet that a device hears has any number
+abbrev pub FirstBreaksNothing : Type 0
+FirstBreaksNothing = (aspect : Aspect) (address : ℕ) (k : Known) (q : Packet) (wait : ℕ) → q.reply ≡ false → k.last ≡ None
+    → judged aspect address k q wait ≢ Broken
+
+-- ---- what each rule finds
+
+-- a packet to the device after another one
+pub record Follows (address : ℕ) (k : Known) (p q : Packet) : Type 0 where
+  pub to : q.address ≡ address
+  pub asks : q.reply ≡ false
+  pub last : k.last ≡ Some p
+
+-- a number that is neither 0, nor the last, nor the next
+abbrev pub FindsOutOfTurn : Type 0
+FindsOutOfTurn = (address : ℕ) (k : Known) (p q : Packet) (wait : ℕ) → Follows address k p q → q.sequence ≢ 0 → q.sequence ≢ p.sequence
+    → q.sequence ≢ next_sequence p.sequence → judged rule.Turn address k q wait ≡ Broken
+
+-- another packet with the last number
+abbrev pub FindsAltered : Type 0
+FindsAltered = (address : ℕ) (k : Known) (p q : Packet) (wait : ℕ) → Follows address k p q → q.sequence ≢ 0 → q.sequence ≡ p.sequence
+    → q ≢ p → judged rule.Copy address k q wait ≡ Broken
+
+-- the rules that look at what was said to a packet without an answer
+abbrev pub LooksAt : Aspect → Said → Packet → Type 0
+LooksAt rule.Silence Silence p = Unit {0}
+LooksAt rule.Order Silence p = is_order p ≡ true
+LooksAt rule.Lapse Silence p = Unit {0}
+LooksAt rule.Noise Noise p = Unit {0}
+LooksAt rule.Astray Astray p = Unit {0}
+LooksAt rule.Busy Busy p = Unit {0}
+LooksAt rule.Refusal Refusal p = Unit {0}
+LooksAt _ _ p = ⊥
+
+-- the next number, but the last packet has no answer
+abbrev pub FindsUnanswered : Type 0
+FindsUnanswered = (aspect : Aspect) (address : ℕ) (k : Known) (p q : Packet) (wait : ℕ) → Follows address k p q → LooksAt aspect k.said p
+    → k.answered ≡ false → q.sequence ≡ next_sequence p.sequence → judged aspect address k q wait ≡ Broken
+
+-- a packet with the device's address and bit 7, as if the device had said it
+abbrev pub FindsReply : Type 0
+FindsReply = (address : ℕ) (k : Known) (q : Packet) (wait : ℕ) → q.address ≡ address → q.reply ≡ true
+    → judged rule.Asks address k q wait ≡ Broken
+
+-- a copy comes before 150 ms, though nothing was said
+abbrev pub FindsHaste : Type 0
+FindsHaste = (address : ℕ) (k : Known) (q : Packet) (wait : ℕ) → Follows address k q q → k.said ≡ Silence → k.answered ≡ false
+    → q.sequence ≢ 0 → wait < 150 → judged rule.Wait address k q wait ≡ Broken
+
+-- the next packet of a session comes after more than 8.5 seconds
+abbrev pub FindsLateness : Type 0
+FindsLateness = (address : ℕ) (k : Known) (p q : Packet) (wait : ℕ) → Follows address k p q → k.answered ≡ true
+    → q.sequence ≡ next_sequence p.sequence → 8500 < wait → judged rule.Online address k q wait ≡ Broken
