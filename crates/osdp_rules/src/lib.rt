@@ -15,5 +15,5 @@ pub use finding::Finding;
 pub use findings::prompt_finding;
 pub use judging::{count_judged, judged, noise_judged};
 pub use known::{Known, Turn};
-pub use packets::{has_reason, is_busy, takes_nothing};
+pub use packets::{has_reason, is_busy, same_packet, takes_nothing};
 pub use verdict::Verdict;

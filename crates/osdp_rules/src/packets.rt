@@ -71,7 +71,7 @@ pub(crate) fn same_check(check: CheckKind, other: CheckKind) -> bool
 }
 
 /// Whether two packets have the same bytes.
-pub(crate) fn same_packet(packet: &FrameView<'_>, other: &FrameView<'_>) -> bool
+pub fn same_packet(packet: &FrameView<'_>, other: &FrameView<'_>) -> bool
     ensures { result ≡ same_packet packet.now other.now }
 {
     packet.is_reply() == other.is_reply()

@@ -1,5 +1,5 @@
 -- Exchange after exchange with a reader of ours: no rule is broken.
-use Rattle.std.proofs.Common.{◌≡◌, ◌≢◌, ℕ, List, [], ◌∷◌, Option, Some, None, refl, sym, subst, ◌∙◌}
+use Rattle.std.proofs.Common.{◌≡◌, ℕ, List, [], ◌∷◌, None, refl, subst, ◌∙◌}
 use Rattle.std.specs.Prelude.{IfSome}
 use Rattle.osdp_frame.specs.Packet.{Packet}
 use Rattle.osdp_msg.specs.ReplyTable.{ReplyFits}
@@ -9,7 +9,6 @@ use Rattle.osdp_reader.specs.State.{ReaderState}
 use Rattle.osdp_reader.specs.Table.{hears, kind_of}
 use Rattle.osdp_rules.specs.Judging.{judged, sent_judged}
 use Rattle.osdp_rules.specs.Known.{after_sent, known_after}
-use Rattle.osdp_rules.specs.Verdicts.{verdict_along}
 use Rattle.osdp_rules.specs.declared.aspect.Aspect.{Aspect}
 use Rattle.osdp_rules.specs.declared.known.Known.{Known}
 use Rattle.osdp_rules.specs.declared.known.Known.TheVariants.{Gone, Unknown, Opened, Took}

@@ -1,27 +1,21 @@
 -- Another answer to a packet that comes again is found.
-use Rattle.std.proofs.Common.{◌≡◌, ◌≢◌, ◌⊎◌, ◌<◌, ℕ, Bool, true, false, cond, eqb, not, nat_lt, ◌&&◌, ◌||◌, Option, Some, None, Result, Ok, Err, refl, sym, ap, subst, inl, inr, ◌∙◌, arith}
-use Rattle.std.proofs.lemmas.Bool.{and_left, cond-false, cond-true, eq-eqb, false_from_ne_true, lt-ltb, ne_eqb, or_from}
+use Rattle.std.proofs.Common.{◌≡◌, ℕ, true, false, cond, Some, refl, sym, ap, ◌∙◌}
+use Rattle.std.proofs.lemmas.Bool.{cond-false, cond-true, eq-eqb, false_from_ne_true, ne_eqb}
 use Rattle.osdp_frame.specs.Packet.{Packet}
-use Rattle.osdp_msg.specs.declared.command.Command.{Command}
-use Rattle.osdp_msg.specs.declared.fault.MsgFault.{MsgFault}
-use Rattle.osdp_msg.specs.declared.fault.MsgFault.TheVariants.{UnknownCode, Length, Count}
-use Rattle.osdp_msg.specs.declared.reply.Reply.{Reply}
-use Rattle.osdp_rules.specs.Findings.{again_finding, block_finding, code_finding, fit_finding, fit_read, is_answer, is_fitting, kept_if, length_finding, must_have, new_finding, quiet_finding, read_finding, refusal_finding, repeat_finding, taken_finding, turned_away, wrong_finding}
-use Rattle.osdp_rules.specs.Judging.{answer_judged, judged, sent_judged, turn_judged}
+use Rattle.osdp_rules.specs.Findings.{again_finding, block_finding, quiet_finding}
+use Rattle.osdp_rules.specs.Judging.{answer_judged, sent_judged, turn_judged}
 use Rattle.osdp_rules.specs.Known.{last_number, turn_of}
-use Rattle.osdp_rules.specs.Packets.{asked, code_of, has_reason, is_busy, is_nak, is_to, same_check, same_packet, told}
+use Rattle.osdp_rules.specs.Packets.{has_reason, is_busy, is_to, same_packet}
 use Rattle.osdp_rules.specs.declared.aspect.Aspect.{Aspect}
 use Rattle.osdp_rules.specs.declared.aspect.Aspect.TheVariants as rule
-use Rattle.osdp_rules.specs.declared.finding.Finding.{Finding}
 use Rattle.osdp_rules.specs.declared.finding.Finding.TheVariants.{Nothing, Kept, Either, Broken}
 use Rattle.osdp_rules.specs.declared.known.Known.{Known}
-use Rattle.osdp_rules.specs.declared.known.Known.TheVariants.{Gone, Unknown, Opened, Took}
+use Rattle.osdp_rules.specs.declared.known.Known.TheVariants.{Took}
 use Rattle.osdp_rules.specs.declared.known.Turn.{Turn}
-use Rattle.osdp_rules.specs.declared.known.Turn.TheVariants.{New, Again, Out, NobodyKnows}
-use Rattle.osdp_rules_laws.specs.Laws.{FindsAddress, FindsAnotherAnswer, FindsBlock, FindsBusyNumber, FindsCheck, FindsHeardNoise, FindsNumber, FindsSecondAnswer, FindsTakenCode, FindsTakenLength, FindsTakenOutOfTurn, FindsTalk, FindsTurnedAway, FindsUnfit, FindsUnread, FindsUnserved, IsNewAnswer}
-use Rattle.osdp_rules_laws.proofs.Fine.{broken_kept}
+use Rattle.osdp_rules.specs.declared.known.Turn.TheVariants.{Again}
+use Rattle.osdp_rules_laws.specs.Laws.{FindsAnotherAnswer}
 use Rattle.osdp_rules_laws.proofs.Meeting.{again_last}
-use Rattle.osdp_rules_laws.proofs.Same.{is_packet, packet_is, same_kind}
+use Rattle.osdp_rules_laws.proofs.Same.{is_packet, packet_is}
 
 -- an answer to a packet without a block is judged by the turn of its number
 at_turn : (aspect : Aspect) (address : ℕ) (k : Known) (p a : Packet) (turn : Turn) → is_to address p ≡ true → p.block ≡ false

@@ -1,5 +1,5 @@
 -- What the standard leaves open breaks no rule.
-use Rattle.std.proofs.Common.{◌≡◌, ◌≢◌, ◌⊎◌, ℕ, Bool, true, false, cond, eqb, ◌&&◌, ◌||◌, Option, Some, None, Result, refl, sym, subst, inl, inr, ap, ◌∙◌}
+use Rattle.std.proofs.Common.{◌≡◌, ◌≢◌, ◌⊎◌, ℕ, true, false, cond, eqb, ◌||◌, Option, Some, Result, refl, sym, subst, inl, inr}
 use Rattle.std.proofs.lemmas.Bool.{and_left, eq-eqb, eqb-true, or_left, or_right}
 use Rattle.osdp_frame.specs.Packet.{Packet}
 use Rattle.osdp_msg.specs.declared.command.Command.{Command}
@@ -11,10 +11,9 @@ use Rattle.osdp_rules.specs.Known.{last_number, turn_of}
 use Rattle.osdp_rules.specs.Packets.{asked, code_of, has_reason, is_busy, is_nak, is_to, same_packet}
 use Rattle.osdp_rules.specs.declared.aspect.Aspect.{Aspect}
 use Rattle.osdp_rules.specs.declared.aspect.Aspect.TheVariants as rule
-use Rattle.osdp_rules.specs.declared.finding.Finding.{Finding}
 use Rattle.osdp_rules.specs.declared.finding.Finding.TheVariants.{Nothing, Kept, Either, Broken}
 use Rattle.osdp_rules.specs.declared.known.Known.{Known}
-use Rattle.osdp_rules.specs.declared.known.Known.TheVariants.{Gone, Unknown, Opened, Took}
+use Rattle.osdp_rules.specs.declared.known.Known.TheVariants.{Gone, Took}
 use Rattle.osdp_rules.specs.declared.known.Turn.{Turn}
 use Rattle.osdp_rules.specs.declared.known.Turn.TheVariants.{New, Again, Out, NobodyKnows}
 use Rattle.osdp_rules_laws.specs.Laws.{AnyRefusalIsOne, MayBeBusy}
@@ -22,7 +21,6 @@ use Rattle.osdp_rules_laws.proofs.Fine.{IsFine, fine_both, fine_false, fine_true
 use Rattle.osdp_rules_laws.proofs.Reading.{busy_fits}
 use Rattle.osdp_rules_laws.proofs.Replies.{nak_fits}
 use Rattle.osdp_rules_laws.proofs.Steps.{block_fine}
-use Rattle.osdp_msg.specs.declared.command.Command.TheVariants as command
 use Rattle.std.specs.Prelude.{Ok, Err}
 
 -- fine where the device's place is known, and elsewhere nothing is judged

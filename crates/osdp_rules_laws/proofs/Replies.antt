@@ -1,5 +1,5 @@
 -- What a reader says anew keeps the rules, whatever its handler answers.
-use Rattle.std.proofs.Common.{◌≡◌, ℕ, Bool, true, false, cond, eqb, not, ◌&&◌, nat_le, List, Option, Some, None, Result, Ok, Err, refl, sym}
+use Rattle.std.proofs.Common.{◌≡◌, ℕ, Bool, true, false, cond, eqb, not, ◌&&◌, nat_le, List, Option, Some, None, Ok, refl}
 use Rattle.std.proofs.lemmas.Bool.{and_right, false≢true}
 use Rattle.std.specs.Prelude.{slice_get}
 use Rattle.std.specs.Option.{option_map}

@@ -1,5 +1,5 @@
 -- One exchange with a reader of ours: it breaks no rule, and what is known stays so.
-use Rattle.std.proofs.Common.{◌≡◌, ◌⊎◌, ℕ, Bool, true, false, cond, eqb, not, ◌&&◌, Option, Some, None, Result, Ok, Err, refl, sym, subst, inl, inr, ap, ◌∙◌}
+use Rattle.std.proofs.Common.{◌≡◌, ◌⊎◌, ℕ, true, false, cond, eqb, not, ◌&&◌, Option, Some, None, Result, Ok, Err, refl, sym, subst, inl, inr, ap, ◌∙◌}
 use Rattle.std.proofs.lemmas.Bool.{and_right, cond_both, eqb-true, false≢true}
 use Rattle.std.specs.Prelude.{IfSome}
 use Rattle.osdp_frame.specs.Packet.{Packet}
@@ -18,19 +18,18 @@ use Rattle.osdp_reader.specs.Replies.{refused, reply_packet, unread_reason}
 use Rattle.osdp_reader.specs.State.{ReaderState}
 use Rattle.osdp_reader.specs.Table.{Outcome, answer_to, begun, command_in, event_or_answer, hears, kind_of, outcome, taken}
 use Rattle.osdp_rules.specs.Findings.{again_finding, block_finding, new_finding, quiet_finding, repeat_finding, wrong_finding}
-use Rattle.osdp_rules.specs.Judging.{answer_judged, judged, sent_judged, turn_judged}
-use Rattle.osdp_rules.specs.Known.{after_answer, after_heard, after_sent, known_after, last_number, turn_of}
+use Rattle.osdp_rules.specs.Judging.{answer_judged, sent_judged, turn_judged}
+use Rattle.osdp_rules.specs.Known.{after_answer, after_heard, after_sent, last_number, turn_of}
 use Rattle.osdp_rules.specs.Packets.{asked, has_reason, is_busy, is_comset, is_to, same_packet, takes_nothing}
 use Rattle.osdp_rules.specs.declared.aspect.Aspect.{Aspect}
 use Rattle.osdp_rules.specs.declared.aspect.Aspect.TheVariants as rule
-use Rattle.osdp_rules.specs.declared.finding.Finding.{Finding}
 use Rattle.osdp_rules.specs.declared.finding.Finding.TheVariants.{Nothing, Kept, Either, Broken}
 use Rattle.osdp_rules.specs.declared.known.Known.{Known}
 use Rattle.osdp_rules.specs.declared.known.Known.TheVariants.{Gone, Unknown, Opened, Took}
 use Rattle.osdp_rules.specs.declared.known.Turn.{Turn}
 use Rattle.osdp_rules.specs.declared.known.Turn.TheVariants.{New, Again, Out, NobodyKnows}
 use Rattle.osdp_rules_laws.proofs.Fine.{IsFine, fine_both, fine_false, fine_true}
-use Rattle.osdp_rules_laws.proofs.Meeting.{IsHere, IsNext, IsOut, Met, again_last, met, new_at_zero, new_next, out_further, unknown_above}
+use Rattle.osdp_rules_laws.proofs.Meeting.{Met, again_last, met, new_at_zero, new_next, out_further, unknown_above}
 use Rattle.osdp_rules_laws.proofs.Reading.{ReadsReplies, SuitsRead, fine_busy, fine_said, suits_plainly}
 use Rattle.osdp_rules_laws.proofs.Replies.{answer_served, answer_suits, plain_says, told_served, told_suits}
 use Rattle.osdp_rules_laws.proofs.Same.{is_packet}

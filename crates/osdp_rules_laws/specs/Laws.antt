@@ -1,18 +1,18 @@
 -- What the rules come to: whom they never accuse, and what they find.
-use Rattle.std.specs.Prelude.{◌≡◌, ◌≢◌, ◌⊎◌, ◌<◌, ℕ, Bool, true, false, List, Option, Some, None, Ok, Err, slice_index}
+use Rattle.std.specs.Prelude.{◌≡◌, ◌≢◌, ◌⊎◌, ◌↔◌, ◌<◌, ◌≤◌, ℕ, true, false, List, Some, None, Ok, Err}
 use Rattle.osdp_frame.specs.Packet.{Packet}
 use Rattle.osdp_msg.specs.declared.command.Command.{Command}
 use Rattle.osdp_msg.specs.declared.fault.MsgFault.TheVariants.{UnknownCode, Length, Count}
 use Rattle.osdp_reader.specs.declared.handler.Answer.{Answer}
 use Rattle.osdp_reader.specs.State.{ReaderState}
-use Rattle.osdp_rules.specs.Findings.{is_answer, is_fitting, must_have}
+use Rattle.osdp_rules.specs.Findings.{is_answer, is_fitting, must_have, prompt_finding}
 use Rattle.osdp_rules.specs.Judging.{count_judged, judged, noise_judged}
 use Rattle.osdp_rules.specs.Known.{last_number, turn_of}
 use Rattle.osdp_rules.specs.Packets.{asked, code_of, has_reason, is_busy, is_nak, is_to, told}
 use Rattle.osdp_rules.specs.Verdicts.{verdict_along}
 use Rattle.osdp_rules.specs.declared.aspect.Aspect.{Aspect}
 use Rattle.osdp_rules.specs.declared.aspect.Aspect.TheVariants as rule
-use Rattle.osdp_rules.specs.declared.finding.Finding.TheVariants.{Broken}
+use Rattle.osdp_rules.specs.declared.finding.Finding.TheVariants.{Kept, Broken}
 use Rattle.osdp_rules.specs.declared.known.Known.{Known}
 use Rattle.osdp_rules.specs.declared.known.Known.TheVariants.{Gone, Unknown, Took}
 use Rattle.osdp_rules.specs.declared.known.Turn.TheVariants.{New, Out}
@@ -129,3 +129,10 @@ FindsHeardNoise = (a : Packet) → is_nak a ≡ false → noise_judged rule.Deaf
 
 abbrev pub FindsSecondAnswer : Type 0
 FindsSecondAnswer = (count : ℕ) → 1 < count → count_judged rule.Single count ≡ Broken
+
+-- an answer that begins after more than 200 ms, and no other
+abbrev pub FindsLate : Type 0
+FindsLate = (delay : ℕ) → (prompt_finding delay ≡ Broken) ↔ (200 < delay)
+
+abbrev pub KeepsInTime : Type 0
+KeepsInTime = (delay : ℕ) → (prompt_finding delay ≡ Kept) ↔ (delay ≤ 200)

@@ -2,7 +2,7 @@
 //! functions do nothing: their contracts are laws.
 #![tactic(auto)]
 
-ghost use Rattle.osdp_rules_laws.specs.Laws.{AnyRefusalIsOne, BreaksNoRule, DamageBreaksNothing, FindsAddress, FindsAnotherAnswer, FindsBlock, FindsBusyNumber, FindsCheck, FindsHeardNoise, FindsNumber, FindsSecondAnswer, FindsTakenCode, FindsTakenLength, FindsTakenOutOfTurn, FindsTalk, FindsTurnedAway, FindsUnfit, FindsUnread, FindsUnserved, MayBeBusy, SilenceBreaksNothing};
+ghost use Rattle.osdp_rules_laws.specs.Laws.{AnyRefusalIsOne, BreaksNoRule, DamageBreaksNothing, FindsAddress, FindsAnotherAnswer, FindsBlock, FindsBusyNumber, FindsCheck, FindsHeardNoise, FindsLate, FindsNumber, FindsSecondAnswer, FindsTakenCode, FindsTakenLength, FindsTakenOutOfTurn, FindsTalk, FindsTurnedAway, FindsUnfit, FindsUnread, FindsUnserved, KeepsInTime, MayBeBusy, SilenceBreaksNothing};
 
 use osdp_reader::Handler;
 
@@ -61,4 +61,10 @@ pub fn finds_talk()
     ensures others { FindsTalk }
     ensures noise { FindsHeardNoise }
     ensures second { FindsSecondAnswer }
+{}
+
+/// An answer that begins after more than 200 ms breaks its rule, and each other keeps it.
+pub fn finds_late()
+    ensures late { FindsLate }
+    ensures in_time { KeepsInTime }
 {}
