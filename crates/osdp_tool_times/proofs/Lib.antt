@@ -1,0 +1,4 @@
+pub mod Numbers
+pub mod Steps
+pub mod Exchanges
+pub mod Rows

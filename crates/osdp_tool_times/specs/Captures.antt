@@ -1,0 +1,53 @@
+-- A capture of lines of digits, some of which stand below a comment with their moment.
+use Rattle.std.specs.Prelude.{ℕ, ◌==◌, if◌then◌else◌, false, List, [], ◌∷◌, replicate, Option, None, Some}
+use Rattle.osdp_frame.specs.Held.{by_itself, decided}
+use Rattle.osdp_frame.specs.Reading.{RunItem, PacketItem, SkippedItem, RefusedItem}
+use Rattle.osdp_tool_streams.specs.Line.{kept, line_bytes}
+use Rattle.osdp_tool_times.specs.Moments.{moment_in}
+use Rattle.osdp_tool_times.specs.Times.{all_after, no_times}
+use Rattle.osdp_tool_times.specs.declared.capture.Timed.{Timed}
+use Rattle.osdp_tool_times.specs.declared.table.Times.{Times}
+
+-- the moment of the next line of digits, where one is known, and what was counted of each address
+pub record Heard : Type 0 where
+  pub moment : Option ℕ
+  pub times : List Times
+
+abbrev pub nothing_heard : Heard
+nothing_heard = record { moment = None; times = replicate 128 no_times }
+
+-- a comment that tells no moment leaves the one above it
+abbrev pub moment_or : Option ℕ → Option ℕ → Option ℕ
+moment_or None moment = moment
+moment_or (Some other) moment = Some other
+
+-- a comment with a moment is that of the next line of digits, and of no other
+abbrev pub moment_after : List ℕ → Option ℕ → Option ℕ
+moment_after [] moment = moment
+moment_after (first ∷ rest) moment = if first == 35 then moment_or (moment_in rest) moment else None
+
+-- a moment is that of the packet that stands first in the line
+abbrev pub item_after : Option RunItem → Option ℕ → List Times → List Times
+item_after None moment times = times
+item_after (Some (PacketItem p)) moment times = all_after p moment times
+item_after (Some (SkippedItem b)) moment times = times
+item_after (Some (RefusedItem fault)) moment times = times
+
+abbrev pub run_after : List ℕ → Option ℕ → List Times → List Times
+run_after run moment times = item_after (by_itself (decided false run)) moment times
+
+-- a bad line says nothing
+abbrev pub bytes_after : Option (List ℕ) → Option ℕ → List Times → List Times
+bytes_after None moment times = times
+bytes_after (Some run) moment times = run_after run moment times
+
+abbrev pub after_line : Heard → List ℕ → Heard
+after_line h line = record { moment = moment_after (kept line) h.moment; times = bytes_after (line_bytes line) h.moment h.times }
+
+-- one after the other
+unfoldable pub after_lines : Heard → List (List ℕ) → Heard
+after_lines h [] = h
+after_lines h (line ∷ lines) = after_lines (after_line h line) lines
+
+abbrev pub heard_of : Timed → Heard
+heard_of t = record { moment = t.moment; times = t.times.items }

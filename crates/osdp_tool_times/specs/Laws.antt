@@ -1,0 +1,44 @@
+-- Which answers are told as late, in the words of the line: a panel that sends, and a device that answers.
+use Rattle.std.specs.Prelude.{◌≡◌, ◌≢◌, ◌≤◌, ◌-◌, ℕ, true, is_some, List, [], ◌∷◌, None}
+use Rattle.osdp_tool_times.specs.Waits.{after_reply, after_sent, no_waits, told_reply}
+use Rattle.osdp_tool_times.specs.declared.waits.LateBy.{LateBy}
+use Rattle.osdp_tool_times.specs.declared.waits.Told.{Told}
+use Rattle.osdp_tool_times.specs.declared.waits.Told.TheVariants.{InTime, Late, Nothing}
+use Rattle.osdp_tool_times.specs.declared.waits.Waits.{Waits}
+
+-- a packet of a number, sent at a moment
+abbrev pub sent : ℕ → ℕ → Waits → Waits
+sent number moment w = after_sent (record { moment = moment; number = number }) w
+
+-- a packet that is answered before the panel sends its next one
+pub record Exchange : Type 0 where
+  pub number : ℕ
+  pub asked : ℕ
+  pub answered : ℕ
+  pub in_turn : asked ≤ answered
+
+-- after such exchanges, one after the other
+unfoldable pub after_exchanges : Waits → List Exchange → Waits
+after_exchanges w [] = w
+after_exchanges w (e ∷ exchanges) = after_exchanges (after_reply e.number e.answered (sent e.number e.asked w)) exchanges
+
+-- A device that answers each packet before the panel sends its next one is never told late: each answer is told with the time from the packet to it.
+abbrev pub NeverTellsLate : Type 0
+NeverTellsLate = (exchanges : List Exchange) (e : Exchange)
+    → told_reply (sent e.number e.asked (after_exchanges no_waits exchanges)) e.number e.answered ≡ InTime (e.answered - e.asked)
+
+-- A device that answers after the panel has sent another packet with the next number is told late: the time that it took, and the panel's wait.
+abbrev pub TellsLate : Type 0
+TellsLate = (exchanges : List Exchange) (number next asked later answered : ℕ) → next ≢ number → asked ≤ later → later ≤ answered
+    → told_reply (sent next later (sent number asked (after_exchanges no_waits exchanges))) number answered
+    ≡ Late (record { took = answered - asked; waited = later - asked })
+
+-- A device that answers after the panel has sent its packet once more, and then that copy, is told late by its second answer.
+abbrev pub TellsLateCopies : Type 0
+TellsLateCopies = (exchanges : List Exchange) (number asked again answered last : ℕ) → asked ≤ again → again ≤ answered
+    → told_reply (after_reply number answered (sent number again (sent number asked (after_exchanges no_waits exchanges)))) number last
+    ≡ Late (record { took = answered - asked; waited = again - asked })
+
+-- whatever is told late took no less than the panel had waited
+abbrev pub LateIsLonger : Type 0
+LateIsLonger = (w : Waits) (number moment : ℕ) (by : LateBy) → told_reply w number moment ≡ Late by → by.waited ≤ by.took

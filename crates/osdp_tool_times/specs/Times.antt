@@ -1,0 +1,75 @@
+-- What is counted of the answers of a device.
+use Rattle.std.specs.Prelude.{ℕ, ◌+◌, ◌-◌, ◌*◌, ◌/◌, ◌^◌, ◌==◌, ◌||◌, nat_le, nat_lt, if◌then◌else◌, List, [], ◌∷◌, replicate, slice_index_or, slice_set, Option, None, Some}
+use Rattle.osdp_frame.specs.Packet.{Packet}
+use Rattle.osdp_tool_times.specs.Waits.{after_reply, after_sent, no_waits, told_reply}
+use Rattle.osdp_tool_times.specs.declared.table.Times.{Times}
+use Rattle.osdp_tool_times.specs.declared.waits.LateBy.{LateBy}
+use Rattle.osdp_tool_times.specs.declared.waits.Told.{Told}
+use Rattle.osdp_tool_times.specs.declared.waits.Told.TheVariants.{InTime, Late, Nothing}
+use Rattle.osdp_tool_times.specs.declared.waits.Waits.{Waits}
+
+-- one more; a count stays at the greatest number of 64 bits
+abbrev pub one_more : ℕ → ℕ
+one_more count = if nat_lt count (2 ^ 64 - 1) then count + 1 else count
+
+abbrev pub lesser : ℕ → ℕ → ℕ
+lesser a b = if nat_le a b then a else b
+
+abbrev pub greater : ℕ → ℕ → ℕ
+greater a b = if nat_le a b then b else a
+
+-- answer times are counted by steps of 5 milliseconds, 64 of them; the last one has all that take longer
+abbrev pub step_of : ℕ → ℕ
+step_of time = lesser (time / 5) 63
+
+abbrev pub no_times : Times
+no_times = record { answers = 0; least = 0; most = 0; late = 0; took = 0; waited = 0; steps = replicate 64 0; waits = no_waits }
+
+abbrev pub after_in_time : ℕ → Times → Times
+after_in_time time t = record t {
+  answers = one_more t.answers;
+  least = if t.answers == 0 then time else lesser time t.least;
+  most = greater time t.most;
+  steps = slice_set t.steps (step_of time) (one_more (slice_index_or t.steps (step_of time) 0));
+}
+
+-- of late answers, the one that took longest is told
+abbrev pub after_late : LateBy → Times → Times
+after_late by t = record t {
+  late = one_more t.late;
+  took = if nat_lt t.took by.took then by.took else t.took;
+  waited = if nat_lt t.took by.took then by.waited else t.waited;
+}
+
+abbrev pub after_told : Told → Times → Times
+after_told Nothing t = t
+after_told (InTime time) t = after_in_time time t
+after_told (Late by) t = after_late by t
+
+-- a packet without a moment leaves nothing open
+abbrev pub after_packet : Packet → Option ℕ → Times → Times
+after_packet p None t = record t { waits = no_waits }
+after_packet p (Some moment) t =
+    if p.reply then record (after_told (told_reply t.waits p.sequence moment) t) { waits = after_reply p.sequence moment t.waits }
+    else record t { waits = after_sent (record { moment = moment; number = p.sequence }) t.waits }
+
+-- those of each address, from 0 on
+abbrev pub all_after : Packet → Option ℕ → List Times → List Times
+all_after p moment times = slice_set times p.address (after_packet p moment (slice_index_or times p.address no_times))
+
+-- ---- how many answers took no longer
+
+-- the step in which the answer of this rank stands, the fastest being of rank 1
+unfoldable pub step_at : ℕ → List ℕ → ℕ
+step_at rank [] = 0
+step_at rank (count ∷ counts) = if nat_le rank count then 0 else step_at (rank - count) counts + 1
+
+-- half of the answers, and 95 of 100, took less than so many milliseconds; what takes longer than the steps reach is told by the slowest
+abbrev pub below : ℕ → Times → ℕ
+below rank t = if nat_le 63 (step_at rank t.steps) then one_more t.most else 5 * (step_at rank t.steps + 1)
+
+abbrev pub half_below : Times → ℕ
+half_below t = below (t.answers - t.answers / 2) t
+
+abbrev pub most_below : Times → ℕ
+most_below t = below (t.answers - t.answers / 20) t

@@ -1,0 +1,23 @@
+//! What is told as late, in the words of the line. A law has no code: it holds for all values, and its proof is the law's.
+
+ghost use Rattle.osdp_tool_times.specs.Laws.{LateIsLonger, NeverTellsLate, TellsLate, TellsLateCopies};
+
+/// A device that answers each packet before the panel sends its next one is never told late.
+pub fn never_tells_late()
+    ensures { NeverTellsLate }
+{}
+
+/// A device that answers a packet after the panel has sent another is told late, with its time and the panel's wait.
+pub fn tells_late()
+    ensures { TellsLate }
+{}
+
+/// A device that answers after the panel has sent its packet once more is told late by its second answer.
+pub fn tells_late_copies()
+    ensures { TellsLateCopies }
+{}
+
+/// Whatever is told late took no less than the panel had waited.
+pub fn late_is_longer()
+    ensures { LateIsLonger }
+{}

@@ -1,0 +1,11 @@
+//! How long the devices of a line take to answer, by the moments that the comments of a capture tell.
+#![tactic(auto)]
+
+mod capture;
+pub mod laws;
+mod moment;
+mod table;
+mod text;
+mod waits;
+
+pub use capture::Timed;

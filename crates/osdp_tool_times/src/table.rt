@@ -1,0 +1,172 @@
+//! What is counted of the answers of a device.
+
+ghost use Rattle.std.specs.Prelude.{◌≡◌, ◌<◌, ◌≤◌, length};
+ghost use Rattle.osdp_tool_times.specs.Times.{after_in_time, after_late, after_packet, after_told, below, greater, half_below, lesser, most_below, no_times, one_more, step_at, step_of};
+
+use crate::waits::{LateBy, Sent, Told, Waits};
+use osdp_frame::FrameView;
+
+/// So many steps there are.
+const STEPS: usize = 64;
+
+/// What is counted of the answers of a device. A count stays at the greatest number of 64 bits.
+#[derive(Clone, Copy, Debug, PartialEq, Eq)]
+pub struct Times {
+    /// Answers that came within the panel's wait.
+    pub answers: u64,
+    /// The least of their times, in milliseconds.
+    pub least: u64,
+    /// The greatest.
+    pub most: u64,
+    /// Answers that came late.
+    pub late: u64,
+    /// The greatest of their times, in milliseconds.
+    pub took: u64,
+    /// How long the panel had waited then, in milliseconds.
+    pub waited: u64,
+    /// How many answers took 0 to 4 milliseconds, 5 to 9 and so on; the last has all that took longer.
+    pub steps: [u64; 64],
+    /// What is open.
+    pub waits: Waits,
+}
+
+/// One more.
+fn one_more(count: u64) -> u64
+    ensures { result ≡ one_more count }
+{
+    if count < u64::MAX { count + 1 } else { count }
+}
+
+/// The lesser one.
+fn lesser(a: u64, b: u64) -> u64
+    ensures { result ≡ lesser a b }
+{
+    if a <= b { a } else { b }
+}
+
+/// The greater one.
+fn greater(a: u64, b: u64) -> u64
+    ensures { result ≡ greater a b }
+{
+    if a <= b { b } else { a }
+}
+
+/// The step that an answer time stands in.
+fn step_of(time: u64) -> usize
+    ensures value { result ≡ step_of time }
+    ensures within { result < 64 }
+{
+    lesser(time / 5, 63) as usize
+}
+
+/// The step in which the answer of this rank stands.
+fn step_at(rank: u64, counts: &[u64]) -> usize
+    ensures value { result ≡ step_at rank counts.now }
+    ensures within { result ≤ length counts.now }
+{
+    let mut left = rank;
+    let mut step = 0;
+    'steps: while step < counts.len() {
+        if left <= counts[step] {
+            return step;
+        }
+        left -= counts[step];
+        step += 1;
+    }
+    step
+}
+
+impl Times {
+    /// Nothing came.
+    pub const NONE: Times = Times {
+        answers: 0,
+        least: 0,
+        most: 0,
+        late: 0,
+        took: 0,
+        waited: 0,
+        steps: [0; STEPS],
+        waits: Waits::NONE,
+    };
+
+    /// An answer took so long.
+    fn count_in_time(&mut self, time: u64)
+        ensures { self.new ≡ after_in_time time self.old }
+    {
+        self.least = if self.answers == 0 {
+            time
+        } else {
+            lesser(time, self.least)
+        };
+        self.most = greater(time, self.most);
+        self.answers = one_more(self.answers);
+        let step = step_of(time);
+        self.steps[step] = one_more(self.steps[step]);
+    }
+
+    /// An answer was late by so much.
+    fn count_late(&mut self, by: LateBy)
+        ensures { self.new ≡ after_late by self.old }
+    {
+        self.late = one_more(self.late);
+        if self.took < by.took {
+            self.took = by.took;
+            self.waited = by.waited;
+        }
+    }
+
+    /// What a reply tells is counted.
+    fn count(&mut self, told: Told)
+        ensures { self.new ≡ after_told told self.old }
+    {
+        match told {
+            Told::Nothing => {}
+            Told::InTime(time) => self.count_in_time(time),
+            Told::Late(by) => self.count_late(by),
+        }
+    }
+
+    /// A packet to the device or from it came at this moment, where it is known.
+    pub fn take(&mut self, packet: &FrameView<'_>, moment: Option<u64>)
+        ensures { self.new ≡ after_packet packet.now moment self.old }
+    {
+        let Some(moment) = moment else {
+            self.waits = Waits::NONE;
+            return;
+        };
+        let number = packet.seq().get();
+        let waits = self.waits;
+        if packet.is_reply() {
+            self.count(waits.told_reply(number, moment));
+            self.waits = waits.after_reply(number, moment);
+        } else {
+            self.waits = waits.after_sent(Sent { moment, number });
+        }
+    }
+
+    /// All answers up to this rank, the fastest being of rank 1, took less than so many milliseconds.
+    fn below(&self, rank: u64) -> u64
+        ensures { result ≡ below rank self.now }
+    {
+        let step = step_at(rank, &self.steps);
+        if step >= 63 {
+            one_more(self.most)
+        } else {
+            5 * (step as u64 + 1)
+        }
+    }
+
+    /// Half of the answers took less than so many milliseconds.
+    pub fn half_below(&self) -> u64
+        ensures { result ≡ half_below self.now }
+    {
+        self.below(self.answers - self.answers / 2)
+    }
+
+    /// 95 of 100 answers took less than so many milliseconds.
+    pub fn most_below(&self) -> u64
+        ensures { result ≡ most_below self.now }
+    {
+        self.below(self.answers - self.answers / 20)
+    }
+}
