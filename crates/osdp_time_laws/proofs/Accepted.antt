@@ -39,7 +39,7 @@ one_busy left limit cost less =
     subst (λ (n : ℕ). n ≤ limit * cost) (suc-mul left cost) (mul-le (suc left) cost limit cost (omega arith) (omega arith))
 
 -- what is left of an outstanding exchange
-phase_now : (late more : ℕ) (calls : List Call) (c : ControllerConfig) (g : ℕ) (state : State) → IsState c state → WaitsItsTime c g state
+pub phase_now : (late more : ℕ) (calls : List Call) (c : ControllerConfig) (g : ℕ) (state : State) → IsState c state → WaitsItsTime c g state
     → is_outstanding state ≡ true → c.sends ≡ more + 1 → Phase late (g + whole late more c.busy_limit c) c more (Unit {0}) calls state g
 phase_now late more calls c g Closed is near out many = cc
 phase_now late more calls c g (Quiet until) is near out many = cc

@@ -30,7 +30,7 @@ use Rattle.osdp_time_laws.proofs.Ends.{begun_not, moved_not, step, tick_at_momen
 use Rattle.osdp_time_laws.proofs.Phases.{Holds}
 use Rattle.osdp_time_laws.proofs.Silence.{frame_rests}
 
-lives : (state : State) → is_under_way state ≡ true → is_closed state ≡ false
+pub lives : (state : State) → is_under_way state ≡ true → is_closed state ≡ false
 lives Closed so = cc
 lives (Quiet until) so = refl
 lives (Idle due) so = refl
@@ -48,7 +48,7 @@ not_idle (Idle due) out = cc
 not_idle (Waiting until sends o) out = refl
 not_idle (Pausing until o) out = refl
 
-at_rest : (state : State) → is_under_way state ≡ true → is_outstanding state ≡ false → is_idle state ≡ true
+pub at_rest : (state : State) → is_under_way state ≡ true → is_outstanding state ≡ false → is_idle state ≡ true
 at_rest Closed so none = cc
 at_rest (Quiet until) so none = cc
 at_rest (Idle due) so none = refl
@@ -123,7 +123,7 @@ rests_config (Tick now) m out idle = tick_config m.session.state (seen now m.ses
 rests_config (Hear p now) m out idle = (frame_rests p now m.session out idle).0
 
 -- where nothing is outstanding and a command waits a tick does something at any moment
-due_idle : (state : State) (s : Session) (w : List Command) → is_idle state ≡ true → 1 ≤ length w → acts (ticks_in state s w).step ≡ true
+pub due_idle : (state : State) (s : Session) (w : List Command) → is_idle state ≡ true → 1 ≤ length w → acts (ticks_in state s w).step ≡ true
 due_idle Closed s w idle some = cc
 due_idle (Quiet until) s w idle some = cc
 due_idle (Idle due) s (command ∷ w) idle some = refl

@@ -34,7 +34,7 @@ use Rattle.osdp_time_laws.proofs.Phases.{later_within}
 no_nearer : (until greatest next wait : ℕ) → greatest ≤ next → until ≤ greatest + wait → until ≤ next + wait
 no_nearer until greatest next wait on near = omega arith
 
-timely_then : (c : ControllerConfig) (state : State) (greatest next : ℕ) → greatest ≤ next → WaitsItsTime c greatest state → WaitsItsTime c next state
+pub timely_then : (c : ControllerConfig) (state : State) (greatest next : ℕ) → greatest ≤ next → WaitsItsTime c greatest state → WaitsItsTime c next state
 timely_then c Closed greatest next on w = tt
 timely_then c (Quiet until) greatest next on w = no_nearer until greatest next c.quiet_wait on w
 timely_then c (Idle due) greatest next on w = no_nearer due greatest next c.poll_interval on w

@@ -1,0 +1,320 @@
+-- An order in time: a turn for each exchange of its own entry that comes before it.
+use Rattle.std.proofs.Common.{◌≡◌, ◌∙◌, ap, sym, subst, inl, inr, ℕ, zero, suc, ◌+◌, ◌*◌, ◌≤◌, Bool, true, false, max, List, [], ◌∷◌, length, Option, Some, None, refl, arith}
+use Rattle.std.specs.Prelude.{◌⊎◌, if◌then◌else◌, drop, nat_eq, slice_set}
+use Rattle.std.specs.Option.{option_map_or}
+use Rattle.std.proofs.Math.Nat.{suc-mul}
+use Rattle.std.proofs.lemmas.Bool.{eqb-true, eqb-false}
+use Rattle.std.proofs.lemmas.List.{length-append}
+use Rattle.osdp_msg.specs.declared.command.Command.{Command}
+use Rattle.osdp_controller.specs.declared.session.Session.{Session}
+use Rattle.osdp_controller.specs.declared.state.State.{State}
+use Rattle.osdp_controller.specs.declared.state.State.TheVariants.{Closed, Quiet, Idle, Waiting, Pausing}
+use Rattle.osdp_controller.specs.Machine.{is_outstanding}
+use Rattle.osdp_controller.specs.States.{is_closed, is_idle}
+use Rattle.osdp_controller.specs.Ticking.{ticks}
+use Rattle.osdp_controller_laws.proofs.Ticks.{takes_front}
+use Rattle.osdp_time_laws.proofs.Orders.{at_rest, lives, next_product}
+use Rattle.osdp_bus.specs.declared.device.Device.{Device}
+use Rattle.osdp_bus.specs.Buses.{BusState, device_of, has_report}
+use Rattle.osdp_bus.specs.Devices.{device_ticks, holds}
+use Rattle.osdp_bus.specs.Machine.{after_submit_at, changed_unless, device_submits, device_withdraws, submit_refusal_at}
+use Rattle.osdp_bus.specs.Ticking.{BusTicked, bus_ticks, ticks_with}
+use Rattle.osdp_bus_laws.specs.Calls.{Call, Submit, Tick, after_call}
+use Rattle.osdp_bus_laws.specs.Exchanges.{IsOutstandingAt}
+use Rattle.osdp_bus_laws.specs.Fairness.{Begins}
+use Rattle.osdp_bus_laws.specs.Turns.{asking}
+use Rattle.osdp_bus_laws.proofs.Exchanging.{has_one_exchange}
+use Rattle.osdp_bus_laws.proofs.Fairness.{begun_ticked, stands_after}
+use Rattle.osdp_bus_laws.proofs.Moments.{moments_are_seen}
+use Rattle.osdp_bus_laws.proofs.Turning.{set_here}
+use Rattle.osdp_bus_time_laws.specs.Clock.{KeepsTime, ends_duty}
+use Rattle.osdp_bus_time_laws.specs.Laws.{GoesOutBy, IsUnderWay, OrdersGoOut}
+use Rattle.osdp_bus_time_laws.specs.Turns.{BeginsBy, EndsBy, HasFew, NoneBegins, TurnsTake, others_of, turns_of}
+use Rattle.osdp_bus_time_laws.proofs.Devices.{Well, well_call}
+use Rattle.osdp_bus_time_laws.proofs.Places.{AtPlace, Outcome, asking_place, call_place, one_device, tick_place}
+use Rattle.osdp_bus_time_laws.proofs.Sums.{all_turns}
+use Rattle.osdp_bus_time_laws.proofs.Turning.{decide, ends_later, has_its_turn, held_before, is_there, tick_of}
+
+-- ---- how many commands wait
+
+abbrev Waits : ℕ → Device → Type 0
+Waits least d = least ≤ length d.controller.waiting
+
+waits_submitted : (least : ℕ) (command : Command) (d : Device) → Waits least d → Waits least (device_submits command d)
+waits_submitted least command d some = let both = length-append d.controller.waiting (command ∷ []) in omega arith
+
+waits_withdrawn : (least : ℕ) (d : Device) → Waits least d → is_closed d.controller.session.state ≡ false → Waits least (device_withdraws d)
+waits_withdrawn least d some stands =
+    subst (λ t. least ≤ length (if t then drop 1 d.controller.waiting else d.controller.waiting)) (sym stands) some
+
+not_idle : (state : State) → is_outstanding state ≡ true → is_idle state ≡ false
+not_idle Closed out = cc
+not_idle (Quiet until) out = cc
+not_idle (Idle due) out = cc
+not_idle (Waiting until sends o) out = refl
+not_idle (Pausing until o) out = refl
+
+-- an exchange that goes on takes none
+waits_ticked : (least g : ℕ) (d : Device) → holds d ≡ true → Waits least d → Waits least (device_ticks g d)
+waits_ticked least g d stands some =
+    let stay = (takes_front g d.controller.session d.controller.waiting).stay (not_idle d.controller.session.state stands) in
+    subst (λ (w : List Command). least ≤ length w) (sym stay) some
+
+module _ (least own : ℕ) (call : Call) (b : BusState) (well : Well b) (stands : (d : Device) → device_of own b ≡ Some d → is_closed d.controller.session.state ≡ false)
+    (place : AtPlace own (Waits least) b.devices) (not : Begins call own b → ⊥) where
+  abbrev g_then : ℕ
+  g_then = (after_call call b).greatest
+
+  wait_outcome : (now : ℕ) → call ≡ Tick now → Outcome g_then (Waits least) (λ p d some. some) own now b (bus_ticks now b)
+      → AtPlace own (Waits least) (bus_ticks now b).bus.devices
+  wait_outcome now is (inl (k, begun, others)) = by_same (nat_eq k own) refl
+    where
+      by_same : (t : Bool) → nat_eq k own ≡ t → AtPlace own (Waits least) (bus_ticks now b).bus.devices
+      by_same true same =
+          absurd (not (subst (λ c. Begins c own b) (sym is) (subst (λ n. Begins (Tick now) n b) (eqb-true k own same) begun)))
+      by_same false other = others (eqb-false k own other)
+  wait_outcome now is (inr (inl (f, at, (some, never)))) = (f, at, some)
+  wait_outcome now is (inr (inr (f, some, so, due, at))) = (device_ticks g_then f, at, waits_ticked least g_then f so some)
+
+  wait_tick : (now : ℕ) → call ≡ Tick now → has_report b ≡ false → AtPlace own (Waits least) (after_call call b).devices
+  wait_tick now is none =
+      subst (λ c. AtPlace own (Waits least) (after_call c b).devices) (sym is)
+      (wait_outcome now is
+      (tick_place g_then (Waits least) (λ p d some. some) own now b well.sound none
+      (sym ((moments_are_seen b).brought (Tick now) now refl) ∙ ap (λ t. (after_call t b).greatest) (sym is)) place))
+
+  wait_by : (t : Bool) → ends_duty call b ≡ t → AtPlace own (Waits least) (after_call call b).devices
+  wait_by false other =
+      call_place g_then (Waits least) (λ p d some. some) own (waits_submitted least) (waits_withdrawn least) call b other refl stands place
+  wait_by true ends = let tick = tick_of call b ends in wait_tick tick.0 tick.1 tick.2
+
+  still_wait : AtPlace own (Waits least) (after_call call b).devices
+  still_wait = wait_by (ends_duty call b) refl
+
+-- an exchange that begins takes one at the most
+ticks_take : (least now : ℕ) (s : Session) (w : List Command) → least + 1 ≤ length w → least ≤ length (ticks now s w).waiting
+ticks_take least now s w some = by_idle (is_idle s.state) refl w some
+  where
+    by_idle : (t : Bool) → is_idle s.state ≡ t → (w : List Command) → least + 1 ≤ length w → least ≤ length (ticks now s w).waiting
+    by_idle false other w some =
+        subst (λ (l : List Command). least ≤ length l) (sym ((takes_front now s w).stay other)) (omega arith)
+    by_idle true idle [] some = absurd (omega arith)
+    by_idle true idle (command ∷ rest) some =
+        subst (λ (l : List Command). least ≤ length l) (sym ((takes_front now s (command ∷ rest)).front command rest idle refl).1) (omega arith)
+
+begun_waits : (least own : ℕ) (call : Call) (b : BusState) → AtPlace own (Waits (least + 1)) b.devices → Begins call own b
+    → AtPlace own (Waits least) (after_call call b).devices
+begun_waits least own call b place begun =
+    let r = asking begun.now b in
+    let d = begun.next.due.device in
+    let asked = asking_place (max b.greatest begun.now) (Waits (least + 1)) (λ p d some. some) own begun.now b refl place in
+    let one = one_device (device_of own r) asked.0 d asked.1 begun.next.due.there in
+    let some : least + 1 ≤ length d.controller.waiting = subst (Waits (least + 1)) one asked.2 in
+    let after : after_call call b ≡ (ticks_with own (Some d) r).bus =
+    ap (λ t. after_call t b) begun.tick ∙ ap (λ (t : BusTicked). t.bus) (begun_ticked begun.now own b begun.free begun.next) in (
+      device_ticks r.greatest d,
+      ap (device_of own) after ∙ set_here r.devices.entries own d (device_ticks r.greatest d) begun.next.due.there,
+      ticks_take least r.greatest d.controller.session d.controller.waiting some,
+    )
+
+-- ---- from one call to the next
+
+-- arithmetic on moments alone
+begun_fits : (g time late others turns more limit bound : ℕ) → others + (time + late) ≡ turns → g ≤ bound → bound + (more + turns) ≤ limit
+    → (g + time) + late + others + more ≤ limit
+begun_fits g time late others turns more limit bound all near fits = omega arith
+
+module _ (late : ℕ) (time : ℕ → ℕ) (n own limit : ℕ) where
+  abbrev others : ℕ
+  others = others_of time late n own
+
+  abbrev turns : ℕ
+  turns = turns_of time late n
+
+  -- the exchange of the entry that is outstanding ends by a moment, or another begins by one
+  pub record Way (before : ℕ) (calls : List Call) (b : BusState) (d : Device) : Type 0 where
+    pub waits : AtPlace own (Waits (before + 1)) b.devices
+    pub out : holds d ≡ true → (e : ℕ) × EndsBy e calls b × (e + late + others_of time late n own + before * turns_of time late n ≤ limit)
+    pub idle : holds d ≡ false → (m : ℕ) × BeginsBy m own calls b × (m + before * turns_of time late n ≤ limit)
+
+  abbrev Ways : ℕ → List Call → BusState → Type 0
+  Ways before calls b = (way : IsUnderWay own b) → Way before calls b way.device
+
+  module _ (call : Call) (calls : List Call) (b : BusState) (well : Well b) (turns_take : TurnsTake time (call ∷ calls) b) (few : HasFew n (call ∷ calls) b)
+      (under : IsUnderWay own b) where
+    abbrev g : ℕ
+    g = (after_call call b).greatest
+
+    abbrev d : Device
+    d = under.device
+
+    -- the next moment
+    near_by : (before : ℕ) → Way before (call ∷ calls) b under.device → (t : Bool) → holds under.device ≡ t
+        → (bound : ℕ) × ((after_call call b).greatest ≤ bound) × (bound + before * turns_of time late n ≤ limit)
+    near_by before way true stands =
+        let out = way.out stands in
+        let fits : out.0 + late + others + before * turns ≤ limit = out.2 in
+        (out.0, (out.1 own (record { device = d; there = under.there; outstanding = stands })).0, omega arith)
+    near_by before way false none = let idle = way.idle none in (idle.0, idle.1.0, idle.2)
+
+    near : (before : ℕ) → Way before (call ∷ calls) b under.device
+        → (bound : ℕ) × ((after_call call b).greatest ≤ bound) × (bound + before * turns_of time late n ≤ limit)
+    near before way = near_by before way (holds under.device) refl
+
+    near_limit : (before : ℕ) → Way before (call ∷ calls) b under.device → g ≤ limit
+    near_limit before way =
+        let bound = near before way in
+        let fits : bound.0 + before * turns ≤ limit = bound.2 in
+        let soon : g ≤ bound.0 = bound.1 in
+        omega arith
+
+    -- an exchange of the entry begins
+    ways_begun : (before : ℕ) → Way (suc before) (call ∷ calls) b under.device → Begins call own b → Ways before calls (after_call call b)
+    ways_begun before way begun next =
+        let bound = near (suc before) way in
+        let out = stands_after call own b begun in
+        let one = one_device (device_of own (after_call call b)) out.device next.device out.there next.there in
+        let stands : holds next.device ≡ true = ap holds (sym one) ∙ out.outstanding in
+        let there = is_there n own d (call ∷ calls) b few under.there in
+        record {
+          waits = begun_waits (before + 1) own call b (subst (λ (k : ℕ). AtPlace own (Waits k) b.devices) (let same : suc before + 1 ≡ (before + 1) + 1 = omega arith in same) way.waits) begun;
+          out = λ so. (
+            g + time own,
+            turns_take.0 own begun,
+            begun_fits g (time own) late others turns (before * turns) limit bound.0 (all_turns time late n own there) bound.1
+                (subst (λ (k : ℕ). bound.0 + k ≤ limit) (suc-mul before turns) bound.2),
+          );
+          idle = λ none. absurd (let yes = stands in cc);
+        }
+
+    -- none of the entry begins
+    module _ (before : ℕ) (way : Way before (call ∷ calls) b under.device) (not : Begins call own b → ⊥) (in_time : KeepsTime late calls (after_call call b))
+        (few_then : HasFew n calls (after_call call b)) (next : IsUnderWay own (after_call call b)) where
+      waits_then : AtPlace own (Waits (before + 1)) (after_call call b).devices
+      waits_then =
+          still_wait (before + 1) own call b well
+          (λ f here. let one = one_device (device_of own b) under.device f under.there here in
+          subst (λ (k : Device). is_closed k.controller.session.state ≡ false) one (lives under.device.controller.session.state under.under_way))
+          way.waits not
+
+      out_by : holds next.device ≡ true → ((k : ℕ) × Begins call k b) ⊎ NoneBegins call b
+          → (e : ℕ) × EndsBy e calls (after_call call b) × (e + late + others_of time late n own + before * turns_of time late n ≤ limit)
+      out_by stands (inl (k, begun)) =
+          let one = (has_one_exchange (after_call call b) (well_call call b well).sound).one k own (stands_after call k b begun)
+          (record { device = next.device; there = next.there; outstanding = stands }) in
+          absurd (not (subst (λ m. Begins call m b) one begun))
+      out_by stands (inr none) =
+          let before_it = held_before call b well none own (record { device = next.device; there = next.there; outstanding = stands }) in
+          let one = one_device (device_of own b) before_it.device under.device before_it.there under.there in
+          let out = way.out (ap holds (sym one) ∙ before_it.outstanding) in
+          (out.0, (out.1 own before_it).1 none, out.2)
+
+      ends_then : (e : ℕ) → g ≤ e → holds under.device ≡ true → holds next.device ≡ false → ((k : ℕ) × Begins call k b) ⊎ NoneBegins call b
+          → (k : ℕ) → IsOutstandingAt k (after_call call b) → EndsBy (e + time k) calls (after_call call b)
+      ends_then e soon stands none (inl (j, begun)) k out =
+          let one = (has_one_exchange (after_call call b) (well_call call b well).sound).one j k (stands_after call j b begun) out in
+          subst (λ m. EndsBy (e + time m) calls (after_call call b)) one
+          (ends_later (g + time j) (e + time j) calls (after_call call b) (omega arith) (turns_take.0 j begun))
+      ends_then e soon stands none (inr nobody) k out =
+          let before_it = held_before call b well nobody k out in
+          let same = (has_one_exchange b well.sound).one k own before_it (record { device = under.device; there = under.there; outstanding = stands }) in
+          let one = one_device (device_of own (after_call call b)) out.device next.device (ap (λ m. device_of m (after_call call b)) (sym same) ∙ out.there) next.there in
+          absurd (let holding = ap holds (sym one) ∙ out.outstanding in cc)
+
+      idle_by : holds next.device ≡ false → (t : Bool) → holds under.device ≡ t
+          → (m : ℕ) × BeginsBy m own calls (after_call call b) × (m + before * turns_of time late n ≤ limit)
+      idle_by none false idle = let way_idle = way.idle idle in (way_idle.0, way_idle.1.1 not, way_idle.2)
+      idle_by none true stands =
+          let out = way.out stands in
+          let soon : g ≤ out.0 = (out.1 own (record { device = under.device; there = under.there; outstanding = stands })).0 in
+          let one = one_device (device_of own (after_call call b)) waits_then.0 next.device waits_then.1 next.there in
+          let some : before + 1 ≤ length next.device.controller.waiting = subst (Waits (before + 1)) one waits_then.2 in
+          let state = next.device.controller.session.state in (
+            out.0 + late + others,
+            has_its_turn late time n own out.0 (before + 1) calls (after_call call b) (well_call call b well) in_time turns_take.1 few_then soon
+                (next.device, next.there, (lives state next.under_way, none, some, inr (at_rest state next.under_way none, omega arith)))
+                (ends_then out.0 soon stands none (decide call b)),
+            out.2,
+          )
+
+      ways_then : Way before calls (after_call call b) next.device
+      ways_then = record {
+        waits = waits_then;
+        out = λ stands. out_by stands (decide call b);
+        idle = λ none. idle_by none (holds under.device) refl;
+      }
+
+  goes_out : (before : ℕ) (calls : List Call) (b : BusState) → Well b → KeepsTime late calls b → TurnsTake time calls b → HasFew n calls b
+      → Ways before calls b → GoesOutBy limit before own calls b
+  goes_out before [] b well in_time take few ways = tt
+  goes_out zero (call ∷ calls) b well in_time take few ways = λ under. (
+    near_limit call calls b well take few under zero (ways under),
+    λ not.
+        goes_out zero calls (after_call call b) (well_call call b well) in_time.1 take.1 few.1
+        (ways_then call calls b well take few under zero (ways under) not in_time.1 few.1),
+  )
+  goes_out (suc before) (call ∷ calls) b well in_time take few ways = λ under. (
+    near_limit call calls b well take few under (suc before) (ways under),
+    λ begun.
+        goes_out before calls (after_call call b) (well_call call b well) in_time.1 take.1 few.1
+        (ways_begun call calls b well take few under before (ways under) begun),
+    λ not.
+        goes_out (suc before) calls (after_call call b) (well_call call b well) in_time.1 take.1 few.1
+        (ways_then call calls b well take few under (suc before) (ways under) not in_time.1 few.1),
+  )
+
+-- ---- from its acceptance on
+
+accepted_at : (entry : ℕ) (command : Command) (d : Device) (b : BusState) → submit_refusal_at entry command b ≡ None → device_of entry b ≡ Some d
+    → device_of entry (after_call (Submit entry command) b) ≡ Some (device_submits command d)
+accepted_at entry command d b accepted there =
+    ap (λ f. device_of entry (changed_unless f b (after_submit_at entry command b))) accepted
+    ∙ ap (λ o. device_of entry (changed o)) there ∙ set_here b.devices.entries entry d (device_submits command d) there
+  where
+    changed : Option Device → BusState
+    changed o = option_map_or (λ f. record b { devices = record b.devices { entries = slice_set b.devices.entries entry (device_submits command f) } }) o b
+
+-- arithmetic on moments alone
+first_fits : (g k time late others turns more all : ℕ) → k ≡ g → others + (time + late) ≡ turns → all ≡ more + turns
+    → (k + time) + late + others + more ≤ g + all
+first_fits g k time late others turns more all same sum product = omega arith
+
+idle_fits : (g k time late others turns more all : ℕ) → k ≡ g → others + (time + late) ≡ turns → all ≡ more + turns
+    → (k + late + others) + more ≤ g + all
+idle_fits g k time late others turns more all same sum product = omega arith
+
+pub orders_go_out : (b : BusState) → Well b → OrdersGoOut b
+orders_go_out b well late time n entry before command calls accepted keeps =
+    let k = after_call (Submit entry command) b in
+    let under = accepted.under_way in
+    let d = under.device in
+    let e = device_submits command d in
+    let here = accepted_at entry command d b accepted.accepted under.there in
+    let well_then = well_call (Submit entry command) b well in
+    let moment : k.greatest ≡ b.greatest = (moments_are_seen b).kept (Submit entry command) (λ at brings. brings) in
+    let there = is_there n entry e calls k keeps.few here in
+    let turns = turns_of time late n in
+    let limit = b.greatest + (before + 1) * turns in
+    let sum = all_turns time late n entry there in
+    let product = next_product before turns in
+    let wait : length e.controller.waiting ≡ before + 1 =
+    (let both = length-append d.controller.waiting (command ∷ []) in let place : length d.controller.waiting ≡ before = accepted.place in omega arith) in
+    let state = d.controller.session.state in
+    goes_out late time n entry limit before calls k well_then keeps.in_time keeps.turns keeps.few
+    (λ next.
+    let one = one_device (device_of entry k) e next.device here next.there in
+    record {
+      waits = (e, here, omega arith);
+      out = λ stands. (
+        k.greatest + time entry,
+        keeps.outstanding entry (record { device = next.device; there = next.there; outstanding = stands }),
+        first_fits b.greatest k.greatest (time entry) late (others_of time late n entry) turns (before * turns) ((before + 1) * turns) moment sum product,
+      );
+      idle = λ none. (
+        k.greatest + late + others_of time late n entry,
+        has_its_turn late time n entry k.greatest (before + 1) calls k well_then keeps.in_time keeps.turns keeps.few (omega arith)
+            (e, here, (lives state under.under_way, ap holds one ∙ none, omega arith, inr (at_rest state under.under_way (ap holds one ∙ none), omega arith)))
+            (λ holding out. keeps.outstanding holding out),
+        idle_fits b.greatest k.greatest (time entry) late (others_of time late n entry) turns (before * turns) ((before + 1) * turns) moment sum product,
+      );
+    })

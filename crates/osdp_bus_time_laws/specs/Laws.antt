@@ -1,0 +1,58 @@
+-- How long a line of several entries takes, whatever it does.
+use Rattle.std.specs.Prelude.{◌≡◌, ℕ, zero, suc, ◌+◌, ◌*◌, ◌≤◌, true, List, [], ◌∷◌, length, Some, None}
+use Rattle.osdp_msg.specs.declared.command.Command.{Command}
+use Rattle.osdp_bus.specs.declared.device.Device.{Device}
+use Rattle.osdp_bus.specs.Buses.{BusState, device_of}
+use Rattle.osdp_bus.specs.Machine.{begin_refusal_at, submit_refusal_at}
+use Rattle.osdp_bus.specs.Settings.{controller_config}
+use Rattle.osdp_bus_laws.specs.Calls.{Call, Begin, Submit, after_call}
+use Rattle.osdp_bus_laws.specs.Fairness.{Begins}
+use Rattle.osdp_time_laws.specs.Bounds.{longest_exchange}
+use Rattle.osdp_time_laws.specs.Orders.{is_under_way}
+use Rattle.osdp_bus_time_laws.specs.Clock.{KeepsTime}
+use Rattle.osdp_bus_time_laws.specs.Turns.{BeginsBy, KeepsTurns, OutstandingTakes, TurnsTake, others_of, turns_of}
+
+-- the longest exchange, by the settings of a bus: those of each of its controllers
+abbrev pub exchange_of : BusState → ℕ → ℕ
+exchange_of b late = longest_exchange (controller_config 0 b.config) late
+
+-- each exchange ends in time, however its answers come, and whoever has the next turn
+pub record ExchangesEnd (b : BusState) : Type 0 where
+  pub begun : (late : ℕ) (calls : List Call) → KeepsTime late calls b → TurnsTake (λ entry. exchange_of b late) calls b
+  pub outstanding : (late : ℕ) (calls : List Call) → KeepsTime late calls b → OutstandingTakes (λ entry. exchange_of b late) calls b
+
+-- the session of an entry stands, and doesn't wait for its opening
+pub record IsUnderWay (entry : ℕ) (b : BusState) : Type 0 where
+  pub device : Device
+  pub there : device_of entry b ≡ Some device
+  pub under_way : is_under_way device.controller.session.state ≡ true
+
+-- no call comes later than this moment before a command that waits, with so many before it, has gone out, or the session of its entry has ended. Each
+-- exchange of the entry takes the command that waits at the front
+abbrev pub GoesOutBy : ℕ → ℕ → ℕ → List Call → BusState → Type 0
+GoesOutBy limit before entry [] b = Unit {0}
+GoesOutBy limit zero entry (call ∷ calls) b = IsUnderWay entry b
+    → ((after_call call b).greatest ≤ limit) × ((Begins call entry b → ⊥) → GoesOutBy limit zero entry calls (after_call call b))
+GoesOutBy limit (suc before) entry (call ∷ calls) b = IsUnderWay entry b
+    → ((after_call call b).greatest ≤ limit)
+    × (Begins call entry b → GoesOutBy limit before entry calls (after_call call b))
+    × ((Begins call entry b → ⊥) → GoesOutBy limit (suc before) entry calls (after_call call b))
+
+-- a command is accepted while the session of its entry is under way, where so many of the entry wait before it
+pub record IsAccepted (entry before : ℕ) (command : Command) (b : BusState) : Type 0 where
+  pub under_way : IsUnderWay entry b
+  pub accepted : submit_refusal_at entry command b ≡ None
+  pub place : length under_way.device.controller.waiting ≡ before
+
+-- an order in time: a turn of each entry for each command before it, and one more
+abbrev pub OrdersGoOut : BusState → Type 0
+OrdersGoOut b = (late : ℕ) (time : ℕ → ℕ) (n entry before : ℕ) (command : Command) (calls : List Call)
+    → IsAccepted entry before command b → KeepsTurns late time n calls (after_call (Submit entry command) b)
+    → GoesOutBy (b.greatest + (before + 1) * turns_of time late n) before entry calls (after_call (Submit entry command) b)
+
+-- an opening in time: the quiet wait, a late tick, and a turn of each other entry
+abbrev pub OpeningsBegin : BusState → Type 0
+OpeningsBegin b = (late : ℕ) (time : ℕ → ℕ) (n entry now : ℕ) (calls : List Call)
+    → begin_refusal_at entry b ≡ None → KeepsTurns late time n calls (after_call (Begin entry now) b)
+    → BeginsBy ((after_call (Begin entry now) b).greatest + (b.config.quiet_wait + late + others_of time late n entry)) entry calls
+    (after_call (Begin entry now) b)
