@@ -7,7 +7,7 @@ use std::alloc::Global;
 use std::io::{Read, Write};
 
 /// All bytes of the input, where they are within the limit.
-fn read_all<R: Read>(alloc: Global, input: &mut Watched<R>) -> Result<Vec<u8>, ToolFault> {
+pub fn read_all<R: Read>(alloc: Global, input: &mut Watched<R>) -> Result<Vec<u8>, ToolFault> {
     let mut bytes = Vec::new(alloc);
     let mut piece = [0u8; 4096];
     let mut left = LIMIT;
@@ -26,7 +26,7 @@ fn read_all<R: Read>(alloc: Global, input: &mut Watched<R>) -> Result<Vec<u8>, T
 }
 
 /// Whether a line is a comment.
-fn is_comment(line: &str) -> bool {
+pub fn is_comment(line: &str) -> bool {
     line.starts_with("#")
 }
 
@@ -69,7 +69,7 @@ fn work<R: Read, W: Write>(
 }
 
 /// The form that the words after the command's name ask for.
-fn form_of(words: &[&str]) -> Option<Form> {
+pub fn form_of(words: &[&str]) -> Option<Form> {
     match words {
         [] => Some(Form::Plain),
         ["--tap"] => Some(Form::Tap),

@@ -5,11 +5,13 @@ mod command;
 mod exchange;
 mod found;
 mod help;
-mod packets;
 mod report;
 mod rules;
+mod runs;
 mod tested;
 
-pub use command::test;
+pub use command::{form_of, is_comment, read_all, test};
 pub use help::HELP;
+pub use runs::{Found, packets};
+pub use report::{Counts, Form, push_counts, push_skipped, push_verdict};
 pub use rules::{Ground, RULES, Rule};

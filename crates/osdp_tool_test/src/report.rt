@@ -1,14 +1,14 @@
 //! The lines of the report.
 
 use crate::exchange::Exchange;
-use crate::rules::{Ground, Rule};
+use crate::rules::Ground;
 use osdp_rules::{Aspect, Verdict};
 use osdp_words::ByteList;
 use std::alloc::AllocError;
 
 /// How the report is printed.
 #[derive(Clone, Copy)]
-pub(crate) enum Form {
+pub enum Form {
     /// In lines for people.
     Plain,
     /// In lines that other programs read: the Test Anything Protocol.
@@ -17,12 +17,50 @@ pub(crate) enum Form {
 
 /// How many rules have each verdict.
 #[derive(Clone, Copy)]
-pub(crate) struct Counts {
+pub struct Counts {
+    /// The rule is kept.
     pub ok: usize,
+    /// It is kept in another way.
     pub either: usize,
+    /// It is broken.
     pub broken: usize,
+    /// Nothing shows it.
     pub unclear: usize,
+    /// Its scenario was left out.
     pub skipped: usize,
+}
+
+/// One more.
+fn add(count: &mut usize) {
+    *count = count.saturating_add(1);
+}
+
+impl Counts {
+    /// None yet.
+    pub fn none() -> Counts {
+        Counts {
+            ok: 0,
+            either: 0,
+            broken: 0,
+            unclear: 0,
+            skipped: 0,
+        }
+    }
+
+    /// One more rule with this verdict.
+    pub fn add(&mut self, verdict: Verdict) {
+        match verdict {
+            Verdict::Unclear => add(&mut self.unclear),
+            Verdict::Ok => add(&mut self.ok),
+            Verdict::Either => add(&mut self.either),
+            Verdict::Broken => add(&mut self.broken),
+        }
+    }
+
+    /// One more that was left out.
+    pub fn add_skipped(&mut self) {
+        add(&mut self.skipped);
+    }
 }
 
 /// What is expected where a rule is broken.
@@ -84,15 +122,14 @@ fn verdict_name(verdict: Verdict) -> &'static str {
     }
 }
 
-/// The line of a rule with its verdict.
-pub(crate) fn push_verdict(
+/// The line of a rule with its verdict. `says` is what the rule says.
+pub fn push_verdict(
     text: &mut String,
     form: Form,
     number: usize,
-    rule: &Rule,
+    (says, ground): (&str, Ground),
     verdict: Verdict,
 ) -> Result<(), AllocError> {
-    let says = rule.says;
     match (form, verdict) {
         (Form::Plain, Verdict::Unclear) => {
             write!(
@@ -104,7 +141,7 @@ pub(crate) fn push_verdict(
             write!(
                 text,
                 "{number} broken: {says} ({})\n",
-                ground_name(rule.ground)
+                ground_name(ground)
             )
         }
         (Form::Plain, _) => write!(text, "{number} {}: {says}\n", verdict_name(verdict)),
@@ -120,22 +157,21 @@ pub(crate) fn push_verdict(
 }
 
 /// The line of a rule that was left out.
-pub(crate) fn push_skipped(
+pub fn push_skipped(
     text: &mut String,
     form: Form,
     number: usize,
-    rule: &Rule,
+    says: &str,
     why: &str,
 ) -> Result<(), AllocError> {
-    let says = rule.says;
     match form {
         Form::Plain => write!(text, "{number} skipped: {says}: {why}\n"),
         Form::Tap => write!(text, "ok {number} - {says} # SKIP {why}\n"),
     }
 }
 
-/// The last line.
-pub(crate) fn push_counts(
+/// The last line, which counts the verdicts.
+pub fn push_counts(
     text: &mut String,
     form: Form,
     counts: &Counts,

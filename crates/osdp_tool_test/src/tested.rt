@@ -2,7 +2,7 @@
 
 use crate::exchange::{Exchange, Said, said_in};
 use crate::found::{Heard, shown};
-use crate::packets::packets;
+use crate::runs::packets;
 use crate::report::{Counts, Form, push_counts, push_fault, push_skipped, push_verdict};
 use crate::rules::Rule;
 use osdp_frame::Address;
@@ -32,11 +32,6 @@ pub(crate) struct Tested {
     counts: Counts,
 }
 
-/// One more.
-fn add(count: &mut usize) {
-    *count = count.saturating_add(1);
-}
-
 impl Tested {
     /// Nothing was read yet.
     pub(crate) fn new(alloc: Global, form: Form) -> Tested {
@@ -46,13 +41,7 @@ impl Tested {
             address: Address::new(0).unwrap(),
             known: Known::Unknown,
             current: None,
-            counts: Counts {
-                ok: 0,
-                either: 0,
-                broken: 0,
-                unclear: 0,
-                skipped: 0,
-            },
+            counts: Counts::none(),
         }
     }
 
@@ -66,17 +55,12 @@ impl Tested {
         let Some(current) = self.current.take() else {
             return Ok(());
         };
-        match current.verdict {
-            Verdict::Unclear => add(&mut self.counts.unclear),
-            Verdict::Ok => add(&mut self.counts.ok),
-            Verdict::Either => add(&mut self.counts.either),
-            Verdict::Broken => add(&mut self.counts.broken),
-        }
+        self.counts.add(current.verdict);
         push_verdict(
             text,
             self.form,
             current.number,
-            &current.rule,
+            (current.rule.says, current.rule.ground),
             current.verdict,
         )?;
         text.push_str(current.fault.as_str())
@@ -161,8 +145,8 @@ impl Tested {
             Some(Said::Exchange(exchange)) => self.take(&exchange, text)?,
             Some(Said::Skips(number, rule, why)) => {
                 self.end_rule(text)?;
-                add(&mut self.counts.skipped);
-                push_skipped(text, self.form, number, &rule, why)?;
+                self.counts.add_skipped();
+                push_skipped(text, self.form, number, rule.says, why)?;
             }
         }
         Ok(true)

@@ -6,7 +6,7 @@ use osdp_frame::{Frame, FrameView, ReadItem, read_at};
 
 /// The first packet of a run, and how many there are.
 #[derive(Drop)]
-pub(crate) struct Found {
+pub struct Found {
     /// The first, if there is one.
     pub first: Option<Frame>,
     /// How many there are.
@@ -15,7 +15,7 @@ pub(crate) struct Found {
 
 impl Found {
     /// The first, lent.
-    pub(crate) fn view(&self) -> Option<FrameView<'_>> {
+    pub fn view(&self) -> Option<FrameView<'_>> {
         match &self.first {
             Some(frame) => Some(frame.view()),
             None => None,
@@ -32,7 +32,7 @@ fn size(packet: &FrameView<'_>) -> usize
 }
 
 /// The packets of a run that are of devices, or all of them.
-pub(crate) fn packets(run: &[u8], is_of_devices: bool) -> Found {
+pub fn packets(run: &[u8], is_of_devices: bool) -> Found {
     let mut found = Found {
         first: None,
         count: 0,

@@ -1,0 +1,13 @@
+//! The command `test panel`: what a panel sent and what the device said to it, line by line, and the verdict on each rule.
+#![tactic(auto)]
+
+mod command;
+mod exchange;
+mod help;
+mod report;
+mod rules;
+mod tested;
+
+pub use command::test_panel;
+pub use help::PANEL_HELP;
+pub use rules::{PANEL_RULES, PanelRule};
