@@ -399,7 +399,7 @@ restarted_device h i =
 
 -- ---- all steps
 
-keeps : (step : Step) (h : History) → May step h.ledger → Events h → Events (steps_on step h)
+pub keeps : (step : Step) (h : History) → May step h.ledger → Events h → Events (steps_on step h)
 keeps (Submit o) h may i = i
 keeps (Withdraw o) h may i = i
 keeps Open h may i = begun h i
@@ -435,8 +435,9 @@ hold [] h allowed i = record {
 }
 hold (step ∷ steps) h allowed i = hold steps (steps_on step h) allowed.1 (keeps step h allowed.0 i)
 
-pub keeps_events : KeepsEvents
-keeps_events steps allowed = hold steps new_history allowed (record {
+-- .. from the beginning
+pub at_first : Events new_history
+at_first = record {
   whole = tt;
   counted = refl;
   each = λ p. refl;
@@ -450,7 +451,10 @@ keeps_events steps allowed = hold steps new_history allowed (record {
   reported = All-nil (WasReported []);
   withdrawn = All-nil (NeverReported []);
   no_later = All-nil (NoLater []);
-})
+}
   where
     none_below : (j : ℕ) → j < 0 → ⊥
     none_below j below = omega (arith, below)
+
+pub keeps_events : KeepsEvents
+keeps_events steps allowed = hold steps new_history allowed at_first

@@ -1,0 +1,11 @@
+pub mod Lists
+pub mod Facts
+pub mod Ties
+pub mod Telling
+pub mod Programs
+pub mod Reports
+pub mod Events
+pub mod Reading
+pub mod Acting
+pub mod Keeping
+pub mod Running

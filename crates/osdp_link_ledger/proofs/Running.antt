@@ -1,0 +1,186 @@
+-- From the beginning of a first session, over every list of moves.
+use Rattle.std.proofs.Common.{◌≡◌, ◌+◌, ℕ, true, false, List, [], ◌∷◌, ◌++◌, Option, Some, None, refl, sym, subst, ap, ◌∙◌, inl, inr, arith, append_assoc}
+use Rattle.std.proofs.lemmas.List.{append-nil, map-append}
+use Rattle.osdp_msg.specs.declared.command.Command.{Command}
+use Rattle.osdp_msg.specs.declared.event.Event.{Event}
+use Rattle.osdp_msg.specs.declared.reply.Reply.{Reply}
+use Rattle.osdp_reader.specs.declared.config.ReaderConfig.{ReaderConfig}
+use Rattle.osdp_reader.specs.declared.handler.Answer.{Answer}
+use Rattle.osdp_ledger.specs.History.{AreAllowed, History, new_history, runs, steps_on}
+use Rattle.osdp_ledger.specs.Laws.{KeepsEvents, KeepsOrders}
+use Rattle.osdp_ledger.specs.Ledger.{Card, Ledger, Order, Step, new_ledger}
+use Rattle.osdp_ledger.proofs.Events.{at_first}
+use Rattle.osdp_ledger.proofs.Waiting.{Events}
+use Rattle.osdp_link_laws.specs.Headline.{Begins, MovesFit}
+use Rattle.osdp_link_laws.specs.Link.{Link, Move, after_move, run}
+use Rattle.osdp_link_laws.specs.Peers.{ReadEachOther}
+use Rattle.osdp_link_laws.proofs.InARow.{Assumed, Stands, assumed_of, begins, standing}
+use Rattle.osdp_link_ledger.specs.Laws.{HoldsByLedger, IsLedgerOf, LinkKeepsLedger, answered_in, is_under_way, unreported_in}
+use Rattle.osdp_link_ledger.specs.Steps.{after_steps, all_steps, queued_before, steps_before, steps_from, steps_of, submitted_before}
+use Rattle.osdp_link_ledger.proofs.Facts.{out_of}
+use Rattle.osdp_link_ledger.proofs.Keeping.{keeps_one}
+use Rattle.osdp_link_ledger.proofs.Lists.{FrontUnshown, commands, events}
+use Rattle.osdp_link_ledger.proofs.Ties.{ActedIs, AllMay, IsTied, SessionIs, after_append, all_may_append, allowed, events_keep, placed, runs_after}
+
+-- ---- what waits at first
+
+-- the panel alone has more, and no session
+pub record Submits (cs : List Command) (g k : Ledger) : Type 0 where
+  pub ahead : commands k.ahead ≡ commands g.ahead ++ cs
+  pub same : k ≡ record g { submitted = k.submitted; ahead = k.ahead }
+
+submits_all : (place : ℕ) (cs : List Command) (g : Ledger) → g.submitted ≡ place
+    → AllMay (submitted_before place cs) g × Submits cs g (after_steps (submitted_before place cs) g)
+submits_all place [] g is = (tt, record { ahead = sym (append-nil (commands g.ahead)); same = refl })
+submits_all place (c ∷ cs) g is =
+    let o : Order = record { place = place; command = c } in
+    let rest = submits_all (place + 1) cs (record g { submitted = g.submitted + 1; ahead = g.ahead ++ o ∷ [] }) (ap (λ n. n + 1) is) in (
+      (sym is, rest.0),
+      record {
+        ahead = rest.1.ahead ∙ ap (λ all. all ++ cs) (map-append (λ (o : Order). o.command) g.ahead (o ∷ [])) ∙ append_assoc (commands g.ahead) (c ∷ []) cs;
+        same = rest.1.same;
+      },
+    )
+
+pub record Queues (es : List Event) (g k : Ledger) : Type 0 where
+  pub cards : events k.cards ≡ events g.cards ++ es
+  pub same : k ≡ record g { queued = k.queued; cards = k.cards }
+
+queues_all : (place : ℕ) (es : List Event) (g : Ledger) → g.queued ≡ place → AllMay (queued_before place es) g × Queues es g (after_steps (queued_before place es) g)
+queues_all place [] g is = (tt, record { cards = sym (append-nil (events g.cards)); same = refl })
+queues_all place (e ∷ es) g is =
+    let c : Card = record { place = place; event = e } in
+    let rest = queues_all (place + 1) es (record g { queued = g.queued + 1; cards = g.cards ++ c ∷ [] }) (ap (λ n. n + 1) is) in (
+      (sym is, rest.0),
+      record {
+        cards = rest.1.cards ∙ ap (λ all. all ++ es) (map-append (λ (c : Card). c.event) g.cards (c ∷ [])) ∙ append_assoc (events g.cards) (e ∷ []) es;
+        same = rest.1.same;
+      },
+    )
+
+never_shown : (cards : List Card) → FrontUnshown 0 cards
+never_shown [] = tt
+never_shown (c ∷ cs) = omega arith
+
+module _ {H : Type 0} where
+  tied_before : (l : Link H) (g : Ledger) → Begins l → commands g.ahead ≡ l.controller.waiting → events g.cards ≡ l.reader.queue.events → g.is_open ≡ false → g.acted ≡ None
+      → g.shown ≡ 0 → IsTied l g
+  tied_before l g b ahead cards closed none shown = record {
+    ahead = ahead ∙ ap (λ state. out_of state ++ l.controller.waiting) (sym b.quiet.1);
+    is_open = closed ∙ ap is_under_way (sym b.quiet.1);
+    cards = cards;
+    front = λ never. subst (λ n. FrontUnshown n g.cards) (sym shown) (never_shown g.cards);
+    session = inl (record {
+      way = ap is_under_way b.quiet.1;
+      to_reader = b.to_reader;
+      to_controller = b.to_controller;
+      given = ap (λ t. t.given) b.account;
+      settled = ap (λ t. t.settled) b.account;
+      offered = ap (λ t. t.offered) b.account;
+      reported = ap (λ t. t.reported) b.account;
+      kept = ap (λ t. t.kept) b.account;
+      acted = none;
+    });
+  }
+
+  begins_tied : (l : Link H) → Begins l → AllMay (steps_before l) new_ledger × IsTied l (after_steps (steps_before l) new_ledger)
+  begins_tied l b =
+      let first = submits_all 0 l.controller.waiting new_ledger refl in
+      let k = after_steps (submitted_before 0 l.controller.waiting) new_ledger in
+      let same : ◌≡◌ {A = Ledger} k (record new_ledger { submitted = k.submitted; ahead = k.ahead }) = first.1.same in
+      let second = queues_all 0 l.reader.queue.events k (ap (λ g. g.queued) same) in
+      let m = after_steps (queued_before 0 l.reader.queue.events) k in
+      let again : ◌≡◌ {A = Ledger} m (record k { queued = m.queued; cards = m.cards }) = second.1.same in (
+        all_may_append (submitted_before 0 l.controller.waiting) (queued_before 0 l.reader.queue.events) new_ledger first.0 second.0,
+        subst (IsTied l) (sym (after_append (submitted_before 0 l.controller.waiting) (queued_before 0 l.reader.queue.events) new_ledger))
+            (tied_before l m b (ap (λ g. commands g.ahead) again ∙ first.1.ahead)
+            (second.1.cards ∙ ap (λ g. events g.cards ++ l.reader.queue.events) same)
+            (ap (λ g. g.is_open) again ∙ ap (λ g. g.is_open) same) (ap (λ g. g.acted) again ∙ ap (λ g. g.acted) same)
+            (ap (λ g. g.shown) again ∙ ap (λ g. g.shown) same)),
+      )
+
+-- ---- steps in a row
+
+allowed_append : (xs ys : List Step) (h : History) → AreAllowed xs h → AreAllowed ys (runs xs h) → AreAllowed (xs ++ ys) h
+allowed_append [] ys h first last = last
+allowed_append (x ∷ xs) ys h first last = (first.0, allowed_append xs ys (steps_on x h) first.1 last)
+
+runs_append : (xs ys : List Step) (h : History) → runs (xs ++ ys) h ≡ runs ys (runs xs h)
+runs_append [] ys h = refl
+runs_append (x ∷ xs) ys h = runs_append xs ys (steps_on x h)
+
+-- the ledger that is tied is the link's
+answered : (ahead : List Order) (acted : Option Reply) (given settled : List (Command × Reply)) → ActedIs ahead acted given settled
+    → given ≡ settled ++ answered_in ahead acted
+answered ahead acted given settled (inr (order, rest, answer, front, acts, all)) =
+    all ∙ ap (λ os. settled ++ answered_in os (Some answer)) (sym front) ∙ ap (λ a. settled ++ answered_in ahead a) (sym acts)
+answered ahead acted given settled (inl (none, all)) =
+    all ∙ sym (append-nil settled) ∙ ap (λ os. settled ++ os) (sym (nothing ahead)) ∙ ap (λ a. settled ++ answered_in ahead a) (sym none)
+  where
+    nothing : (ahead : List Order) → answered_in ahead None ≡ []
+    nothing [] = refl
+    nothing (o ∷ os) = refl
+
+module _ {H : Type 0} where
+  pub is_links : (l : Link H) (g : Ledger) → IsTied l g → IsLedgerOf l g
+  is_links l g h = record {
+    ahead = h.ahead;
+    is_open = h.is_open;
+    acted = λ going. by_session going h.session;
+    offer = λ going. offered_by going h.session;
+    cards = h.cards;
+  }
+    where
+      by_session : g.is_open ≡ true → SessionIs l.controller.session.state l.controller.waiting l.reader.queue l.to_reader l.to_controller l.account g
+          → l.account.given ≡ l.account.settled ++ answered_in g.ahead g.acted
+      by_session going (inl s) = absurd (let e : false ≡ true = sym s.way ∙ sym h.is_open ∙ going in cc)
+      by_session going (inr (inl s)) = answered g.ahead g.acted l.account.given l.account.settled s.acted
+      by_session going (inr (inr s)) = absurd (let e : false ≡ true = ap is_under_way (sym s.closed) ∙ sym h.is_open ∙ going in cc)
+
+      offered_by : g.is_open ≡ true → SessionIs l.controller.session.state l.controller.waiting l.reader.queue l.to_reader l.to_controller l.account g
+          → l.account.offered ≡ l.account.reported ++ unreported_in g.offer
+      offered_by going (inl s) = absurd (let e : false ≡ true = sym s.way ∙ sym h.is_open ∙ going in cc)
+      offered_by going (inr (inl s)) = s.offers.untold
+      offered_by going (inr (inr s)) = s.offers.untold
+
+module _ {H : Type 0} (answer_of : H → Command → Answer) (after : H → Command → H) where
+  pub keeps_all : (settings : ReaderConfig) → Assumed answer_of after settings → (moves : List (Move H)) (l : Link H) (h : History) → MovesFit answer_of after moves l
+      → Stands answer_of after settings l → Events h → IsTied l h.ledger
+      → AreAllowed (all_steps answer_of after moves l h.ledger) h × IsTied (run answer_of after moves l) (runs (all_steps answer_of after moves l h.ledger) h).ledger
+  keeps_all settings given [] l h fits s i tied = (tt, tied)
+  keeps_all settings given (move ∷ moves) l h fits s i tied =
+      let one = keeps_one answer_of after settings given move l h.ledger (placed h i) fits.0 s tied in
+      let steps = steps_of answer_of after move l h.ledger in
+      let next = after_move answer_of after move l in
+      let same = runs_after steps h in
+      let rest = keeps_all settings given moves next (runs steps h) fits.1 (standing answer_of after settings given move l fits.0 s) (events_keep steps h one.0 i)
+      (subst (IsTied next) (sym same) one.1) in
+      let more = all_steps answer_of after moves next (after_steps steps h.ledger) in
+      let later : AreAllowed more (runs steps h) × IsTied (run answer_of after moves next) (runs more (runs steps h)).ledger =
+      subst (λ g. AreAllowed (all_steps answer_of after moves next g) (runs steps h)
+      × IsTied (run answer_of after moves next) (runs (all_steps answer_of after moves next g) (runs steps h)).ledger) same rest in (
+        allowed_append steps more h (allowed steps h one.0) later.0,
+        subst (λ k. IsTied (run answer_of after moves next) k.ledger) (sym (runs_append steps more h)) later.1,
+      )
+
+  pub keeps_ledger : ReadEachOther answer_of after → LinkKeepsLedger answer_of after
+  keeps_ledger peers l moves b fits =
+      let before = steps_before l in
+      let first = begins_tied l b in
+      let h = runs before new_history in
+      let same = runs_after before new_history in
+      let rest = keeps_all l.reader.config (assumed_of answer_of after peers l) moves l h fits (begins answer_of after l b) (events_keep before new_history first.0 at_first)
+      (subst (IsTied l) (sym same) first.1) in
+      let more = all_steps answer_of after moves l (after_steps before new_ledger) in
+      let later : AreAllowed more h × IsTied (run answer_of after moves l) (runs more h).ledger =
+      subst (λ g. AreAllowed (all_steps answer_of after moves l g) h × IsTied (run answer_of after moves l) (runs (all_steps answer_of after moves l g) h).ledger) same rest in (
+        allowed_append before more new_history (allowed before new_history first.0) later.0,
+        is_links (run answer_of after moves l) (runs (before ++ more) new_history).ledger
+            (subst (λ k. IsTied (run answer_of after moves l) k.ledger) (sym (runs_append before more new_history)) later.1),
+      )
+
+  pub holds_by_ledger : LinkKeepsLedger answer_of after → KeepsOrders → KeepsEvents → HoldsByLedger answer_of after
+  holds_by_ledger keeps orders cards l moves b fits =
+      let steps = steps_from answer_of after moves l in
+      let allowed = (keeps l moves b fits).0 in
+      (orders steps allowed, cards steps allowed)
