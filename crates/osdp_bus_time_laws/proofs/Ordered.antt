@@ -1,4 +1,4 @@
--- An order in time: a turn for each exchange of its own entry that comes before it.
+-- The exchanges of an entry, one after the other: an order has its turn after those before it, and a POLL where no command waits.
 use Rattle.std.proofs.Common.{◌≡◌, ◌∙◌, ap, sym, subst, inl, inr, ℕ, zero, suc, ◌+◌, ◌*◌, ◌≤◌, Bool, true, false, max, List, [], ◌∷◌, length, Option, Some, None, refl, arith}
 use Rattle.std.specs.Prelude.{◌⊎◌, if◌then◌else◌, drop, nat_eq, slice_set}
 use Rattle.std.specs.Option.{option_map_or}
@@ -6,6 +6,7 @@ use Rattle.std.proofs.Math.Nat.{suc-mul}
 use Rattle.std.proofs.lemmas.Bool.{eqb-true, eqb-false}
 use Rattle.std.proofs.lemmas.List.{length-append}
 use Rattle.osdp_msg.specs.declared.command.Command.{Command}
+use Rattle.osdp_controller.specs.declared.config.ControllerConfig.{ControllerConfig}
 use Rattle.osdp_controller.specs.declared.session.Session.{Session}
 use Rattle.osdp_controller.specs.declared.state.State.{State}
 use Rattle.osdp_controller.specs.declared.state.State.TheVariants.{Closed, Quiet, Idle, Waiting, Pausing}
@@ -13,7 +14,11 @@ use Rattle.osdp_controller.specs.Machine.{is_outstanding}
 use Rattle.osdp_controller.specs.States.{is_closed, is_idle}
 use Rattle.osdp_controller.specs.Ticking.{ticks}
 use Rattle.osdp_controller_laws.proofs.Ticks.{takes_front}
+use Rattle.osdp_time_laws.specs.Acceptance.{WaitsItsTime}
+use Rattle.osdp_time_laws.specs.Orders.{is_under_way}
+use Rattle.osdp_time_laws.proofs.Duties.{until_of}
 use Rattle.osdp_time_laws.proofs.Orders.{at_rest, lives, next_product}
+use Rattle.osdp_bus.specs.declared.config.BusConfig.{BusConfig}
 use Rattle.osdp_bus.specs.declared.device.Device.{Device}
 use Rattle.osdp_bus.specs.Buses.{BusState, device_of, has_report}
 use Rattle.osdp_bus.specs.Devices.{device_ticks, holds}
@@ -28,12 +33,12 @@ use Rattle.osdp_bus_laws.proofs.Fairness.{begun_ticked, stands_after}
 use Rattle.osdp_bus_laws.proofs.Moments.{moments_are_seen}
 use Rattle.osdp_bus_laws.proofs.Turning.{set_here}
 use Rattle.osdp_bus_time_laws.specs.Clock.{KeepsTime, ends_duty}
-use Rattle.osdp_bus_time_laws.specs.Laws.{GoesOutBy, IsUnderWay, OrdersGoOut}
-use Rattle.osdp_bus_time_laws.specs.Turns.{BeginsBy, EndsBy, HasFew, NoneBegins, TurnsTake, others_of, turns_of}
-use Rattle.osdp_bus_time_laws.proofs.Devices.{Well, well_call}
+use Rattle.osdp_bus_time_laws.specs.Laws.{ExchangesComeRound, GoesOutBy, IsUnderWay, OrdersGoOut}
+use Rattle.osdp_bus_time_laws.specs.Turns.{BeginsBy, EndsBy, HasFew, KeepsTurns, NoneBegins, TurnsTake, others_of, turns_of}
+use Rattle.osdp_bus_time_laws.proofs.Devices.{Kept, Well, same_config, well_call}
 use Rattle.osdp_bus_time_laws.proofs.Places.{AtPlace, Outcome, asking_place, call_place, one_device, tick_place}
 use Rattle.osdp_bus_time_laws.proofs.Sums.{all_turns}
-use Rattle.osdp_bus_time_laws.proofs.Turning.{decide, ends_later, has_its_turn, held_before, is_there, tick_of}
+use Rattle.osdp_bus_time_laws.proofs.Turning.{Ready, decide, ends_later, has_its_turn, held_before, is_there, tick_of}
 
 -- ---- how many commands wait
 
@@ -120,22 +125,53 @@ begun_waits least own call b place begun =
 -- ---- from one call to the next
 
 -- arithmetic on moments alone
-begun_fits : (g time late others turns more limit bound : ℕ) → others + (time + late) ≡ turns → g ≤ bound → bound + (more + turns) ≤ limit
-    → (g + time) + late + others + more ≤ limit
-begun_fits g time late others turns more limit bound all near fits = omega arith
+begun_fits : (g time late others turns wait more limit bound : ℕ) → others + (time + late) ≡ turns → g ≤ bound → bound + (more + (wait + turns)) ≤ limit
+    → ((g + time) + wait) + late + others + more ≤ limit
+begun_fits g time late others turns wait more limit bound all near fits = omega arith
 
-module _ (late : ℕ) (time : ℕ → ℕ) (n own limit : ℕ) where
+-- an exchange begins of an entry that is open: at once where a command waits, or so much later
+abbrev Begun : ℕ → ℕ → BusState → Type 0
+Begun wait least b = (1 ≤ least) ⊎ (b.config.poll_interval ≤ wait)
+
+begun_then : (wait least : ℕ) (call : Call) (b : BusState) → Begun wait least b → Begun wait least (after_call call b)
+begun_then wait least call b (inl some) = inl some
+begun_then wait least call b (inr interval) = inr (subst (λ (c : BusConfig). c.poll_interval ≤ wait) (sym (same_config call b)) interval)
+
+-- the moment from which an open entry is due
+rest_due : (wait e : ℕ) (b : BusState) (d : Device) → Kept b.config b.greatest d → is_idle d.controller.session.state ≡ true → b.greatest ≤ e
+    → b.config.poll_interval ≤ wait → until_of d.controller.session.state ≤ e + wait
+rest_due wait e b d kept idle near interval = by_state d.controller.session.state idle kept.timely
+  where
+    settings : d.controller.session.config.poll_interval ≡ b.config.poll_interval
+    settings = ap (λ (c : ControllerConfig). c.poll_interval) kept.config
+
+    by_state : (state : State) → is_idle state ≡ true → WaitsItsTime d.controller.session.config d.controller.session.greatest state → until_of state ≤ e + wait
+    by_state Closed h timely = cc
+    by_state (Quiet until) h timely = cc
+    by_state (Idle due) h timely = (let same = settings in let behind = kept.behind in omega arith)
+    by_state (Waiting until sends o) h timely = cc
+    by_state (Pausing until o) h timely = cc
+
+rest_ready : (wait least e : ℕ) (b : BusState) (d : Device) → Kept b.config b.greatest d → is_under_way d.controller.session.state ≡ true → holds d ≡ false
+    → least ≤ length d.controller.waiting → b.greatest ≤ e → Begun wait least b → Ready (e + wait) least d
+rest_ready wait least e b d kept under none some near (inl one) =
+    let state = d.controller.session.state in (lives state under, none, some, inr (at_rest state under none, one))
+rest_ready wait least e b d kept under none some near (inr interval) =
+    let state = d.controller.session.state in
+    (lives state under, none, some, inl (rest_due wait e b d kept (at_rest state under none) near interval))
+
+module _ (late : ℕ) (time : ℕ → ℕ) (n own limit wait : ℕ) (need : ℕ → ℕ) (fewer : (before : ℕ) → (need (suc before) ≡ need before + 1) ⊎ (need before ≡ 0)) where
   abbrev others : ℕ
   others = others_of time late n own
 
-  abbrev turns : ℕ
-  turns = turns_of time late n
+  abbrev cycle : ℕ
+  cycle = wait + turns_of time late n
 
   -- the exchange of the entry that is outstanding ends by a moment, or another begins by one
   pub record Way (before : ℕ) (calls : List Call) (b : BusState) (d : Device) : Type 0 where
-    pub waits : AtPlace own (Waits (before + 1)) b.devices
-    pub out : holds d ≡ true → (e : ℕ) × EndsBy e calls b × (e + late + others_of time late n own + before * turns_of time late n ≤ limit)
-    pub idle : holds d ≡ false → (m : ℕ) × BeginsBy m own calls b × (m + before * turns_of time late n ≤ limit)
+    pub waits : AtPlace own (Waits (need before)) b.devices
+    pub out : holds d ≡ true → (e : ℕ) × EndsBy e calls b × ((e + wait) + late + others_of time late n own + before * (wait + turns_of time late n) ≤ limit)
+    pub idle : holds d ≡ false → (m : ℕ) × BeginsBy m own calls b × (m + before * (wait + turns_of time late n) ≤ limit)
 
   abbrev Ways : ℕ → List Call → BusState → Type 0
   Ways before calls b = (way : IsUnderWay own b) → Way before calls b way.device
@@ -150,25 +186,33 @@ module _ (late : ℕ) (time : ℕ → ℕ) (n own limit : ℕ) where
 
     -- the next moment
     near_by : (before : ℕ) → Way before (call ∷ calls) b under.device → (t : Bool) → holds under.device ≡ t
-        → (bound : ℕ) × ((after_call call b).greatest ≤ bound) × (bound + before * turns_of time late n ≤ limit)
+        → (bound : ℕ) × ((after_call call b).greatest ≤ bound) × (bound + before * (wait + turns_of time late n) ≤ limit)
     near_by before way true stands =
         let out = way.out stands in
-        let fits : out.0 + late + others + before * turns ≤ limit = out.2 in
+        let fits : (out.0 + wait) + late + others + before * cycle ≤ limit = out.2 in
         (out.0, (out.1 own (record { device = d; there = under.there; outstanding = stands })).0, omega arith)
     near_by before way false none = let idle = way.idle none in (idle.0, idle.1.0, idle.2)
 
     near : (before : ℕ) → Way before (call ∷ calls) b under.device
-        → (bound : ℕ) × ((after_call call b).greatest ≤ bound) × (bound + before * turns_of time late n ≤ limit)
+        → (bound : ℕ) × ((after_call call b).greatest ≤ bound) × (bound + before * (wait + turns_of time late n) ≤ limit)
     near before way = near_by before way (holds under.device) refl
 
     near_limit : (before : ℕ) → Way before (call ∷ calls) b under.device → g ≤ limit
     near_limit before way =
         let bound = near before way in
-        let fits : bound.0 + before * turns ≤ limit = bound.2 in
+        let fits : bound.0 + before * cycle ≤ limit = bound.2 in
         let soon : g ≤ bound.0 = bound.1 in
         omega arith
 
     -- an exchange of the entry begins
+    fewer_wait : (before : ℕ) → AtPlace own (Waits (need (suc before))) b.devices → Begins call own b → (need (suc before) ≡ need before + 1) ⊎ (need before ≡ 0)
+        → AtPlace own (Waits (need before)) (after_call call b).devices
+    fewer_wait before place begun (inl one) =
+        begun_waits (need before) own call b (subst (λ (k : ℕ). AtPlace own (Waits k) b.devices) one place) begun
+    fewer_wait before place begun (inr none) =
+        let out = stands_after call own b begun in
+        (out.device, out.there, subst (λ (k : ℕ). k ≤ length out.device.controller.waiting) (sym none) (omega arith))
+
     ways_begun : (before : ℕ) → Way (suc before) (call ∷ calls) b under.device → Begins call own b → Ways before calls (after_call call b)
     ways_begun before way begun next =
         let bound = near (suc before) way in
@@ -177,28 +221,28 @@ module _ (late : ℕ) (time : ℕ → ℕ) (n own limit : ℕ) where
         let stands : holds next.device ≡ true = ap holds (sym one) ∙ out.outstanding in
         let there = is_there n own d (call ∷ calls) b few under.there in
         record {
-          waits = begun_waits (before + 1) own call b (subst (λ (k : ℕ). AtPlace own (Waits k) b.devices) (let same : suc before + 1 ≡ (before + 1) + 1 = omega arith in same) way.waits) begun;
+          waits = fewer_wait before way.waits begun (fewer before);
           out = λ so. (
             g + time own,
             turns_take.0 own begun,
-            begun_fits g (time own) late others turns (before * turns) limit bound.0 (all_turns time late n own there) bound.1
-                (subst (λ (k : ℕ). bound.0 + k ≤ limit) (suc-mul before turns) bound.2),
+            begun_fits g (time own) late others (turns_of time late n) wait (before * cycle) limit bound.0 (all_turns time late n own there) bound.1
+                (subst (λ (k : ℕ). bound.0 + k ≤ limit) (suc-mul before cycle) bound.2),
           );
           idle = λ none. absurd (let yes = stands in cc);
         }
 
     -- none of the entry begins
     module _ (before : ℕ) (way : Way before (call ∷ calls) b under.device) (not : Begins call own b → ⊥) (in_time : KeepsTime late calls (after_call call b))
-        (few_then : HasFew n calls (after_call call b)) (next : IsUnderWay own (after_call call b)) where
-      waits_then : AtPlace own (Waits (before + 1)) (after_call call b).devices
+        (few_then : HasFew n calls (after_call call b)) (began : Begun wait (need before) b) (next : IsUnderWay own (after_call call b)) where
+      waits_then : AtPlace own (Waits (need before)) (after_call call b).devices
       waits_then =
-          still_wait (before + 1) own call b well
+          still_wait (need before) own call b well
           (λ f here. let one = one_device (device_of own b) under.device f under.there here in
           subst (λ (k : Device). is_closed k.controller.session.state ≡ false) one (lives under.device.controller.session.state under.under_way))
           way.waits not
 
       out_by : holds next.device ≡ true → ((k : ℕ) × Begins call k b) ⊎ NoneBegins call b
-          → (e : ℕ) × EndsBy e calls (after_call call b) × (e + late + others_of time late n own + before * turns_of time late n ≤ limit)
+          → (e : ℕ) × EndsBy e calls (after_call call b) × ((e + wait) + late + others_of time late n own + before * (wait + turns_of time late n) ≤ limit)
       out_by stands (inl (k, begun)) =
           let one = (has_one_exchange (after_call call b) (well_call call b well).sound).one k own (stands_after call k b begun)
           (record { device = next.device; there = next.there; outstanding = stands }) in
@@ -222,18 +266,18 @@ module _ (late : ℕ) (time : ℕ → ℕ) (n own limit : ℕ) where
           absurd (let holding = ap holds (sym one) ∙ out.outstanding in cc)
 
       idle_by : holds next.device ≡ false → (t : Bool) → holds under.device ≡ t
-          → (m : ℕ) × BeginsBy m own calls (after_call call b) × (m + before * turns_of time late n ≤ limit)
+          → (m : ℕ) × BeginsBy m own calls (after_call call b) × (m + before * (wait + turns_of time late n) ≤ limit)
       idle_by none false idle = let way_idle = way.idle idle in (way_idle.0, way_idle.1.1 not, way_idle.2)
       idle_by none true stands =
           let out = way.out stands in
           let soon : g ≤ out.0 = (out.1 own (record { device = under.device; there = under.there; outstanding = stands })).0 in
           let one = one_device (device_of own (after_call call b)) waits_then.0 next.device waits_then.1 next.there in
-          let some : before + 1 ≤ length next.device.controller.waiting = subst (Waits (before + 1)) one waits_then.2 in
-          let state = next.device.controller.session.state in (
-            out.0 + late + others,
-            has_its_turn late time n own out.0 (before + 1) calls (after_call call b) (well_call call b well) in_time turns_take.1 few_then soon
-                (next.device, next.there, (lives state next.under_way, none, some, inr (at_rest state next.under_way none, omega arith)))
-                (ends_then out.0 soon stands none (decide call b)),
+          let some : need before ≤ length next.device.controller.waiting = subst (Waits (need before)) one waits_then.2 in
+          let kept = (well_call call b well).devices own next.device next.there in (
+            (out.0 + wait) + late + others,
+            has_its_turn late time n own (out.0 + wait) (need before) calls (after_call call b) (well_call call b well) in_time turns_take.1 few_then (omega arith)
+                (next.device, next.there, rest_ready wait (need before) out.0 (after_call call b) next.device kept next.under_way none some soon (begun_then wait (need before) call b began))
+                (λ k held. ends_later (out.0 + time k) (out.0 + wait + time k) calls (after_call call b) (omega arith) (ends_then out.0 soon stands none (decide call b) k held)),
             out.2,
           )
 
@@ -244,23 +288,23 @@ module _ (late : ℕ) (time : ℕ → ℕ) (n own limit : ℕ) where
         idle = λ none. idle_by none (holds under.device) refl;
       }
 
-  goes_out : (before : ℕ) (calls : List Call) (b : BusState) → Well b → KeepsTime late calls b → TurnsTake time calls b → HasFew n calls b
-      → Ways before calls b → GoesOutBy limit before own calls b
-  goes_out before [] b well in_time take few ways = tt
-  goes_out zero (call ∷ calls) b well in_time take few ways = λ under. (
+  pub goes_out : (before : ℕ) (calls : List Call) (b : BusState) → Well b → KeepsTime late calls b → TurnsTake time calls b → HasFew n calls b
+      → ((k : ℕ) → Begun wait (need k) b) → Ways before calls b → GoesOutBy limit before own calls b
+  goes_out before [] b well in_time take few began ways = tt
+  goes_out zero (call ∷ calls) b well in_time take few began ways = λ under. (
     near_limit call calls b well take few under zero (ways under),
     λ not.
-        goes_out zero calls (after_call call b) (well_call call b well) in_time.1 take.1 few.1
-        (ways_then call calls b well take few under zero (ways under) not in_time.1 few.1),
+        goes_out zero calls (after_call call b) (well_call call b well) in_time.1 take.1 few.1 (λ k. begun_then wait (need k) call b (began k))
+        (ways_then call calls b well take few under zero (ways under) not in_time.1 few.1 (began zero)),
   )
-  goes_out (suc before) (call ∷ calls) b well in_time take few ways = λ under. (
+  goes_out (suc before) (call ∷ calls) b well in_time take few began ways = λ under. (
     near_limit call calls b well take few under (suc before) (ways under),
     λ begun.
-        goes_out before calls (after_call call b) (well_call call b well) in_time.1 take.1 few.1
+        goes_out before calls (after_call call b) (well_call call b well) in_time.1 take.1 few.1 (λ k. begun_then wait (need k) call b (began k))
         (ways_begun call calls b well take few under before (ways under) begun),
     λ not.
-        goes_out (suc before) calls (after_call call b) (well_call call b well) in_time.1 take.1 few.1
-        (ways_then call calls b well take few under (suc before) (ways under) not in_time.1 few.1),
+        goes_out (suc before) calls (after_call call b) (well_call call b well) in_time.1 take.1 few.1 (λ k. begun_then wait (need k) call b (began k))
+        (ways_then call calls b well take few under (suc before) (ways under) not in_time.1 few.1 (began (suc before))),
   )
 
 -- ---- from its acceptance on
@@ -275,46 +319,64 @@ accepted_at entry command d b accepted there =
     changed o = option_map_or (λ f. record b { devices = record b.devices { entries = slice_set b.devices.entries entry (device_submits command f) } }) o b
 
 -- arithmetic on moments alone
-first_fits : (g k time late others turns more all : ℕ) → k ≡ g → others + (time + late) ≡ turns → all ≡ more + turns
-    → (k + time) + late + others + more ≤ g + all
-first_fits g k time late others turns more all same sum product = omega arith
+first_fits : (g k time late others turns wait more all : ℕ) → k ≡ g → others + (time + late) ≡ turns → all ≡ more + (wait + turns)
+    → ((k + time) + wait) + late + others + more ≤ g + all
+first_fits g k time late others turns wait more all same sum product = omega arith
 
-idle_fits : (g k time late others turns more all : ℕ) → k ≡ g → others + (time + late) ≡ turns → all ≡ more + turns
-    → (k + late + others) + more ≤ g + all
-idle_fits g k time late others turns more all same sum product = omega arith
+idle_fits : (g k time late others turns wait more all : ℕ) → k ≡ g → others + (time + late) ≡ turns → all ≡ more + (wait + turns)
+    → ((k + wait) + late + others) + more ≤ g + all
+idle_fits g k time late others turns wait more all same sum product = omega arith
+
+-- from any moment on at which its session is under way
+module _ (late : ℕ) (time : ℕ → ℕ) (n own wait before : ℕ) (need : ℕ → ℕ) (fewer : (k : ℕ) → (need (suc k) ≡ need k + 1) ⊎ (need k ≡ 0)) (calls : List Call) (b : BusState) (well : Well b)
+    (keeps : KeepsTurns late time n calls b) (began : (k : ℕ) → Begun wait (need k) b) (waits : AtPlace own (Waits (need before)) b.devices) where
+  abbrev all : ℕ
+  all = (before + 1) * (wait + turns_of time late n)
+
+  way_from : (under : IsUnderWay own b) → Way late time n own (b.greatest + all) wait need fewer before calls b under.device
+  way_from under =
+      let d = under.device in
+      let there = is_there n own d calls b keeps.few under.there in
+      let sum = all_turns time late n own there in
+      let product = next_product before (wait + turns_of time late n) in
+      let more = before * (wait + turns_of time late n) in
+      let one = one_device (device_of own b) waits.0 d waits.1 under.there in
+      let some : need before ≤ length d.controller.waiting = subst (Waits (need before)) one waits.2 in
+      record {
+        waits = waits;
+        out = λ stands. (
+          b.greatest + time own,
+          keeps.outstanding own (record { device = d; there = under.there; outstanding = stands }),
+          first_fits b.greatest b.greatest (time own) late (others_of time late n own) (turns_of time late n) wait more all refl sum product,
+        );
+        idle = λ none. (
+          (b.greatest + wait) + late + others_of time late n own,
+          has_its_turn late time n own (b.greatest + wait) (need before) calls b well keeps.in_time keeps.turns keeps.few (omega arith)
+              (d, under.there, rest_ready wait (need before) b.greatest b d (well.devices own d under.there) under.under_way none some (omega arith) (began before))
+              (λ holding out. ends_later (b.greatest + time holding) (b.greatest + wait + time holding) calls b (omega arith) (keeps.outstanding holding out)),
+          idle_fits b.greatest b.greatest (time own) late (others_of time late n own) (turns_of time late n) wait more all refl sum product,
+        );
+      }
+
+  goes_out_from : GoesOutBy (b.greatest + all) before own calls b
+  goes_out_from = goes_out late time n own (b.greatest + all) wait need fewer before calls b well keeps.in_time keeps.turns keeps.few began way_from
 
 pub orders_go_out : (b : BusState) → Well b → OrdersGoOut b
 orders_go_out b well late time n entry before command calls accepted keeps =
     let k = after_call (Submit entry command) b in
     let under = accepted.under_way in
     let d = under.device in
-    let e = device_submits command d in
     let here = accepted_at entry command d b accepted.accepted under.there in
-    let well_then = well_call (Submit entry command) b well in
     let moment : k.greatest ≡ b.greatest = (moments_are_seen b).kept (Submit entry command) (λ at brings. brings) in
-    let there = is_there n entry e calls k keeps.few here in
     let turns = turns_of time late n in
-    let limit = b.greatest + (before + 1) * turns in
-    let sum = all_turns time late n entry there in
-    let product = next_product before turns in
-    let wait : length e.controller.waiting ≡ before + 1 =
+    let wait : before + 1 ≤ length (device_submits command d).controller.waiting =
     (let both = length-append d.controller.waiting (command ∷ []) in let place : length d.controller.waiting ≡ before = accepted.place in omega arith) in
-    let state = d.controller.session.state in
-    goes_out late time n entry limit before calls k well_then keeps.in_time keeps.turns keeps.few
-    (λ next.
-    let one = one_device (device_of entry k) e next.device here next.there in
-    record {
-      waits = (e, here, omega arith);
-      out = λ stands. (
-        k.greatest + time entry,
-        keeps.outstanding entry (record { device = next.device; there = next.there; outstanding = stands }),
-        first_fits b.greatest k.greatest (time entry) late (others_of time late n entry) turns (before * turns) ((before + 1) * turns) moment sum product,
-      );
-      idle = λ none. (
-        k.greatest + late + others_of time late n entry,
-        has_its_turn late time n entry k.greatest (before + 1) calls k well_then keeps.in_time keeps.turns keeps.few (omega arith)
-            (e, here, (lives state under.under_way, ap holds one ∙ none, omega arith, inr (at_rest state under.under_way (ap holds one ∙ none), omega arith)))
-            (λ holding out. keeps.outstanding holding out),
-        idle_fits b.greatest k.greatest (time entry) late (others_of time late n entry) turns (before * turns) ((before + 1) * turns) moment sum product,
-      );
-    })
+    subst (λ (g : ℕ). GoesOutBy (g + (before + 1) * turns) before entry calls k) moment
+    (subst (λ (t : ℕ). GoesOutBy (k.greatest + (before + 1) * t) before entry calls k) (let none : 0 + turns ≡ turns = omega arith in none)
+    (goes_out_from late time n entry 0 before (λ more. more + 1) (λ more. inl (omega arith)) calls k (well_call (Submit entry command) b well) keeps (λ more. inl (omega arith))
+    (device_submits command d, here, wait)))
+
+pub polls_go_out : (b : BusState) → Well b → ExchangesComeRound b
+polls_go_out b well late time n entry before calls under keeps =
+    goes_out_from late time n entry b.config.poll_interval before (λ more. 0) (λ more. inr refl) calls b well keeps (λ more. inr (omega arith))
+    (under.device, under.there, omega arith)

@@ -50,6 +50,11 @@ OrdersGoOut b = (late : ℕ) (time : ℕ → ℕ) (n entry before : ℕ) (comman
     → IsAccepted entry before command b → KeepsTurns late time n calls (after_call (Submit entry command) b)
     → GoesOutBy (b.greatest + (before + 1) * turns_of time late n) before entry calls (after_call (Submit entry command) b)
 
+-- an entry that is open is asked in time, by a POLL where no order waits: for each of its exchanges the interval between POLLs, and a turn of each entry
+abbrev pub ExchangesComeRound : BusState → Type 0
+ExchangesComeRound b = (late : ℕ) (time : ℕ → ℕ) (n entry before : ℕ) (calls : List Call) → IsUnderWay entry b → KeepsTurns late time n calls b
+    → GoesOutBy (b.greatest + (before + 1) * (b.config.poll_interval + turns_of time late n)) before entry calls b
+
 -- an opening in time: the quiet wait, a late tick, and a turn of each other entry
 abbrev pub OpeningsBegin : BusState → Type 0
 OpeningsBegin b = (late : ℕ) (time : ℕ → ℕ) (n entry now : ℕ) (calls : List Call)

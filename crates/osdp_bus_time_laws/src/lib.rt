@@ -3,7 +3,7 @@
 #![tactic(auto)]
 
 ghost use Rattle.osdp_bus_laws.specs.Calls.{Always};
-ghost use Rattle.osdp_bus_time_laws.specs.Laws.{ExchangesEnd, OpeningsBegin, OrdersGoOut};
+ghost use Rattle.osdp_bus_time_laws.specs.Laws.{ExchangesComeRound, ExchangesEnd, OpeningsBegin, OrdersGoOut};
 
 /// Each exchange of the line ends within the longest that the settings allow, however its answers come. So does the one that is outstanding, from now on.
 pub fn exchanges_end()
@@ -14,6 +14,12 @@ pub fn exchanges_end()
 /// one more, or its session has ended by then. A turn is an exchange and a late tick.
 pub fn orders_go_out()
     ensures { Always OrdersGoOut }
+{}
+
+/// While its session goes on an entry is asked again and again: for each of its exchanges the interval between POLLs and a turn of each entry pass at the
+/// most, until its first frame is handed out.
+pub fn exchanges_come_round()
+    ensures { Always ExchangesComeRound }
 {}
 
 /// A session that begins has its opening ID handed out within the quiet wait, a late tick, and a turn of each other entry.
