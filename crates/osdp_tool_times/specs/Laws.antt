@@ -1,9 +1,7 @@
 -- Which answers are told as late, in the words of the line: a panel that sends, and a device that answers.
-use Rattle.std.specs.Prelude.{◌≡◌, ◌≢◌, ◌≤◌, ◌-◌, ℕ, true, is_some, List, [], ◌∷◌, None}
+use Rattle.std.specs.Prelude.{◌≡◌, ◌≢◌, ◌≤◌, ◌-◌, ℕ, List, [], ◌∷◌}
 use Rattle.osdp_tool_times.specs.Waits.{after_reply, after_sent, no_waits, told_reply}
-use Rattle.osdp_tool_times.specs.declared.waits.LateBy.{LateBy}
-use Rattle.osdp_tool_times.specs.declared.waits.Told.{Told}
-use Rattle.osdp_tool_times.specs.declared.waits.Told.TheVariants.{InTime, Late, Nothing}
+use Rattle.osdp_tool_times.specs.declared.waits.Told.TheVariants.{InTime, Late}
 use Rattle.osdp_tool_times.specs.declared.waits.Waits.{Waits}
 
 -- a packet of a number, sent at a moment
@@ -27,18 +25,19 @@ abbrev pub NeverTellsLate : Type 0
 NeverTellsLate = (exchanges : List Exchange) (e : Exchange)
     → told_reply (sent e.number e.asked (after_exchanges no_waits exchanges)) e.number e.answered ≡ InTime (e.answered - e.asked)
 
--- A device that answers after the panel has sent another packet with the next number is told late: the time that it took, and the panel's wait.
+-- A device that answers after the panel has sent another packet with another number is told late, with the time that it took.
 abbrev pub TellsLate : Type 0
 TellsLate = (exchanges : List Exchange) (number next asked later answered : ℕ) → next ≢ number → asked ≤ later → later ≤ answered
-    → told_reply (sent next later (sent number asked (after_exchanges no_waits exchanges))) number answered
-    ≡ Late (record { took = answered - asked; waited = later - asked })
+    → told_reply (sent next later (sent number asked (after_exchanges no_waits exchanges))) number answered ≡ Late (answered - asked)
 
--- A device that answers after the panel has sent its packet once more, and then that copy, is told late by its second answer.
+-- A device that answers after the panel has sent its packet once more, and then that copy, is told late by its second answer, with the time of the first.
 abbrev pub TellsLateCopies : Type 0
 TellsLateCopies = (exchanges : List Exchange) (number asked again answered last : ℕ) → asked ≤ again → again ≤ answered
     → told_reply (after_reply number answered (sent number again (sent number asked (after_exchanges no_waits exchanges)))) number last
-    ≡ Late (record { took = answered - asked; waited = again - asked })
+    ≡ Late (answered - asked)
 
--- whatever is told late took no less than the panel had waited
-abbrev pub LateIsLonger : Type 0
-LateIsLonger = (w : Waits) (number moment : ℕ) (by : LateBy) → told_reply w number moment ≡ Late by → by.waited ≤ by.took
+-- It is told late as well where the panel has gone on by the first answer before the second one comes, with the time of the second.
+abbrev pub TellsLateSeconds : Type 0
+TellsLateSeconds = (exchanges : List Exchange) (number next asked again answered later last : ℕ) → next ≢ number → again ≤ later → later ≤ last
+    → told_reply (sent next later (after_reply number answered (sent number again (sent number asked (after_exchanges no_waits exchanges))))) number last
+    ≡ Late (last - again)

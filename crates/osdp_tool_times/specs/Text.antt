@@ -1,5 +1,5 @@
 -- What is printed of the answers of each device.
-use Rattle.std.specs.Prelude.{ℕ, ◌+◌, ◌==◌, Bool, true, false, if◌then◌else◌, List, [], ◌∷◌, ◌++◌, codes}
+use Rattle.std.specs.Prelude.{ℕ, ◌+◌, ◌==◌, if◌then◌else◌, List, [], ◌∷◌, ◌++◌, codes}
 use Rattle.std.specs.Fmt.{decimal}
 use Rattle.osdp_tool_times.specs.Times.{half_below, most_below}
 use Rattle.osdp_tool_times.specs.declared.table.Times.{Times}
@@ -18,12 +18,12 @@ counted_text address t =
 abbrev pub answers_line : ℕ → Times → List ℕ
 answers_line address t = if t.answers == 0 then [] else counted_text address t ++ shares_text (half_below t) (most_below t)
 
--- how many came late, and the latest
+-- how many came late, the latest, and the shortest wait of the panel
 abbrev pub late_line : ℕ → Times → List ℕ
 late_line address t =
     if t.late == 0 then []
     else codes "times: " ++ (decimal address ++ (codes " answered " ++ (decimal t.late ++ (codes " late, after " ++ (decimal t.took
-    ++ (codes " ms at most: the panel had waited " ++ (decimal t.waited ++ codes " ms\n")))))))
+    ++ (codes " ms at most: the panel waits " ++ (decimal t.waited ++ codes " ms\n")))))))
 
 abbrev pub device_text : ℕ → Times → List ℕ
 device_text address t = answers_line address t ++ late_line address t

@@ -1,12 +1,11 @@
 -- What is counted of the answers of a device.
-use Rattle.std.specs.Prelude.{ℕ, ◌+◌, ◌-◌, ◌*◌, ◌/◌, ◌^◌, ◌==◌, ◌||◌, nat_le, nat_lt, if◌then◌else◌, List, [], ◌∷◌, replicate, slice_index_or, slice_set, Option, None, Some}
+use Rattle.std.specs.Prelude.{ℕ, ◌+◌, ◌-◌, ◌*◌, ◌/◌, ◌^◌, ◌==◌, nat_le, nat_lt, if◌then◌else◌, List, [], ◌∷◌, replicate, slice_index_or, slice_set, Option, None, Some}
 use Rattle.osdp_frame.specs.Packet.{Packet}
 use Rattle.osdp_tool_times.specs.Waits.{after_reply, after_sent, no_waits, told_reply}
 use Rattle.osdp_tool_times.specs.declared.table.Times.{Times}
-use Rattle.osdp_tool_times.specs.declared.waits.LateBy.{LateBy}
+use Rattle.osdp_tool_times.specs.declared.waits.Sent.{Sent}
 use Rattle.osdp_tool_times.specs.declared.waits.Told.{Told}
 use Rattle.osdp_tool_times.specs.declared.waits.Told.TheVariants.{InTime, Late, Nothing}
-use Rattle.osdp_tool_times.specs.declared.waits.Waits.{Waits}
 
 -- one more; a count stays at the greatest number of 64 bits
 abbrev pub one_more : ℕ → ℕ
@@ -23,7 +22,7 @@ abbrev pub step_of : ℕ → ℕ
 step_of time = lesser (time / 5) 63
 
 abbrev pub no_times : Times
-no_times = record { answers = 0; least = 0; most = 0; late = 0; took = 0; waited = 0; steps = replicate 64 0; waits = no_waits }
+no_times = record { answers = 0; least = 0; most = 0; late = 0; took = 0; missed = 0; waited = 0; steps = replicate 64 0; waits = no_waits }
 
 abbrev pub after_in_time : ℕ → Times → Times
 after_in_time time t = record t {
@@ -34,24 +33,29 @@ after_in_time time t = record t {
 }
 
 -- of late answers, the one that took longest is told
-abbrev pub after_late : LateBy → Times → Times
-after_late by t = record t {
-  late = one_more t.late;
-  took = if nat_lt t.took by.took then by.took else t.took;
-  waited = if nat_lt t.took by.took then by.waited else t.waited;
-}
+abbrev pub after_late : ℕ → Times → Times
+after_late time t = record t { late = one_more t.late; took = greater time t.took }
 
 abbrev pub after_told : Told → Times → Times
 after_told Nothing t = t
 after_told (InTime time) t = after_in_time time t
-after_told (Late by) t = after_late by t
+after_told (Late time) t = after_late time t
+
+-- the panel goes on without an answer: of its waits the shortest is told
+abbrev pub after_missed : Option ℕ → Option Sent → ℕ → Times → Times
+after_missed (Some first) last moment t = t
+after_missed None None moment t = t
+after_missed None (Some last) moment t = record t {
+  missed = one_more t.missed;
+  waited = if t.missed == 0 then moment - last.moment else lesser (moment - last.moment) t.waited;
+}
 
 -- a packet without a moment leaves nothing open
 abbrev pub after_packet : Packet → Option ℕ → Times → Times
 after_packet p None t = record t { waits = no_waits }
 after_packet p (Some moment) t =
     if p.reply then record (after_told (told_reply t.waits p.sequence moment) t) { waits = after_reply p.sequence moment t.waits }
-    else record t { waits = after_sent (record { moment = moment; number = p.sequence }) t.waits }
+    else record (after_missed t.waits.first t.waits.last moment t) { waits = after_sent (record { moment = moment; number = p.sequence }) t.waits }
 
 -- those of each address, from 0 on
 abbrev pub all_after : Packet → Option ℕ → List Times → List Times

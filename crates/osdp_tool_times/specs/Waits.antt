@@ -1,6 +1,5 @@
 -- When the packets to a device were sent and answered, and which answer is late.
 use Rattle.std.specs.Prelude.{ℕ, ◌-◌, ◌==◌, ◌&&◌, ◌||◌, not, nat_le, Bool, false, if◌then◌else◌, is_some, Option, None, Some}
-use Rattle.osdp_tool_times.specs.declared.waits.LateBy.{LateBy}
 use Rattle.osdp_tool_times.specs.declared.waits.Sent.{Sent}
 use Rattle.osdp_tool_times.specs.declared.waits.Told.{Told}
 use Rattle.osdp_tool_times.specs.declared.waits.Told.TheVariants.{InTime, Late, Nothing}
@@ -9,49 +8,64 @@ use Rattle.osdp_tool_times.specs.declared.waits.Waits.{Waits}
 abbrev pub no_waits : Waits
 no_waits = record { before = None; last = None; first = None }
 
--- A packet is sent to the device. The one before it stays open where no reply to it has come.
+-- the last packet is answered, and no answer to a packet before it is owed
+abbrev pub is_settled : Waits → Bool
+is_settled w = is_some w.first && not (is_some w.before)
+
+-- A packet is sent to the device. An answer to the one before it is still owed where none has come, or one to two copies.
 abbrev pub after_sent : Sent → Waits → Waits
-after_sent sent w = record { before = if is_some w.first then None else w.last; last = Some sent; first = None }
+after_sent sent w = record { before = if is_settled w then None else w.last; last = Some sent; first = None }
 
 -- an answer time: from the packet to its answer
 abbrev pub in_time : ℕ → ℕ → Told
 in_time sent answer = if nat_le sent answer then InTime (answer - sent) else Nothing
 
--- An answer that comes after the panel has sent its next packet is late. It took the time from its own packet to itself; the panel waited from that
--- packet to its next.
+-- an answer that comes after the panel has sent its next packet is late, by the time from its own packet on
 abbrev pub late : ℕ → ℕ → ℕ → Told
-late sent next answer =
-    if nat_le sent next && nat_le next answer then Late (record { took = answer - sent; waited = next - sent }) else Nothing
+late sent next answer = if nat_le sent next && nat_le next answer then Late (answer - sent) else Nothing
+
+abbrev pub in_time_from : Option Sent → ℕ → Told
+in_time_from None answer = Nothing
+in_time_from (Some last) answer = in_time last.moment answer
+
+abbrev pub late_from : Option Sent → Option Sent → ℕ → Told
+late_from (Some before) (Some last) answer = late before.moment last.moment answer
+late_from _ _ answer = Nothing
 
 -- it has the number of the packet before, and the last packet has another
-abbrev pub is_of_before : Sent → Sent → ℕ → Bool
-is_of_before before last number = number == before.number && not (before.number == last.number)
-
--- the last packet is the one before once more, and this is a reply to it
-abbrev pub is_of_both : Sent → Sent → ℕ → Bool
-is_of_both before last number = before.number == last.number && number == last.number
-
--- What a reply with this number tells at this moment: the packet that is open before the last one, the last one, and the first reply since then.
--- Two replies to two copies answer them in their order: the second one tells that the first one was late.
-abbrev pub told_by : Option Sent → Sent → Option ℕ → ℕ → ℕ → Told
-told_by None last None number moment = if number == last.number then in_time last.moment moment else Nothing
-told_by None last (Some first) number moment = Nothing
-told_by (Some before) last None number moment = if is_of_before before last number then late before.moment last.moment moment else Nothing
-told_by (Some before) last (Some first) number moment = if is_of_both before last number then late before.moment last.moment first else Nothing
-
-abbrev pub told_in : Option Sent → Option Sent → Option ℕ → ℕ → ℕ → Told
-told_in before None first number moment = Nothing
-told_in before (Some last) first number moment = told_by before last first number moment
-
-abbrev pub told_reply : Waits → ℕ → ℕ → Told
-told_reply w number moment = told_in w.before w.last w.first number moment
-
--- whether it answers the packet before the last one alone
 abbrev pub is_behind : Option Sent → Option Sent → ℕ → Bool
-is_behind (Some before) (Some last) number = is_of_before before last number
+is_behind (Some before) (Some last) number = number == before.number && not (before.number == last.number)
 is_behind _ _ number = false
 
--- After a reply. The first one closes the last packet, but where it answers the one before; that one is closed by it, or by a second reply.
+-- the last packet is the one before once more
+abbrev pub is_copied : Option Sent → Option Sent → Bool
+is_copied (Some before) (Some last) = before.number == last.number
+is_copied _ _ = false
+
+abbrev pub is_of_last : Option Sent → ℕ → Bool
+is_of_last None number = false
+is_of_last (Some last) number = number == last.number
+
+-- What a reply to the last packet tells, by the first one. Two replies to two copies answer them in their order: the second one tells that the first
+-- one was late.
+abbrev pub told_first : Waits → Option ℕ → ℕ → Told
+told_first w None moment = if is_copied w.before w.last then Nothing else in_time_from w.last moment
+told_first w (Some first) moment = if is_copied w.before w.last then late_from w.before w.last first else Nothing
+
+-- what a reply with this number tells at this moment
+abbrev pub told_reply : Waits → ℕ → ℕ → Told
+told_reply w number moment =
+    if is_behind w.before w.last number then late_from w.before w.last moment
+    else (if is_of_last w.last number then told_first w w.first moment else Nothing)
+
+abbrev pub first_or : Option ℕ → ℕ → Option ℕ
+first_or None moment = Some moment
+first_or (Some first) moment = Some first
+
+-- After a reply. One to the packet before closes that; one to the last packet closes it and all before, but the first of two to two copies.
 abbrev pub after_reply : ℕ → ℕ → Waits → Waits
 after_reply number moment w =
-    if is_some w.first || is_behind w.before w.last number then record w { before = None } else record w { first = Some moment }
+    if is_behind w.before w.last number then record w { before = None }
+    else (if is_of_last w.last number
+    then record { before = if is_some w.first || not (is_copied w.before w.last) then None else w.before; last = w.last; first = first_or w.first moment }
+    else w)

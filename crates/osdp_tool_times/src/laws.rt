@@ -1,6 +1,6 @@
 //! What is told as late, in the words of the line. A law has no code: it holds for all values, and its proof is the law's.
 
-ghost use Rattle.osdp_tool_times.specs.Laws.{LateIsLonger, NeverTellsLate, TellsLate, TellsLateCopies};
+ghost use Rattle.osdp_tool_times.specs.Laws.{NeverTellsLate, TellsLate, TellsLateCopies, TellsLateSeconds};
 
 /// A device that answers each packet before the panel sends its next one is never told late.
 pub fn never_tells_late()
@@ -17,7 +17,7 @@ pub fn tells_late_copies()
     ensures { TellsLateCopies }
 {}
 
-/// Whatever is told late took no less than the panel had waited.
-pub fn late_is_longer()
-    ensures { LateIsLonger }
+/// And so it is where the panel has gone on by the first answer.
+pub fn tells_late_seconds()
+    ensures { TellsLateSeconds }
 {}

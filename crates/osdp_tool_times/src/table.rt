@@ -1,9 +1,9 @@
 //! What is counted of the answers of a device.
 
 ghost use Rattle.std.specs.Prelude.{◌≡◌, ◌<◌, ◌≤◌, length};
-ghost use Rattle.osdp_tool_times.specs.Times.{after_in_time, after_late, after_packet, after_told, below, greater, half_below, lesser, most_below, no_times, one_more, step_at, step_of};
+ghost use Rattle.osdp_tool_times.specs.Times.{after_in_time, after_late, after_missed, after_packet, after_told, below, greater, half_below, lesser, most_below, no_times, one_more, step_at, step_of};
 
-use crate::waits::{LateBy, Sent, Told, Waits};
+use crate::waits::{Sent, Told, Waits};
 use osdp_frame::FrameView;
 
 /// So many steps there are.
@@ -22,7 +22,9 @@ pub struct Times {
     pub late: u64,
     /// The greatest of their times, in milliseconds.
     pub took: u64,
-    /// How long the panel had waited then, in milliseconds.
+    /// Packets after which the panel went on without an answer.
+    pub missed: u64,
+    /// The shortest time that it waited then, in milliseconds.
     pub waited: u64,
     /// How many answers took 0 to 4 milliseconds, 5 to 9 and so on; the last has all that took longer.
     pub steps: [u64; 64],
@@ -84,6 +86,7 @@ impl Times {
         most: 0,
         late: 0,
         took: 0,
+        missed: 0,
         waited: 0,
         steps: [0; STEPS],
         waits: Waits::NONE,
@@ -104,15 +107,28 @@ impl Times {
         self.steps[step] = one_more(self.steps[step]);
     }
 
-    /// An answer was late by so much.
-    fn count_late(&mut self, by: LateBy)
-        ensures { self.new ≡ after_late by self.old }
+    /// A late answer took so long.
+    fn count_late(&mut self, time: u64)
+        ensures { self.new ≡ after_late time self.old }
     {
         self.late = one_more(self.late);
-        if self.took < by.took {
-            self.took = by.took;
-            self.waited = by.waited;
-        }
+        self.took = greater(time, self.took);
+    }
+
+    /// The panel sends a packet at this moment: where the one before had no answer, it has waited from that.
+    fn count_missed(&mut self, moment: u64)
+        ensures { self.new ≡ after_missed self.old.waits.first self.old.waits.last moment self.old }
+    {
+        let (None, Some(last)) = (self.waits.first, self.waits.last) else {
+            return;
+        };
+        let waited = moment.saturating_sub(last.moment);
+        self.waited = if self.missed == 0 {
+            waited
+        } else {
+            lesser(waited, self.waited)
+        };
+        self.missed = one_more(self.missed);
     }
 
     /// What a reply tells is counted.
@@ -122,7 +138,7 @@ impl Times {
         match told {
             Told::Nothing => {}
             Told::InTime(time) => self.count_in_time(time),
-            Told::Late(by) => self.count_late(by),
+            Told::Late(time) => self.count_late(time),
         }
     }
 
@@ -140,6 +156,7 @@ impl Times {
             self.count(waits.told_reply(number, moment));
             self.waits = waits.after_reply(number, moment);
         } else {
+            self.count_missed(moment);
             self.waits = waits.after_sent(Sent { moment, number });
         }
     }

@@ -49,7 +49,7 @@ fn push_late(text: &mut String, address: u64, times: &Times) -> Result<(), Alloc
     let waited = times.waited;
     write!(
         text,
-        "times: {address} answered {late} late, after {took} ms at most: the panel had waited {waited} ms\n"
+        "times: {address} answered {late} late, after {took} ms at most: the panel waits {waited} ms\n"
     )
 }
 

@@ -1,7 +1,7 @@
 //! When the packets to a device were sent and answered.
 
 ghost use Rattle.std.specs.Prelude.{◌≡◌};
-ghost use Rattle.osdp_tool_times.specs.Waits.{after_reply, after_sent, in_time, is_behind, is_of_before, is_of_both, late, no_waits, told_by, told_in, told_reply};
+ghost use Rattle.osdp_tool_times.specs.Waits.{after_reply, after_sent, first_or, in_time, in_time_from, is_behind, is_copied, is_of_last, is_settled, late, late_from, no_waits, told_first, told_reply};
 
 /// A packet to a device.
 #[derive(Clone, Copy, Debug, PartialEq, Eq)]
@@ -12,34 +12,25 @@ pub struct Sent {
     pub number: u8,
 }
 
-/// By how much an answer is late.
-#[derive(Clone, Copy, Debug, PartialEq, Eq)]
-pub struct LateBy {
-    /// Milliseconds from the packet to its answer.
-    pub took: u64,
-    /// Milliseconds from the packet to the panel's next.
-    pub waited: u64,
-}
-
 /// What a reply tells.
 #[derive(Clone, Copy, Debug, PartialEq, Eq)]
 pub enum Told {
     /// No time.
     Nothing,
-    /// An answer came within the panel's wait, after so many milliseconds.
+    /// An answer came before the panel's next packet, after so many milliseconds.
     InTime(u64),
-    /// An answer is late.
-    Late(LateBy),
+    /// An answer came later than that, so many milliseconds after its packet.
+    Late(u64),
 }
 
 /// What is open between a panel and a device.
 #[derive(Clone, Copy, Debug, PartialEq, Eq)]
 pub struct Waits {
-    /// The packet before the last, where a reply to it may still come.
+    /// The packet before the last, where an answer to it is owed.
     pub before: Option<Sent>,
     /// The last packet.
     pub last: Option<Sent>,
-    /// The moment of the first reply since then, in milliseconds.
+    /// The moment of the first answer to it, in milliseconds.
     pub first: Option<u64>,
 }
 
@@ -59,52 +50,69 @@ fn late(sent: u64, next: u64, answer: u64) -> Told
     ensures { result ≡ late sent next answer }
 {
     if sent <= next && next <= answer {
-        Told::Late(LateBy {
-            took: answer - sent,
-            waited: next - sent,
-        })
+        Told::Late(answer - sent)
     } else {
         Told::Nothing
     }
 }
 
-/// Whether a reply has the number of the packet before, and the last packet has another.
-fn is_of_before(before: Sent, last: Sent, number: u8) -> bool
-    ensures { result ≡ is_of_before before last number }
+/// What is told of the first answer to the last packet.
+fn in_time_from(last: Option<Sent>, answer: u64) -> Told
+    ensures { result ≡ in_time_from last answer }
 {
-    number == before.number && before.number != last.number
+    match last {
+        None => Told::Nothing,
+        Some(last) => in_time(last.moment, answer),
+    }
 }
 
-/// Whether the last packet is the one before once more, and this is a reply to it.
-fn is_of_both(before: Sent, last: Sent, number: u8) -> bool
-    ensures { result ≡ is_of_both before last number }
+/// What is told of a late answer to the packet before.
+fn late_from(before: Option<Sent>, last: Option<Sent>, answer: u64) -> Told
+    ensures { result ≡ late_from before last answer }
 {
-    before.number == last.number && number == last.number
-}
-
-/// What a reply tells, where the last packet is known.
-fn told_by(before: Option<Sent>, last: Sent, first: Option<u64>, number: u8, moment: u64) -> Told
-    ensures { result ≡ told_by before last first number moment }
-{
-    match (before, first) {
-        (None, None) if number == last.number => in_time(last.moment, moment),
-        (Some(before), None) if is_of_before(before, last, number) => {
-            late(before.moment, last.moment, moment)
-        }
-        (Some(before), Some(first)) if is_of_both(before, last, number) => {
-            late(before.moment, last.moment, first)
-        }
+    match (before, last) {
+        (Some(before), Some(last)) => late(before.moment, last.moment, answer),
         _ => Told::Nothing,
     }
 }
 
-/// Whether a reply answers the packet before the last one alone.
+/// Whether a reply has the number of the packet before, and the last packet has another.
 fn is_behind(before: Option<Sent>, last: Option<Sent>, number: u8) -> bool
     ensures { result ≡ is_behind before last number }
 {
     match (before, last) {
-        (Some(before), Some(last)) => is_of_before(before, last, number),
+        (Some(before), Some(last)) => { number == before.number && before.number != last.number }
         _ => false,
+    }
+}
+
+/// Whether the last packet is the one before once more.
+fn is_copied(before: Option<Sent>, last: Option<Sent>) -> bool
+    ensures { result ≡ is_copied before last }
+{
+    match (before, last) {
+        (Some(before), Some(last)) => before.number == last.number,
+        _ => false,
+    }
+}
+
+/// Whether a reply has the number of the last packet.
+fn is_of_last(last: Option<Sent>, number: u8) -> bool
+    ensures { result ≡ is_of_last last number }
+{
+    match last {
+        None => false,
+        Some(last) => number == last.number,
+    }
+}
+
+/// The moment of the first answer.
+fn first_or(first: Option<u64>, moment: u64) -> Option<u64>
+    ensures { result ≡ first_or first moment }
+{
+    match first {
+        None => Some(moment),
+        Some(first) => Some(first),
     }
 }
 
@@ -116,18 +124,34 @@ impl Waits {
         first: None,
     };
 
+    /// Whether the last packet is answered, and no answer to a packet before it is owed.
+    fn is_settled(self) -> bool
+        ensures { result ≡ is_settled self }
+    {
+        self.first.is_some() && !self.before.is_some()
+    }
+
     /// After a packet to the device.
     pub fn after_sent(self, sent: Sent) -> Waits
         ensures { result ≡ after_sent sent self }
     {
         Waits {
-            before: if self.first.is_some() {
-                None
-            } else {
-                self.last
-            },
+            before: if self.is_settled() { None } else { self.last },
             last: Some(sent),
             first: None,
+        }
+    }
+
+    /// What a reply to the last packet tells, by the first one.
+    fn told_first(self, first: Option<u64>, moment: u64) -> Told
+        ensures { result ≡ told_first self first moment }
+    {
+        let copied = is_copied(self.before, self.last);
+        match first {
+            None if copied => Told::Nothing,
+            None => in_time_from(self.last, moment),
+            Some(first) if copied => late_from(self.before, self.last, first),
+            Some(_) => Told::Nothing,
         }
     }
 
@@ -135,9 +159,12 @@ impl Waits {
     pub fn told_reply(self, number: u8, moment: u64) -> Told
         ensures { result ≡ told_reply self number moment }
     {
-        match self.last {
-            None => Told::Nothing,
-            Some(last) => told_by(self.before, last, self.first, number, moment),
+        if is_behind(self.before, self.last, number) {
+            late_from(self.before, self.last, moment)
+        } else if is_of_last(self.last, number) {
+            self.told_first(self.first, moment)
+        } else {
+            Told::Nothing
         }
     }
 
@@ -145,16 +172,20 @@ impl Waits {
     pub fn after_reply(self, number: u8, moment: u64) -> Waits
         ensures { result ≡ after_reply number moment self }
     {
-        if self.first.is_some() || is_behind(self.before, self.last, number) {
-            Waits {
+        if is_behind(self.before, self.last, number) {
+            return Waits {
                 before: None,
                 ..self
-            }
-        } else {
-            Waits {
-                first: Some(moment),
-                ..self
-            }
+            };
+        }
+        if !is_of_last(self.last, number) {
+            return self;
+        }
+        let closes = self.first.is_some() || !is_copied(self.before, self.last);
+        Waits {
+            before: if closes { None } else { self.before },
+            last: self.last,
+            first: first_or(self.first, moment),
         }
     }
 }
