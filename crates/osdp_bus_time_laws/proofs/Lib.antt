@@ -6,3 +6,5 @@ pub mod Sums
 pub mod Turning
 pub mod Opened
 pub mod Ordered
+pub mod Told
+pub mod InTime

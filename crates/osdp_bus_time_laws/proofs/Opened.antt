@@ -27,6 +27,18 @@ begun_at entry now b accepted = by_device (device_of entry b) refl
     by_device None none = absurd (let refused = sym (ap begin_refusal_of none) ∙ accepted in cc)
     by_device (Some d) there = (d, there, ap (λ f. changed_unless f b (after_begin_at entry now b)) accepted)
 
+begins_there : (entry g : ℕ) (d : Device) (b : BusState) → device_of entry b ≡ Some d → device_of entry (changes_device entry (device_begins g) b) ≡ Some (device_begins g d)
+begins_there entry g d b at =
+    ap (λ o. device_of entry (changed o)) at ∙ set_here b.devices.entries entry d (device_begins g d) at
+  where
+    changed : Option Device → BusState
+    changed o = option_map_or (λ f. record b { devices = record b.devices { entries = slice_set b.devices.entries entry (device_begins g f) } }) o b
+
+pub begun_there : (entry now : ℕ) (b : BusState) → begin_refusal_at entry b ≡ None → (d : Device) × (device_of entry (after_call (Begin entry now) b) ≡ Some d)
+begun_there entry now b accepted =
+    let begun = begun_at entry now b accepted in
+    (device_begins (max b.greatest now) begun.0, ap (device_of entry) begun.2 ∙ begins_there entry (max b.greatest now) begun.0 (seen now b) begun.1)
+
 quiet_wait_of : (quiet late others wait g : ℕ) → wait ≡ quiet → (g + wait) + late + others ≡ g + (quiet + late + others)
 quiet_wait_of quiet late others wait g same = omega arith
 
@@ -51,10 +63,3 @@ openings_begin b well late time n entry now calls accepted keeps =
     subst (λ (limit : ℕ). BeginsBy limit entry calls k) (quiet_wait_of b.config.quiet_wait late (others_of time late n entry) wait k.greatest settings)
     (has_its_turn late time n entry (k.greatest + wait) 0 calls k well_then keeps.in_time keeps.turns keeps.few (omega arith) place
     (λ holding out. ends_later (k.greatest + time holding) (k.greatest + wait + time holding) calls k (omega arith) (keeps.outstanding holding out)))
-  where
-    begins_there : (entry g : ℕ) (d : Device) (b : BusState) → device_of entry b ≡ Some d → device_of entry (changes_device entry (device_begins g) b) ≡ Some (device_begins g d)
-    begins_there entry g d b at =
-        ap (λ o. device_of entry (changed o)) at ∙ set_here b.devices.entries entry d (device_begins g d) at
-      where
-        changed : Option Device → BusState
-        changed o = option_map_or (λ f. record b { devices = record b.devices { entries = slice_set b.devices.entries entry (device_begins g f) } }) o b

@@ -138,7 +138,7 @@ begun_then wait least call b (inl some) = inl some
 begun_then wait least call b (inr interval) = inr (subst (λ (c : BusConfig). c.poll_interval ≤ wait) (sym (same_config call b)) interval)
 
 -- the moment from which an open entry is due
-rest_due : (wait e : ℕ) (b : BusState) (d : Device) → Kept b.config b.greatest d → is_idle d.controller.session.state ≡ true → b.greatest ≤ e
+pub rest_due : (wait e : ℕ) (b : BusState) (d : Device) → Kept b.config b.greatest d → is_idle d.controller.session.state ≡ true → b.greatest ≤ e
     → b.config.poll_interval ≤ wait → until_of d.controller.session.state ≤ e + wait
 rest_due wait e b d kept idle near interval = by_state d.controller.session.state idle kept.timely
   where

@@ -1,5 +1,5 @@
 -- How long a line of several entries takes, whatever it does.
-use Rattle.std.specs.Prelude.{◌≡◌, ℕ, zero, suc, ◌+◌, ◌*◌, ◌≤◌, true, List, [], ◌∷◌, length, Some, None}
+use Rattle.std.specs.Prelude.{◌≡◌, ℕ, zero, suc, ◌+◌, ◌-◌, ◌*◌, ◌≤◌, true, List, [], ◌∷◌, length, Some, None}
 use Rattle.osdp_msg.specs.declared.command.Command.{Command}
 use Rattle.osdp_bus.specs.declared.device.Device.{Device}
 use Rattle.osdp_bus.specs.Buses.{BusState, device_of}
@@ -10,7 +10,7 @@ use Rattle.osdp_bus_laws.specs.Fairness.{Begins}
 use Rattle.osdp_time_laws.specs.Bounds.{longest_exchange}
 use Rattle.osdp_time_laws.specs.Orders.{is_under_way}
 use Rattle.osdp_bus_time_laws.specs.Clock.{KeepsTime}
-use Rattle.osdp_bus_time_laws.specs.Turns.{BeginsBy, KeepsTurns, OutstandingTakes, TurnsTake, others_of, turns_of}
+use Rattle.osdp_bus_time_laws.specs.Turns.{BeginsBy, HasFew, KeepsTurns, OutstandingTakes, TurnsTake, others_of, turns_of}
 
 -- the longest exchange, by the settings of a bus: those of each of its controllers
 abbrev pub exchange_of : BusState → ℕ → ℕ
@@ -60,4 +60,17 @@ abbrev pub OpeningsBegin : BusState → Type 0
 OpeningsBegin b = (late : ℕ) (time : ℕ → ℕ) (n entry now : ℕ) (calls : List Call)
     → begin_refusal_at entry b ≡ None → KeepsTurns late time n calls (after_call (Begin entry now) b)
     → BeginsBy ((after_call (Begin entry now) b).greatest + (b.config.quiet_wait + late + others_of time late n entry)) entry calls
+    (after_call (Begin entry now) b)
+
+-- ---- whatever the line does: each turn as long as the settings allow
+
+abbrev pub OrdersInTime : BusState → Type 0
+OrdersInTime b = (late n entry before : ℕ) (command : Command) (calls : List Call) → IsAccepted entry before command b
+    → KeepsTime late calls (after_call (Submit entry command) b) → HasFew n calls (after_call (Submit entry command) b)
+    → GoesOutBy (b.greatest + (before + 1) * (n * (exchange_of b late + late))) before entry calls (after_call (Submit entry command) b)
+
+abbrev pub OpeningsInTime : BusState → Type 0
+OpeningsInTime b = (late n entry now : ℕ) (calls : List Call) → begin_refusal_at entry b ≡ None → KeepsTime late calls (after_call (Begin entry now) b)
+    → HasFew n calls (after_call (Begin entry now) b)
+    → BeginsBy ((after_call (Begin entry now) b).greatest + (b.config.quiet_wait + late + (n - 1) * (exchange_of b late + late))) entry calls
     (after_call (Begin entry now) b)

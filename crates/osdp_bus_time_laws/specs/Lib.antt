@@ -1,3 +1,4 @@
 pub mod Clock
 pub mod Turns
 pub mod Laws
+pub mod Telling

@@ -3,7 +3,8 @@
 #![tactic(auto)]
 
 ghost use Rattle.osdp_bus_laws.specs.Calls.{Always};
-ghost use Rattle.osdp_bus_time_laws.specs.Laws.{ExchangesComeRound, ExchangesEnd, OpeningsBegin, OrdersGoOut};
+ghost use Rattle.osdp_bus_time_laws.specs.Laws.{ExchangesComeRound, ExchangesEnd, OpeningsBegin, OpeningsInTime, OrdersGoOut, OrdersInTime};
+ghost use Rattle.osdp_bus_time_laws.specs.Telling.{OpenAreAsked, ReportsAreTaken, SilenceIsTold};
 
 /// Each exchange of the line ends within the longest that the settings allow, however its answers come. So does the one that is outstanding, from now on.
 pub fn exchanges_end()
@@ -11,9 +12,11 @@ pub fn exchanges_end()
 {}
 
 /// An order that is accepted while its session is under way has its first frame handed out within a turn of each entry for each command before it, and
-/// one more, or its session has ended by then. A turn is an exchange and a late tick.
+/// one more, or its session has ended by then. A turn is an exchange and a late tick. Whatever the line does, an exchange is the longest that the settings
+/// allow.
 pub fn orders_go_out()
-    ensures { Always OrdersGoOut }
+    ensures turns { Always OrdersGoOut }
+    ensures whatever { Always OrdersInTime }
 {}
 
 /// While its session goes on an entry is asked again and again: for each of its exchanges the interval between POLLs and a turn of each entry pass at the
@@ -24,5 +27,21 @@ pub fn exchanges_come_round()
 
 /// A session that begins has its opening ID handed out within the quiet wait, a late tick, and a turn of each other entry.
 pub fn openings_begin()
-    ensures { Always OpeningsBegin }
+    ensures turns { Always OpeningsBegin }
+    ensures whatever { Always OpeningsInTime }
+{}
+
+/// An open entry is asked within the interval between POLLs, a late tick, and a turn of each other entry.
+pub fn open_entries_are_asked()
+    ensures { Always OpenAreAsked }
+{}
+
+/// What a controller tells is taken in time.
+pub fn reports_are_taken()
+    ensures { Always ReportsAreTaken }
+{}
+
+/// A device that is silent after its last answer is told lost: once it has been asked in time, its own exchange has ended, and the report has been taken.
+pub fn silence_is_told()
+    ensures { Always SilenceIsTold }
 {}

@@ -1,0 +1,188 @@
+-- What is told is taken in time, and a device that falls silent is told lost in time.
+use Rattle.std.proofs.Common.{◌≡◌, ◌∙◌, ap, sym, subst, inl, inr, ℕ, ◌+◌, ◌≤◌, ◌||◌, Bool, true, false, List, [], ◌∷◌, Option, Some, None, refl, arith}
+use Rattle.std.specs.Prelude.{◌⊎◌, is_some, nat_eq, not}
+use Rattle.std.proofs.lemmas.Bool.{eqb-true, eqb-false}
+use Rattle.osdp_controller.specs.declared.report.Report.TheVariants.{Lost}
+use Rattle.osdp_controller.specs.declared.state.State.{State}
+use Rattle.osdp_controller.specs.declared.state.State.TheVariants.{Closed, Quiet, Idle, Waiting, Pausing}
+use Rattle.osdp_controller.specs.Machine.{is_outstanding}
+use Rattle.osdp_controller.specs.States.{is_closed, is_idle}
+use Rattle.osdp_bus.specs.declared.device.Device.{Device}
+use Rattle.osdp_bus.specs.Buses.{BusState, device_of, has_report}
+use Rattle.osdp_bus.specs.Deadlines.{acts}
+use Rattle.osdp_bus.specs.Devices.{holds}
+use Rattle.osdp_bus_laws.specs.Calls.{Call, Add, Begin, Submit, Withdraw, Retarget, OnBytes, OnSilence, Tick, NextReport, after_call}
+use Rattle.osdp_bus_laws.specs.Exchanges.{IsOutstandingAt}
+use Rattle.osdp_bus_laws.specs.Fairness.{Begins}
+use Rattle.osdp_bus_laws.proofs.Exchanging.{has_one_exchange}
+use Rattle.osdp_bus_laws.proofs.Fairness.{stands_after}
+use Rattle.osdp_bus_laws.proofs.Reserving.{keeps_reports}
+use Rattle.osdp_bus_time_laws.specs.Clock.{DoneBy, KeepsTime, ends_duty}
+use Rattle.osdp_bus_time_laws.specs.Telling.{IsLost, NeverAnswers, OpenAreAsked, ReportsAreTaken, SilenceIsTold, TakenBy, ToldBy}
+use Rattle.osdp_bus_time_laws.specs.Turns.{BeginsBy, EndsBy, NoneBegins, TurnsTake, others_of}
+use Rattle.osdp_bus_time_laws.proofs.Devices.{Well, well_call}
+use Rattle.osdp_bus_time_laws.proofs.Moments.{grows, within_limit}
+use Rattle.osdp_bus_time_laws.proofs.Ordered.{rest_due}
+use Rattle.osdp_bus_time_laws.proofs.Places.{one_device}
+use Rattle.osdp_bus_time_laws.proofs.Turning.{decide, ends_later, has_its_turn}
+
+-- ---- an open entry
+
+idle_lives : (state : State) → is_idle state ≡ true → (is_closed state ≡ false) × (is_outstanding state ≡ false)
+idle_lives Closed idle = cc
+idle_lives (Quiet until) idle = cc
+idle_lives (Idle due) idle = (refl, refl)
+idle_lives (Waiting until sends o) idle = cc
+idle_lives (Pausing until o) idle = cc
+
+interval_first : (g interval late others : ℕ) → (g + interval) + late + others ≡ g + (interval + late + others)
+interval_first g interval late others = omega arith
+
+pub open_are_asked : (b : BusState) → Well b → OpenAreAsked b
+open_are_asked b well late time n entry calls idle keeps =
+    let d = idle.device in
+    let parts = idle_lives d.controller.session.state idle.idle in
+    let due = rest_due b.config.poll_interval b.greatest b d (well.devices entry d idle.there) idle.idle (omega arith) (omega arith) in
+    subst (λ (limit : ℕ). BeginsBy limit entry calls b) (interval_first b.greatest b.config.poll_interval late (others_of time late n entry))
+    (has_its_turn late time n entry (b.greatest + b.config.poll_interval) 0 calls b well keeps.in_time keeps.turns keeps.few (omega arith)
+    (d, idle.there, (parts.0, parts.1, omega arith, inl due))
+    (λ k out. ends_later (b.greatest + time k) (b.greatest + b.config.poll_interval + time k) calls b (omega arith) (keeps.outstanding k out)))
+
+-- ---- what waits is taken
+
+no_duty : (call : Call) (b : BusState) → has_report b ≡ true → ends_duty call b ≡ false
+no_duty (Tick now) b told = ap not told
+no_duty (Add address) b told = refl
+no_duty (Begin at now) b told = refl
+no_duty (Submit at command) b told = refl
+no_duty (Withdraw at) b told = refl
+no_duty (Retarget at address) b told = refl
+no_duty (OnBytes bytes now) b told = refl
+no_duty (OnSilence now) b told = refl
+no_duty NextReport b told = refl
+
+due_report : (b : BusState) (other : Bool) → has_report b ≡ true → (has_report b || other) ≡ true
+due_report b other told = ap (λ t. t || other) told
+
+done_now : (late : ℕ) (call : Call) (calls : List Call) (b : BusState) → KeepsTime late (call ∷ calls) b → has_report b ≡ true → DoneBy (b.greatest + late) (call ∷ calls) b
+done_now late call calls b in_time told =
+    in_time.0 b.greatest (record { not_before = omega arith; not_after = grows call b; due = due_report b (acts b.greatest b) told })
+
+some_report : {X : Type 0} (o : Option X) → is_some o ≡ true → (x : X) × (o ≡ Some x)
+some_report None h = cc
+some_report (Some x) h = (x, refl)
+
+taken : (limit : ℕ) (calls : List Call) (b : BusState) → Well b → has_report b ≡ true → b.greatest ≤ limit → DoneBy limit calls b → TakenBy limit calls b
+taken limit [] b well told near done = tt
+taken limit (call ∷ calls) b well told near done =
+    let next = within_limit limit call b near done.0 in (
+      next,
+      λ other.
+          let waiting = some_report b.devices.report told in
+          let still = keeps_reports b well.sound call waiting.0 waiting.1 other in
+          taken limit calls (after_call call b) (well_call call b well) (ap (λ o. is_some o) still) next (done.1 (no_duty call b told)),
+    )
+
+taken_from : (late : ℕ) (calls : List Call) (b : BusState) → Well b → has_report b ≡ true → KeepsTime late calls b → TakenBy (b.greatest + late) calls b
+taken_from late [] b well told in_time = tt
+taken_from late (call ∷ calls) b well told in_time =
+    taken (b.greatest + late) (call ∷ calls) b well told (omega arith) (done_now late call calls b in_time told)
+
+pub reports_are_taken : (b : BusState) → Well b → ReportsAreTaken b
+reports_are_taken b well late calls told in_time = taken_from late calls b well told in_time
+
+-- ---- a device that says nothing
+
+standing : (entry : ℕ) (b : BusState) → (IsOutstandingAt entry b) ⊎ (IsOutstandingAt entry b → ⊥)
+standing entry b = by_device (device_of entry b) refl
+  where
+    by_holds : (d : Device) → device_of entry b ≡ Some d → (t : Bool) → holds d ≡ t → (IsOutstandingAt entry b) ⊎ (IsOutstandingAt entry b → ⊥)
+    by_holds d there true stands = inl (record { device = d; there = there; outstanding = stands })
+    by_holds d there false free =
+        inr (λ other. let one = one_device (device_of entry b) other.device d other.there there in let stands = ap holds (sym one) ∙ other.outstanding in cc)
+
+    by_device : (o : Option Device) → device_of entry b ≡ o → (IsOutstandingAt entry b) ⊎ (IsOutstandingAt entry b → ⊥)
+    by_device None none = inr (λ other. let both : Some other.device ≡ None = sym other.there ∙ none in cc)
+    by_device (Some d) there = by_holds d there (holds d) refl
+
+module _ (late : ℕ) (time : ℕ → ℕ) (entry limit : ℕ) where
+  -- it is told lost
+  lost_told : (until : ℕ) (calls : List Call) (b : BusState) → Well b → until ≤ limit → IsLost entry b → TakenBy until calls b → ToldBy limit entry calls b
+  lost_told until [] b well near lost taken_by = tt
+  lost_told until (call ∷ calls) b well near lost taken_by = (
+    (let next : (after_call call b).greatest ≤ until = taken_by.0 in omega arith),
+    λ other.
+        let not = other lost in
+        let still = keeps_reports b well.sound call (entry, Lost lost.cause lost.command) lost.report not in
+        lost_told until calls (after_call call b) (well_call call b well) near (record { cause = lost.cause; command = lost.command; report = still }) (taken_by.1 not),
+  )
+
+  lost_from : (calls : List Call) (b : BusState) → Well b → IsLost entry b → KeepsTime late calls b → b.greatest + late ≤ limit → ToldBy limit entry calls b
+  lost_from calls b well lost in_time near =
+      lost_told (b.greatest + late) calls b well near lost (taken_from late calls b well (ap (λ o. is_some o) lost.report) in_time)
+
+  -- its exchange is outstanding
+  out_by : (e : ℕ) (call : Call) (calls : List Call) (b : BusState) → Well b → e + late ≤ limit → (after_call call b).greatest ≤ e
+      → (NoneBegins call b → EndsBy e calls (after_call call b)) → KeepsTime late calls (after_call call b) → (Begins call entry b → ⊥)
+      → ((IsOutstandingAt entry (after_call call b) → ⊥) → IsLost entry (after_call call b))
+      → ((f : ℕ) → IsOutstandingAt entry (after_call call b) → EndsBy f calls (after_call call b) → f + late ≤ limit → ToldBy limit entry calls (after_call call b))
+      → (IsOutstandingAt entry (after_call call b)) ⊎ (IsOutstandingAt entry (after_call call b) → ⊥) → ((k : ℕ) × Begins call k b) ⊎ NoneBegins call b
+      → ToldBy limit entry calls (after_call call b)
+  out_by e call calls b well near soon ends in_time not lost on (inr free) decided =
+      lost_from calls (after_call call b) (well_call call b well) (lost free) in_time (omega arith)
+  out_by e call calls b well near soon ends in_time not lost on (inl out) (inr none) = on e out (ends none) near
+  out_by e call calls b well near soon ends in_time not lost on (inl out) (inl (k, begun)) =
+      let one = (has_one_exchange (after_call call b) (well_call call b well).sound).one k entry (stands_after call k b begun) out in
+      absurd (not (subst (λ m. Begins call m b) one begun))
+
+  out_told : (e : ℕ) (calls : List Call) (b : BusState) → Well b → e + late ≤ limit → IsOutstandingAt entry b → EndsBy e calls b → KeepsTime late calls b
+      → NeverAnswers entry calls b → ToldBy limit entry calls b
+  out_told e [] b well near out ends in_time never = tt
+  out_told e (call ∷ calls) b well near out ends in_time never =
+      let now = ends entry out in
+      let soon : (after_call call b).greatest ≤ e = now.0 in
+      let silent = never.0 out in (
+        omega arith,
+        λ other.
+            out_by e call calls b well near soon now.1 in_time.1 silent.0 silent.1
+            (λ f out_then ends_then near_then. out_told f calls (after_call call b) (well_call call b well) near_then out_then ends_then in_time.1 never.1)
+            (standing entry (after_call call b)) (decide call b),
+      )
+
+  -- its next exchange begins
+  open_by : (m : ℕ) (call : Call) (calls : List Call) (b : BusState) → Well b → m + time entry + late ≤ limit → (after_call call b).greatest ≤ m
+      → ((Begins call entry b → ⊥) → ToldBy limit entry calls (after_call call b)) → KeepsTime late calls (after_call call b)
+      → ((k : ℕ) → Begins call k b → EndsBy ((after_call call b).greatest + time k) calls (after_call call b)) → NeverAnswers entry calls (after_call call b)
+      → ((k : ℕ) × Begins call k b) ⊎ NoneBegins call b → ToldBy limit entry calls (after_call call b)
+  open_by m call calls b well near soon on in_time turns never (inr none) = on (none entry)
+  open_by m call calls b well near soon on in_time turns never (inl (k, begun)) = by_same (nat_eq k entry) refl
+    where
+      by_same : (t : Bool) → nat_eq k entry ≡ t → ToldBy limit entry calls (after_call call b)
+      by_same true same =
+          let mine : Begins call entry b = subst (λ m. Begins call m b) (eqb-true k entry same) begun in
+          out_told ((after_call call b).greatest + time entry) calls (after_call call b) (well_call call b well) (omega arith) (stands_after call entry b mine) (turns entry mine) in_time never
+      by_same false other =
+          on (λ mine.
+          let one = (has_one_exchange (after_call call b) (well_call call b well).sound).one k entry (stands_after call k b begun) (stands_after call entry b mine) in
+          eqb-false k entry other one)
+
+  open_told : (m : ℕ) (calls : List Call) (b : BusState) → Well b → m + time entry + late ≤ limit → BeginsBy m entry calls b → KeepsTime late calls b
+      → TurnsTake time calls b → NeverAnswers entry calls b → ToldBy limit entry calls b
+  open_told m [] b well near begins in_time turns never = tt
+  open_told m (call ∷ calls) b well near begins in_time turns never =
+      let soon : (after_call call b).greatest ≤ m = begins.0 in (
+        omega arith,
+        λ other.
+            open_by m call calls b well near soon
+            (λ not. open_told m calls (after_call call b) (well_call call b well) near (begins.1 not) in_time.1 turns.1 never.1)
+            in_time.1 turns.0 never.1 (decide call b),
+      )
+
+last_fits : (g first time late : ℕ) → (g + first) + time + late ≤ g + (first + (time + late))
+last_fits g first time late = omega arith
+
+pub silence_is_told : (b : BusState) → Well b → SilenceIsTold b
+silence_is_told b well late time n entry calls idle keeps never =
+    let first = b.config.poll_interval + late + others_of time late n entry in
+    open_told late time entry (b.greatest + (first + (time entry + late))) (b.greatest + first) calls b well (last_fits b.greatest first (time entry) late)
+    (open_are_asked b well late time n entry calls idle keeps) keeps.in_time keeps.turns never

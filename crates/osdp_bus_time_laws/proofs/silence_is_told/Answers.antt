@@ -1,0 +1,8 @@
+use Rattle.osdp_bus.specs.Buses.{new_bus}
+use Rattle.osdp_bus_laws.specs.Calls.{after_calls}
+use Rattle.osdp_bus_time_laws.proofs.Devices.{always_well}
+use Rattle.osdp_bus_time_laws.proofs.Told.{silence_is_told}
+use Rattle.osdp_bus_time_laws.proofs.silence_is_told.Goals as goal
+
+pub returns : goal.returns
+returns c = λ config calls is. silence_is_told (after_calls calls (new_bus config)) (always_well config calls is)
