@@ -1,12 +1,13 @@
 -- Whatever the line does: each turn as long as the settings allow.
-use Rattle.std.proofs.Common.{◌≡◌, ◌∙◌, ap, sym, subst, ℕ, zero, suc, ◌+◌, ◌-◌, ◌*◌, ◌≤◌, ◌<◌, List, arith}
+use Rattle.std.proofs.Common.{◌≡◌, ◌∙◌, ap, sym, subst, ℕ, zero, suc, ◌+◌, ◌-◌, ◌*◌, ◌≤◌, ◌<◌, List, [], ◌∷◌, length, refl, arith}
 use Rattle.std.proofs.Math.Nat.{suc-mul}
 use Rattle.osdp_time_laws.specs.Bounds.{longest_exchange}
+use Rattle.osdp_time_laws.specs.Lines.{turns_time}
 use Rattle.osdp_bus.specs.Buses.{BusState}
 use Rattle.osdp_bus.specs.Settings.{controller_config}
 use Rattle.osdp_bus_laws.specs.Calls.{Call, Begin, Submit, after_call}
 use Rattle.osdp_bus_time_laws.specs.Clock.{KeepsTime}
-use Rattle.osdp_bus_time_laws.specs.Laws.{GoesOutBy, OpeningsInTime, OrdersInTime, exchange_of}
+use Rattle.osdp_bus_time_laws.specs.Laws.{GoesOutBy, LinesAddUp, OpeningsInTime, OrdersInTime, exchange_of, time_of}
 use Rattle.osdp_bus_time_laws.specs.Turns.{BeginsBy, HasFew, KeepsTurns, OutstandingTakes, TurnsTake, others_of, turns_of}
 use Rattle.osdp_bus_time_laws.proofs.Devices.{Well, same_config, well_call}
 use Rattle.osdp_bus_time_laws.proofs.Opened.{begun_there, openings_begin}
@@ -60,3 +61,25 @@ openings_in_time b well late n entry now calls accepted in_time few =
     let within = is_there n entry there.0 calls k few there.1 in
     subst (λ (t : ℕ). BeginsBy (k.greatest + (b.config.quiet_wait + late + t)) entry calls k) (same_others (exchange_of b late) late n entry within)
     (openings_begin b well late (λ holding. exchange_of b late) n entry now calls accepted (keeps_turns late n (Begin entry now) calls b well in_time few))
+
+-- ---- turns by a list
+
+one_first : (f : ℕ → ℕ) (late n : ℕ) → turns_of f late (suc n) ≡ (f 0 + late) + turns_of (λ k. f (suc k)) late n
+one_first f late zero = omega arith
+one_first f late (suc n) = let before = one_first f late n in omega arith
+
+list_turns : (late : ℕ) (exchanges : List ℕ) → turns_of (time_of exchanges) late (length exchanges) ≡ turns_time late exchanges
+list_turns late [] = refl
+list_turns late (exchange ∷ exchanges) =
+    one_first (time_of (exchange ∷ exchanges)) late (length exchanges) ∙ ap (λ (n : ℕ). (exchange + late) + n) (list_turns late exchanges)
+
+less_first : (x n : ℕ) → (x + n) - x ≡ n
+less_first x n = omega arith
+
+pub lines_add_up : (late : ℕ) (exchanges : List ℕ) → LinesAddUp late exchanges
+lines_add_up late exchanges = record {
+  all = list_turns late exchanges;
+  others = λ own.
+      ap (λ (n : ℕ). n - (own + late)) (one_first (time_of (own ∷ exchanges)) late (length exchanges) ∙ ap (λ (n : ℕ). (own + late) + n) (list_turns late exchanges))
+      ∙ less_first (own + late) (turns_time late exchanges);
+}

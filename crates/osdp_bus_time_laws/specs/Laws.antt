@@ -8,6 +8,7 @@ use Rattle.osdp_bus.specs.Settings.{controller_config}
 use Rattle.osdp_bus_laws.specs.Calls.{Call, Begin, Submit, after_call}
 use Rattle.osdp_bus_laws.specs.Fairness.{Begins}
 use Rattle.osdp_time_laws.specs.Bounds.{longest_exchange}
+use Rattle.osdp_time_laws.specs.Lines.{turns_time}
 use Rattle.osdp_time_laws.specs.Orders.{is_under_way}
 use Rattle.osdp_bus_time_laws.specs.Clock.{KeepsTime}
 use Rattle.osdp_bus_time_laws.specs.Turns.{BeginsBy, HasFew, KeepsTurns, OutstandingTakes, TurnsTake, others_of, turns_of}
@@ -74,3 +75,15 @@ OpeningsInTime b = (late n entry now : ℕ) (calls : List Call) → begin_refusa
     → HasFew n calls (after_call (Begin entry now) b)
     → BeginsBy ((after_call (Begin entry now) b).greatest + (b.config.quiet_wait + late + (n - 1) * (exchange_of b late + late))) entry calls
     (after_call (Begin entry now) b)
+
+-- ---- turns by a list of how long each entry's exchange takes
+
+abbrev pub time_of : List ℕ → ℕ → ℕ
+time_of [] entry = 0
+time_of (exchange ∷ exchanges) zero = exchange
+time_of (exchange ∷ exchanges) (suc entry) = time_of exchanges entry
+
+-- they add up as in the figures of a line: those of all entries, and those of all but the first
+pub record LinesAddUp (late : ℕ) (exchanges : List ℕ) : Type 0 where
+  pub all : turns_of (time_of exchanges) late (length exchanges) ≡ turns_time late exchanges
+  pub others : (own : ℕ) → others_of (time_of (own ∷ exchanges)) late (length (own ∷ exchanges)) 0 ≡ turns_time late exchanges

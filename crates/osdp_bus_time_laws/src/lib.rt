@@ -2,8 +2,9 @@
 //! time. The functions do nothing: their contracts are laws.
 #![tactic(auto)]
 
+ghost use Rattle.std.specs.Prelude.{ℕ, List};
 ghost use Rattle.osdp_bus_laws.specs.Calls.{Always};
-ghost use Rattle.osdp_bus_time_laws.specs.Laws.{ExchangesComeRound, ExchangesEnd, OpeningsBegin, OpeningsInTime, OrdersGoOut, OrdersInTime};
+ghost use Rattle.osdp_bus_time_laws.specs.Laws.{ExchangesComeRound, ExchangesEnd, LinesAddUp, OpeningsBegin, OpeningsInTime, OrdersGoOut, OrdersInTime};
 ghost use Rattle.osdp_bus_time_laws.specs.Telling.{OpenAreAsked, ReportsAreTaken, SilenceIsTold};
 
 /// Each exchange of the line ends within the longest that the settings allow, however its answers come. So does the one that is outstanding, from now on.
@@ -44,4 +45,9 @@ pub fn reports_are_taken()
 /// A device that is silent after its last answer is told lost: once it has been asked in time, its own exchange has ended, and the report has been taken.
 pub fn silence_is_told()
     ensures { Always SilenceIsTold }
+{}
+
+/// Where a list says how long the exchange of each entry takes, the turns of these laws are those of the figures of a line.
+pub fn lines_add_up()
+    ensures { (late : ℕ) (exchanges : List ℕ) → LinesAddUp late exchanges }
 {}
