@@ -4,8 +4,8 @@ ghost use Rattle.std.specs.Prelude.{◌≡◌};
 ghost use Rattle.osdp_panel_rules.specs.Known.{after_noise, after_packet, after_said, after_sent, is_last, nothing_known, said_first};
 
 use crate::said::{Said, says};
-use crate::sequel::same_packet;
 use osdp_frame::{Address, Frame, FrameView};
+use osdp_rules::same_packet;
 
 /// What a device in a tester's hand knows of the panel that asks it.
 #[derive(Drop)]

@@ -2,9 +2,9 @@
 
 ghost use Rattle.std.specs.Prelude.{◌≡◌};
 ghost use Rattle.osdp_panel_rules.specs.Findings.{sequel_of};
-ghost use Rattle.osdp_rules.specs.Packets.{same_check, same_packet};
 
-use osdp_frame::{CheckKind, FrameView};
+use osdp_frame::FrameView;
+use osdp_rules::same_packet;
 
 /// How a packet follows the one before.
 #[derive(Clone, Copy, Debug, PartialEq, Eq)]
@@ -19,26 +19,6 @@ pub enum Sequel {
     Next,
     /// It has none of these numbers.
     Out,
-}
-
-/// Whether two packets have the same check.
-fn same_check(check: CheckKind, other: CheckKind) -> bool
-    ensures { result ≡ same_check check other }
-{
-    check.size() == other.size()
-}
-
-/// Whether two packets have the same bytes.
-pub(crate) fn same_packet(packet: &FrameView<'_>, other: &FrameView<'_>) -> bool
-    ensures { result ≡ same_packet packet.now other.now }
-{
-    packet.is_reply() == other.is_reply()
-        && packet.address().get() == other.address().get()
-        && packet.seq().get() == other.seq().get()
-        && same_check(packet.check(), other.check())
-        && packet.has_block() == other.has_block()
-        && packet.reserved() == other.reserved()
-        && packet.body() == other.body()
 }
 
 /// How a packet follows the one before.

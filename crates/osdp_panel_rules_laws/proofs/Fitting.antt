@@ -25,6 +25,7 @@ use Rattle.osdp_msg.specs.declared.reply.Reply.{Reply}
 use Rattle.osdp_msg.specs.declared.reply_fields.PdId.{PdId}
 use Rattle.osdp_panel_rules.specs.declared.known.Known.{Known}
 use Rattle.osdp_panel_rules_laws.proofs.Suiting.{Suits}
+use Rattle.osdp_panel_rules_laws.specs.Laws.{IsAnswer}
 
 -- the frame of an exchange
 abbrev pub frame : ℕ → ControllerConfig → Exchange → Packet
@@ -47,12 +48,6 @@ FitsIn (Pausing until o) number config sent k = IsOut sent k (frame number confi
 
 abbrev pub Fits : Session → Option Packet → Known → Type 0
 Fits s sent k = FitsIn s.state s.number s.config sent k
-
--- the controller takes a reply as an answer, read or not
-abbrev pub IsAnswer : ReplyMeaning → Type 0
-IsAnswer (Plain reply) = Unit {0}
-IsAnswer (Unreadable code) = Unit {0}
-IsAnswer _ = ⊥
 
 -- All of it holds where the panel asks the device, and not another.
 module _ (Here : Type 0) (sent : Option Packet) (k : Known) where

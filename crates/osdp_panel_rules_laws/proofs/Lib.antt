@@ -2,3 +2,4 @@ pub mod Suiting
 pub mod Fitting
 pub mod Running
 pub mod Found
+pub mod Knowing

@@ -25,9 +25,9 @@ use Rattle.osdp_panel_rules.specs.declared.aspect.Aspect.{Aspect}
 use Rattle.osdp_panel_rules.specs.declared.known.Known.{Known}
 use Rattle.osdp_panel_rules.specs.declared.said.Said.TheVariants as said
 use Rattle.osdp_rules_laws.proofs.Fine.{AreFine, IsFine, never_broken}
-use Rattle.osdp_panel_rules_laws.proofs.Fitting.{AreTaken, Fits, FitsIn, IsAnswer, TickFits, frame, hear_fits, tick_fits}
+use Rattle.osdp_panel_rules_laws.proofs.Fitting.{AreTaken, Fits, FitsIn, TickFits, frame, hear_fits, tick_fits}
 use Rattle.osdp_panel_rules_laws.proofs.Suiting.{Suits, suits_fine}
-use Rattle.osdp_panel_rules_laws.specs.Laws.{BreaksNoRule, needs_clock}
+use Rattle.osdp_panel_rules_laws.specs.Laws.{BreaksNoRule, IsAnswer, needs_clock}
 use Rattle.osdp_panel_rules_laws.specs.Runs.{AreAllowed, Begin, Forget, Hear, IsAllowed, Move, Noise, Restart, Retarget, Say, Submit, Tested, Tick, Withdraw, after_move, after_sending, findings, heard_at, new_tested, sending_shown, sent_at, shown}
 
 pub same_some : {A : Type 0} (x y : A) → Some x ≡ Some y → x ≡ y
@@ -52,7 +52,7 @@ reading_answers : (code : ℕ) (read : Result Reply MsgFault) → IsAnswer (mean
 reading_answers code (Ok r) is = reply_answers r is
 reading_answers code (Err fault) is = refl
 
-answers : (f r : Packet) → (r.reply && eqb r.address f.address && not r.block) ≡ true → r.sequence ≡ f.sequence → IsAnswer (meaning_of r)
+pub answers : (f r : Packet) → (r.reply && eqb r.address f.address && not r.block) ≡ true → r.sequence ≡ f.sequence → IsAnswer (meaning_of r)
     → says f r ≡ said.Answer
 answers f r own number is =
     let sense = by_reading (reply_of (slice_index r.body 0) (drop 1 r.body)) in
@@ -62,11 +62,11 @@ answers f r own number is =
 
 -- ---- what the device says leaves the last packet, and an answer stays one
 
-last_said : (o : Option Packet) (k : Known) (r : Packet) → (said_to o k r).last ≡ k.last
+pub last_said : (o : Option Packet) (k : Known) (r : Packet) → (said_to o k r).last ≡ k.last
 last_said None k r = refl
 last_said (Some p) k r = refl
 
-or_true : (a b : Bool) → a ≡ true → (a || b) ≡ true
+pub or_true : (a b : Bool) → a ≡ true → (a || b) ≡ true
 or_true true b is = refl
 or_true false b is = absurd (false≢true is)
 
@@ -74,11 +74,11 @@ or_second : (a b : Bool) → b ≡ true → (a || b) ≡ true
 or_second true b is = refl
 or_second false b is = is
 
-answered_said : (o : Option Packet) (k : Known) (r : Packet) → k.answered ≡ true → (said_to o k r).answered ≡ true
+pub answered_said : (o : Option Packet) (k : Known) (r : Packet) → k.answered ≡ true → (said_to o k r).answered ≡ true
 answered_said None k r is = is
 answered_said (Some p) k r is = or_true k.answered (is_answer (says p r)) is
 
-answers_last : (o : Option Packet) (k : Known) (f r : Packet) → o ≡ Some f → says f r ≡ said.Answer → (said_to o k r).answered ≡ true
+pub answers_last : (o : Option Packet) (k : Known) (f r : Packet) → o ≡ Some f → says f r ≡ said.Answer → (said_to o k r).answered ≡ true
 answers_last None k f r is answer = absurd (none_some f is)
 answers_last (Some p) k f r is answer =
     or_second k.answered (is_answer (says p r)) (subst (λ x. is_answer (says x r) ≡ true) (sym (same_some p f is)) (ap is_answer answer))

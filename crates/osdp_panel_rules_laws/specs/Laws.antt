@@ -1,15 +1,19 @@
 -- What the rules of panels come to: whom they never accuse, and what they find.
 use Rattle.std.specs.Prelude.{◌≡◌, ◌≢◌, ◌<◌, ℕ, Bool, true, false, List, Some, None}
+use Rattle.osdp_controller.specs.Answers.{meaning_of}
 use Rattle.osdp_controller.specs.declared.config.ControllerConfig.{ControllerConfig}
+use Rattle.osdp_controller.specs.declared.meaning.ReplyMeaning.{ReplyMeaning}
+use Rattle.osdp_controller.specs.declared.meaning.ReplyMeaning.TheVariants.{NotTaken, Damaged, NumberRefused, Plain, Unreadable}
 use Rattle.osdp_frame.specs.Packet.{Packet, next_sequence}
 use Rattle.osdp_msg.specs.declared.limits.Room.{Room}
 use Rattle.osdp_panel_rules.specs.Findings.{is_order}
 use Rattle.osdp_panel_rules.specs.Judging.{judged}
+use Rattle.osdp_panel_rules.specs.Known.{after_packet, after_said}
 use Rattle.osdp_panel_rules.specs.declared.aspect.Aspect.{Aspect}
 use Rattle.osdp_panel_rules.specs.declared.aspect.Aspect.TheVariants as rule
 use Rattle.osdp_panel_rules.specs.declared.known.Known.{Known}
 use Rattle.osdp_panel_rules.specs.declared.said.Said.{Said}
-use Rattle.osdp_panel_rules.specs.declared.said.Said.TheVariants.{Silence, Noise, Astray, Busy, Refusal}
+use Rattle.osdp_panel_rules.specs.declared.said.Said.TheVariants.{Silence, Noise, Astray, Busy, Damage, Refusal}
 use Rattle.osdp_rules.specs.Verdicts.{verdict_along}
 use Rattle.osdp_rules.specs.declared.finding.Finding.TheVariants.{Broken}
 use Rattle.osdp_rules.specs.declared.verdict.Verdict.TheVariants as verdict
@@ -26,6 +30,53 @@ abbrev pub BreaksNoRule : Type 0
 BreaksNoRule = (aspect : Aspect) → needs_clock aspect ≡ false → (address : ℕ) (config : ControllerConfig) (room : Room) (moves : List Move)
     → AreAllowed address moves (new_tested config room)
     → verdict_along verdict.Unclear (findings address aspect moves (new_tested config room)) ≢ verdict.Broken
+
+-- ---- what is known of answers
+
+-- a controller takes a reply as an answer, whether or not it can be read
+abbrev pub IsAnswer : ReplyMeaning → Type 0
+IsAnswer (Plain reply) = Unit {0}
+IsAnswer (Unreadable code) = Unit {0}
+IsAnswer _ = ⊥
+
+-- a device at the packet's address says it, in clear
+pub record IsFrom (p r : Packet) : Type 0 where
+  pub replies : r.reply ≡ true
+  pub address : r.address ≡ p.address
+  pub clear : r.block ≡ false
+
+-- .. with its number, and a controller takes it as an answer
+pub record Answers (p r : Packet) : Type 0 where
+  pub from : IsFrom p r
+  pub number : r.sequence ≡ p.sequence
+  pub means : IsAnswer (meaning_of r)
+
+-- a packet to the device that is no copy is not answered
+abbrev pub KnowsNewPackets : Type 0
+KnowsNewPackets = (address : ℕ) (k : Known) (p : Packet) → p.reply ≡ false → p.address ≡ address → k.last ≢ Some p
+    → (after_packet address k p).answered ≡ false
+
+-- an answer answers it, and nothing else does
+abbrev pub KnowsAnswers : Type 0
+KnowsAnswers = (k : Known) (p r : Packet) → k.last ≡ Some p → Answers p r → (after_said k r).answered ≡ true
+
+abbrev pub KnowsNoOthers : Type 0
+KnowsNoOthers = (k : Known) (p r : Packet) → k.last ≡ Some p → k.answered ≡ false → (Answers p r → ⊥) → (after_said k r).answered ≡ false
+
+-- what says that a packet wasn't taken is known by its kind: BUSY with either number, NAK 1 and NAK 4
+abbrev pub Puts : ReplyMeaning → Said → Type 0
+Puts NotTaken Busy = Unit {0}
+Puts Damaged Damage = Unit {0}
+Puts NumberRefused Refusal = Unit {0}
+Puts _ _ = ⊥
+
+abbrev pub KnowsWhatWasSaid : Type 0
+KnowsWhatWasSaid = (k : Known) (p r : Packet) (s : Said) → k.last ≡ Some p → k.said ≡ Silence → IsFrom p r → r.sequence ≡ p.sequence
+    → Puts (meaning_of r) s → (after_said k r).said ≡ s
+
+abbrev pub KnowsBusyWithZero : Type 0
+KnowsBusyWithZero = (k : Known) (p r : Packet) → k.last ≡ Some p → k.said ≡ Silence → IsFrom p r → r.sequence ≡ 0 → meaning_of r ≡ NotTaken
+    → (after_said k r).said ≡ Busy
 
 -- ---- what the standard leaves open
 

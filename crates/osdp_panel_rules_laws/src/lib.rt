@@ -2,12 +2,25 @@
 //! functions do nothing: their contracts are laws.
 #![tactic(auto)]
 
-ghost use Rattle.osdp_panel_rules_laws.specs.Laws.{AnsweredBreaksNothing, BreaksNoRule, CopyBreaksNothing, FindsAltered, FindsHaste, FindsLateness, FindsOutOfTurn, FindsReply, FindsUnanswered, FirstBreaksNothing, ZeroBreaksNothing};
+ghost use Rattle.osdp_panel_rules_laws.specs.Laws.{AnsweredBreaksNothing, BreaksNoRule, CopyBreaksNothing, FindsAltered, FindsHaste, FindsLateness, FindsOutOfTurn, FindsReply, FindsUnanswered, FirstBreaksNothing, KnowsAnswers, KnowsBusyWithZero, KnowsNewPackets, KnowsNoOthers, KnowsWhatWasSaid, ZeroBreaksNothing};
 
 /// Whatever its settings, whatever is called at whatever moments, whatever the device says, and whatever the line loses: a panel of our controller
 /// breaks no rule but, by its settings and its program's loop, the two that are judged by the clock.
 pub fn breaks_no_rule()
     ensures { BreaksNoRule }
+{}
+
+/// A packet that is no copy is not answered. What a controller takes as an answer to it answers it, and nothing else that is said does.
+pub fn knows_answers()
+    ensures new { KnowsNewPackets }
+    ensures answers { KnowsAnswers }
+    ensures others { KnowsNoOthers }
+{}
+
+/// BUSY, NAK 1 and NAK 4 with the packet's number, and BUSY with number 0, are known as what they are.
+pub fn knows_what_was_said()
+    ensures put_off { KnowsWhatWasSaid }
+    ensures busy { KnowsBusyWithZero }
 {}
 
 /// What the standard leaves open breaks no rule: number 0 at any time, and a packet that comes again.
