@@ -41,3 +41,8 @@ abbrev pub TellsLateSeconds : Type 0
 TellsLateSeconds = (exchanges : List Exchange) (number next asked again answered later last : ℕ) → next ≢ number → again ≤ later → later ≤ last
     → told_reply (sent next later (after_reply number answered (sent number again (sent number asked (after_exchanges no_waits exchanges))))) number last
     ≡ Late (last - again)
+
+-- A device that answers after the panel has sent two more packets, neither of them with its number, is told late.
+abbrev pub TellsLateFurther : Type 0
+TellsLateFurther = (exchanges : List Exchange) (number next last asked later latest answered : ℕ) → next ≢ number → last ≢ number → asked ≤ latest → latest ≤ answered
+    → told_reply (sent last latest (sent next later (sent number asked (after_exchanges no_waits exchanges)))) number answered ≡ Late (answered - asked)

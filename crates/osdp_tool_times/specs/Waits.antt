@@ -6,15 +6,18 @@ use Rattle.osdp_tool_times.specs.declared.waits.Told.TheVariants.{InTime, Late, 
 use Rattle.osdp_tool_times.specs.declared.waits.Waits.{Waits}
 
 abbrev pub no_waits : Waits
-no_waits = record { before = None; last = None; first = None }
+no_waits = record { earlier = None; before = None; last = None; first = None }
 
 -- the last packet is answered, and no answer to a packet before it is owed
 abbrev pub is_settled : Waits → Bool
 is_settled w = is_some w.first && not (is_some w.before)
 
--- A packet is sent to the device. An answer to the one before it is still owed where none has come, or one to two copies.
+-- A packet is sent to the device. An answer to the one before it is still owed where none has come, or one to two copies; and so it is to the one
+-- before that, where none has come.
 abbrev pub after_sent : Sent → Waits → Waits
-after_sent sent w = record { before = if is_settled w then None else w.last; last = Some sent; first = None }
+after_sent sent w =
+    if is_settled w then record { earlier = None; before = None; last = Some sent; first = None }
+    else record { earlier = if is_some w.first then None else w.before; before = w.last; last = Some sent; first = None }
 
 -- an answer time: from the packet to its answer
 abbrev pub in_time : ℕ → ℕ → Told
@@ -32,7 +35,7 @@ abbrev pub late_from : Option Sent → Option Sent → ℕ → Told
 late_from (Some before) (Some last) answer = late before.moment last.moment answer
 late_from _ _ answer = Nothing
 
--- it has the number of the packet before, and the last packet has another
+-- it has the number of a packet before, and the last packet has another
 abbrev pub is_behind : Option Sent → Option Sent → ℕ → Bool
 is_behind (Some before) (Some last) number = number == before.number && not (before.number == last.number)
 is_behind _ _ number = false
@@ -52,20 +55,27 @@ abbrev pub told_first : Waits → Option ℕ → ℕ → Told
 told_first w None moment = if is_copied w.before w.last then Nothing else in_time_from w.last moment
 told_first w (Some first) moment = if is_copied w.before w.last then late_from w.before w.last first else Nothing
 
--- what a reply with this number tells at this moment
+-- what a reply with this number tells at this moment: it answers the oldest packet of its number
 abbrev pub told_reply : Waits → ℕ → ℕ → Told
 told_reply w number moment =
-    if is_behind w.before w.last number then late_from w.before w.last moment
-    else (if is_of_last w.last number then told_first w w.first moment else Nothing)
+    if is_behind w.earlier w.last number then late_from w.earlier w.last moment
+    else (if is_behind w.before w.last number then late_from w.before w.last moment
+    else (if is_of_last w.last number then told_first w w.first moment else Nothing))
 
 abbrev pub first_or : Option ℕ → ℕ → Option ℕ
 first_or None moment = Some moment
 first_or (Some first) moment = Some first
 
--- After a reply. One to the packet before closes that; one to the last packet closes it and all before, but the first of two to two copies.
+-- After a reply. It closes the packet that it answers and all before, but the first of two to two copies leaves one open.
 abbrev pub after_reply : ℕ → ℕ → Waits → Waits
 after_reply number moment w =
-    if is_behind w.before w.last number then record w { before = None }
+    if is_behind w.earlier w.last number then record w { earlier = None }
+    else (if is_behind w.before w.last number then record w { earlier = None; before = None }
     else (if is_of_last w.last number
-    then record { before = if is_some w.first || not (is_copied w.before w.last) then None else w.before; last = w.last; first = first_or w.first moment }
-    else w)
+    then record {
+      earlier = None;
+      before = if is_some w.first || not (is_copied w.before w.last) then None else w.before;
+      last = w.last;
+      first = first_or w.first moment;
+    }
+    else w))

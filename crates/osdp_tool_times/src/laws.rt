@@ -1,6 +1,6 @@
 //! What is told as late, in the words of the line. A law has no code: it holds for all values, and its proof is the law's.
 
-ghost use Rattle.osdp_tool_times.specs.Laws.{NeverTellsLate, TellsLate, TellsLateCopies, TellsLateSeconds};
+ghost use Rattle.osdp_tool_times.specs.Laws.{NeverTellsLate, TellsLate, TellsLateCopies, TellsLateFurther, TellsLateSeconds};
 
 /// A device that answers each packet before the panel sends its next one is never told late.
 pub fn never_tells_late()
@@ -20,4 +20,9 @@ pub fn tells_late_copies()
 /// And so it is where the panel has gone on by the first answer.
 pub fn tells_late_seconds()
     ensures { TellsLateSeconds }
+{}
+
+/// And so it is where the panel has sent two more packets.
+pub fn tells_late_further()
+    ensures { TellsLateFurther }
 {}

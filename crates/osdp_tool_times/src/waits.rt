@@ -26,6 +26,8 @@ pub enum Told {
 /// What is open between a panel and a device.
 #[derive(Clone, Copy, Debug, PartialEq, Eq)]
 pub struct Waits {
+    /// The packet before that, where an answer to it is owed.
+    pub earlier: Option<Sent>,
     /// The packet before the last, where an answer to it is owed.
     pub before: Option<Sent>,
     /// The last packet.
@@ -76,7 +78,7 @@ fn late_from(before: Option<Sent>, last: Option<Sent>, answer: u64) -> Told
     }
 }
 
-/// Whether a reply has the number of the packet before, and the last packet has another.
+/// Whether a reply has the number of a packet before, and the last packet has another.
 fn is_behind(before: Option<Sent>, last: Option<Sent>, number: u8) -> bool
     ensures { result ≡ is_behind before last number }
 {
@@ -119,6 +121,7 @@ fn first_or(first: Option<u64>, moment: u64) -> Option<u64>
 impl Waits {
     /// Nothing is open.
     pub const NONE: Waits = Waits {
+        earlier: None,
         before: None,
         last: None,
         first: None,
@@ -135,9 +138,21 @@ impl Waits {
     pub fn after_sent(self, sent: Sent) -> Waits
         ensures { result ≡ after_sent sent self }
     {
+        let last = Some(sent);
+        if self.is_settled() {
+            return Waits {
+                last,
+                ..Waits::NONE
+            };
+        }
         Waits {
-            before: if self.is_settled() { None } else { self.last },
-            last: Some(sent),
+            earlier: if self.first.is_some() {
+                None
+            } else {
+                self.before
+            },
+            before: self.last,
+            last,
             first: None,
         }
     }
@@ -159,7 +174,9 @@ impl Waits {
     pub fn told_reply(self, number: u8, moment: u64) -> Told
         ensures { result ≡ told_reply self number moment }
     {
-        if is_behind(self.before, self.last, number) {
+        if is_behind(self.earlier, self.last, number) {
+            late_from(self.earlier, self.last, moment)
+        } else if is_behind(self.before, self.last, number) {
             late_from(self.before, self.last, moment)
         } else if is_of_last(self.last, number) {
             self.told_first(self.first, moment)
@@ -172,8 +189,15 @@ impl Waits {
     pub fn after_reply(self, number: u8, moment: u64) -> Waits
         ensures { result ≡ after_reply number moment self }
     {
+        if is_behind(self.earlier, self.last, number) {
+            return Waits {
+                earlier: None,
+                ..self
+            };
+        }
         if is_behind(self.before, self.last, number) {
             return Waits {
+                earlier: None,
                 before: None,
                 ..self
             };
@@ -183,6 +207,7 @@ impl Waits {
         }
         let closes = self.first.is_some() || !is_copied(self.before, self.last);
         Waits {
+            earlier: None,
             before: if closes { None } else { self.before },
             last: self.last,
             first: first_or(self.first, moment),
