@@ -3,11 +3,9 @@
 
 mod command;
 mod exchange;
-mod help;
 mod report;
 mod rules;
 mod tested;
 
 pub use command::test_panel;
-pub use help::PANEL_HELP;
 pub use rules::{PANEL_RULES, PanelRule};
