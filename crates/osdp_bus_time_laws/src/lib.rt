@@ -1,5 +1,5 @@
-//! How many milliseconds a line of several entries takes, whatever it does, where its program keeps time: its ticks, and what it takes of what it is told, are so
-//! late at the most. The functions do nothing: their contracts are laws.
+//! How many milliseconds a line of several entries takes, whatever it does, where its program keeps time. The program makes its ticks, and takes what
+//! it is told, so late at the most. The functions do nothing: their contracts are laws.
 #![tactic(auto)]
 
 ghost use Rattle.std.specs.Prelude.{ℕ, List};
