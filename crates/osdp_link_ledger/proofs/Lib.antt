@@ -9,3 +9,5 @@ pub mod Reading
 pub mod Acting
 pub mod Keeping
 pub mod Running
+pub mod Tallies
+pub mod Accounts

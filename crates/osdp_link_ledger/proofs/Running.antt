@@ -83,7 +83,7 @@ module _ {H : Type 0} where
     });
   }
 
-  begins_tied : (l : Link H) → Begins l → AllMay (steps_before l) new_ledger × IsTied l (after_steps (steps_before l) new_ledger)
+  pub begins_tied : (l : Link H) → Begins l → AllMay (steps_before l) new_ledger × IsTied l (after_steps (steps_before l) new_ledger)
   begins_tied l b =
       let first = submits_all 0 l.controller.waiting new_ledger refl in
       let k = after_steps (submitted_before 0 l.controller.waiting) new_ledger in
@@ -105,7 +105,7 @@ allowed_append : (xs ys : List Step) (h : History) → AreAllowed xs h → AreAl
 allowed_append [] ys h first last = last
 allowed_append (x ∷ xs) ys h first last = (first.0, allowed_append xs ys (steps_on x h) first.1 last)
 
-runs_append : (xs ys : List Step) (h : History) → runs (xs ++ ys) h ≡ runs ys (runs xs h)
+pub runs_append : (xs ys : List Step) (h : History) → runs (xs ++ ys) h ≡ runs ys (runs xs h)
 runs_append [] ys h = refl
 runs_append (x ∷ xs) ys h = runs_append xs ys (steps_on x h)
 

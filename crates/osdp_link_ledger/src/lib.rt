@@ -2,6 +2,7 @@
 //! functions do nothing: their contracts are laws.
 #![tactic(auto)]
 
+ghost use Rattle.osdp_link_ledger.specs.Accounts.{LedgerTellsAccounts};
 ghost use Rattle.osdp_link_ledger.specs.Laws.{HoldsByLedger, LinkKeepsLedger};
 
 use osdp_reader::Handler;
@@ -11,6 +12,15 @@ use osdp_reader::Handler;
 /// that the ledger allows where it happens, and the ledger at the end is the link's.
 pub fn link_keeps_ledger<H: Handler>()
     ensures { LinkKeepsLedger H.answer_of H.after }
+{
+    osdp_link_laws::read_each_other::<H>();
+}
+
+/// What these steps come to is what the accounts of the link's sessions say: the commands accepted, those that the device acted on, each with
+/// its answer, those settled, told in doubt, cut off by a loss of power, withdrawn and forgotten, and the events queued, reported and taken
+/// back. So no such step is forgotten, and none is made up.
+pub fn ledger_tells_accounts<H: Handler>()
+    ensures { LedgerTellsAccounts H.answer_of H.after }
 {
     osdp_link_laws::read_each_other::<H>();
 }

@@ -1,0 +1,60 @@
+-- What the steps of a link come to is what the accounts of its sessions say: so no step is forgotten, and none is made up.
+use Rattle.std.specs.Prelude.{◌≡◌, ℕ, List, [], ◌∷◌, ◌++◌, flat_map, map}
+use Rattle.osdp_msg.specs.declared.command.Command.{Command}
+use Rattle.osdp_msg.specs.declared.event.Event.{Event}
+use Rattle.osdp_msg.specs.declared.reply.Reply.{Reply}
+use Rattle.osdp_reader.specs.declared.handler.Answer.{Answer}
+use Rattle.osdp_ledger.specs.History.{CutOff, End, Exit, Forgotten, GivenBack, History, InDoubt, Left, Settled, TakenBack, new_history, runs}
+use Rattle.osdp_ledger.specs.Ledger.{Card, Order}
+use Rattle.osdp_link_laws.specs.Headline.{Begins, MovesFit}
+use Rattle.osdp_link_laws.specs.Link as link
+use Rattle.osdp_link_laws.specs.Link.{Account, Link, Move, Removal, run}
+use Rattle.osdp_link_laws.specs.Sessions.{all_queued, all_submitted}
+use Rattle.osdp_link_ledger.specs.Steps.{steps_from}
+
+-- a list of each account, session after session
+abbrev pub in_all : {A : Type 0} → (Account → List A) → List Account → List A
+in_all part [] = []
+in_all part (t ∷ earlier) = in_all part earlier ++ part t
+
+-- the commands that ended so, each with what the account has of it
+abbrev pub settled_as : Order → End → List (Command × Reply)
+settled_as order (Settled answer) = (order.command, answer) ∷ []
+settled_as order _ = []
+
+abbrev pub doubted_as : Order → End → List Command
+doubted_as order InDoubt = order.command ∷ []
+doubted_as order _ = []
+
+abbrev pub cut_off_as : Order → End → List Command
+cut_off_as order CutOff = order.command ∷ []
+cut_off_as order _ = []
+
+abbrev pub removed_as : Order → End → List Removal
+removed_as order GivenBack = link.Withdrawn order.command ∷ []
+removed_as order Forgotten = link.ThrownAway order.command ∷ []
+removed_as order _ = []
+
+-- the events that were taken back
+abbrev pub taken_back_as : Card → Exit → List Event
+taken_back_as card TakenBack = card.event ∷ []
+taken_back_as card _ = []
+
+-- these commands were accepted and these events queued; of the commands those acted on, settled, told in doubt, cut off by a loss of power, and
+-- withdrawn or forgotten, and of the events those reported and taken back, are those of the accounts
+pub record TellsAccounts {H : Type 0} (accepted : List Command) (queued : List Event) (l : Link H) (h : History) : Type 0 where
+  pub orders : map (λ (o : Order). o.command) h.accepted ≡ accepted
+  pub cards : map (λ (c : Card). c.event) h.queued ≡ queued
+  pub acted : map (λ (d : Order × Reply). (d.0.command, d.1)) h.acted ≡ in_all (λ t. t.given) (l.account ∷ l.earlier)
+  pub settled : flat_map (λ (e : Order × End). settled_as e.0 e.1) h.ended ≡ in_all (λ t. t.settled) (l.account ∷ l.earlier)
+  pub in_doubt : flat_map (λ (e : Order × End). doubted_as e.0 e.1) h.ended ≡ in_all (λ t. t.unsettled) (l.account ∷ l.earlier)
+  pub cut_off : flat_map (λ (e : Order × End). cut_off_as e.0 e.1) h.ended ≡ in_all (λ t. t.forgotten) (l.account ∷ l.earlier)
+  pub removed : flat_map (λ (e : Order × End). removed_as e.0 e.1) h.ended ≡ in_all (λ t. t.removed) (l.account ∷ l.earlier)
+  pub reported : map (λ (r : ℕ × Card). r.1.event) h.reports ≡ in_all (λ t. t.reported) (l.account ∷ l.earlier)
+  pub withdrawn : flat_map (λ (w : Left). taken_back_as w.card w.why) h.left ≡ in_all (λ t. t.withdrawn) (l.account ∷ l.earlier)
+
+module _ {H : Type 0} (answer_of : H → Command → Answer) (after : H → Command → H) where
+  abbrev pub LedgerTellsAccounts : Type 0
+  LedgerTellsAccounts = (l : Link H) (moves : List (Move H)) → Begins l → MovesFit answer_of after moves l
+      → TellsAccounts (l.controller.waiting ++ all_submitted answer_of after moves l) (l.reader.queue.events ++ all_queued answer_of after moves l)
+      (run answer_of after moves l) (runs (steps_from answer_of after moves l) new_history)
