@@ -1,0 +1,3 @@
+mod Chained
+mod Passing
+mod Rows

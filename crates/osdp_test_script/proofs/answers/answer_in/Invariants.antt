@@ -1,0 +1,11 @@
+use Rattle.std.proofs.Common.{length, Option}
+use Rattle.osdp_frame.specs.Packet.{Packet}
+use Rattle.osdp_test_script.specs.Answers.{IsAnswerIn}
+use Rattle.osdp_test_script.proofs.answers.answer_in.Given as goal
+
+-- the answer in the rest is the answer in all
+abbrev pub invariant-items : goal.invariant-items
+invariant-items l = (answer : Option Packet) → IsAnswerIn l.rest answer → IsAnswerIn l.fn.run answer
+
+abbrev pub decreases-items : goal.decreases-items
+decreases-items l = length l.rest

@@ -1,0 +1,40 @@
+-- What verdicts come to, in the words of those who read a report.
+use Rattle.std.specs.Prelude.{◌≡◌, ◌≢◌, ◌⊎◌, ◌↔◌, ℕ, ◌≤◌, Option, Some, None, true, false}
+use Rattle.osdp_frame.specs.Packet.{Packet}
+use Rattle.osdp_msg.specs.declared.command.Command.{Command}
+use Rattle.osdp_rules.specs.Packets.{code_of, has_reason, is_busy, same_packet}
+use Rattle.osdp_test_script.specs.Awaited.{awaited_code}
+use Rattle.osdp_test_script.specs.Permits.{is_allowed}
+use Rattle.osdp_test_script.specs.Runs.{refuses, sends_to}
+use Rattle.osdp_test_script.specs.Seen.{expected_seen}
+use Rattle.osdp_test_script.specs.declared.awaited.Awaited.{Awaited}
+use Rattle.osdp_test_script.specs.declared.awaited.Awaited.TheVariants.{Same}
+use Rattle.osdp_test_script.specs.declared.call.Term.{Term}
+use Rattle.osdp_test_script.specs.declared.call.Term.TheVariants.{Within}
+use Rattle.osdp_test_script.specs.declared.refusal.Refusal.TheVariants.{NotAllowed}
+use Rattle.osdp_test_script.specs.declared.run.ScriptRun.{ScriptRun}
+use Rattle.osdp_test_script.specs.declared.seen.Seen.TheVariants.{Ok, Broken}
+
+-- silence breaks no expectation: what wasn't heard may be lost
+abbrev pub SilenceBreaksNothing : Type 0
+SilenceBreaksNothing = (awaited : Awaited) (t : Term) (first : Option Packet) (delay : ℕ) → expected_seen awaited t first None delay ≢ Broken
+
+-- nor does BUSY, nor NAK 1, where a reply is expected
+abbrev pub PutsOff : Type 0
+PutsOff = (awaited : Awaited) (t : Term) (first : Option Packet) (a : Packet) (delay code : ℕ) → awaited_code awaited ≡ Some code → code_of a ≢ code
+    → (is_busy a ≡ true) ⊎ (has_reason 1 a ≡ true) → expected_seen awaited t first (Some a) delay ≢ Broken
+
+-- a reply that is expected within a time is seen exactly where the answer has its code and began in that time
+abbrev pub SeesItsReply : Type 0
+SeesItsReply = (awaited : Awaited) (time : ℕ) (first : Option Packet) (a : Packet) (delay code : ℕ) → awaited_code awaited ≡ Some code
+    → (expected_seen awaited (Within time) first (Some a) delay ≡ Ok) ↔ ((code_of a ≡ code) × (delay ≤ time))
+
+-- another answer than the first one breaks the expectation of the same, and the first one doesn't
+abbrev pub SeesTheSame : Type 0
+SeesTheSame = (t : Term) (first a : Packet) (delay : ℕ) → same_packet first a ≡ false → is_busy a ≡ false → has_reason 1 a ≡ false
+    → expected_seen Same t (Some first) (Some a) delay ≡ Broken
+
+-- what changes something of a device is refused where it isn't allowed, and nothing is sent
+abbrev pub MovesNothingUnsaid : Type 0
+MovesNothingUnsaid = (command : Command) (address : ℕ) (s : ScriptRun) → is_allowed s.permits command ≡ false
+    → sends_to command address s ≡ refuses NotAllowed s

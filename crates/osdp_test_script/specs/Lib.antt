@@ -1,0 +1,9 @@
+pub mod Answers
+pub mod Awaited
+pub mod Calls
+pub mod Laws
+pub mod Lines
+pub mod Permits
+pub mod Runs
+pub mod Seen
+pub mod Texts
