@@ -8,3 +8,4 @@ pub mod Opened
 pub mod Ordered
 pub mod Told
 pub mod InTime
+pub mod Instances

@@ -2,3 +2,4 @@ pub mod Clock
 pub mod Turns
 pub mod Laws
 pub mod Telling
+pub mod Instances

@@ -4,6 +4,7 @@
 
 ghost use Rattle.std.specs.Prelude.{ℕ, List};
 ghost use Rattle.osdp_bus_laws.specs.Calls.{Always};
+ghost use Rattle.osdp_bus_time_laws.specs.Instances.{OpeningIsReached};
 ghost use Rattle.osdp_bus_time_laws.specs.Laws.{ExchangesComeRound, ExchangesEnd, LinesAddUp, OpeningsBegin, OpeningsInTime, OrdersGoOut, OrdersInTime};
 ghost use Rattle.osdp_bus_time_laws.specs.Telling.{OpenAreAsked, ReportsAreTaken, SilenceIsTold};
 
@@ -50,4 +51,10 @@ pub fn silence_is_told()
 /// Where a list says how long the exchange of each entry takes, the turns of these laws are those of the figures of a line.
 pub fn lines_add_up()
     ensures { (late : ℕ) (exchanges : List ℕ) → LinesAddUp late exchanges }
+{}
+
+/// The bound of an opening is reached: a line of two entries whose devices answer nothing, and whose program is a millisecond late each time, takes exactly so
+/// long.
+pub fn bounds_are_reached()
+    ensures { OpeningIsReached }
 {}

@@ -30,7 +30,7 @@ use Rattle.osdp_time_laws.proofs.Duties.{until_of}
 abbrev Acts : ℕ → Session → Ticked → Type 0
 Acts until s t = acts t.step ≡ true → until ≤ s.greatest
 
-reached_in : (state : State) (s : Session) (w : List Command) → (is_idle state ≡ true → w ≡ []) → Acts (until_of state) s (ticks_in state s w)
+pub reached_in : (state : State) (s : Session) (w : List Command) → (is_idle state ≡ true → w ≡ []) → Acts (until_of state) s (ticks_in state s w)
 reached_in Closed s w none = λ h. cc
 reached_in (Quiet until) s w none =
     either_way (Acts until s) (nat_le until s.greatest) (begins Opening 0 s w) (stays s w) (λ b h. leb-true until s.greatest b) (λ b h. cc)

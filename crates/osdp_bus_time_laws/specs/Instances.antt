@@ -1,0 +1,51 @@
+-- A run of a line that takes as long as a law allows, to the millisecond.
+use Rattle.std.specs.Prelude.{◌≡◌, ◌+◌, ◌-◌, ◌*◌, List, [], ◌∷◌, None}
+use Rattle.osdp_frame.specs.declared.check_kind.CheckKind.TheVariants.{Sum}
+use Rattle.osdp_bus.specs.declared.config.BusConfig.{BusConfig}
+use Rattle.osdp_bus.specs.Buses.{BusState, new_bus}
+use Rattle.osdp_bus.specs.Machine.{begin_refusal_at}
+use Rattle.osdp_bus.specs.Settings.{IsBusConfig}
+use Rattle.osdp_bus_laws.specs.Calls.{Call, Add, Begin, Tick, NextReport, after_call, after_calls}
+use Rattle.osdp_bus_laws.specs.Exchanges.{IsOutstandingAt}
+use Rattle.osdp_bus_time_laws.specs.Clock.{KeepsTime}
+use Rattle.osdp_bus_time_laws.specs.Laws.{exchange_of}
+use Rattle.osdp_bus_time_laws.specs.Turns.{HasFew}
+
+-- one send of 3 ms, no BUSY, and 4 ms of quiet
+abbrev pub short_line : BusConfig
+short_line = record {
+  check = Sum;
+  reply_wait = 3;
+  poll_interval = 5;
+  sends = 1;
+  busy_wait = 2;
+  busy_limit = 0;
+  quiet_wait = 4;
+  gap = 20;
+  room = record { messages = 1; bytes = 1433 };
+}
+
+-- two devices that answer nothing, whose sessions begin at one moment
+abbrev pub one_begun : BusState
+one_begun = after_calls (Add 0 ∷ Add 1 ∷ Begin 0 0 ∷ []) (new_bus short_line)
+
+abbrev pub two_begun : BusState
+two_begun = after_call (Begin 1 0) one_begun
+
+-- the first opens a millisecond late, is told lost as late, and so is the report taken and the next tick made
+abbrev pub before_opening : List Call
+before_opening = Tick 5 ∷ Tick 9 ∷ NextReport ∷ []
+
+abbrev pub opening_calls : List Call
+opening_calls = Tick 5 ∷ Tick 9 ∷ NextReport ∷ Tick 10 ∷ []
+
+-- the opening ID of the other goes out exactly when it has to
+pub record OpeningIsReached : Type 0 where
+  pub config : IsBusConfig short_line
+  pub accepted : begin_refusal_at 1 one_begun ≡ None
+  pub in_time : KeepsTime 1 opening_calls two_begun
+  pub few : HasFew 2 opening_calls two_begun
+  pub not_before : IsOutstandingAt 1 (after_calls before_opening two_begun) → ⊥
+  pub begins : IsOutstandingAt 1 (after_calls opening_calls two_begun)
+  pub moment : (after_calls opening_calls two_begun).greatest
+      ≡ two_begun.greatest + (short_line.quiet_wait + 1 + (2 - 1) * (exchange_of two_begun 1 + 1))
