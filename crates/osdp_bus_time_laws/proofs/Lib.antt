@@ -9,3 +9,4 @@ pub mod Ordered
 pub mod Told
 pub mod InTime
 pub mod Instances
+pub mod Asking

@@ -7,6 +7,7 @@ use Rattle.osdp_bus.specs.Machine.{begin_refusal_at, submit_refusal_at}
 use Rattle.osdp_bus.specs.Settings.{controller_config}
 use Rattle.osdp_bus_laws.specs.Calls.{Call, Begin, Submit, after_call}
 use Rattle.osdp_bus_laws.specs.Fairness.{Begins}
+use Rattle.osdp_controller_laws.specs.Commands.{asked_in}
 use Rattle.osdp_time_laws.specs.Bounds.{longest_exchange}
 use Rattle.osdp_time_laws.specs.Lines.{turns_time}
 use Rattle.osdp_time_laws.specs.Orders.{is_under_way}
@@ -38,6 +39,12 @@ GoesOutBy limit (suc before) entry (call ∷ calls) b = IsUnderWay entry b
     → ((after_call call b).greatest ≤ limit)
     × (Begins call entry b → GoesOutBy limit before entry calls (after_call call b))
     × ((Begins call entry b → ⊥) → GoesOutBy limit (suc before) entry calls (after_call call b))
+
+-- an exchange that begins while the session of its entry is under way asks the command that waits at the front, and the others wait on
+abbrev pub TakesTheFront : BusState → Type 0
+TakesTheFront b = (call : Call) (entry : ℕ) (command : Command) (rest : List Command) (d : Device) → device_of entry b ≡ Some d
+    → is_under_way d.controller.session.state ≡ true → d.controller.waiting ≡ command ∷ rest → Begins call entry b
+    → (e : Device) × (device_of entry (after_call call b) ≡ Some e) × (asked_in e.controller.session.state ≡ Some command) × (e.controller.waiting ≡ rest)
 
 -- a command is accepted while the session of its entry is under way, where so many of the entry wait before it
 pub record IsAccepted (entry before : ℕ) (command : Command) (b : BusState) : Type 0 where

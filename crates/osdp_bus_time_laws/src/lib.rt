@@ -3,9 +3,10 @@
 #![tactic(auto)]
 
 ghost use Rattle.std.specs.Prelude.{ℕ, List};
+ghost use Rattle.osdp_bus.specs.Buses.{BusState};
 ghost use Rattle.osdp_bus_laws.specs.Calls.{Always};
 ghost use Rattle.osdp_bus_time_laws.specs.Instances.{OpeningIsReached};
-ghost use Rattle.osdp_bus_time_laws.specs.Laws.{ExchangesComeRound, ExchangesEnd, LinesAddUp, OpeningsBegin, OpeningsInTime, OrdersGoOut, OrdersInTime};
+ghost use Rattle.osdp_bus_time_laws.specs.Laws.{ExchangesComeRound, ExchangesEnd, LinesAddUp, OpeningsBegin, OpeningsInTime, OrdersGoOut, OrdersInTime, TakesTheFront};
 ghost use Rattle.osdp_bus_time_laws.specs.Telling.{OpenAreAsked, ReportsAreTaken, SilenceIsTold};
 
 /// Each exchange of the line ends within the longest that the settings allow, however its answers come. So does the one that is outstanding, from now on.
@@ -15,10 +16,11 @@ pub fn exchanges_end()
 
 /// An order that is accepted while its session is under way has its first frame handed out within a turn of each entry for each command before it, and
 /// one more, or its session has ended by then. A turn is an exchange and a late tick. Whatever the line does, an exchange is the longest that the settings
-/// allow.
+/// allow. Each exchange that its entry begins asks the command that waits at the front, so the order has its turn after those before it.
 pub fn orders_go_out()
     ensures turns { Always OrdersGoOut }
     ensures whatever { Always OrdersInTime }
+    ensures front { (b : BusState) → TakesTheFront b }
 {}
 
 /// While its session goes on an entry is asked again and again: for each of its exchanges the interval between POLLs and a turn of each entry pass at the

@@ -1,0 +1,135 @@
+-- An exchange of an entry takes the command that waits at the front.
+use Rattle.std.proofs.Common.{◌≡◌, ◌∙◌, ap, subst, ℕ, ◌+◌, true, false, max, List, ◌∷◌, Option, Some, None, refl}
+use Rattle.std.specs.Prelude.{nat_lt}
+use Rattle.osdp_frame.specs.Packet.{Packet}
+use Rattle.osdp_msg.specs.declared.command.Command.{Command}
+use Rattle.osdp_msg.specs.declared.command_fields.Communication.{Communication}
+use Rattle.osdp_msg.specs.declared.reply.Reply.{Reply}
+use Rattle.osdp_msg.specs.declared.reply_fields.PdId.{PdId}
+use Rattle.osdp_controller.specs.declared.exchange.Exchange.{Exchange}
+use Rattle.osdp_controller.specs.declared.exchange.Exchange.TheVariants.{Opening, Polling, Asking}
+use Rattle.osdp_controller.specs.declared.exchange.Outstanding.{Outstanding}
+use Rattle.osdp_controller.specs.declared.meaning.ReplyMeaning.{ReplyMeaning}
+use Rattle.osdp_controller.specs.declared.meaning.ReplyMeaning.TheVariants.{NotTaken, Damaged, NumberRefused, Plain, Unreadable}
+use Rattle.osdp_controller.specs.declared.report.LostCause.TheVariants as causes
+use Rattle.osdp_controller.specs.declared.session.Session.{Session}
+use Rattle.osdp_controller.specs.declared.state.State.{State}
+use Rattle.osdp_controller.specs.declared.state.State.TheVariants.{Closed, Quiet, Idle, Waiting, Pausing}
+use Rattle.osdp_controller.specs.Answers.{meaning_of}
+use Rattle.osdp_controller.specs.Hearing.{Heard, answered, answered_unread, com_of, command_answered, comset_of, hears, hears_busy, loses, moved_by, opening_answered, pausing_hears, pd_id_of, waiting_hears}
+use Rattle.osdp_controller.specs.Machine.{acts, is_outstanding}
+use Rattle.osdp_controller.specs.Private.{numbered_in}
+use Rattle.osdp_controller.specs.Sessions.{later, seen}
+use Rattle.osdp_controller.specs.States.{is_idle}
+use Rattle.osdp_controller.specs.Ticking.{ticks_in}
+use Rattle.osdp_controller.proofs.Choices.{either_way}
+use Rattle.osdp_controller_laws.specs.Commands.{command_of}
+use Rattle.osdp_controller_laws.proofs.Frames.{either_frame}
+use Rattle.osdp_controller_laws.proofs.Ticks.{takes_front}
+use Rattle.osdp_time_laws.specs.Laws.{is_quiet}
+use Rattle.osdp_time_laws.specs.Orders.{is_under_way}
+use Rattle.osdp_bus.specs.declared.device.Device.{Device}
+use Rattle.osdp_bus.specs.Buses.{BusState, device_of}
+use Rattle.osdp_bus.specs.Devices.{device_ticks, holds}
+use Rattle.osdp_bus.specs.Ticking.{BusTicked, ticks_with}
+use Rattle.osdp_bus_laws.specs.Calls.{after_call}
+use Rattle.osdp_bus_laws.specs.Turns.{asking}
+use Rattle.osdp_bus_laws.proofs.Fairness.{begun_ticked}
+use Rattle.osdp_bus_laws.proofs.Places.{is_false}
+use Rattle.osdp_bus_laws.proofs.Turning.{set_here, still_free}
+use Rattle.osdp_bus_time_laws.specs.Laws.{TakesTheFront}
+use Rattle.osdp_bus_time_laws.proofs.Places.{asking_place, one_device}
+
+-- ---- no packet makes a session wait for its opening
+
+abbrev NotQuiet : Heard → Type 0
+NotQuiet h = is_quiet h.session.state ≡ false
+
+busy_on : (o : Outstanding) (s : Session) → NotQuiet (hears_busy o s)
+busy_on o s =
+    either_way NotQuiet (nat_lt s.config.busy_limit (o.busies + 1)) (loses causes.TooBusy o s)
+    (record { session = record s { state = Pausing (later s.config.busy_wait s) (record o { busies = o.busies + 1 }) }; report = None })
+    (λ b. refl) (λ b. refl)
+
+opening_on : (id : Option PdId) (s : Session) → is_quiet s.state ≡ false → NotQuiet (opening_answered id s)
+opening_on None s on = on
+opening_on (Some id) s on = refl
+
+command_on : (moved : Option Communication) (command : Command) (reply : Reply) (s : Session) → NotQuiet (command_answered moved command reply s)
+command_on None command reply s = refl
+command_on (Some d) command reply s = refl
+
+answered_on : (x : Exchange) (reply : Reply) (s : Session) → is_quiet s.state ≡ false → NotQuiet (answered x reply s)
+answered_on Opening reply s on = opening_on (pd_id_of reply) s on
+answered_on Polling reply s on = refl
+answered_on (Asking command) reply s on = command_on (moved_by (comset_of command) (com_of reply)) command reply s
+
+unread_on : (x : Exchange) (code : ℕ) (s : Session) → is_quiet s.state ≡ false → NotQuiet (answered_unread x code s)
+unread_on Opening code s on = on
+unread_on Polling code s on = refl
+unread_on (Asking command) code s on = refl
+
+waiting_on : (a : ReplyMeaning) (sends : ℕ) (o : Outstanding) (s : Session) → is_quiet s.state ≡ false → NotQuiet (waiting_hears a sends o s)
+waiting_on NotTaken sends o s on = busy_on o s
+waiting_on Damaged sends o s on = refl
+waiting_on NumberRefused sends o s on = refl
+waiting_on (Plain reply) sends o s on = answered_on o.exchange reply s on
+waiting_on (Unreadable code) sends o s on = unread_on o.exchange code s on
+
+pausing_on : (a : ReplyMeaning) (o : Outstanding) (s : Session) → is_quiet s.state ≡ false → NotQuiet (pausing_hears a o s)
+pausing_on NotTaken o s on = on
+pausing_on Damaged o s on = on
+pausing_on NumberRefused o s on = refl
+pausing_on (Plain reply) o s on = answered_on o.exchange reply s on
+pausing_on (Unreadable code) o s on = unread_on o.exchange code s on
+
+numbered_on : (state : State) (a : ReplyMeaning) (s : Session) → is_quiet s.state ≡ false → NotQuiet (numbered_in state a s)
+numbered_on Closed a s on = on
+numbered_on (Quiet until) a s on = on
+numbered_on (Idle due) a s on = on
+numbered_on (Waiting until sends o) a s on = waiting_on a sends o s on
+numbered_on (Pausing until o) a s on = pausing_on a o s on
+
+heard_on : (p : Packet) (now : ℕ) (s : Session) → is_quiet s.state ≡ false → NotQuiet (hears p now s)
+heard_on p now s on = either_frame NotQuiet p now s (λ from number. numbered_on s.state (meaning_of p) (seen now s) on) on
+
+-- ---- who begins an exchange and isn't quiet is at rest
+
+begins_at_rest : (n : ℕ) (state : State) (s : Session) (w : List Command) → is_quiet state ≡ false → is_outstanding state ≡ false → acts (ticks_in state s w).step ≡ true
+    → is_idle state ≡ true
+begins_at_rest n Closed s w on out due = cc
+begins_at_rest n (Quiet until) s w on out due = cc
+begins_at_rest n (Idle at) s w on out due = refl
+begins_at_rest n (Waiting until sends o) s w on out due = cc
+begins_at_rest n (Pausing until o) s w on out due = cc
+
+not_quiet : (state : State) → is_under_way state ≡ true → is_quiet state ≡ false
+not_quiet Closed under = cc
+not_quiet (Quiet until) under = cc
+not_quiet (Idle due) under = refl
+not_quiet (Waiting until sends o) under = refl
+not_quiet (Pausing until o) under = refl
+
+abbrev OnItsWay : List Command → Device → Type 0
+OnItsWay w d = (is_quiet d.controller.session.state ≡ false) × (d.controller.waiting ≡ w)
+
+pub takes_the_front : (b : BusState) → TakesTheFront b
+takes_the_front b call entry command rest d there under waits begun =
+    let g = max b.greatest begun.now in
+    let w = command ∷ rest in
+    let r = asking begun.now b in
+    let f = begun.next.due.device in
+    let asked = asking_place g (OnItsWay w) (λ p e on. (heard_on p g e.controller.session on.0, on.1)) entry begun.now b refl
+    (d, there, (not_quiet d.controller.session.state under, waits)) in
+    let one = one_device (device_of entry r) asked.0 f asked.1 begun.next.due.there in
+    let on : OnItsWay w f = subst (OnItsWay w) one asked.2 in
+    let free = is_false (holds f) (λ h. still_free begun.now b begun.free entry f begun.next.due.there h) in
+    let idle = begins_at_rest r.greatest f.controller.session.state (seen r.greatest f.controller.session) f.controller.waiting on.0 free begun.next.due.due in
+    let front = (takes_front r.greatest f.controller.session f.controller.waiting).front command rest idle on.1 in
+    let after : after_call call b ≡ (ticks_with entry (Some f) r).bus =
+    ap (λ t. after_call t b) begun.tick ∙ ap (λ (t : BusTicked). t.bus) (begun_ticked begun.now entry b begun.free begun.next) in (
+      device_ticks r.greatest f,
+      ap (device_of entry) after ∙ set_here r.devices.entries entry f (device_ticks r.greatest f) begun.next.due.there,
+      ap command_of front.0,
+      front.1,
+    )
