@@ -2,9 +2,7 @@
 use Rattle.std.proofs.Common.{◌≡◌, ◌≢◌, ℕ, Bool, true, false, cond, eqb, not, ◌&&◌, ◌||◌, Option, Some, None, Result, Ok, Err, refl, sym, subst, ap, ◌∙◌}
 use Rattle.std.proofs.lemmas.Bool.{cond-false, cond-true, cond_both, eq-eqb, eqb-true, false≢true, false_from_ne_true}
 use Rattle.std.specs.Prelude.{drop, slice_index}
-use Rattle.osdp_controller.specs.Answers.{meaning_by_reading, meaning_by_reason, meaning_by_reply, meaning_of}
-use Rattle.osdp_controller.specs.declared.meaning.ReplyMeaning.{ReplyMeaning}
-use Rattle.osdp_controller.specs.declared.meaning.ReplyMeaning.TheVariants.{NotTaken, Damaged, NumberRefused, Plain, Unreadable}
+use Rattle.osdp_controller.specs.Answers.{meaning_by_reading, meaning_by_reason, meaning_by_reply}
 use Rattle.osdp_frame.specs.Packet.{Packet}
 use Rattle.osdp_msg.specs.declared.fault.MsgFault.{MsgFault}
 use Rattle.osdp_msg.specs.declared.nak.NakReason.{NakReason}
@@ -13,14 +11,14 @@ use Rattle.osdp_msg.specs.declared.reply.Reply.{Reply}
 use Rattle.osdp_msg.specs.declared.reply.Reply.TheVariants as reply
 use Rattle.osdp_msg.specs.declared.reply_fields.Nak.{Nak as NakData}
 use Rattle.osdp_msg.specs.ReplyTable.{reply_of}
-use Rattle.osdp_panel_rules.specs.Known.{after_packet, after_said, after_sent, is_last, nothing_known, said_first, said_to}
+use Rattle.osdp_panel_rules.specs.Known.{after_sent, is_last, nothing_known, said_first, said_to}
 use Rattle.osdp_panel_rules.specs.Saying.{by_number, by_reading, by_reason, by_reply, is_answer, is_busy, says}
 use Rattle.osdp_panel_rules.specs.declared.known.Known.{Known}
 use Rattle.osdp_panel_rules.specs.declared.said.Said.{Said}
-use Rattle.osdp_panel_rules.specs.declared.said.Said.TheVariants.{Silence, Noise, Astray, Busy, Damage, Refusal, Answer}
+use Rattle.osdp_panel_rules.specs.declared.said.Said.TheVariants.{Silence, Astray, Busy, Damage, Refusal}
 use Rattle.osdp_rules.specs.Packets.{same_packet}
 use Rattle.osdp_rules_laws.proofs.Same.{packet_is}
-use Rattle.osdp_panel_rules_laws.proofs.Running.{answers, answers_last, none_some, or_true, same_some}
+use Rattle.osdp_panel_rules_laws.proofs.Running.{answers, answers_last, none_some, same_some}
 use Rattle.osdp_panel_rules_laws.specs.Laws.{Answers, IsAnswer, IsFrom, KnowsAnswers, KnowsBusyWithZero, KnowsNewPackets, KnowsNoOthers, KnowsWhatWasSaid, Puts}
 
 own : (p r : Packet) → IsFrom p r → (r.reply && eqb r.address p.address && not r.block) ≡ true

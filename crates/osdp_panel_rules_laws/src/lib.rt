@@ -1,5 +1,5 @@
-//! What the rules to which a panel is held come to, said apart from them: whom they never accuse, what they leave open, and what they find. The
-//! functions do nothing: their contracts are laws.
+//! What the rules of a panel come to, said apart from them: whom they never accuse, what they leave open, and what they find. The functions do
+//! nothing: their contracts are laws.
 #![tactic(auto)]
 
 ghost use Rattle.osdp_panel_rules_laws.specs.Laws.{AnsweredBreaksNothing, BreaksNoRule, CopyBreaksNothing, FindsAltered, FindsHaste, FindsLateness, FindsOutOfTurn, FindsReply, FindsUnanswered, FirstBreaksNothing, KnowsAnswers, KnowsBusyWithZero, KnowsNewPackets, KnowsNoOthers, KnowsWhatWasSaid, ZeroBreaksNothing};
