@@ -138,11 +138,7 @@ pub fn push_verdict(
             )
         }
         (Form::Plain, Verdict::Broken) => {
-            write!(
-                text,
-                "{number} broken: {says} ({})\n",
-                ground_name(ground)
-            )
+            write!(text, "{number} broken: {says} ({})\n", ground_name(ground))
         }
         (Form::Plain, _) => write!(text, "{number} {}: {says}\n", verdict_name(verdict)),
         (Form::Tap, Verdict::Broken) => write!(text, "not ok {number} - {says}\n"),
@@ -171,11 +167,7 @@ pub fn push_skipped(
 }
 
 /// The last line, which counts the verdicts.
-pub fn push_counts(
-    text: &mut String,
-    form: Form,
-    counts: &Counts,
-) -> Result<(), AllocError> {
+pub fn push_counts(text: &mut String, form: Form, counts: &Counts) -> Result<(), AllocError> {
     let total = counts
         .ok
         .saturating_add(counts.either)

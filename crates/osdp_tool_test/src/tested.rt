@@ -2,9 +2,9 @@
 
 use crate::exchange::{Exchange, Said, said_in};
 use crate::found::{Heard, shown};
-use crate::runs::packets;
 use crate::report::{Counts, Form, push_counts, push_fault, push_skipped, push_verdict};
 use crate::rules::Rule;
+use crate::runs::packets;
 use osdp_frame::Address;
 use osdp_rules::{Finding, Known, Verdict};
 use osdp_words::all_words_in;
