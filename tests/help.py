@@ -25,7 +25,7 @@ PARTS = {"show": [("OPTIONS, OPTIONS OF SHOW", "usage")], "monitor": [("OPTIONS"
          "panel": [("SETTINGS", "usage"), ("CALLS", "Input"), ("COMMANDS", "Commands"), ("ANSWERS", "Answers")],
          "reader": [("SETTINGS", "usage"), ("CALLS", "Input"), ("EVENTS", "Events"), ("ANSWERS", "Answers")],
          "plan": [("SETTINGS", "usage"), ("FIGURES", "Times")],
-         "test": [("OPTIONS", "usage"), ("INPUT", "Input")]}
+         "test": [("OPTIONS", "usage"), ("INPUT", "Input"), ("INPUT OF A PANEL", "Input of a panel"), ("SCRIPTS", "Input of a script")]}
 # a text for each command of `help panel` and each event of `help reader`, after the calls that hand it over
 HANDED = {"panel": ("Commands", "add 5\nsubmit 1 ", ["ID 0", "CAP 0", "LSTAT", "ISTAT", "OSTAT", "RSTAT", "OUT 0:5:30", "LED 0:0:0:0:0:0:0:0:1:1:0:2:0", "BUZ 0 2 1 1 1",
                                                      "TEXT 0 1 0 1 1 48454C4C4F", "COMSET 7 9600", "MFG 53494D 00"]),

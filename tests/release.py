@@ -33,7 +33,7 @@ def wanted_after(command):
     """The words that a command's help names."""
     rows = help_of(command).split("\n\n")[2] if command != "help" else ""
     if command == "test":
-        return set(re.findall(r"^  (--[\w-]+)", help_of(command), re.M))
+        return set(re.findall(r"^  (--[\w-]+|[a-z]+) ", rows, re.M))
     if command in ("show", "monitor", "check"):
         return {*re.findall(r"^  (--[\w-]+)", rows, re.M), "--hex"}  # which the manual page names
     if command in ("panel", "reader", "plan"):
@@ -64,7 +64,7 @@ def judge_completion(shell):
     tell(f"{shell}: osdp", top | {"--help", "-h", "--version"}, offered("osdp", ""))
     tell(f"{shell}: osdp sh", {"show"}, offered("osdp", "sh"))
     for command in COMMANDS:
-        beginning = "--" if command in ("show", "monitor", "check", "test") else ""
+        beginning = "--" if command in ("show", "monitor", "check") else ""
         tell(f"{shell}: osdp {command}", wanted_after(command), {word for word in offered("osdp", command, beginning) if not word.isdigit()})
     text = subprocess.run([TOP / "port/osdp-port", "--help"], capture_output=True, text=True).stdout
     tell(f"{shell}: osdp-port --", set(re.findall(r"(?:^  |, )(--[\w-]+)", text, re.M)), offered("osdp-port", "--"))

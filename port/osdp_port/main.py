@@ -1,7 +1,7 @@
 """The program: its words, its port, and what it does there."""
 import time
 
-from . import VERSION, find, listen, testing
+from . import VERSION, find, listen, panel_testing, scripts, testing
 from .advice import Advice
 from .console import Console, wait_for
 from .faults import BAD_WORDS, FAILED, Stop
@@ -15,6 +15,7 @@ from .trace import Bursts, Trace, digits, osdpcap
 from .words import HELP, Words, addresses, bad
 
 START = time.monotonic()
+TESTS = {"device": testing.test, "panel": panel_testing.test_panel, "script": scripts.run}
 END = 5.0  # how many seconds after Ctrl-C answers to orders are waited for
 
 
@@ -122,7 +123,7 @@ def does_command(words, console):
     port = opened(words, words.rate, console)
     if words.command not in ("find", "test"):
         console.say(f"{words.command} at {port.path} {port.rate}: Ctrl-C ends it")
-    does = {"monitor": listen.monitor, "show": listen.show, "trace": listen.trace, "find": find.find, "test": testing.test}[words.command]
+    does = {"monitor": listen.monitor, "show": listen.show, "trace": listen.trace, "find": find.find, "test": TESTS.get("".join(words.rest[:1]), testing.test)}[words.command]
     return does(words, port, console, osdp)
 
 

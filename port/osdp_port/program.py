@@ -72,8 +72,8 @@ class Stream:
 class Lines:
     """`osdp panel` or `osdp reader`: a line is a call, and is answered by lines."""
 
-    def __init__(self, path, words):
-        self.process = start(path, words)
+    def __init__(self, path, words, quiet=False):
+        self.process = start(path, words, **({"stderr": subprocess.DEVNULL} if quiet else {}))
 
     def call(self, line):
         """Hands it one line. The lines of its answer; the last of them begins with `due` or `waiting`."""

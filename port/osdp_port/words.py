@@ -11,6 +11,8 @@ usage: osdp-port [OPTION].. PORT RATE COMMAND
   reader ADDRESS         a reader at this address; cards and keys are typed
   find                   which devices are there, at which rate and check
   test device ADDRESS    which rules the device at this address keeps
+  test panel ADDRESS     which rules the panel keeps that asks this address
+  test script FILE       a script of one's own, with what it expects
   trace FILE             writes down all that goes over the line
 
 PORT is a name such as /dev/ttyUSB0, or rfc2217://HOST:PORT or socket://HOST:PORT.
@@ -25,7 +27,7 @@ After ADDRESSES or ADDRESS settings of osdp may stand: panel 5 check sum reply-w
   --size MB              a trace that is so large is put aside: 10
   --osdpcap              a trace has a JSON object a line, as other tools read it
   --may WORDS            of test: what it may do: silence,out:N,led,buz,text,comset
-  --sum                  of test: packets end with a checksum, and not with a CRC
+  --sum                  of test device: packets end with a checksum, and not with a CRC
   --tap                  of test: verdicts by the Test Anything Protocol
   --set-address N        of find: the device gets this address
   --set-rate R           of find: the device gets this rate
@@ -94,15 +96,26 @@ class Words:
         for option in self.options:
             if option in FITS and self.command not in FITS[option]:
                 bad(f"{option} is no option of {self.command}")
-        needed = {"panel": "ADDRESSES, as 5,6 or 0-5", "reader": "ADDRESS, as 5", "trace": "FILE", "test": "device"}.get(self.command)
+        needed = {"panel": "ADDRESSES, as 5,6 or 0-5", "reader": "ADDRESS, as 5", "trace": "FILE", "test": "device, panel or script"}.get(self.command)
         if needed and not self.rest:
             bad(f"word 4 is missing: {needed}")
         most = {"panel": None, "reader": None, "trace": 1, "test": 2}.get(self.command, 0)
         if most is not None and len(self.rest) > most:
             bad(f"word {most + 4}, {self.rest[most]}: nothing more stands there")
 
-        if self.command == "test" and (self.rest[0] != "device" or len(self.rest) != 2 or len(addresses(self.rest[1], 5)) != 1):
-            bad(f"word 4, {' '.join(self.rest)}: device ADDRESS, as device 5")
+        if self.command == "test":
+            self.is_test()
+
+    def is_test(self):
+        """Word 4 names what is tested."""
+        if self.rest[0] == "script" and len(self.rest) == 2:
+            for option in ("--may", "--sum", "--tap"):
+                if option in self.options:
+                    bad(f"{option} is no option of test script: a line of the script says it")
+        elif self.rest[0] not in ("device", "panel") or len(self.rest) != 2 or len(addresses(self.rest[1], 5)) != 1:
+            bad(f"word 4, {' '.join(self.rest)}: device ADDRESS, as device 5, panel ADDRESS, or script FILE")
+        elif self.rest[0] == "panel" and "--sum" in self.options:
+            bad("--sum is no option of test panel: the panel says which check it has")
 
     def get(self, option, otherwise=None):
         return self.options.get(option, otherwise)

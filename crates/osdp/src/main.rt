@@ -1,4 +1,4 @@
-//! The program `osdp`: packets are read, made and listened to, scripts, panels and readers run, lines planned, devices tested.
+//! The program `osdp`: packets read and made, scripts, panels and readers run, lines planned, both ends tested.
 #![tactic(auto)]
 
 use osdp_line_calls::{
@@ -12,8 +12,10 @@ use osdp_tool::{
 use osdp_tool_inputs::{Reads, do_all, read_words};
 use osdp_tool_plan::{plan, planned};
 use osdp_tool_sim::sim;
+use osdp_tool_script::script;
 use osdp_tool_streams::{ToolFault, Watched, flush_out, write_out};
-use osdp_tool_test::{HELP, test};
+use osdp_tool_test::test;
+use osdp_tool_test_panel::test_panel;
 use std::process::ExitCode;
 
 /// Prints a text.
@@ -59,27 +61,15 @@ fn run_plan(rt: &HostRuntime, words: &[&str]) -> Result<(), ToolFault> {
     )
 }
 
-/// Whether the words ask for the help of `test`.
-fn asks_test_help(words: &[&str]) -> bool {
-    matches!(words, ["help", "test"] | ["test", "--help" | "-h"])
-}
-
-/// Whether the words are those of `test`.
-fn is_test(words: &[&str]) -> bool {
-    match words {
-        [first, ..] => *first == "test",
-        [] => false,
-    }
-}
-
-/// Tells which rules a device keeps, by the lines of standard input. The status.
+/// Judges a device, or runs a script, by the lines of standard input. The status.
 fn run_test(rt: &HostRuntime, words: &[&str]) -> Result<u8, ToolFault> {
-    test(
-        rt.alloc(),
-        after_name(words),
-        &mut Watched::new(rt.stdin()),
-        &mut Watched::new(rt.stdout()),
-    )
+    let mut input = Watched::new(rt.stdin());
+    let mut output = Watched::new(rt.stdout());
+    match words {
+        ["script", rest @ ..] => script(rt.alloc(), rest, &mut input, &mut output),
+        ["panel", rest @ ..] => test_panel(rt.alloc(), rest, &mut input, &mut output),
+        _ => test(rt.alloc(), words, &mut input, &mut output),
+    }
 }
 
 /// Does the job that the words choose.
@@ -95,13 +85,6 @@ fn run_job(rt: &HostRuntime, words: &[&str]) -> Result<(), ToolFault> {
 fn run(rt: &HostRuntime) -> Result<u8, ToolFault> {
     let arguments = arguments(rt)?;
     let words = lent(rt.alloc(), &arguments)?;
-    if asks_test_help(&words) {
-        print(rt, HELP)?;
-        return Ok(0);
-    }
-    if is_test(&words) {
-        return run_test(rt, &words);
-    }
     match choose(&words) {
         Choice::Help(topic) => print(rt, help_text(topic))?,
         Choice::Version => print(rt, VERSION)?,
@@ -111,6 +94,7 @@ fn run(rt: &HostRuntime) -> Result<u8, ToolFault> {
         Choice::Panel => run_machine::<LinePanel>(rt, &words)?,
         Choice::Reader => run_machine::<LineDevice>(rt, &words)?,
         Choice::Plan => run_plan(rt, &words)?,
+        Choice::Test => return run_test(rt, after_name(&words)),
         Choice::Job => run_job(rt, &words)?,
     }
     Ok(0)
@@ -127,6 +111,7 @@ fn wrong_setting<'a>(words: &'a [&'a str]) -> Option<WrongSetting<'a>> {
         | Choice::Check
         | Choice::Monitor
         | Choice::Plan
+        | Choice::Test
         | Choice::Job => None,
     }
 }
@@ -142,9 +127,6 @@ fn tell_wrong_plan(rt: &HostRuntime, words: &[&str]) {
 
 /// Says which word names no command, and which words are no settings, where some aren't.
 fn tell_wrong(rt: &HostRuntime, words: &[&str]) {
-    if is_test(words) {
-        return;
-    }
     if let Some(word) = unknown_command(words) {
         let _ = eprintln!(rt; "osdp: no command: {word}; try: osdp help");
     }

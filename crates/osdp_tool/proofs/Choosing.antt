@@ -5,7 +5,7 @@ use Rattle.std.proofs.lemmas.Slice.Eq.{bytes_eq-Decides}
 use Rattle.osdp_tool.specs.Job.{Words, job_of, wants_help}
 use Rattle.osdp_tool_streams.specs.declared.fault.ToolFault.TheVariants.{BadWords}
 use Rattle.osdp_tool.specs.declared.choice.Choice.{Choice}
-use Rattle.osdp_tool.specs.declared.choice.Choice.TheVariants.{Help, Version, Show, Check, Monitor, Panel, Reader, Plan, Job}
+use Rattle.osdp_tool.specs.declared.choice.Choice.TheVariants.{Help, Version, Show, Check, Monitor, Panel, Reader, Plan, Test, Job}
 use Rattle.osdp_tool.specs.declared.choice.Topic.{Topic}
 use Rattle.osdp_tool.specs.declared.choice.Topic.TheVariants as topic
 use Rattle.osdp_tool.specs.Choice.{AskForHelp, AskOf, ChoosesByWords, IsWordsOf, choice_of, topic_named}
@@ -36,6 +36,7 @@ help_chooses topic.Sim words are = asks_choose (codes "sim") topic.Sim refl refl
 help_chooses topic.Panel words are = asks_choose (codes "panel") topic.Panel refl refl refl words are
 help_chooses topic.Reader words are = asks_choose (codes "reader") topic.Reader refl refl refl words are
 help_chooses topic.Plan words are = asks_choose (codes "plan") topic.Plan refl refl refl words are
+help_chooses topic.Test words are = asks_choose (codes "test") topic.Test refl refl refl words are
 
 words_choose : (choice : Choice) (words : Words) → IsWordsOf choice words → choice_of words ≡ choice
 words_choose (Help asked) words are = help_chooses asked words are
@@ -46,6 +47,7 @@ words_choose Monitor words (rest, is, plain) = rw (is, plain)
 words_choose Panel words (rest, is, plain) = rw (is, plain)
 words_choose Reader words (rest, is, plain) = rw (is, plain)
 words_choose Plan words (rest, is, plain) = rw (is, plain)
+words_choose Test words (rest, is, plain) = rw (is, plain)
 words_choose Job words are = absurd are
 
 -- words choose something and are its words, and `job` takes none of them; or they are left to it
@@ -61,21 +63,22 @@ abbrev Names : List ℕ → Type 0
 Names name = ((asked : Topic) × IsCommand asked name) ⊎ (topic_named name ≡ Job)
 
 names : (name : List ℕ) → Names name
-names name = go (bytes_eq name (codes "show")) (bytes_eq name (codes "monitor")) (bytes_eq name (codes "check")) (bytes_eq name (codes "make")) (bytes_eq name (codes "sim")) (bytes_eq name (codes "panel")) (bytes_eq name (codes "reader")) (bytes_eq name (codes "plan")) refl refl refl refl refl refl refl refl
+names name = go (bytes_eq name (codes "show")) (bytes_eq name (codes "monitor")) (bytes_eq name (codes "check")) (bytes_eq name (codes "make")) (bytes_eq name (codes "sim")) (bytes_eq name (codes "panel")) (bytes_eq name (codes "reader")) (bytes_eq name (codes "plan")) (bytes_eq name (codes "test")) refl refl refl refl refl refl refl refl refl
   where
     by : (asked : Topic) (command : List ℕ) → bytes_eq name command ≡ true → IsCommand asked command → Names name
     by asked command is known = inl (asked, subst (IsCommand asked) (sym (is_word name command is)) known)
 
-    go : (show monitor check make sim panel reader plan : Bool) → bytes_eq name (codes "show") ≡ show → bytes_eq name (codes "monitor") ≡ monitor → bytes_eq name (codes "check") ≡ check → bytes_eq name (codes "make") ≡ make → bytes_eq name (codes "sim") ≡ sim → bytes_eq name (codes "panel") ≡ panel → bytes_eq name (codes "reader") ≡ reader → bytes_eq name (codes "plan") ≡ plan → Names name
-    go true monitor check make sim panel reader plan a b c d e f g h = by topic.Show (codes "show") a (refl, (λ words are. are), refl, refl)
-    go false true check make sim panel reader plan a b c d e f g h = by topic.Monitor (codes "monitor") b (refl, (λ words are. are), refl, refl)
-    go false false true make sim panel reader plan a b c d e f g h = by topic.Check (codes "check") c (refl, (λ words are. are), refl, refl)
-    go false false false true sim panel reader plan a b c d e f g h = by topic.Make (codes "make") d (refl, (λ words are. are), refl, refl)
-    go false false false false true panel reader plan a b c d e f g h = by topic.Sim (codes "sim") e (refl, (λ words are. are), refl, refl)
-    go false false false false false true reader plan a b c d e f g h = by topic.Panel (codes "panel") f (refl, (λ words are. are), refl, refl)
-    go false false false false false false true plan a b c d e f g h = by topic.Reader (codes "reader") g (refl, (λ words are. are), refl, refl)
-    go false false false false false false false true a b c d e f g h = by topic.Plan (codes "plan") h (refl, (λ words are. are), refl, refl)
-    go false false false false false false false false a b c d e f g h = inr (rw (a, b, c, d, e, f, g, h))
+    go : (show monitor check make sim panel reader plan test : Bool) → bytes_eq name (codes "show") ≡ show → bytes_eq name (codes "monitor") ≡ monitor → bytes_eq name (codes "check") ≡ check → bytes_eq name (codes "make") ≡ make → bytes_eq name (codes "sim") ≡ sim → bytes_eq name (codes "panel") ≡ panel → bytes_eq name (codes "reader") ≡ reader → bytes_eq name (codes "plan") ≡ plan → bytes_eq name (codes "test") ≡ test → Names name
+    go true monitor check make sim panel reader plan test a b c d e f g h i = by topic.Show (codes "show") a (refl, (λ words are. are), refl, refl)
+    go false true check make sim panel reader plan test a b c d e f g h i = by topic.Monitor (codes "monitor") b (refl, (λ words are. are), refl, refl)
+    go false false true make sim panel reader plan test a b c d e f g h i = by topic.Check (codes "check") c (refl, (λ words are. are), refl, refl)
+    go false false false true sim panel reader plan test a b c d e f g h i = by topic.Make (codes "make") d (refl, (λ words are. are), refl, refl)
+    go false false false false true panel reader plan test a b c d e f g h i = by topic.Sim (codes "sim") e (refl, (λ words are. are), refl, refl)
+    go false false false false false true reader plan test a b c d e f g h i = by topic.Panel (codes "panel") f (refl, (λ words are. are), refl, refl)
+    go false false false false false false true plan test a b c d e f g h i = by topic.Reader (codes "reader") g (refl, (λ words are. are), refl, refl)
+    go false false false false false false false true test a b c d e f g h i = by topic.Plan (codes "plan") h (refl, (λ words are. are), refl, refl)
+    go false false false false false false false false true a b c d e f g h i = by topic.Test (codes "test") i (refl, (λ words are. are), refl, refl)
+    go false false false false false false false false false a b c d e f g h i = inr (rw (a, b, c, d, e, f, g, h, i))
 
 -- the name of a command, and a flag that asks for help
 flagged : (first : List ℕ) → (asked : Topic) × IsCommand asked first → (rest : Words) → wants_help rest ≡ true → Chooses (first ∷ rest)
@@ -123,23 +126,24 @@ after_version (word ∷ rest) plain = inr (rw plain)
 
 -- any words after the first but a flag that asks for help alone
 by_name : (first : List ℕ) (rest : Words) → wants_help rest ≡ false → Chooses (first ∷ rest)
-by_name first rest plain = go (bytes_eq first (codes "help")) (bytes_eq first (codes "show")) (bytes_eq first (codes "check")) (bytes_eq first (codes "monitor")) (bytes_eq first (codes "panel")) (bytes_eq first (codes "reader")) (bytes_eq first (codes "plan")) (bytes_eq first (codes "--help")) (bytes_eq first (codes "-h")) (bytes_eq first (codes "--version")) refl refl refl refl refl refl refl refl refl refl
+by_name first rest plain = go (bytes_eq first (codes "help")) (bytes_eq first (codes "show")) (bytes_eq first (codes "check")) (bytes_eq first (codes "monitor")) (bytes_eq first (codes "panel")) (bytes_eq first (codes "reader")) (bytes_eq first (codes "plan")) (bytes_eq first (codes "test")) (bytes_eq first (codes "--help")) (bytes_eq first (codes "-h")) (bytes_eq first (codes "--version")) refl refl refl refl refl refl refl refl refl refl refl
   where
     by : (word : List ℕ) → bytes_eq first word ≡ true → Chooses (word ∷ rest) → Chooses (first ∷ rest)
     by word is chooses = subst (λ w. Chooses (w ∷ rest)) (sym (is_word first word is)) chooses
 
-    go : (help show check monitor panel reader plan long short version : Bool) → bytes_eq first (codes "help") ≡ help → bytes_eq first (codes "show") ≡ show → bytes_eq first (codes "check") ≡ check → bytes_eq first (codes "monitor") ≡ monitor → bytes_eq first (codes "panel") ≡ panel → bytes_eq first (codes "reader") ≡ reader → bytes_eq first (codes "plan") ≡ plan → bytes_eq first (codes "--help") ≡ long → bytes_eq first (codes "-h") ≡ short → bytes_eq first (codes "--version") ≡ version → Chooses (first ∷ rest)
-    go true show check monitor panel reader plan long short version a b c d e f g h i j = by (codes "help") a (after_help rest plain)
-    go false true check monitor panel reader plan long short version a b c d e f g h i j = by (codes "show") b (inl (Show, rw plain, (rest, refl, plain), refl))
-    go false false true monitor panel reader plan long short version a b c d e f g h i j = by (codes "check") c (inl (Check, rw plain, (rest, refl, plain), refl))
-    go false false false true panel reader plan long short version a b c d e f g h i j = by (codes "monitor") d (inl (Monitor, rw plain, (rest, refl, plain), refl))
-    go false false false false true reader plan long short version a b c d e f g h i j = by (codes "panel") e (inl (Panel, rw plain, (rest, refl, plain), refl))
-    go false false false false false true plan long short version a b c d e f g h i j = by (codes "reader") f (inl (Reader, rw plain, (rest, refl, plain), refl))
-    go false false false false false false true long short version a b c d e f g h i j = by (codes "plan") g (inl (Plan, rw plain, (rest, refl, plain), refl))
-    go false false false false false false false true short version a b c d e f g h i j = by (codes "--help") h (after_long_help rest plain)
-    go false false false false false false false false true version a b c d e f g h i j = by (codes "-h") i (after_short_help rest plain)
-    go false false false false false false false false false true a b c d e f g h i j = by (codes "--version") j (after_version rest plain)
-    go false false false false false false false false false false a b c d e f g h i j = inr (rw (plain, a, b, c, d, e, f, g, h, i, j))
+    go : (help show check monitor panel reader plan test long short version : Bool) → bytes_eq first (codes "help") ≡ help → bytes_eq first (codes "show") ≡ show → bytes_eq first (codes "check") ≡ check → bytes_eq first (codes "monitor") ≡ monitor → bytes_eq first (codes "panel") ≡ panel → bytes_eq first (codes "reader") ≡ reader → bytes_eq first (codes "plan") ≡ plan → bytes_eq first (codes "test") ≡ test → bytes_eq first (codes "--help") ≡ long → bytes_eq first (codes "-h") ≡ short → bytes_eq first (codes "--version") ≡ version → Chooses (first ∷ rest)
+    go true show check monitor panel reader plan test long short version a b c d e f g h i j k = by (codes "help") a (after_help rest plain)
+    go false true check monitor panel reader plan test long short version a b c d e f g h i j k = by (codes "show") b (inl (Show, rw plain, (rest, refl, plain), refl))
+    go false false true monitor panel reader plan test long short version a b c d e f g h i j k = by (codes "check") c (inl (Check, rw plain, (rest, refl, plain), refl))
+    go false false false true panel reader plan test long short version a b c d e f g h i j k = by (codes "monitor") d (inl (Monitor, rw plain, (rest, refl, plain), refl))
+    go false false false false true reader plan test long short version a b c d e f g h i j k = by (codes "panel") e (inl (Panel, rw plain, (rest, refl, plain), refl))
+    go false false false false false true plan test long short version a b c d e f g h i j k = by (codes "reader") f (inl (Reader, rw plain, (rest, refl, plain), refl))
+    go false false false false false false true test long short version a b c d e f g h i j k = by (codes "plan") g (inl (Plan, rw plain, (rest, refl, plain), refl))
+    go false false false false false false false true long short version a b c d e f g h i j k = by (codes "test") h (inl (Test, rw plain, (rest, refl, plain), refl))
+    go false false false false false false false false true short version a b c d e f g h i j k = by (codes "--help") i (after_long_help rest plain)
+    go false false false false false false false false false true version a b c d e f g h i j k = by (codes "-h") j (after_short_help rest plain)
+    go false false false false false false false false false false true a b c d e f g h i j k = by (codes "--version") k (after_version rest plain)
+    go false false false false false false false false false false false a b c d e f g h i j k = inr (rw (plain, a, b, c, d, e, f, g, h, i, j, k))
 
 choose : (words : Words) → Chooses words
 choose [] = inl (Help topic.Program, refl, inl refl, refl)
@@ -174,6 +178,7 @@ all_choose words = record {
         is_none Panel of is = cc
         is_none Reader of is = cc
         is_none Plan of is = cc
+        is_none Test of is = cc
         is_none Job of is = of
 
     no_words : ((choice : Choice) → ¬ IsWordsOf choice words) → choice_of words ≡ Job

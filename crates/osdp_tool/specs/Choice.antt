@@ -5,7 +5,7 @@ use Rattle.std.specs.Str.{bytes_eq}
 use Rattle.osdp_tool.specs.Job.{Words, job_of, wants_help}
 use Rattle.osdp_tool_streams.specs.declared.fault.ToolFault.TheVariants.{BadWords}
 use Rattle.osdp_tool.specs.declared.choice.Choice.{Choice}
-use Rattle.osdp_tool.specs.declared.choice.Choice.TheVariants.{Help, Version, Show, Check, Monitor, Panel, Reader, Plan, Job}
+use Rattle.osdp_tool.specs.declared.choice.Choice.TheVariants.{Help, Version, Show, Check, Monitor, Panel, Reader, Plan, Test, Job}
 use Rattle.osdp_tool.specs.declared.choice.Topic.{Topic}
 use Rattle.osdp_tool.specs.declared.choice.Topic.TheVariants as topic
 
@@ -19,7 +19,8 @@ topic_named name =
     else (if bytes_eq name (codes "sim") then Help topic.Sim
     else (if bytes_eq name (codes "panel") then Help topic.Panel
     else (if bytes_eq name (codes "reader") then Help topic.Reader
-    else (if bytes_eq name (codes "plan") then Help topic.Plan else Job)))))))
+    else (if bytes_eq name (codes "plan") then Help topic.Plan
+    else (if bytes_eq name (codes "test") then Help topic.Test else Job))))))))
 
 -- what the words after `help` choose
 abbrev pub help_of : Words → Choice
@@ -42,9 +43,10 @@ by_first first rest =
     else (if bytes_eq first (codes "panel") then Panel
     else (if bytes_eq first (codes "reader") then Reader
     else (if bytes_eq first (codes "plan") then Plan
+    else (if bytes_eq first (codes "test") then Test
     else (if bytes_eq first (codes "--help") then alone (Help topic.Program) rest
     else (if bytes_eq first (codes "-h") then alone (Help topic.Program) rest
-    else (if bytes_eq first (codes "--version") then alone Version rest else Job)))))))))
+    else (if bytes_eq first (codes "--version") then alone Version rest else Job))))))))))
 
 -- what the words choose: a flag that asks for help, alone after the name of a command, and else the first word
 abbrev pub choice_of : Words → Choice
@@ -54,7 +56,7 @@ choice_of (first ∷ rest) = if wants_help rest then topic_named first else by_f
 -- a word that may stand first
 abbrev pub is_known : List ℕ → Bool
 is_known word = list_any (λ known. bytes_eq word known)
-    (codes "show" ∷ codes "monitor" ∷ codes "check" ∷ codes "make" ∷ codes "sim" ∷ codes "panel" ∷ codes "reader" ∷ codes "plan"
+    (codes "show" ∷ codes "monitor" ∷ codes "check" ∷ codes "make" ∷ codes "sim" ∷ codes "panel" ∷ codes "reader" ∷ codes "plan" ∷ codes "test"
     ∷ codes "help" ∷ codes "--help" ∷ codes "-h" ∷ codes "--version" ∷ [])
 
 abbrev pub unless_known : List ℕ → Option (List ℕ)
@@ -86,6 +88,7 @@ AskForHelp topic.Sim words = AskOf (codes "sim") words
 AskForHelp topic.Panel words = AskOf (codes "panel") words
 AskForHelp topic.Reader words = AskOf (codes "reader") words
 AskForHelp topic.Plan words = AskOf (codes "plan") words
+AskForHelp topic.Test words = AskOf (codes "test") words
 
 -- the words of a choice; those left to `job` are none of them
 abbrev pub IsWordsOf : Choice → Words → Type 0
@@ -97,6 +100,7 @@ IsWordsOf Monitor words = (rest : Words) × (words ≡ codes "monitor" ∷ rest)
 IsWordsOf Panel words = (rest : Words) × (words ≡ codes "panel" ∷ rest) × (wants_help rest ≡ false)
 IsWordsOf Reader words = (rest : Words) × (words ≡ codes "reader" ∷ rest) × (wants_help rest ≡ false)
 IsWordsOf Plan words = (rest : Words) × (words ≡ codes "plan" ∷ rest) × (wants_help rest ≡ false)
+IsWordsOf Test words = (rest : Words) × (words ≡ codes "test" ∷ rest) × (wants_help rest ≡ false)
 IsWordsOf Job words = ⊥
 
 -- words choose what they are the words of, and are left to `job` exactly where they are the words of nothing; `job` takes none of the others

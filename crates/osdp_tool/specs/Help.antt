@@ -1,7 +1,7 @@
 -- Which help is whose.
 use Rattle.std.specs.Prelude.{◌≡◌, ℕ, List, codes, length, take}
 use Rattle.osdp_tool.specs.declared.choice.Topic.{Topic}
-use Rattle.osdp_tool.specs.declared.choice.Topic.TheVariants.{Program, Show, Monitor, Check, Make, Sim, Panel, Reader, Plan}
+use Rattle.osdp_tool.specs.declared.choice.Topic.TheVariants.{Program, Show, Monitor, Check, Make, Sim, Panel, Reader, Plan, Test}
 
 -- what a help begins with
 abbrev pub heading : Topic → List ℕ
@@ -14,6 +14,7 @@ heading Sim = codes "osdp sim: "
 heading Panel = codes "osdp panel: "
 heading Reader = codes "osdp reader: "
 heading Plan = codes "osdp plan: "
+heading Test = codes "osdp test: "
 
 -- the text is the help of this topic, as its beginning says
 abbrev pub IsHelpOf : Topic → List ℕ → Type 0

@@ -27,6 +27,8 @@ pub enum Topic {
     Reader,
     /// The command `plan`.
     Plan,
+    /// The command `test`.
+    Test,
 }
 
 /// What the words choose.
@@ -48,6 +50,8 @@ pub enum Choice {
     Reader,
     /// The times of a line that is planned are told; the words after the first are its settings.
     Plan,
+    /// A device or a panel is judged by lines of text; the words after the first say how.
+    Test,
     /// None of these: `job` says what the words choose, or that they are bad.
     Job,
 }
@@ -65,6 +69,7 @@ fn topic_named(name: &str) -> Choice
         "panel" => Choice::Help(Topic::Panel),
         "reader" => Choice::Help(Topic::Reader),
         "plan" => Choice::Help(Topic::Plan),
+        "test" => Choice::Help(Topic::Test),
         _ => Choice::Job,
     }
 }
@@ -92,6 +97,7 @@ fn by_first(first: &str, rest: &[&str]) -> Choice
         "panel" => Choice::Panel,
         "reader" => Choice::Reader,
         "plan" => Choice::Plan,
+        "test" => Choice::Test,
         "--help" | "-h" if rest.is_empty() => Choice::Help(Topic::Program),
         "--version" if rest.is_empty() => Choice::Version,
         _ => Choice::Job,
@@ -102,8 +108,8 @@ fn by_first(first: &str, rest: &[&str]) -> Choice
 ///
 /// No words, `help` alone, `--help` and `-h` ask for the help of the program, `help` and the name of a command, or the name and one of
 /// these flags alone, for the help of that. `--version` stands alone.
-/// After `show`, `check`, `monitor`, `panel`, `reader` and `plan` any other words may stand, which are read as options, files and settings. All other words
-/// are for `job`.
+/// After `show`, `check`, `monitor`, `panel`, `reader`, `plan` and `test` any other words may stand, which are read as options, files and settings. All other
+/// words are for `job`.
 pub fn choose(words: &[&str]) -> Choice
     ensures { result ≡ choice_of (texts_of words.now) }
 {
@@ -121,7 +127,8 @@ fn is_known(word: &str) -> bool
     ensures { result ≡ is_known word.now }
 {
     match word {
-        "show" | "monitor" | "check" | "make" | "sim" | "panel" | "reader" | "plan" => true,
+        "show" | "monitor" | "check" | "make" | "sim" | "panel" | "reader" | "plan" | "test" =>
+            true,
         "help" | "--help" | "-h" | "--version" => true,
         _ => false,
     }

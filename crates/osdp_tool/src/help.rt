@@ -3,6 +3,7 @@
 ghost use Rattle.osdp_tool.specs.Help.{IsHelpOf};
 
 use crate::choice::Topic;
+use crate::help_test::TEST;
 
 /// The product's version, as `--version` prints it. It stands here alone; the header for C and the crate for Rust have the same number.
 pub const VERSION: &str = "osdp 0.1.0\n";
@@ -380,3 +381,4 @@ pub fn help_text(topic: Topic) -> &'static str
         Topic::Plan => PLAN,
     }
 }
+        Topic::Test => TEST,

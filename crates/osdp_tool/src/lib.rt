@@ -5,6 +5,7 @@ mod capture_options;
 mod choice;
 mod command_line;
 mod help;
+mod help_test;
 mod input_words;
 mod jobs;
 pub mod laws;

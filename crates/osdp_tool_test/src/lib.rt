@@ -4,14 +4,12 @@
 mod command;
 mod exchange;
 mod found;
-mod help;
 mod report;
 mod rules;
 mod runs;
 mod tested;
 
 pub use command::{form_of, is_comment, read_all, test};
-pub use help::HELP;
-pub use runs::{Found, packets};
 pub use report::{Counts, Form, push_counts, push_skipped, push_verdict};
 pub use rules::{Ground, RULES, Rule};
+pub use runs::{Found, packets};

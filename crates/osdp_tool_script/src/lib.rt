@@ -1,0 +1,7 @@
+//! The command `test script`: a script of one's own is run line by line, between somebody who sends its packets and the program's own verdicts.
+#![tactic(auto)]
+
+mod command;
+mod lines;
+
+pub use command::script;

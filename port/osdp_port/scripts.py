@@ -1,0 +1,112 @@
+"""`test script`: runs a script of one's own. `osdp test script` says what is sent, and judges what is heard."""
+import time
+
+from .console import wait_for, write_all
+from .faults import BAD_WORDS, Stop
+from .program import Lines
+from .testing import ANSWER, Player
+
+LONGEST = 4000  # how many bytes of what was heard are handed over at most
+
+
+class Script(Lines):
+    """`osdp test script`: each line is answered by the lines up to `ready`."""
+
+    def call(self, line):
+        answer = []
+        try:
+            write_all(self.process.stdin.fileno(), line.encode() + b"\nready\n")
+        except OSError:
+            pass  # it has ended, and its output ends too
+        while True:
+            text = self.process.stdout.readline()
+            if not text:
+                self.ended()
+            if text == b"ready\n":
+                return answer
+            answer.append(text.decode().rstrip("\n"))
+
+    def ends(self):
+        """The lines after the last one, and the status."""
+        self.process.stdin.close()
+        rest = self.process.stdout.read().decode().splitlines()
+        return rest, self.process.wait()
+
+
+def lines_of(path):
+    """The lines of a script."""
+    try:
+        with open(path, encoding="utf-8") as file:
+            return file.read().splitlines()
+    except UnicodeDecodeError:
+        raise Stop(f"{path} is no text", BAD_WORDS) from None
+
+
+def refusals(osdp, path, lines):
+    """What is wrong with the lines, found before anything is sent."""
+    script, found = Script(osdp, ["test", "script"], quiet=True), []
+    for number, line in enumerate(lines, 1):
+        why = [answer.partition(" refused: ")[2] for answer in script.call(line) if " refused: " in answer]
+        found += [f"{path}: line {number}, {line.strip()}: {each}" for each in why]
+    script.ends()
+    return found
+
+
+class Runner:
+    """Runs the lines of a script on a port. `keep` gets each line that the program reads."""
+
+    def __init__(self, port, console, script, keep):
+        self.player, self.console, self.script, self.keep = Player(port, console, 0, {}, None), console, script, keep
+
+    def calls(self, line):
+        self.keep(line)
+        return self.script.call(line)
+
+    def pauses(self, milliseconds):
+        until = time.monotonic() + milliseconds / 1000
+        while time.monotonic() < until and not self.console.stops:
+            wait_for(self.player.port, self.console, min(0.1, max(0.0, until - time.monotonic())), lines=False)
+
+    def sends(self, digits):
+        """The line that tells what was heard of these bytes."""
+        moment = self.player.moment()
+        heard, delay = self.player.hears(bytes.fromhex(digits), ANSWER)
+        return f"heard {moment} {delay} {heard[:LONGEST].hex().upper() or 'none'}"
+
+    def runs(self, line):
+        """A line of the script, to its end."""
+        answer = self.calls(line)
+        while answer and not self.console.stops:
+            said = answer.pop(0)
+            verb, _, rest = said.partition(" ")
+            if verb == "send":
+                answer += self.calls(self.sends(rest))
+            elif verb == "wait":
+                self.pauses(int(rest))
+            else:
+                self.console.raw(said)
+
+
+def run(words, port, console, osdp):
+    """Runs the script of a file. The status: that of `osdp test script`."""
+    path = words.rest[1]
+    lines = lines_of(path)
+    wrong = refusals(osdp, path, lines)
+    if wrong:
+        raise Stop("\nosdp-port: ".join(wrong), BAD_WORDS)
+    kept = open(words.get("--trace"), "w", encoding="utf-8") if words.get("--trace") else None
+    runner = Runner(port, console, Script(osdp, ["test", "script"]), lambda line: kept.write(line + "\n") if kept else None)
+    try:
+        for line in lines:
+            if console.stops or not port.is_there:
+                break
+            if " from user " in line and not line.lstrip().startswith("#"):
+                console.note(f"the user: {line.strip()}")
+            runner.runs(line)
+    finally:
+        if kept:
+            kept.close()
+    rest, status = runner.script.ends()
+    for line in rest:
+        console.raw(line)
+    return status

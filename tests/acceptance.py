@@ -1,0 +1,109 @@
+#!/usr/bin/env python3
+"""`osdp-port .. test script` against `osdp-port .. reader 5` over two pseudo terminals: the report of examples/site.acceptance is examples/site.report, also where
+it is judged once more from its trace. A bad script sends nothing, and tells line and word. Takes the path of the program."""
+import os
+import pty
+import select
+import subprocess
+import sys
+import tempfile
+import threading
+import time
+import tty
+from pathlib import Path
+
+TOP = Path(__file__).resolve().parent.parent
+PORT = ["/usr/bin/python3", str(TOP / "port/osdp-port")]
+SITE = TOP / "examples/site.acceptance"
+ENDS = [pty.openpty(), pty.openpty()]
+BAD = """# a bad script
+device 5
+expcet ACK
+send OUT 0:2:0
+send OUT 1
+expect ACK
+"""
+WRONG = ("line 3, expcet ACK: no line begins with this word", "line 4, send OUT 0:2:0: no may above it allows this command",
+         "line 5, send OUT 1: other words stand after its first word", "line 6, expect ACK: nothing was sent above it")
+WORDS = ((["test", "script"], "word 4, script: device ADDRESS, as device 5, panel ADDRESS, or script FILE"), (["test", "script", "a", "b"], "word 6, b: nothing more stands there"),
+         (["--may", "out:0", "test", "script", "a"], "--may is no option of test script: a line of the script says it"),
+         (["--tap", "test", "script", "a"], "--tap is no option of test script: a line of the script says it"))
+faults = 0
+
+
+def tell(what, *rest):
+    global faults
+    faults += 1
+    print(f"acceptance: {what}", *rest, sep="\n")
+
+
+def carry():
+    """What comes at one end goes out at the other, and is counted."""
+    ways = {ENDS[0][0]: ENDS[1][0], ENDS[1][0]: ENDS[0][0]}
+    while True:
+        for end in select.select(list(ways), [], [])[0]:
+            data = os.read(end, 4096)
+            carry.count += len(data)
+            os.write(ways[end], data)
+
+
+carry.count = 0
+
+
+def runs(program, path, device, trace):
+    """The script on the line: a card is shown to the reader as soon as the script asks for it."""
+    port = os.ttyname(ENDS[0][1])
+    done = subprocess.Popen([*PORT, port, "9600", "test", "script", str(path), "--trace", str(trace), "--osdp", program], stdout=subprocess.PIPE, stderr=subprocess.PIPE, text=True)
+
+    def shows():
+        for line in done.stderr:
+            if " is open in " not in line:  # this script has the port open too
+                runs.notes.append(line.rstrip("\n"))
+            if "from user" in line:
+                device.stdin.write(b"card 17 4386\n")
+                device.stdin.flush()
+    runs.notes = []
+    thread = threading.Thread(target=shows, daemon=True)
+    thread.start()
+    out = done.stdout.read()
+    status = done.wait(timeout=120)
+    thread.join(5)
+    return out, status
+
+
+def main():
+    program = str(Path(sys.argv[1]).resolve())
+    for end in (end for pair in ENDS for end in pair):
+        tty.setraw(end)
+    threading.Thread(target=carry, daemon=True).start()
+    device = subprocess.Popen([*PORT, os.ttyname(ENDS[1][1]), "9600", "reader", "5", "--osdp", program], stdin=subprocess.PIPE, stdout=subprocess.DEVNULL, stderr=subprocess.DEVNULL)
+    work = Path(tempfile.mkdtemp())
+    try:
+        time.sleep(1)
+        out, status = runs(program, SITE, device, work / "trace")
+        report = (TOP / "examples/site.report").read_text()
+        if (out, status) != (report, 0):
+            tell(f"status {status}, another report", out, *runs.notes)
+        again = subprocess.run([program, "test", "script"], stdin=open(work / "trace"), capture_output=True, text=True)
+        verdicts = "".join(line + "\n" for line in again.stdout.splitlines() if line.split()[0] not in ("send", "wait"))
+        if (verdicts, again.returncode) != (report, 0):
+            tell("another report of its trace", verdicts, again.stderr)
+        (work / "bad").write_text(BAD)
+        time.sleep(0.3)
+        before = carry.count
+        out, status = runs(program, work / "bad", device, work / "trace")
+        wanted = [f"osdp-port: {work / 'bad'}: {each}" for each in WRONG]
+        if (out, status, runs.notes, carry.count) != ("", 2, wanted, before):
+            tell(f"a bad script: status {status}, {carry.count - before} bytes", out, *runs.notes)
+    finally:
+        device.kill()
+    for words, why in WORDS:
+        done = subprocess.run([*PORT, "/dev/null", "9600", *words], capture_output=True, text=True)
+        if done.returncode != 2 or not done.stderr.startswith(f"osdp-port: {why}"):
+            tell(" ".join(words), done.stderr)
+    print(f"acceptance: {report.splitlines()[-1]}, {len(WRONG)} bad lines, {faults} faults")
+    return 1 if faults else 0
+
+
+if __name__ == "__main__":
+    sys.exit(main())
