@@ -379,6 +379,6 @@ pub fn help_text(topic: Topic) -> &'static str
         Topic::Panel => PANEL,
         Topic::Reader => READER,
         Topic::Plan => PLAN,
+        Topic::Test => TEST,
     }
 }
-        Topic::Test => TEST,
