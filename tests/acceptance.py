@@ -15,6 +15,7 @@ from pathlib import Path
 TOP = Path(__file__).resolve().parent.parent
 PORT = ["/usr/bin/python3", str(TOP / "port/osdp-port")]
 SITE = TOP / "examples/site.acceptance"
+IDENTITY = "vendor 53494D model 1 version 1 serial 1 firmware 1:0:0".split()
 ENDS = [pty.openpty(), pty.openpty()]
 BAD = """# a bad script
 device 5
@@ -76,7 +77,7 @@ def main():
     for end in (end for pair in ENDS for end in pair):
         tty.setraw(end)
     threading.Thread(target=carry, daemon=True).start()
-    device = subprocess.Popen([*PORT, os.ttyname(ENDS[1][1]), "9600", "reader", "5", "--osdp", program], stdin=subprocess.PIPE, stdout=subprocess.DEVNULL, stderr=subprocess.DEVNULL)
+    device = subprocess.Popen([*PORT, os.ttyname(ENDS[1][1]), "9600", "reader", "5", *IDENTITY, "--osdp", program], stdin=subprocess.PIPE, stdout=subprocess.DEVNULL, stderr=subprocess.DEVNULL)
     work = Path(tempfile.mkdtemp())
     try:
         time.sleep(1)
