@@ -138,7 +138,7 @@ def changed(made, bits, address=None):
 
 def lines_for(panel, loses=0, may=None):
     """The lines of a test of a panel, over a line that loses so many of a hundred packets and answers."""
-    lines, dice, now, more = [], random.Random(11), 0, 4
+    lines, dice, now, more, late = [], random.Random(11), 0, 4, b""
     device = Device(5, {"silence": 0} if may is None else may, lines.append)
     for _ in range(MOST):
         sent, said, delay = panel.asks(), b"", 4
@@ -150,6 +150,10 @@ def lines_for(panel, loses=0, may=None):
             delay += int(sum(wait for wait, _ in pieces) * 1000)
             if dice.randrange(100) < loses:
                 said = b""
+        if said and delay > panel.reply_wait:  # it is on its way when the packet comes again
+            said, late = late, said
+        else:
+            said, late = late + said, b""
         now += panel.hears(said, delay)
         if device.is_over():
             more -= 1
@@ -220,6 +224,13 @@ class ChangesTheCheckOnRepeat(Panel):
 class RepeatsAtOnce(Panel):
     reply_wait = 40
     sends = 12
+
+
+@wrong(6)
+class Hasty(Panel):
+    """It waits for less time than the device takes: a late answer comes after the copy, and counts."""
+
+    reply_wait = 120
 
 
 @wrong(7)

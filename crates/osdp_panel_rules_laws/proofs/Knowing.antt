@@ -17,9 +17,9 @@ use Rattle.osdp_panel_rules.specs.declared.known.Known.{Known}
 use Rattle.osdp_panel_rules.specs.declared.said.Said.{Said}
 use Rattle.osdp_panel_rules.specs.declared.said.Said.TheVariants.{Silence, Astray, Busy, Damage, Refusal}
 use Rattle.osdp_rules.specs.Packets.{same_packet}
-use Rattle.osdp_rules_laws.proofs.Same.{packet_is}
+use Rattle.osdp_rules_laws.proofs.Same.{is_packet, packet_is}
 use Rattle.osdp_panel_rules_laws.proofs.Running.{answers, answers_last, none_some, same_some}
-use Rattle.osdp_panel_rules_laws.specs.Laws.{Answers, IsAnswer, IsFrom, KnowsAnswers, KnowsBusyWithZero, KnowsNewPackets, KnowsNoOthers, KnowsWhatWasSaid, Puts}
+use Rattle.osdp_panel_rules_laws.specs.Laws.{Answers, IsAnswer, IsFrom, KnowsAnswers, KnowsBusyWithZero, KnowsCopies, KnowsNewPackets, KnowsNoOthers, KnowsWhatWasSaid, Puts}
 
 own : (p r : Packet) → IsFrom p r → (r.reply && eqb r.address p.address && not r.block) ≡ true
 own p r from = three r.reply (eqb r.address p.address) (not r.block) from.replies (eq-eqb r.address p.address from.address) (ap not from.clear)
@@ -39,6 +39,15 @@ knows_new_packets address k p asks to other =
     (cond-false p.reply k (cond (eqb p.address address) (after_sent k p) (cond (eqb p.address 127) nothing_known k)) asks
     ∙ cond-true (eqb p.address address) (after_sent k p) (cond (eqb p.address 127) nothing_known k) (eq-eqb p.address address to))
     ∙ ap (λ b. b && k.answered) (no_copy k.last p other)
+
+pub knows_copies : KnowsCopies
+knows_copies address k p asks to last answered =
+    ap (λ (j : Known). j.answered)
+    (cond-false p.reply k (cond (eqb p.address address) (after_sent k p) (cond (eqb p.address 127) nothing_known k)) asks
+    ∙ cond-true (eqb p.address address) (after_sent k p) (cond (eqb p.address 127) nothing_known k) (eq-eqb p.address address to))
+    ∙ ap (λ o. is_last o p && k.answered) last
+    ∙ ap (λ b. b && k.answered) (is_packet p)
+    ∙ answered
 
 -- ---- what answers
 

@@ -56,6 +56,11 @@ abbrev pub KnowsNewPackets : Type 0
 KnowsNewPackets = (address : ℕ) (k : Known) (p : Packet) → p.reply ≡ false → p.address ≡ address → k.last ≢ Some p
     → (after_packet address k p).answered ≡ false
 
+-- a copy is answered where an earlier one was: that answer may come late
+abbrev pub KnowsCopies : Type 0
+KnowsCopies = (address : ℕ) (k : Known) (p : Packet) → p.reply ≡ false → p.address ≡ address → k.last ≡ Some p → k.answered ≡ true
+    → (after_packet address k p).answered ≡ true
+
 -- an answer answers it, and nothing else does
 abbrev pub KnowsAnswers : Type 0
 KnowsAnswers = (k : Known) (p r : Packet) → k.last ≡ Some p → Answers p r → (after_said k r).answered ≡ true

@@ -2,7 +2,7 @@
 //! nothing: their contracts are laws.
 #![tactic(auto)]
 
-ghost use Rattle.osdp_panel_rules_laws.specs.Laws.{AnsweredBreaksNothing, BreaksNoRule, CopyBreaksNothing, FindsAltered, FindsHaste, FindsLateness, FindsOutOfTurn, FindsReply, FindsUnanswered, FirstBreaksNothing, KnowsAnswers, KnowsBusyWithZero, KnowsNewPackets, KnowsNoOthers, KnowsWhatWasSaid, ZeroBreaksNothing};
+ghost use Rattle.osdp_panel_rules_laws.specs.Laws.{AnsweredBreaksNothing, BreaksNoRule, CopyBreaksNothing, FindsAltered, FindsHaste, FindsLateness, FindsOutOfTurn, FindsReply, FindsUnanswered, FirstBreaksNothing, KnowsAnswers, KnowsBusyWithZero, KnowsCopies, KnowsNewPackets, KnowsNoOthers, KnowsWhatWasSaid, ZeroBreaksNothing};
 
 /// Whatever its settings, whatever is called at whatever moments, whatever the device says, and whatever the line loses: a panel of our controller
 /// breaks no rule but, by its settings and its program's loop, the two that are judged by the clock.
@@ -10,9 +10,10 @@ pub fn breaks_no_rule()
     ensures { BreaksNoRule }
 {}
 
-/// A packet that is no copy is not answered. What a controller takes as an answer to it answers it, and nothing else that is said does.
+/// A packet that is no copy is not answered, and a copy is where an earlier one was. What a controller takes as an answer to it answers it, and nothing else that is said does.
 pub fn knows_answers()
     ensures new { KnowsNewPackets }
+    ensures copies { KnowsCopies }
     ensures answers { KnowsAnswers }
     ensures others { KnowsNoOthers }
 {}
