@@ -61,8 +61,8 @@ Examples:
   ok 50 - OUT is answered by ACK or OSTATR # SKIP --may=out:N
   1..1
 
-  $ printf 'device 5\\ncheck sum\\nsend POLL\\nheard 0 9 538507000040E1\\nexpect ACK within 200\\n' | osdp test script
+  $ printf 'device 5\\ncheck sum\\nsend POLL\\nheard 0 9 538507000040E1\\nexpect ACK\\n' | osdp test script
   send 53050700006041
-  line 4 ok: expect ACK within 200
+  line 4 ok: expect ACK
   ok 1 broken 0 unclear 0
 ";
