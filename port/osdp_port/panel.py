@@ -4,6 +4,7 @@ from .faults import BAD_WORDS, Refused, Stop, is_number
 from .rounds import PAUSE, Entry, Place, Rounds
 from .serial_port import has_rate
 
+BUSY = ("busy-limit", "4", "busy-wait", "200")  # how long a device may be busy, where its words don't say otherwise: some 0.8 s, and an exchange ends within 3.8 s
 HEALS = 2  # how often a device at another rate than the line's is given a COMSET for it
 MOST = 16  # devices of a line
 FAULTS = {"line": "osdp doesn't read this command: man osdp-panel has them", "B3": "that address is another device's, or may be",

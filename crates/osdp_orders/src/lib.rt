@@ -1,4 +1,4 @@
-//! Orders of a panel that are held back, so that cards don't wait behind them.
+//! Orders of a panel that wait for POLLs, so that they keep no card waiting without end.
 //!
 //! A controller sends a waiting order before it asks for events by a POLL, and each answer puts the next POLL off. So orders of one entry that come as fast as they go
 //! keep its cards from being asked for. `Orders` stands beside a bus with the same entries. Where it is on, the next order of an entry goes to its controller only
