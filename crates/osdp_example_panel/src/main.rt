@@ -32,7 +32,7 @@ fn may_enter(card: &Raw<'_>) -> bool {
 
 /// A panel with its door. None where there is no memory.
 fn new_panel(alloc: Global) -> Option<Panel> {
-    let mut panel = Panel::new(alloc, BusConfig::new(CheckKind::Crc, Room::of(16))).ok()?;
+    let mut panel = Panel::new_with_polls_between(alloc, BusConfig::new(CheckKind::Crc, Room::of(16))).ok()?;
     panel.add(Address::new(FIRST.address)?).ok()?;
     Some(panel)
 }

@@ -19,3 +19,5 @@ pub mod Answers
 pub mod Calls
 pub mod Steps
 pub mod Ending
+pub mod OrderedPanels
+pub mod OrderedLines

@@ -2,9 +2,11 @@
 
 ghost use Rattle.std.specs.Prelude.{ℕ, List};
 ghost use Rattle.osdp_bus.specs.Buses.{BusState};
+ghost use Rattle.osdp_orders.specs.Orders.{PanelState};
 ghost use Rattle.osdp_panel.specs.Laws.{EndsByMoments, IsFourCalls, SleepsOverNothing};
+ghost use Rattle.osdp_panel.specs.Ordering.{IsCallsOfTheBus, WithoutTheSetting};
 
-/// A turn is four calls of the bus, so what the bus keeps after every list of calls it keeps over turns.
+/// A turn without orders that wait is four calls of the bus, so what the bus keeps after every list of calls it keeps over turns.
 pub fn a_turn_is_four_calls()
     ensures { (bytes : List ℕ) (now : ℕ) (b : BusState) → IsFourCalls bytes now b }
 {}
@@ -17,4 +19,15 @@ pub fn a_turn_sleeps_over_nothing()
 /// A read that gave nothing, for whatever cause, ends no run: moments alone do.
 pub fn runs_end_by_moments()
     ensures { (now : ℕ) (b : BusState) → EndsByMoments now b }
+{}
+
+/// Whatever a panel is called with, and whichever of its orders wait for POLLs, its bus comes of calls of a bus: an order that was held back is a `submit` that comes
+/// later. So what the bus keeps after every list of calls it keeps here too.
+pub fn a_panel_is_calls_of_its_bus()
+    ensures { (p : PanelState) → IsCallsOfTheBus p }
+{}
+
+/// Where no order waits for a POLL, a panel is its bus: each call does what the bus does, and is refused as the bus refuses it.
+pub fn without_the_setting_a_panel_is_its_bus()
+    ensures { WithoutTheSetting }
 {}

@@ -3,3 +3,4 @@ pub mod Submitting
 pub mod States
 pub mod Online
 pub mod Begins
+pub mod Refusals

@@ -171,6 +171,7 @@ impl Place {
     }
 
     /// What is wanted and not submitted yet goes to the panel, up to the first that it refuses.
+    #[tactic(auto, using(crate::proofs::Refusals::accepted, crate::proofs::Refusals::refused))]
     fn refresh(&mut self, panel: &mut Panel, entry: Entry)
         ensures place { self.new ≡ (submitted self.old (submits entry (due_of self.old) panel.old)).place }
         ensures panel { panel.new ≡ (submits entry (due_of self.old) panel.old).panel }
