@@ -11,8 +11,8 @@ use osdp_tool::{
 };
 use osdp_tool_inputs::{Reads, do_all, read_words};
 use osdp_tool_plan::{plan, planned};
-use osdp_tool_sim::sim;
 use osdp_tool_script::script;
+use osdp_tool_sim::sim;
 use osdp_tool_streams::{ToolFault, Watched, flush_out, write_out};
 use osdp_tool_test::test;
 use osdp_tool_test_panel::test_panel;
