@@ -5,6 +5,8 @@ Each run has its own settings, a program that ticks up to `late` ms late, and a 
 bound stands beside it: none may lie above, and what is said to be reached is reached. A bound with a part left out, or without one of its
 premises, is broken by some run: so the runs can fail.
 
+Where a POLL comes between two orders (`poll-between-orders`), orders are held back beside the bus, and an order and a card have bounds of their own.
+
     times.py [SEED] [RUNS]"""
 import random
 import sys
@@ -186,9 +188,11 @@ class Bus:
 class Run:
     """A run of a bus: its program, its line, and what is measured of it."""
 
-    def __init__(self, pick, measured, hostile, off):
-        self.pick, self.measured, self.hostile, self.off = pick, measured, hostile, off
+    def __init__(self, pick, measured, hostile, off, between=False):
+        self.pick, self.measured, self.hostile, self.off, self.between = pick, measured, hostile, off, between
         self.set = Settings(pick)
+        # the orders of each entry that are held back, and whether the next one may go to the bus at once
+        self.held, self.may_go = [[] for _ in range(self.set.entries)], [True] * self.set.entries
         self.bus = Bus(self.set, self.told)
         self.bus.fair = "fair turns" not in off
         self.duty, self.now = None, 0
@@ -223,6 +227,16 @@ class Run:
         s, answered = self.set, self.read_in + self.set.late
         return s.entries * answered if self.dying is None else (s.entries - 1) * answered + s.round_time() + s.late
 
+    def let_go(self, at):
+        """Where none waits in the bus the next order of an entry goes to it."""
+        if self.between and not self.bus.entries[at].waiting:
+            self.may_go[at] = not self.held[at]
+            if self.held[at]:
+                self.bus.entries[at].waiting.append(self.held[at].pop(0))
+
+    def orders_of(self, at):
+        return len(self.bus.entries[at].waiting) + len(self.held[at])
+
     def on_good(self):
         return " on a good line" if self.dying is None else " beside a silent device"
 
@@ -243,6 +257,13 @@ class Run:
             _, _, accepted, before = one
             x = self.set.longest_exchange() + self.set.late
             entries = self.set.entries
+            if self.between:
+                poll = self.set.poll_interval
+                self.note("order among POLLs", now - accepted, (before + 1) * (poll + 2 * entries * x), before, without_the_polls=(before + 1) * entries * x,
+                          without_their_interval=(before + 1) * 2 * entries * x, without_those_before=poll + 2 * entries * x)
+                if not self.hostile:
+                    self.note("order among POLLs" + self.on_good(), now - accepted, (before + 1) * (poll + 2 * self.all_of()), before)
+                continue
             if not self.hostile:
                 self.note("order" + self.on_good(), now - accepted, (before + 1) * self.all_of(), before,
                           without_a_turn=(before + 1) * (self.all_of() - self.read_in - self.set.late))
@@ -251,6 +272,8 @@ class Run:
 
     def on_sent(self, at, now, kind, _):
         entry = self.bus.entries[at]
+        if kind == POLLING:
+            self.let_go(at)
         if self.hostile:
             self.due_answers = []
             return
@@ -298,7 +321,11 @@ class Run:
             self.cards.remove(one)
             _, _, queued, events, orders = one
             s, a = self.set, self.read_in
-            cycle = s.poll_interval + s.late + self.all_of()
+            cycle = s.poll_interval + self.all_of()
+            if self.between:
+                wrong = {} if self.dying is not None else dict(without_an_order=(2 * events + 1) * cycle + a, of_one_order_in_all=(events + 2) * cycle + a)
+                self.note("card among orders" + self.on_good(), now - queued, (2 * events + 2) * cycle + a, (events, orders), **wrong)
+                continue
             self.note("card" + self.on_good(), now - queued, (events + orders + 1) * cycle + a, (events, orders), without_its_last_answer=(events + orders + 1) * cycle,
                       without_the_events_before=(orders + 1) * cycle + a, without_the_orders=(events + 1) * cycle + a,
                       of_one_entry_less=(events + orders + 1) * (cycle - a - s.late) + a)
@@ -360,14 +387,19 @@ class Run:
             if entry.state == CLOSED and self.pick.random() < 0.1:
                 entry.state, entry.until = QUIET, now + self.set.quiet_wait
                 self.openings[at] = (now, None)
-            if len(entry.waiting) < 3 and self.pick.random() < self.busyness[at]:
+                self.let_go(at)
+            if self.orders_of(at) < 3 and self.pick.random() < self.busyness[at]:
                 number = object()
                 if entry.state in (IDLE, WAITING, PAUSING):
-                    self.orders.append((number, at, now, len(entry.waiting)))
+                    self.orders.append((number, at, now, self.orders_of(at)))
                 for card in self.cards:
                     if card[1] == at and "orders are counted" not in self.off:
                         card[4] += 1
-                entry.waiting.append(number)
+                if self.between and not self.may_go[at]:
+                    self.held[at].append(number)
+                else:
+                    self.may_go[at] = False
+                    entry.waiting.append(number)
 
     def readers_queue(self, now):
         for at, entry in enumerate(self.bus.entries):
@@ -375,7 +407,7 @@ class Run:
                 continue
             if len(entry.events) < 3 and self.pick.random() < 0.15:
                 card = object()
-                self.cards.append([card, at, now, len(entry.events), 0 if "orders are counted" in self.off else len(entry.waiting)])
+                self.cards.append([card, at, now, len(entry.events), 0 if "orders are counted" in self.off else self.orders_of(at)])
                 entry.events.append(card)
 
     def line_answers(self, now):
@@ -440,13 +472,13 @@ class Measured:
             self.above[name] = (took, bound, what, vars(settings))
 
 
-def runs(seed, most, hostile, off=(), name=None):
+def runs(seed, most, hostile, off=(), name=None, between=False):
     """So many runs at most: fewer where this bound is broken by one."""
     measured = Measured()
     for number in range(most):
         if off and name in measured.above:
             break
-        Run(random.Random(f"{seed} {number} {hostile}"), measured, hostile, off).go(400)
+        Run(random.Random(f"{seed} {number} {hostile}"), measured, hostile, off, between).go(400)
     return measured
 
 
@@ -454,10 +486,14 @@ def main():
     seed = sys.argv[1] if len(sys.argv) > 1 else "1"
     most = int(sys.argv[2]) if len(sys.argv) > 2 else 2000
     failed = False
-    for hostile in (True, False):
-        measured = runs(seed, most, hostile)
-        names = ["exchange", "exchange without BUSY", "order", "opening", "silence"] if hostile else \
-            ["order on a good line", "order beside a silent device", "card on a good line", "card beside a silent device", "silence on a good line"]
+    for hostile, between in ((True, False), (False, False), (True, True), (False, True)):
+        measured = runs(seed, most // 2 if between else most, hostile, between=between)
+        if between:
+            names = ["order among POLLs"] + ([] if hostile else ["card among orders on a good line", "card among orders beside a silent device",
+                                                                 "order among POLLs on a good line", "order among POLLs beside a silent device"])
+        else:
+            names = ["exchange", "exchange without BUSY", "order", "opening", "silence"] if hostile else \
+                ["order on a good line", "order beside a silent device", "card on a good line", "card beside a silent device", "silence on a good line"]
         for name in names:
             _, took, bound = measured.worst.get(name, (0, 0, 0))
             print(f"times: {name}: {measured.tried.get(name, 0)} tried, at worst {took} ms of {bound}, "
