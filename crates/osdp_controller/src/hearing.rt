@@ -109,8 +109,13 @@ impl Session {
         ensures value { (command : Command) → submitted_command (outstanding_in self.now.state).exchange ≡ Some command → result ≡ moved_by (comset_of command) (com_of reply.now) }
         ensures device { IfSome result (λ answered. answered.address < 127) }
     {
-        let command = self.state.submitted()?;
-        moved_by(&Command::kept(command.as_slice()), reply)
+        let Reply::Com(answered) = reply else {
+            return None;
+        };
+        match Command::kept(self.state.submitted()?.as_slice()) {
+            Command::Comset(asked) => moved(asked, *answered),
+            _ => None,
+        }
     }
 
     /// A command is answered.
@@ -307,17 +312,6 @@ fn pd_id_of(reply: &Reply<'_>) -> Option<PdId>
 {
     match reply {
         Reply::PdId(id) => Some(*id),
-        _ => None,
-    }
-}
-
-/// The COM that answers a COMSET to a device's address with that address.
-fn moved_by(command: &Command<'_>, reply: &Reply<'_>) -> Option<Communication>
-    ensures value { result ≡ moved_by (comset_of command.now) (com_of reply.now) }
-    ensures device { IfSome result (λ answered. answered.address < 127) }
-{
-    match (command, reply) {
-        (Command::Comset(asked), Reply::Com(answered)) => moved(*asked, *answered),
         _ => None,
     }
 }

@@ -17,6 +17,7 @@ ghost use Rattle.osdp_controller.specs.States.{is_closed, is_idle, moment_of};
 
 use crate::exchange::{Asked, Outstanding};
 use osdp_msg::{Command, MAX_MESSAGE, Spelling};
+use osdp_ring::put;
 use std::marker::Model;
 
 /// Where a session stands, as the tables say it. Moments are in milliseconds.
@@ -208,7 +209,7 @@ impl Held {
         self.asked = Asked::Submitted;
         self.busies = 0;
         self.sent = 1;
-        put(command, &mut self.command);
+        put(&mut self.command, command);
     }
 
     /// The exchange is asked once more, as this send.
@@ -266,15 +267,6 @@ impl Held {
             Asked::Submitted => self.command.as_slice(),
         }
     }
-}
-
-/// Puts bytes in place of what stands there.
-fn put(bytes: &[u8], place: &mut Spelling)
-    requires { length bytes.now ≤ MAX_MESSAGE }
-    ensures { place.new.items ≡ bytes.now }
-{
-    place.clear();
-    let _ = place.try_extend_from_slice(bytes);
 }
 
 /// The code and data of the opening ID.
