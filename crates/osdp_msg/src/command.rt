@@ -153,6 +153,8 @@ fn parse_fields<'a>(mut fields: Fields<'_>, place: &'a mut Spelling) -> Option<C
 }
 
 /// The first fault of a code and data, or the command that they stand for.
+// Inlined, so that what is read needn't be written out and read again.
+#[inline(always)]
 #[tactic(auto, unfolding(crate::specs::CommandTable::command_of, crate::specs::CommandTable::command_fault))]
 fn decode(code: u8, bytes: &[u8]) -> Result<Command<'_>, MsgFault>
     ensures { result ≡ command_of code bytes.now }
@@ -165,6 +167,7 @@ fn decode(code: u8, bytes: &[u8]) -> Result<Command<'_>, MsgFault>
 
 impl<'a> Command<'a> {
     /// The command that a code and data stand for, or the first fault that holds.
+    #[inline(always)]
     pub fn read(code: u8, bytes: &'a [u8]) -> Result<Command<'a>, MsgFault>
         ensures value { IfOk result (IsCommand code bytes.now) }
         ensures fault { IfErr result (λ e. command_fault code bytes.now ≡ Some e) }
