@@ -1,3 +1,4 @@
+pub mod Acks
 pub mod Asking
 pub mod Choices
 pub mod Keeping
