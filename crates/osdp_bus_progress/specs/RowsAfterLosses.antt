@@ -11,7 +11,7 @@ use Rattle.osdp_script.specs.Identity.{script_config}
 use Rattle.osdp_script.specs.declared.handler.ScriptReader.{ScriptReader}
 use Rattle.osdp_sim.specs.Account.{Account, lists_of}
 use Rattle.osdp_sim.specs.Rounds.{rounds}
-use Rattle.osdp_msg.specs.Limits.{room_for}
+use Rattle.osdp_sim.specs.State.{room_for}
 use Rattle.osdp_sim.specs.declared.account.Account as declared
 use Rattle.osdp_sim.specs.declared.step.Move.TheVariants.{Drop}
 use Rattle.osdp_sim.specs.declared.step.SimStep.{SimStep}

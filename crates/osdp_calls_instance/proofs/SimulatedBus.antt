@@ -28,7 +28,7 @@ use Rattle.osdp_shared_line.specs.Line.{changed, site_at}
 use Rattle.osdp_shared_line.proofs.Sites.{some_same}
 use Rattle.osdp_sim.specs.Line.{handed, left}
 use Rattle.osdp_sim.specs.Schedules.{HoldsAlong}
-use Rattle.osdp_msg.specs.Limits.{room_for}
+use Rattle.osdp_sim.specs.State.{room_for}
 use Rattle.osdp_sim.specs.Steps.{moment_after}
 use Rattle.osdp_sim.specs.declared.fault.Cause.{Cause}
 use Rattle.osdp_sim.specs.declared.fault.Cause.TheVariants as cause

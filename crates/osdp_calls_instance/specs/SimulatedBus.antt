@@ -17,7 +17,7 @@ use Rattle.osdp_reader.specs.Queue.{lacks_room}
 use Rattle.osdp_shared_line.specs.Line.{site_at}
 use Rattle.osdp_sim.specs.Line.{handed}
 use Rattle.osdp_sim.specs.Schedules.{HoldsAlong}
-use Rattle.osdp_msg.specs.Limits.{room_for}
+use Rattle.osdp_sim.specs.State.{room_for}
 use Rattle.osdp_sim.specs.Steps.{moment_after}
 use Rattle.osdp_sim.specs.declared.step.SimStep.{SimStep}
 use Rattle.osdp_sim.specs.declared.step.SimStep.TheVariants.{Busy, Issue, Queue, Reopen, ToController, ToReader, Wait}

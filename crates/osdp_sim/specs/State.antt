@@ -1,7 +1,7 @@
 -- A simulated line between a controller and a reader.
 use Rattle.std.specs.Prelude.{ℕ, All, List, []}
 use Rattle.osdp_controller.specs.Machine.{Machine, after_begin, new_machine}
-use Rattle.osdp_msg.specs.Limits.{room_for}
+pub use Rattle.osdp_msg.specs.Limits.{room_for}
 use Rattle.osdp_reader.specs.State.{ReaderState, new_reader}
 use Rattle.osdp_sim.specs.declared.config.SimConfig.{SimConfig}
 use Rattle.osdp_sim.specs.Line.{IsSent}

@@ -8,7 +8,7 @@ use Rattle.osdp_bus.specs.declared.config.BusConfig.{BusConfig}
 use Rattle.osdp_bus.specs.declared.device.Device.{Device}
 use Rattle.osdp_sim.specs.Account.{Account, empty_account, with_session}
 use Rattle.osdp_sim.specs.Line.{IsSent}
-use Rattle.osdp_msg.specs.Limits.{room_for}
+use Rattle.osdp_sim.specs.State.{room_for}
 
 -- a reader's side of a site: the reader, and what has come of its schedule so far
 pub record ReaderSite (H : Type 0) : Type 0 where

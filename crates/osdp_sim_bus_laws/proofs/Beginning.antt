@@ -18,7 +18,7 @@ use Rattle.osdp_shared_line.specs.Addresses.{IsSetUp}
 use Rattle.osdp_shared_line.specs.Views.{view}
 use Rattle.osdp_bus_links.specs.Links.{device_of}
 use Rattle.osdp_bus_links.specs.Premises.{NoneIsKept}
-use Rattle.osdp_msg.specs.Limits.{room_for}
+use Rattle.osdp_sim.specs.State.{room_for}
 use Rattle.osdp_sim_bus.specs.Runs.{AreSettings, are_apart, is_at, is_reader_in_range}
 use Rattle.osdp_sim_bus.specs.State.{Given, address_of, begun_device, new_site, set_up}
 use Rattle.osdp_sim_laws.proofs.Holding.{begins, tells_nothing}

@@ -7,7 +7,7 @@ use Rattle.osdp_reader.specs.declared.handler.Answer.{Answer}
 use Rattle.osdp_bus.specs.declared.config.BusConfig.{BusConfig}
 use Rattle.osdp_link_laws.specs.Sessions.{IsAmong}
 use Rattle.osdp_sim.specs.Account.{Account}
-use Rattle.osdp_msg.specs.Limits.{room_for}
+use Rattle.osdp_sim.specs.State.{room_for}
 use Rattle.osdp_sim.specs.declared.step.SimStep.{SimStep}
 use Rattle.osdp_sim_bus.specs.Runs.{steps_done}
 use Rattle.osdp_sim_bus.specs.State.{Given}

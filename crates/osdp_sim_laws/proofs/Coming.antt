@@ -26,8 +26,7 @@ use Rattle.osdp_link_laws.specs.Ends.{count}
 use Rattle.osdp_sim.specs.Account.{Account}
 use Rattle.osdp_sim.specs.Rounds.{rounds}
 use Rattle.osdp_sim.specs.Runs.{FitAlong, is_well, run}
-use Rattle.osdp_sim.specs.State.{SimState, set_up}
-use Rattle.osdp_msg.specs.Limits.{room_for}
+use Rattle.osdp_sim.specs.State.{SimState, room_for, set_up}
 use Rattle.osdp_sim.specs.Steps.{StepFits, after_step, fault_of, moment_after}
 use Rattle.osdp_sim.specs.declared.config.SimConfig.{SimConfig}
 use Rattle.osdp_sim.specs.declared.step.SimStep.{SimStep}

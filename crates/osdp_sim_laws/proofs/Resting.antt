@@ -23,8 +23,7 @@ use Rattle.osdp_link_laws.proofs.Stages.{Each}
 use Rattle.osdp_sim.proofs.Schedules.{holds_on, well_on}
 use Rattle.osdp_sim.specs.Rounds.{round, rounds}
 use Rattle.osdp_sim.specs.Runs.{run}
-use Rattle.osdp_sim.specs.State.{SimState, set_up}
-use Rattle.osdp_msg.specs.Limits.{room_for}
+use Rattle.osdp_sim.specs.State.{SimState, room_for, set_up}
 use Rattle.osdp_sim.specs.Steps.{StepFits, after_step, fault_of, moment_after}
 use Rattle.osdp_sim.specs.declared.config.SimConfig.{SimConfig}
 use Rattle.osdp_sim.specs.declared.step.SimStep.{SimStep}

@@ -14,7 +14,7 @@ use Rattle.osdp_sim.specs.declared.fault.Cause.TheVariants as cause
 use Rattle.osdp_sim.specs.declared.fault.Fault.{Fault}
 use Rattle.osdp_sim.specs.declared.step.SimStep.{SimStep}
 use Rattle.osdp_sim.specs.Account.{Account, lists_of}
-use Rattle.osdp_msg.specs.Limits.{room_for}
+use Rattle.osdp_sim.specs.State.{room_for}
 use Rattle.osdp_sim_bus.specs.Runs.{RunEnds, Stops, StopsAt, lists_of_all, steps_done}
 use Rattle.osdp_sim_bus.specs.State.{Given}
 use Rattle.osdp_sim_bus_laws.specs.Accepted.{AcceptsEach}

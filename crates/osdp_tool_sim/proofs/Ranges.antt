@@ -18,7 +18,7 @@ use Rattle.osdp_sim.specs.declared.fault.Cause.{Cause}
 use Rattle.osdp_sim.specs.declared.fault.Cause.TheVariants as cause
 use Rattle.osdp_sim.specs.declared.fault.Fault.{Fault}
 use Rattle.osdp_sim.specs.Account.{Account}
-use Rattle.osdp_msg.specs.Limits.{room_for}
+use Rattle.osdp_sim.specs.State.{room_for}
 use Rattle.osdp_sim_bus.specs.Runs as several
 use Rattle.osdp_sim_bus.specs.Runs.{are_apart, is_at, is_reader_in_range, lists_of_all}
 use Rattle.osdp_tool_sim.specs.Several.{readers_from}

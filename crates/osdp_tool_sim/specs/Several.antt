@@ -8,7 +8,7 @@ use Rattle.osdp_script.specs.Identity.{script_config}
 use Rattle.osdp_script.specs.declared.handler.ScriptReader.{ScriptReader}
 use Rattle.osdp_session.specs.Sessions.{HoldsInSessions}
 use Rattle.osdp_sim.specs.Account.{Account}
-use Rattle.osdp_msg.specs.Limits.{room_for}
+use Rattle.osdp_sim.specs.State.{room_for}
 use Rattle.osdp_sim_bus.specs.State.{Given, LineState, accounts, set_up}
 use Rattle.osdp_sim_bus.specs.Steps.{after_step, fault_of}
 use Rattle.osdp_sim_bus_laws.specs.Accepted.{AcceptsEach}

@@ -5,7 +5,7 @@ ghost use Rattle.osdp_bus.specs.Settings.{default_config};
 ghost use Rattle.osdp_script.specs.Script.{steps_of};
 ghost use Rattle.osdp_script.specs.Settings.{AreReaders};
 ghost use Rattle.osdp_sim.specs.Account.{lists_of};
-ghost use Rattle.osdp_msg.specs.Limits.{room_for};
+ghost use Rattle.osdp_sim.specs.State.{room_for};
 ghost use Rattle.osdp_sim_bus.specs.Runs.{lists_of_all};
 ghost use Rattle.osdp_tool_sim.specs.AccountText.{texts_from};
 ghost use Rattle.osdp_tool_sim.specs.Several.{TellsEach, readers_from};
