@@ -1,8 +1,8 @@
 //! Where a session stands.
 
-ghost use Rattle.std.specs.Prelude.{◌≡◌, ◌&&◌, ◌≢◌, ◌+◌, ◌<◌, ◌≤◌, ◌^◌, length, true};
+ghost use Rattle.std.specs.Prelude.{◌≡◌, ◌≢◌, ◌+◌, ◌<◌, ◌≤◌, ◌^◌, length, true};
 ghost use Rattle.osdp_controller.specs.declared.exchange.Asked.TheVariants.{Submitted};
-ghost use Rattle.osdp_controller.specs.declared.exchange.Exchange.TheVariants.{Asking, Polling};
+ghost use Rattle.osdp_controller.specs.declared.exchange.Exchange.TheVariants.{Asking};
 ghost use Rattle.osdp_controller.specs.declared.state.Stage.TheVariants as stages;
 ghost use Rattle.osdp_controller.specs.declared.state.State.TheVariants.{Closed, Idle, Pausing, Quiet, Waiting};
 ghost use Rattle.osdp_controller.specs.Exchanges.{exchange_body, submitted_command};
@@ -12,7 +12,6 @@ ghost use Rattle.osdp_msg.specs.declared.command.Command.TheVariants.{Poll};
 ghost use Rattle.std.specs.Option.{option_map};
 ghost use Rattle.osdp_controller.specs.Held.{exchange_of, outstanding_in, sends_in, stage_of};
 ghost use Rattle.osdp_controller.specs.Machine.{is_outstanding};
-ghost use Rattle.osdp_controller.specs.Private.{takes_ack};
 ghost use Rattle.osdp_controller.specs.States.{is_closed, is_idle, moment_of};
 
 use crate::exchange::{Asked, Outstanding};
@@ -136,20 +135,6 @@ impl Held {
         ensures { result ≡ is_outstanding self.now }
     {
         matches!(self.stage, Stage::Waiting | Stage::Pausing)
-    }
-
-    /// Whether a POLL is outstanding.
-    pub(crate) fn is_polling(&self) -> bool
-        ensures { result ≡ true → (is_outstanding self.now ≡ true) × ((outstanding_in self.now).exchange ≡ Polling) }
-    {
-        self.is_outstanding() && matches!(self.asked, Asked::Polling)
-    }
-
-    /// Whether a POLL or a command that was submitted is outstanding.
-    pub(crate) fn is_asking(&self) -> bool
-        ensures { result ≡ (is_outstanding self.now && takes_ack (outstanding_in self.now).exchange) }
-    {
-        self.is_outstanding() && matches!(self.asked, Asked::Polling | Asked::Submitted)
     }
 
     /// The moment that it waits for.

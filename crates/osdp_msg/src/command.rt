@@ -84,6 +84,7 @@ impl Tabled for CommandRows {
 }
 
 /// The command that a code and data without a fault stand for.
+#[inline(always)]
 #[tactic(auto, unfolding(crate::specs::CommandTable::command_at))]
 fn value_at(code: u8, bytes: &[u8]) -> Command<'_>
     requires { command_fault code bytes.now ≡ None }

@@ -95,6 +95,7 @@ impl Tabled for ReplyRows {
 }
 
 /// The reply that a code and data without a fault stand for.
+#[inline(always)]
 #[tactic(auto, unfolding(crate::specs::ReplyTable::reply_at))]
 fn value_at(code: u8, bytes: &[u8]) -> Reply<'_>
     requires { reply_fault code bytes.now ≡ None }
