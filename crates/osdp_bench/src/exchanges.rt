@@ -11,6 +11,8 @@ use std::alloc::Global;
 pub struct Line {
     /// The packet that goes out.
     pub out: Burst,
+    /// The reader's answer to it.
+    pub answer: Burst,
     /// What is told.
     pub report: KeptReport,
 }
@@ -20,6 +22,7 @@ impl Line {
     pub fn new() -> Line {
         Line {
             out: Burst::new(),
+            answer: Burst::new(),
             report: KeptReport::new(),
         }
     }
@@ -33,9 +36,8 @@ impl Line {
         let Some(Item::Packet(asked)) = whole_item(self.out.as_slice()) else {
             return false;
         };
-        let mut answer = Burst::new();
-        let _ = link.reader.hear(&asked, &mut answer);
-        let Some(Item::Packet(packet)) = whole_item(answer.as_slice()) else {
+        let _ = link.reader.hear(&asked, &mut self.answer);
+        let Some(Item::Packet(packet)) = whole_item(self.answer.as_slice()) else {
             return false;
         };
         link.controller.hear(&packet, now, &mut self.report);

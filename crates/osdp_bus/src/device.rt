@@ -122,7 +122,7 @@ impl Device {
         ensures device { self.new ≡ device_hears frame.now now self.old }
     {
         self.controller.hear(frame, now, report);
-        self.reserved = reserved_after(&report.read(), self.reserved);
+        self.free_after(report);
     }
 
     /// What is due at a moment: whether a packet goes out, whose bytes stand in `out` then, and what is told, in `report`.
@@ -133,8 +133,17 @@ impl Device {
         ensures device { self.new ≡ device_ticks now self.old }
     {
         let sends = self.controller.tick(now, out, report);
-        self.reserved = reserved_after(&report.read(), self.reserved);
+        self.free_after(report);
         sends
+    }
+
+    /// Frees what is reserved where a report settles its COMSET. The report is read only where something is.
+    fn free_after(&mut self, report: &KeptReport)
+        ensures { self.new ≡ record self.old { reserved = reserved_after report.now self.old.reserved } }
+    {
+        if self.has_reserved() {
+            self.reserved = reserved_after(&report.read(), self.reserved);
+        }
     }
 }
 

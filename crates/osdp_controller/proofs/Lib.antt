@@ -1,4 +1,3 @@
-pub mod Acks
 pub mod Asking
 pub mod Choices
 pub mod Keeping

@@ -3,13 +3,11 @@ use Rattle.std.specs.Prelude.{◌≡◌, Bool, true, false, not, ◌&&◌, nat_l
 use Rattle.std.specs.Option.{option_map_or}
 use Rattle.osdp_frame.specs.Packet.{Packet}
 use Rattle.osdp_msg.specs.declared.command.Command.{Command}
-use Rattle.osdp_msg.specs.declared.reply.Reply.TheVariants.{Ack}
 use Rattle.osdp_controller.specs.declared.meaning.ReplyMeaning.{ReplyMeaning}
 use Rattle.osdp_controller.specs.declared.meaning.ReplyMeaning.TheVariants.{Plain, Unreadable}
 use Rattle.osdp_controller.specs.declared.exchange.Exchange.{Exchange}
-use Rattle.osdp_controller.specs.declared.exchange.Exchange.TheVariants.{Opening, Polling, Asking}
+use Rattle.osdp_controller.specs.declared.exchange.Exchange.TheVariants.{Opening}
 use Rattle.osdp_controller.specs.declared.report.Report.{Report}
-use Rattle.osdp_controller.specs.declared.report.Report.TheVariants.{Settled}
 use Rattle.osdp_controller.specs.declared.session.Session.{Session}
 use Rattle.osdp_controller.specs.declared.state.State.{State}
 use Rattle.osdp_controller.specs.declared.state.State.TheVariants.{Closed, Quiet, Idle, Waiting, Pausing}
@@ -43,17 +41,6 @@ is_no_answer _ _ = false
 -- nor to one that is outstanding in a state
 abbrev pub is_no_answer_in : State → ReplyMeaning → Bool
 is_no_answer_in state answer = is_outstanding state && is_no_answer (outstanding_in state).exchange answer
-
--- an ACK answers the exchange
-abbrev pub takes_ack : Exchange → Bool
-takes_ack Opening = false
-takes_ack _ = true
-
--- what an ACK to an exchange tells: that the command is settled that was submitted for it
-abbrev pub acknowledged : Exchange → Option Report
-acknowledged Opening = None
-acknowledged Polling = None
-acknowledged (Asking command) = Some (Settled command Ack)
 
 -- an answer with the number of the exchange, by the state; where none is outstanding it is ignored
 abbrev pub numbered_in : State → ReplyMeaning → Session → Heard

@@ -221,7 +221,7 @@ impl Controller {
     /// What is due at a moment: whether a packet is to be sent, whose bytes stand in `out` then. Where none is, `out` is as it was.
     /// What is to be told, or that nothing is, stands in `report` in place of what stood there: by a tick only that the session has
     /// ended. It never does both.
-    #[tactic(auto, using(crate::proofs::Over::over, crate::proofs::Over::tells_nothing))]
+    #[inline]
     pub fn tick(&mut self, now: u64, out: &mut Burst, report: &mut KeptReport) -> bool
         ensures sent { result ≡ is_some (ticks now self.old.session self.old.waiting).step.frame }
         ensures bytes { IsWritten (ticks now self.old.session self.old.waiting).step.frame out.old.items out.new.items }
@@ -233,6 +233,20 @@ impl Controller {
         if self.has_nothing_due() {
             return false;
         }
+        self.do_due(out, report)
+    }
+
+    /// Does what is due at the greatest moment seen, or ends the session where the last of the sends has no answer.
+    // It stands by itself, so that a tick with nothing due is short where it is inlined.
+    #[inline(never)]
+    #[tactic(auto, using(crate::proofs::Over::over, crate::proofs::Over::tells_nothing))]
+    fn do_due(&mut self, out: &mut Burst, report: &mut KeptReport) -> bool
+        requires { report.old ≡ None }
+        ensures sent { result ≡ is_some (ticks_in self.old.session.state self.old.session self.old.waiting).step.frame }
+        ensures bytes { IsWritten (ticks_in self.old.session.state self.old.session self.old.waiting).step.frame out.old.items out.new.items }
+        ensures report { report.new ≡ (ticks_in self.old.session.state self.old.session self.old.waiting).step.report }
+        ensures machine { self.new ≡ after_act self.old }
+    {
         if self.session.is_over() {
             self.session.give_up(report);
             false

@@ -1,18 +1,16 @@
 //! The table of frames.
 
-ghost use Rattle.std.specs.Str.{bytes_eq};
 ghost use Rattle.std.specs.Prelude.{◌≡◌, ◌==◌, ◌&&◌, ◌<◌, ℕ, [], ◌∷◌, true, false, None, Some, is_none, is_some, IfSome};
 ghost use Rattle.osdp_controller.specs.declared.meaning.ReplyMeaning.TheVariants.{Plain, Unreadable};
 ghost use Rattle.osdp_controller.specs.declared.report.Report.TheVariants.{Moved, Settled};
 ghost use Rattle.osdp_msg.specs.declared.command.Command.{Command};
 ghost use Rattle.osdp_controller.specs.declared.state.Stage.TheVariants as stages;
-ghost use Rattle.osdp_controller.specs.Answers.{meaning_of};
 ghost use Rattle.osdp_controller.specs.Exchanges.{submitted_command};
 ghost use Rattle.osdp_msg.specs.Events.{event_in};
-ghost use Rattle.osdp_controller.specs.Hearing.{answered, answered_unread, com_of, comset_of, hears, hears_busy, hears_in, is_ack, is_from_reader, is_numbered, loses, moved_by, opening_answered, pausing_hears, pd_id_of, poll_told, rests, waiting_hears};
+ghost use Rattle.osdp_controller.specs.Hearing.{answered, answered_unread, com_of, comset_of, hears, hears_busy, is_ack, is_from_reader, is_numbered, loses, moved_by, opening_answered, pausing_hears, pd_id_of, poll_told, waiting_hears};
 ghost use Rattle.osdp_controller.specs.Held.{exchange_of, outstanding_in, sends_in, stage_of};
 ghost use Rattle.osdp_controller.specs.Machine.{IsSession, is_outstanding};
-ghost use Rattle.osdp_controller.specs.Private.{HearsReply, acknowledged, is_no_answer, is_no_answer_in, numbered_in, takes_ack};
+ghost use Rattle.osdp_controller.specs.Private.{HearsReply, is_no_answer, is_no_answer_in, numbered_in};
 ghost use Rattle.osdp_controller.specs.Sessions.{at_rest, closed};
 
 use crate::exchange::Asked;
@@ -78,19 +76,6 @@ impl Session {
         self.state.close();
     }
 
-    /// The command that was submitted, where one is outstanding, is settled by an ACK.
-    fn settle_acknowledged(&mut self, report: &mut KeptReport)
-        requires held { is_outstanding self.old.state ≡ true }
-        requires none { report.old ≡ None }
-        ensures report { report.new ≡ acknowledged (outstanding_in self.old.state).exchange }
-        ensures session { self.new ≡ at_rest self.old }
-    {
-        if let Some(command) = self.state.submitted() {
-            report.tell_settled(command, &Reply::Ack);
-        }
-        self.rest();
-    }
-
     /// The command that was submitted is settled by a reply.
     fn settle_command(&mut self, reply: &Reply<'_>, report: &mut KeptReport)
         requires held { is_outstanding self.old.state ≡ true }
@@ -109,8 +94,13 @@ impl Session {
         ensures value { (command : Command) → submitted_command (outstanding_in self.now.state).exchange ≡ Some command → result ≡ moved_by (comset_of command) (com_of reply.now) }
         ensures device { IfSome result (λ answered. answered.address < 127) }
     {
-        let command = self.state.submitted()?;
-        moved_by(&Command::kept(command.as_slice()), reply)
+        let Reply::Com(answered) = reply else {
+            return None;
+        };
+        match Command::kept(self.state.submitted()?.as_slice()) {
+            Command::Comset(asked) => moved(asked, *answered),
+            _ => None,
+        }
     }
 
     /// A command is answered.
@@ -241,33 +231,8 @@ impl Session {
     {
         self.see(now);
         if self.is_from_reader(frame) {
-            self.hear_reader(frame, report);
-        }
-    }
-
-    /// A reply comes from the own address, at the greatest moment seen.
-    fn hear_reader(&mut self, frame: &FrameView<'_>, report: &mut KeptReport)
-        requires session { IsSession self.old }
-        requires none { report.old ≡ None }
-        ensures { HearsReply frame.now self.old report.new self.new }
-    {
-        if !self.is_acknowledged_by(frame) {
             self.hear_reply(frame, report);
-        } else if self.state.is_polling() {
-            self.rest();
-        } else {
-            self.settle_acknowledged(report);
         }
-    }
-
-    /// Whether a packet is the ACK that a POLL or a command that was submitted waits for.
-    #[tactic(auto, using(crate::proofs::Acks::acked))]
-    fn is_acknowledged_by(&self, frame: &FrameView<'_>) -> bool
-        ensures exact { result ≡ (frame.now.sequence == self.now.number && (is_outstanding self.now.state && takes_ack (outstanding_in self.now.state).exchange) && bytes_eq frame.now.body (0x40 ∷ [])) }
-        ensures held { result ≡ true → is_outstanding self.now.state ≡ true }
-        ensures heard { result ≡ true → hears_in self.now.state frame.now.sequence (meaning_of frame.now) self.now ≡ rests (acknowledged (outstanding_in self.now.state).exchange) self.now }
-    {
-        frame.seq() == self.number && self.state.is_asking() && is_ack_alone(frame.body())
     }
 
     /// A reply comes from the own address, at the greatest moment seen, and is read.
@@ -281,13 +246,6 @@ impl Session {
             self.hear_numbered(&answer, report);
         }
     }
-}
-
-/// Whether code and data are those of an ACK.
-fn is_ack_alone(body: &[u8]) -> bool
-    ensures { result ≡ bytes_eq body.now (0x40 ∷ []) }
-{
-    body.len() == 1 && body[0] == 0x40
 }
 
 /// Whether an answer is none to the exchange: the opening ID is answered by a PDID alone.
@@ -307,17 +265,6 @@ fn pd_id_of(reply: &Reply<'_>) -> Option<PdId>
 {
     match reply {
         Reply::PdId(id) => Some(*id),
-        _ => None,
-    }
-}
-
-/// The COM that answers a COMSET to a device's address with that address.
-fn moved_by(command: &Command<'_>, reply: &Reply<'_>) -> Option<Communication>
-    ensures value { result ≡ moved_by (comset_of command.now) (com_of reply.now) }
-    ensures device { IfSome result (λ answered. answered.address < 127) }
-{
-    match (command, reply) {
-        (Command::Comset(asked), Reply::Com(answered)) => moved(*asked, *answered),
         _ => None,
     }
 }

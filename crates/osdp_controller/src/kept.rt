@@ -9,6 +9,7 @@ ghost use Rattle.osdp_controller.specs.Kept.{told_as};
 
 use crate::report::{LostCause, Report};
 use osdp_msg::{Command, Communication, Event, PdId, Reply, Spelling};
+use osdp_ring::put;
 use std::marker::Model;
 
 /// Which report it is, without what it has of bytes.
@@ -146,7 +147,7 @@ impl KeptReport {
     pub(crate) fn tell_settled(&mut self, command: &Spelling, reply: &Reply<'_>)
         ensures { self.new ≡ Some (Settled (command_kept command.now.items) reply.now) }
     {
-        copy_to(&mut self.command, command);
+        put(&mut self.command, command.as_slice());
         reply.write_into(&mut self.reply);
         self.telling = Some(Telling::Settled);
     }
@@ -155,7 +156,7 @@ impl KeptReport {
     pub(crate) fn tell_moved(&mut self, command: &Spelling, answered: Communication)
         ensures { self.new ≡ Some (Moved (command_kept command.now.items) answered) }
     {
-        copy_to(&mut self.command, command);
+        put(&mut self.command, command.as_slice());
         self.telling = Some(Telling::Moved(answered));
     }
 
@@ -181,7 +182,7 @@ impl KeptReport {
     {
         match command {
             Some(command) => {
-                copy_to(&mut self.command, command);
+                put(&mut self.command, command.as_slice());
                 self.telling = Some(Telling::CommandUnread(code));
             }
             None => self.telling = Some(Telling::PollUnread(code)),
@@ -194,7 +195,7 @@ impl KeptReport {
     {
         match command {
             Some(command) => {
-                copy_to(&mut self.command, command);
+                put(&mut self.command, command.as_slice());
                 self.telling = Some(Telling::CommandLost(cause));
             }
             None => self.telling = Some(Telling::Lost(cause)),
@@ -217,12 +218,4 @@ fn read_as<'a>(telling: Telling, command: &'a [u8], reply: &'a [u8]) -> Report<'
         Telling::CommandLost(cause) => Report::Lost(cause, Some(Command::kept(command))),
         Telling::Lost(cause) => Report::Lost(cause, None),
     }
-}
-
-/// Puts these bytes in place of those.
-fn copy_to(place: &mut Spelling, bytes: &Spelling)
-    ensures { place.new.items ≡ bytes.now.items }
-{
-    place.clear();
-    let _ = place.try_extend_from_slice(bytes.as_slice());
 }

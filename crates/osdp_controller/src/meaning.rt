@@ -23,6 +23,7 @@ pub enum ReplyMeaning<'p> {
 
 impl<'p> ReplyMeaning<'p> {
     /// What a packet from a reader says.
+    #[inline(always)]
     pub(crate) fn read(frame: &FrameView<'p>) -> ReplyMeaning<'p>
         ensures { result ≡ meaning_of frame.now }
     {
@@ -34,6 +35,7 @@ impl<'p> ReplyMeaning<'p> {
     }
 
     /// What a reply says: BUSY and a NAK are told apart from all others, whatever detail follows the reason.
+    #[inline(always)]
     fn of(reply: Reply<'p>) -> ReplyMeaning<'p>
         ensures { result ≡ meaning_by_reply reply.entry }
     {

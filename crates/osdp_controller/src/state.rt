@@ -1,8 +1,8 @@
 //! Where a session stands.
 
-ghost use Rattle.std.specs.Prelude.{◌≡◌, ◌&&◌, ◌≢◌, ◌+◌, ◌<◌, ◌≤◌, ◌^◌, length, true};
+ghost use Rattle.std.specs.Prelude.{◌≡◌, ◌≢◌, ◌+◌, ◌<◌, ◌≤◌, ◌^◌, length, true};
 ghost use Rattle.osdp_controller.specs.declared.exchange.Asked.TheVariants.{Submitted};
-ghost use Rattle.osdp_controller.specs.declared.exchange.Exchange.TheVariants.{Asking, Polling};
+ghost use Rattle.osdp_controller.specs.declared.exchange.Exchange.TheVariants.{Asking};
 ghost use Rattle.osdp_controller.specs.declared.state.Stage.TheVariants as stages;
 ghost use Rattle.osdp_controller.specs.declared.state.State.TheVariants.{Closed, Idle, Pausing, Quiet, Waiting};
 ghost use Rattle.osdp_controller.specs.Exchanges.{exchange_body, submitted_command};
@@ -12,11 +12,11 @@ ghost use Rattle.osdp_msg.specs.declared.command.Command.TheVariants.{Poll};
 ghost use Rattle.std.specs.Option.{option_map};
 ghost use Rattle.osdp_controller.specs.Held.{exchange_of, outstanding_in, sends_in, stage_of};
 ghost use Rattle.osdp_controller.specs.Machine.{is_outstanding};
-ghost use Rattle.osdp_controller.specs.Private.{takes_ack};
 ghost use Rattle.osdp_controller.specs.States.{is_closed, is_idle, moment_of};
 
 use crate::exchange::{Asked, Outstanding};
 use osdp_msg::{Command, MAX_MESSAGE, Spelling};
+use osdp_ring::put;
 use std::marker::Model;
 
 /// Where a session stands, as the tables say it. Moments are in milliseconds.
@@ -137,20 +137,6 @@ impl Held {
         matches!(self.stage, Stage::Waiting | Stage::Pausing)
     }
 
-    /// Whether a POLL is outstanding.
-    pub(crate) fn is_polling(&self) -> bool
-        ensures { result ≡ true → (is_outstanding self.now ≡ true) × ((outstanding_in self.now).exchange ≡ Polling) }
-    {
-        self.is_outstanding() && matches!(self.asked, Asked::Polling)
-    }
-
-    /// Whether a POLL or a command that was submitted is outstanding.
-    pub(crate) fn is_asking(&self) -> bool
-        ensures { result ≡ (is_outstanding self.now && takes_ack (outstanding_in self.now).exchange) }
-    {
-        self.is_outstanding() && matches!(self.asked, Asked::Polling | Asked::Submitted)
-    }
-
     /// The moment that it waits for.
     pub(crate) fn moment(&self) -> Option<u64>
         ensures { result ≡ moment_of self.now }
@@ -208,7 +194,7 @@ impl Held {
         self.asked = Asked::Submitted;
         self.busies = 0;
         self.sent = 1;
-        put(command, &mut self.command);
+        put(&mut self.command, command);
     }
 
     /// The exchange is asked once more, as this send.
@@ -266,15 +252,6 @@ impl Held {
             Asked::Submitted => self.command.as_slice(),
         }
     }
-}
-
-/// Puts bytes in place of what stands there.
-fn put(bytes: &[u8], place: &mut Spelling)
-    requires { length bytes.now ≤ MAX_MESSAGE }
-    ensures { place.new.items ≡ bytes.now }
-{
-    place.clear();
-    let _ = place.try_extend_from_slice(bytes);
 }
 
 /// The code and data of the opening ID.

@@ -1,5 +1,6 @@
 -- How much a message holds at most, and how many may wait.
 use Rattle.std.specs.Prelude.{ℕ, ◌+◌, ◌-◌, ◌*◌, ◌≤◌}
+use Rattle.osdp_msg.specs.declared.limits.Room.{Room}
 
 -- the data after a code byte: with its code it fits into a packet of 1440 bytes with either check
 abbrev pub most_data : ℕ
@@ -28,3 +29,7 @@ IsRoom count = (1 ≤ count) × (count ≤ most_waiting)
 -- .. and for a byte of them together, and no more than they may have
 abbrev pub AreRoom : ℕ → ℕ → Type 0
 AreRoom count bytes = IsRoom count × (1 ≤ bytes) × (bytes ≤ most_waiting * (1 + most_data))
+
+-- room for so many messages, however long each is
+abbrev pub room_for : ℕ → Room
+room_for count = record { messages = count; bytes = count * (1 + most_data) }

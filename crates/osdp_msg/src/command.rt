@@ -84,6 +84,7 @@ impl Tabled for CommandRows {
 }
 
 /// The command that a code and data without a fault stand for.
+#[inline(always)]
 #[tactic(auto, unfolding(crate::specs::CommandTable::command_at))]
 fn value_at(code: u8, bytes: &[u8]) -> Command<'_>
     requires { command_fault code bytes.now ≡ None }
@@ -153,6 +154,8 @@ fn parse_fields<'a>(mut fields: Fields<'_>, place: &'a mut Spelling) -> Option<C
 }
 
 /// The first fault of a code and data, or the command that they stand for.
+// Inlined, so that what is read needn't be written out and read again.
+#[inline(always)]
 #[tactic(auto, unfolding(crate::specs::CommandTable::command_of, crate::specs::CommandTable::command_fault))]
 fn decode(code: u8, bytes: &[u8]) -> Result<Command<'_>, MsgFault>
     ensures { result ≡ command_of code bytes.now }
@@ -165,6 +168,7 @@ fn decode(code: u8, bytes: &[u8]) -> Result<Command<'_>, MsgFault>
 
 impl<'a> Command<'a> {
     /// The command that a code and data stand for, or the first fault that holds.
+    #[inline(always)]
     pub fn read(code: u8, bytes: &'a [u8]) -> Result<Command<'a>, MsgFault>
         ensures value { IfOk result (IsCommand code bytes.now) }
         ensures fault { IfErr result (λ e. command_fault code bytes.now ≡ Some e) }

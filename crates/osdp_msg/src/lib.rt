@@ -36,6 +36,7 @@ pub use event::Event;
 pub use event_fields::{Formatted, Keypad, States};
 pub use fault::{BadWords, MsgFault};
 pub use fitting::fits;
+pub use kept::{KeptCommand, KeptEvent};
 pub use leds::{LedRecord, Leds};
 pub use lent::Records;
 pub use limits::{

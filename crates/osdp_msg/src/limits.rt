@@ -1,7 +1,7 @@
 //! How much a message holds at most, and how many may wait.
 
-ghost use Rattle.std.specs.Prelude.{◌≡◌, ◌≤◌, ◌*◌, ◌↔◌, IsTrue};
-ghost use Rattle.osdp_msg.specs.Limits.{AreRoom, IsRoom};
+ghost use Rattle.std.specs.Prelude.{◌≡◌, ◌<◌, ◌≤◌, ◌*◌, ◌^◌, ◌↔◌, IsTrue};
+ghost use Rattle.osdp_msg.specs.Limits.{AreRoom, IsRoom, room_for};
 
 /// How many bytes of data stand after a code byte at most. With its code such a message fits into a packet of 1440 bytes
 /// with either check.
@@ -43,6 +43,7 @@ impl Room {
     pub fn of(messages: usize) -> Room
         ensures messages { result.messages ≡ messages }
         ensures bytes { messages ≤ MAX_WAITING → result.bytes ≡ messages * MAX_MESSAGE }
+        ensures room { messages < 2 ^ 32 → result ≡ room_for messages }
     {
         Room {
             messages,

@@ -95,6 +95,7 @@ impl Tabled for ReplyRows {
 }
 
 /// The reply that a code and data without a fault stand for.
+#[inline(always)]
 #[tactic(auto, unfolding(crate::specs::ReplyTable::reply_at))]
 fn value_at(code: u8, bytes: &[u8]) -> Reply<'_>
     requires { reply_fault code bytes.now ≡ None }
@@ -156,6 +157,8 @@ pub(crate) fn parse_fields<'a>(mut fields: Fields<'_>, place: &'a mut Spelling) 
 }
 
 /// The first fault of a code and data, or the reply that they stand for.
+// Inlined, so that what is read needn't be written out and read again.
+#[inline(always)]
 #[tactic(auto, unfolding(crate::specs::ReplyTable::reply_of, crate::specs::ReplyTable::reply_fault))]
 fn decode(code: u8, bytes: &[u8]) -> Result<Reply<'_>, MsgFault>
     ensures { result ≡ reply_of code bytes.now }
@@ -168,6 +171,7 @@ fn decode(code: u8, bytes: &[u8]) -> Result<Reply<'_>, MsgFault>
 
 impl<'a> Reply<'a> {
     /// The reply that a code and data stand for, or the first fault that holds.
+    #[inline(always)]
     pub fn read(code: u8, bytes: &'a [u8]) -> Result<Reply<'a>, MsgFault>
         ensures value { IfOk result (IsReply code bytes.now) }
         ensures fault { IfErr result (λ e. reply_fault code bytes.now ≡ Some e) }

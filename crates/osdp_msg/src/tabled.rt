@@ -22,6 +22,7 @@ pub(crate) trait Tabled {
 }
 
 /// The first fault of a code and data.
+#[inline(always)]
 pub(crate) fn first_fault<T: Tabled>(code: u8, bytes: &[u8]) -> Option<MsgFault>
     ensures { result ≡ table_fault T.length_allowed T.counts_agree code bytes.now }
 {

@@ -3,6 +3,7 @@
 ghost use Rattle.std.specs.Prelude.{◌≡◌, ◌≤◌, length};
 
 use osdp_msg::{Command, MAX_DATA, MakerMessage, NakReason, Spelling, States};
+use osdp_ring::put;
 
 /// What a handler answers to a command. An answer that doesn't belong to the command is told as NAK 9.
 #[derive(Debug, Drop)]
@@ -55,7 +56,6 @@ pub fn lend<'a>(bytes: &[u8], place: &'a mut Spelling) -> &'a [u8]
     requires { length bytes.now ≤ MAX_DATA }
     ensures { result.now ≡ bytes.now }
 {
-    place.clear();
-    place.try_extend_from_slice(bytes).unwrap();
+    put(place, bytes);
     place.as_slice()
 }

@@ -348,6 +348,8 @@ fn kind_by_number(last: Option<Seq>, seq: Seq, busy: bool) -> Kind
 }
 
 /// The command that a packet is, or why it is none.
+// Inlined: what it gives back would else be written out in parts and read again at once.
+#[inline(always)]
 fn read_command<'p>(packet: &FrameView<'p>) -> Result<Command<'p>, MsgFault>
     ensures { result ≡ command_in packet.now }
 {

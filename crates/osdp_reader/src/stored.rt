@@ -6,6 +6,7 @@ ghost use Rattle.osdp_frame.specs.Spelling.{Spells};
 ghost use Rattle.osdp_reader.specs.Spelled.{IsSpelled};
 
 use osdp_frame::Burst;
+use osdp_ring::put;
 use std::marker::Model;
 
 /// The reply to the last taken command, as it was sent, if there is one.
@@ -44,7 +45,7 @@ impl StoredReply {
     {
         osdp_frame_laws::spelling_of_bytes();
         osdp_frame_laws::first_item_decided();
-        copy_to(&mut self.burst, burst);
+        put(&mut self.burst, burst.as_slice());
     }
 
     /// Keeps no reply any more.
@@ -66,14 +67,6 @@ impl StoredReply {
     pub fn put(&self, out: &mut Burst)
         ensures { IsSpelled self.now out.new.items }
     {
-        copy_to(out, &self.burst);
+        put(out, self.burst.as_slice());
     }
-}
-
-/// Puts these bytes in place of those.
-fn copy_to(burst: &mut Burst, bytes: &Burst)
-    ensures { burst.new.items ≡ bytes.now.items }
-{
-    burst.clear();
-    let _ = burst.try_extend_from_slice(bytes.as_slice());
 }

@@ -1,6 +1,6 @@
 -- The run of a schedule, and how it ends.
 use Rattle.std.specs.Prelude.{ℕ, ◌≤◌, Bool, List, Result}
-use Rattle.osdp_msg.specs.Limits.{most_waiting}
+use Rattle.osdp_msg.specs.Limits.{most_waiting, room_for}
 use Rattle.osdp_msg.specs.declared.command.Command.{Command}
 use Rattle.osdp_controller.specs.Machine as controllers
 use Rattle.osdp_reader.specs.declared.handler.Answer.{Answer}
@@ -11,7 +11,7 @@ use Rattle.osdp_sim.specs.declared.fault.Fault.{Fault}
 use Rattle.osdp_sim.specs.declared.step.SimStep.{SimStep}
 use Rattle.osdp_sim.specs.Account.{Account, empty_account, lists_of}
 use Rattle.osdp_sim.specs.Schedules as schedules
-use Rattle.osdp_sim.specs.State.{SimState, room_for, set_up}
+use Rattle.osdp_sim.specs.State.{SimState, set_up}
 use Rattle.osdp_sim.specs.Steps.{StepFits, after_step, fault_of}
 
 -- the reader's settings are in their ranges ..

@@ -1,8 +1,7 @@
 -- A simulated line between a controller and a reader.
-use Rattle.std.specs.Prelude.{ℕ, ◌+◌, ◌*◌, All, List, []}
+use Rattle.std.specs.Prelude.{ℕ, All, List, []}
 use Rattle.osdp_controller.specs.Machine.{Machine, after_begin, new_machine}
-use Rattle.osdp_msg.specs.Limits.{most_data}
-use Rattle.osdp_msg.specs.declared.limits.Room.{Room}
+pub use Rattle.osdp_msg.specs.Limits.{room_for}
 use Rattle.osdp_reader.specs.State.{ReaderState, new_reader}
 use Rattle.osdp_sim.specs.declared.config.SimConfig.{SimConfig}
 use Rattle.osdp_sim.specs.Line.{IsSent}
@@ -16,10 +15,6 @@ pub record SimState (H : Type 0) : Type 0 where
   pub to_controller : List (List ℕ)
   pub clock : ℕ
   pub account : Account
-
--- room for so many messages, however long each is
-abbrev pub room_for : ℕ → Room
-room_for count = record { messages = count; bytes = count * (1 + most_data) }
 
 -- the first session begins at moment 0
 abbrev pub set_up : {H : Type 0} → SimConfig → H → SimState H

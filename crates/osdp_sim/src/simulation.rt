@@ -6,7 +6,8 @@ ghost use Rattle.osdp_sim.specs.Account as account;
 ghost use Rattle.osdp_sim.specs.Account.{lists_of};
 ghost use Rattle.osdp_sim.specs.Room.{HasRoom, state_of};
 ghost use Rattle.osdp_sim.specs.Runs.{AreSettings, IsControllerCause, IsSetUpCause, ReaderInRange};
-ghost use Rattle.osdp_sim.specs.State.{AreSent, SimState, room_for, set_up};
+ghost use Rattle.osdp_sim.specs.State.{AreSent, SimState, set_up};
+ghost use Rattle.osdp_msg.specs.Limits.{room_for};
 ghost use Rattle.osdp_sim.specs.Steps.{StepFits, after_step, fault_of, is_quiet, refuses_reopen};
 
 use crate::account::Account;
