@@ -16,6 +16,7 @@
 
 static struct osdp_panel panel;
 static struct osdp_device reader;
+static struct osdp_monitor monitor;
 static struct osdp_burst burst;
 static struct osdp_answer answer;
 static struct osdp_report report;
@@ -97,6 +98,34 @@ static void new_reader(void)
     struct osdp_device_config config = { .address = 5, .capacity = 16, .gap = 20 };
     demand(osdp_device_new(&reader, &config, outputs, 0) == OSDP_OK, "no reader");
     demand(osdp_device_set_outputs(&reader, outputs, 1) == OSDP_OK, "no outputs");
+}
+
+static void new_monitor(void)
+{
+    demand(osdp_monitor_new(&monitor, OSDP_PRINTS_PACKETS, 0) == OSDP_OK, "no monitor");
+}
+
+/* An order, a reply to it and another reply to it, by which the device is accused. */
+static void monitor_bytes(void)
+{
+    static const uint8_t heard[] = { 0x53, 5, 11, 0, 1, 0x68, 0, 2, 0, 0, 0x32, 0x53, 0x85, 7, 0, 1, 0x40, 0xE0, 0x53, 0x85, 7, 0, 1, 0x40, 0xE0 };
+    (void)osdp_monitor_bytes(&monitor, heard, sizeof heard);
+}
+
+static void monitor_silence(void)
+{
+    (void)osdp_monitor_silence(&monitor);
+}
+
+static void monitor_table(void)
+{
+    (void)osdp_monitor_table(&monitor);
+}
+
+static void monitor_text(void)
+{
+    static char told[4096];
+    (void)osdp_monitor_next_text(&monitor, told, sizeof told, &taken);
 }
 
 static void nothing(void)
@@ -181,6 +210,12 @@ static void print_depths(void)
     message = answer.command;
     demand(report.kind == OSDP_REPORT_SETTLED && message.code == 0x68, "the order was not settled");
     print_depth("osdp_command_text", text, 6200);
+    print_depth("osdp_monitor_new", new_monitor, 17000);
+    print_depth("osdp_monitor_bytes", monitor_bytes, 4096);
+    print_depth("osdp_monitor_silence", monitor_silence, 4096);
+    print_depth("osdp_monitor_table", monitor_table, 4096);
+    print_depth("osdp_monitor_next_text", monitor_text, 4096);
+    demand(taken > 100, "the monitor told nothing");
     now += 50; /* the next POLL is answered by the event */
     tick();
     step();

@@ -35,6 +35,7 @@ const char *osdp_status_text(osdp_status status)
         return "a count disagrees with the length";
     case OSDP_PANEL_NO_MEMORY:
     case OSDP_DEVICE_NO_MEMORY:
+    case OSDP_MONITOR_NO_MEMORY:
         return "out of memory";
     case OSDP_TOO_MANY:
         return "sixteen devices are there";
@@ -44,6 +45,7 @@ const char *osdp_status_text(osdp_status status)
         return "there is no such device";
     case OSDP_PANEL_OUT_OF_RANGE:
     case OSDP_DEVICE_OUT_OF_RANGE:
+    case OSDP_MONITOR_OUT_OF_RANGE:
         return "an address or a setting is out of its range";
     case OSDP_ADDRESS_OUT_OF_RANGE:
         return "no device has an address above 126";
@@ -55,6 +57,10 @@ const char *osdp_status_text(osdp_status status)
         return "the session isn't closed";
     case OSDP_EVENTS_FULL:
         return "as many events wait as there is room for";
+    case OSDP_MONITOR_TOO_LONG:
+        return "the monitor has counted as much as it can";
+    case OSDP_MONITOR_STOPPED:
+        return "the monitor has stopped";
     }
     return "an unknown status";
 }

@@ -1,4 +1,4 @@
-/* What the page calls: a panel and two devices in memory that stays, over include/osdp.h. Each call takes and gives whole numbers of 32 bits, so that a script
+/* What the page calls: a panel, two devices and a monitor in memory that stays, over include/osdp.h. Each call takes and gives whole numbers of 32 bits, so that a script
  * can make it; bytes and texts go through `room`, and texts come in `words`. A moment is in milliseconds since the page began. Nothing is decided here. */
 #include "osdp.h"
 
@@ -8,6 +8,7 @@ enum { DEVICES = 2, FIRST_ADDRESS = 5, OUTPUTS = 8, EVENTS = 16 };
 
 static osdp_panel panel;
 static osdp_device devices[DEVICES];
+static osdp_monitor monitor;
 static struct osdp_burst burst;
 static struct osdp_report report;
 static struct osdp_answer answer;
@@ -130,4 +131,23 @@ EXPORT uint32_t device_is_offline(uint32_t which, uint32_t now)
 {
     uint32_t offline = 1;
     return osdp_device_is_offline(&devices[which], now, &offline) != OSDP_OK || offline;
+}
+
+/* A monitor that has heard nothing: it tells what `osdp monitor` prints. */
+EXPORT uint32_t start_monitor(void) { return osdp_monitor_new(&monitor, OSDP_PRINTS_FOUND, 0); }
+
+/* The monitor hears so many bytes of `room`, after which the line is silent. */
+EXPORT uint32_t monitor_hears(uint32_t length)
+{
+    osdp_status status = osdp_monitor_bytes(&monitor, bytes, length);
+    return status == OSDP_OK ? osdp_monitor_silence(&monitor) : status;
+}
+
+EXPORT uint32_t monitor_tells_table(void) { return osdp_monitor_table(&monitor); }
+
+/* How long the next of the monitor's text is, which stands in `words` then; 0 where none waits. */
+EXPORT uint32_t monitor_text(void)
+{
+    osdp_size count = 0;
+    return osdp_monitor_next_text(&monitor, text, sizeof text, &count) == OSDP_OK ? (uint32_t)count : 0;
 }

@@ -53,11 +53,13 @@ class Line {
     this.toPanel = [];
     this.said = [];
     this.capture = []; // what has come through, as `osdp monitor` reads it
+    this.heard = ""; // what the monitor has told of it
     this.schedule = ["check sum", "reader 5 16", "reader 6 16"];
     this.hasSchedule = true;
     this.panelOn = true;
     this.readers = [0, 1].map(() => ({ on: true, busy: false, relay: 0, begins: null, issued: [], taken: [], settled: [], unsettled: [], withdrawn: [], queued: [], reported: [], ended: [] }));
     this.must(this.calls.start_panel());
+    this.must(this.calls.start_monitor());
     for (const which of [0, 1]) {
       this.must(this.calls.start_device(which));
       this.must(this.calls.begin_session(which, 0));
@@ -159,12 +161,29 @@ class Line {
       return;
     }
     this.capture.push(hex(bytes));
+    this.must(this.calls.monitor_hears(this.machines.hand(bytes)));
+    this.heard += this.monitorText();
     if (isToReaders) {
       this.readers.forEach((reader, which) => reader.on && this.readerHears(which, bytes));
     } else if (this.panelOn) {
       this.must(this.calls.panel_hears(this.machines.hand(bytes), this.now));
       this.takeReports();
     }
+  }
+
+  // What the monitor has told and nobody has taken.
+  monitorText() {
+    let text = "";
+    for (let length = this.calls.monitor_text(); length !== 0; length = this.calls.monitor_text()) {
+      text += this.machines.text(length);
+    }
+    return text;
+  }
+
+  // What the monitor has told, and its table so far.
+  monitorWords() {
+    this.must(this.calls.monitor_tells_table());
+    return this.heard + this.monitorText();
   }
 
   readerHears(which, bytes) {

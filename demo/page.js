@@ -98,6 +98,8 @@ function draw() {
   at("schedule").scrollTop = at("schedule").scrollHeight;
   at("capture").textContent = line.capture.join("\n");
   at("capture").scrollTop = at("capture").scrollHeight;
+  at("heard").textContent = line.monitorWords();
+  at("heard").scrollTop = at("heard").scrollHeight;
 }
 
 // One step: the packet in front comes through, or where nothing is on its way, time passes.

@@ -1,5 +1,5 @@
 /*
- * OSDP, the panel's and the device's end of the link, for C and for whatever calls C.
+ * OSDP, the panel's and the device's end of the link and a monitor beside them, for C and for whatever calls C.
  *
  * The functions are proved: what each does is stated over the definitions of the machines, and checked by Rattle's prover. They
  * are in the archive libosdp_c.a, which `rt lib` builds from crates/osdp_c. What stands between a caller and the proof is this
@@ -31,7 +31,7 @@
  * What the caller owes. No proof checks it. Each has what happens otherwise:
  *
  * - A handle is all zeros, or what the calls on it left there. A copy that is used beside it, or words that were changed, are
- *   memory that was freed: anything may happen. The two handles have fields of their own, so that the compiler sees a cast from
+ *   memory that was freed: anything may happen. The three handles have fields of their own, so that the compiler sees a cast from
  *   one to the other.
  * - A handle is used by one thread at a time, one call at a time, and in no signal handler: each call takes the machine out of
  *   its handle while it runs. So two calls at once find no machine (OSDP_NO_MACHINE), or both find it, and anything may happen.
@@ -115,7 +115,7 @@ typedef uint64_t osdp_size;
 #define OSDP_CHECKED
 #endif
 
-/* What became of a call. The two digits from 11 on are those of the machines' own refusals: 1 for M, 2 for B, 3 for C, 4 for N. */
+/* What became of a call. The two digits from 11 on are those of the machines' own refusals: 1 for M, 2 for B, 3 for C, 4 for N, 5 for L. */
 typedef enum osdp_status {
     /* The call was done. */
     OSDP_OK = 0,
@@ -168,7 +168,16 @@ typedef enum osdp_status {
     /* N2: as many events wait as there is room for. */
     OSDP_EVENTS_FULL = 42,
     /* N3: the address is above 126, or the capacity or the gap is out of its range. */
-    OSDP_DEVICE_OUT_OF_RANGE = 43
+    OSDP_DEVICE_OUT_OF_RANGE = 43,
+
+    /* L1: there is no memory for a monitor, or for what it heard: then it has stopped. */
+    OSDP_MONITOR_NO_MEMORY = 51,
+    /* L2: the monitor has counted 2^60 packets or bytes, and has stopped. */
+    OSDP_MONITOR_TOO_LONG = 52,
+    /* L3: what is to be printed is none of the three numbers. */
+    OSDP_MONITOR_OUT_OF_RANGE = 53,
+    /* L4: the monitor has stopped at an earlier call. */
+    OSDP_MONITOR_STOPPED = 54
 } osdp_status;
 
 /* What a status says, in a few words that end with a zero; never null. In c/osdp_texts.c, and in libosdp.a. */
@@ -1128,6 +1137,80 @@ OSDP_CHECKED static inline osdp_status osdp_device_answer_list(osdp_device *devi
 OSDP_CHECKED osdp_status osdp_device_answer_refused(osdp_device *device, uint8_t reason);
 OSDP_CHECKED static inline osdp_status osdp_device_answer_maker(osdp_device *device, const uint8_t *vendor, const uint8_t *bytes, osdp_size length);
 
+/* ---- A monitor: what happens on a line, and which end breaks its rules ---- */
+
+/*
+ * A monitor listens to one line, and speaks on none. What it finds it tells in lines of text, those of the program `osdp monitor`: its manual page says what
+ * each means. A monitor may begin to listen at any moment: what it hasn't heard it doesn't judge.
+ *
+ *     status = .. bytes have come .. ? osdp_monitor_bytes(&monitor, bytes, length) : .. none for the gap .. ? osdp_monitor_silence(&monitor) : OSDP_OK;
+ *     while (osdp_monitor_next_text(&monitor, text, sizeof text, &count) == OSDP_OK && count != 0) {
+ *         fwrite(text, 1, count, stdout);
+ *     }
+ */
+
+/* A monitor. All zeros is none: `osdp_monitor monitor = {0};`. Its words are not read or written by the caller. 16 bytes. */
+typedef struct osdp_monitor {
+    void *monitor;
+    osdp_size monitor_live;
+} osdp_monitor;
+
+/* What has a line of text. Each accusation and each notice has, and each refused byte. */
+enum {
+    /* Nothing else. */
+    OSDP_PRINTS_FOUND = 0,
+    /* And each packet and skipped byte, but no POLL, and no ACK that answers a POLL. */
+    OSDP_PRINTS_TALK = 1,
+    /* And each packet and skipped byte. */
+    OSDP_PRINTS_PACKETS = 2
+};
+
+/*
+ * A monitor of a line of which nothing was heard. `prints` is OSDP_PRINTS_FOUND to OSDP_PRINTS_PACKETS. `standard` is 0, or another number by which accusations
+ * are left out that the standard doesn't ask for: other makers may do otherwise. The handle is none before.
+ *
+ * OSDP_IN_USE: the handle holds a monitor, which stays. OSDP_MONITOR_OUT_OF_RANGE (L3). OSDP_MONITOR_NO_MEMORY (L1).
+ */
+OSDP_CHECKED osdp_status osdp_monitor_new(osdp_monitor *monitor, uint32_t prints, uint32_t standard);
+
+/* Frees a monitor and all that belongs to it; the handle is none after it. OSDP_NO_MACHINE. */
+OSDP_CHECKED osdp_status osdp_monitor_free(osdp_monitor *monitor);
+
+/*
+ * Bytes have come on the line, in any pieces. What is told of the packets that they finish comes after the text that waits.
+ *
+ * It takes memory: a block for each address at the first packet to it, and the text. Where there is none the monitor stops: the text that waited is gone, and
+ * each later call that hears or asks gives OSDP_MONITOR_STOPPED. Free it, and make another one.
+ *
+ * OSDP_NO_MACHINE. OSDP_MONITOR_NO_MEMORY (L1), OSDP_MONITOR_TOO_LONG (L2): it has stopped. OSDP_MONITOR_STOPPED (L4): it had stopped before.
+ */
+OSDP_CHECKED static inline osdp_status osdp_monitor_bytes(osdp_monitor *monitor, const uint8_t *bytes, osdp_size length);
+
+/*
+ * The line was silent for the gap, such as 20 ms: the run of bytes is over, and what was begun is no packet. A monitor has no clock: its program tells it so,
+ * once after bytes, since lines of text count the runs. Those of `osdp_monitor_bytes`.
+ */
+OSDP_CHECKED osdp_status osdp_monitor_silence(osdp_monitor *monitor);
+
+/* Puts the table of what was heard of each address after the text that waits, and what is amiss by it. Those of `osdp_monitor_bytes`. */
+OSDP_CHECKED osdp_status osdp_monitor_table(osdp_monitor *monitor);
+
+/*
+ * Takes the next of the text that waits: as many bytes as `room` says, or all where they are fewer. They are written to `text`, and how many they are to
+ * `text_length`; a zero comes after them where there is room for one more byte. What had no room waits for the next call, so a line of text may be cut in two.
+ * 0 bytes: none waits.
+ *
+ * OSDP_NO_MACHINE.
+ */
+OSDP_CHECKED static inline osdp_status osdp_monitor_next_text(osdp_monitor *monitor, char *text, osdp_size room, osdp_size *text_length);
+
+/*
+ * Whether somebody was accused or something refused so far, or packets came of which none could be judged: 1, else 0. It is what `osdp monitor` ends with.
+ *
+ * OSDP_NO_MACHINE. OSDP_MONITOR_STOPPED (L4).
+ */
+OSDP_CHECKED osdp_status osdp_monitor_is_wrong(osdp_monitor *monitor, uint32_t *wrong);
+
 /* ---- What the archive needs from outside ---- */
 
 /* A block of memory, or none where `ok` is false; `block` is the address of some byte then too. */
@@ -1172,6 +1255,8 @@ OSDP_CHECKED osdp_status osdp_device_step_nonnull(
     osdp_device *device, const uint8_t *bytes, osdp_size length, uint64_t now, osdp_size *taken, struct osdp_answer *answer);
 OSDP_CHECKED osdp_status osdp_device_answer_list_nonnull(osdp_device *device, const uint8_t *states, osdp_size length);
 OSDP_CHECKED osdp_status osdp_device_answer_maker_nonnull(osdp_device *device, const uint8_t *vendor, const uint8_t *bytes, osdp_size length);
+OSDP_CHECKED osdp_status osdp_monitor_bytes_nonnull(osdp_monitor *monitor, const uint8_t *bytes, osdp_size length);
+OSDP_CHECKED osdp_status osdp_monitor_next_text_nonnull(osdp_monitor *monitor, char *text, osdp_size room, osdp_size *text_length);
 
 /* Whether there is nothing at a pointer, though so many bytes or records are to be there. */
 static inline int osdp_is_missing(const void *pointer, osdp_size length)
@@ -1345,6 +1430,22 @@ static inline osdp_status osdp_device_answer_maker(osdp_device *device, const ui
         return OSDP_BAD_LENGTH;
     }
     return osdp_device_answer_maker_nonnull(device, vendor, osdp_some_bytes(bytes), length);
+}
+
+static inline osdp_status osdp_monitor_bytes(osdp_monitor *monitor, const uint8_t *bytes, osdp_size length)
+{
+    if (osdp_is_missing(bytes, length)) {
+        return OSDP_BAD_LENGTH;
+    }
+    return osdp_monitor_bytes_nonnull(monitor, osdp_some_bytes(bytes), length);
+}
+
+static inline osdp_status osdp_monitor_next_text(osdp_monitor *monitor, char *text, osdp_size room, osdp_size *text_length)
+{
+    if (osdp_is_missing(text, room)) {
+        return OSDP_BAD_LENGTH;
+    }
+    return osdp_monitor_next_text_nonnull(monitor, osdp_some_room(text), room, text_length);
 }
 
 #ifdef __cplusplus

@@ -15,6 +15,8 @@ OSDP_SIZE(osdp_panel, 16, 8);
 OSDP_AT(osdp_panel, panel_live, 8);
 OSDP_SIZE(osdp_device, 16, 8);
 OSDP_AT(osdp_device, device_live, 8);
+OSDP_SIZE(osdp_monitor, 16, 8);
+OSDP_AT(osdp_monitor, monitor_live, 8);
 OSDP_SIZE(osdp_moment, 16, 8);
 OSDP_AT(osdp_moment, present, 8);
 OSDP_SIZE(osdp_panel_config, 40, 4);

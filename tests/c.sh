@@ -1,7 +1,7 @@
 #!/usr/bin/env bash
 # Builds the archive for C and for Rust, as `rt lib` does (`archive.py`), and looks at it from outside: the names in it against those of the header and of
 # rust/, and their numbers against the definitions; the structs, each with the bytes around it; a whole session in C over malloc, with each block refused in
-# turn, over the fixed pool, and with the address sanitizer and its leak detection; the examples in C, with all warnings as errors; and the example in Rust,
+# turn, over the fixed pool, and with the address sanitizer and its leak detection; a monitor on the rows of `osdp monitor` (`c_monitor.py`); the examples in C, with all warnings as errors; and the example in Rust,
 # with no crate from outside, also without the archive as far as nothing is linked. Where a compiler, cargo or another tool isn't there, it fails and names it.
 set -u
 cd "$(dirname "$0")/.." || exit 1
@@ -72,6 +72,9 @@ for name in ages limits messages moments nulls; do
   build "$name" "tests/c/$name.c" c/heap_malloc.c "$archive" "${checked[@]}" && passes "$work/$name"
 done
 
+build monitor tests/c/monitor.c c/heap_malloc.c "${counted[@]}" "$archive" && passes "$work/monitor"
+build monitor_checked tests/c/monitor.c c/heap_malloc.c "${counted[@]}" "$archive" "${checked[@]}" && passes "$work/monitor_checked"
+
 build site tests/c/site.c c/heap_malloc.c c/osdp_site.c "$archive" "${checked[@]}" && passes "$work/site"
 
 for heap in malloc pool; do
@@ -99,7 +102,8 @@ build leak tests/c/leak.c c/heap_malloc.c "$archive" "${checked[@]}" &&
   fi
 
 examples/c/build "$work" -Werror >"$work/said" 2>&1 || { cat "$work/said"; fail "an example in C was not built"; }
-for words in "panel" "panel /dev/null 9600 5 gap" "panel /dev/null 9600 5 check none" "reader /dev/null 9600 cap 1:2" "reader /dev/null"; do
+passes python3 tests/c_monitor.py "$work/monitor_checked" "$work/listen"
+for words in "listen" "listen /dev/null 9600 gap 30" "panel" "panel /dev/null 9600 5 gap" "panel /dev/null 9600 5 check none" "reader /dev/null 9600 cap 1:2" "reader /dev/null"; do
   "$work/"$words >"$work/said" 2>&1
   [ $? -eq 2 ] || fail "$words: the words are not refused"
 done

@@ -3,7 +3,7 @@
 
 - Of each schedule here each step is clicked. The page then has written down the same schedule, and its lists are the account that `osdp sim` gives of it.
 - Some hundred clicks by chance, on whatever may be clicked: the lists are the account of the schedule that the page has written down.
-- Of what has come through on the line `osdp monitor` accuses nobody, where nothing is lost alone on its way to one end.
+- The monitor on the page tells of each line what `osdp monitor` prints of it. It accuses nobody where nothing is lost alone on its way to one end.
 - It runs by itself, and stops.
 - Power is pulled: what the page tells is what the rules say, and no order is done twice.
 - The page fetches nothing, and no script of it has failed.
@@ -97,7 +97,7 @@ class Clicked:
         self.text = chromium(folder, copy, "--virtual-time-budget=5000", "--dump-dom")
         self.copy = copy
         self.failed = html.unescape((re.search(r'data-failed="([^"]*)"', self.text) or ["", "" if 'data-ready="yes"' in self.text else "it isn't ready"])[1])
-        self.said, self.schedule, self.capture = (html.unescape((re.search(rf'<pre id="{name}">(.*?)</pre>', self.text, re.S) or ["", ""])[1]) for name in ("said", "schedule", "capture"))
+        self.said, self.schedule, self.capture, self.heard = (html.unescape((re.search(rf'<pre id="{name}">(.*?)</pre>', self.text, re.S) or ["", ""])[1]) for name in ("said", "schedule", "capture", "heard"))
         self.counts = {(name, int(which)): int(count) for name, which, count in re.findall(r'data-count="(\w+)" data-which="(\d)">(\d+)', self.text)}
 
     def account(self):
@@ -112,6 +112,13 @@ def account(program, schedule):
     return [line for line in done.stdout.splitlines() if line.startswith("reader ")]
 
 
+def judge_words(program, what, clicked):
+    """The monitor's words on the page are those that the program prints of the line: how many lines they have before the table."""
+    done = subprocess.run([program, "monitor"], input="".join(f"{line}\n" for line in clicked.capture.splitlines()), capture_output=True, text=True)
+    tell(f"{what}: the monitor's words", done.stdout, clicked.heard)
+    return clicked.heard.partition("device  asked")[0].count("\n")
+
+
 def judge_schedules(program, folder, page):
     for name, schedule in SCHEDULES.items():
         clicked = Clicked(folder, page, clicks(schedule))
@@ -119,6 +126,7 @@ def judge_schedules(program, folder, page):
         wanted = ["check sum", "reader 5 16", "reader 6 16", *schedule.splitlines()]
         tell(f"{name}: the schedule", wanted, [re.sub(r" damage .*", " damage", line) for line in clicked.schedule.splitlines()])
         tell(f"{name}: the account", account(program, clicked.schedule + "\n"), clicked.account())
+        judge_words(program, name, clicked)
 
 
 def judge_chance(program, folder, page):
@@ -128,13 +136,15 @@ def judge_chance(program, folder, page):
         tell(f"chance {seed}: failed", "", clicked.failed)
         wanted = account(program, clicked.schedule + "\n")
         tell(f"chance {seed}: the account", wanted, clicked.account())
-        print(f"demo: {len(clicked.schedule.splitlines())} steps by chance: {'; '.join(wanted)}")
+        told = judge_words(program, f"chance {seed}", clicked)
+        print(f"demo: {len(clicked.schedule.splitlines())} steps by chance: {'; '.join(wanted)}; the monitor tells {told} lines")
+        tell(f"chance {seed}: the monitor tells something", True, told > 10)
         for (name, _), count in clicked.counts.items():
             happened[name] += count
     tell("what never happens by chance", [], [name for name, count in happened.items() if count == 0])
 
 
-def judge_power(folder, page):
+def judge_power(program, folder, page):
     opened = "\n".join(clicked_opening()) + "\n"
     reader = Clicked(folder, page, [*clicks(opened + "issue 1 OUT 0:2:0\npower 1\npower 1\n"), *["#step"] * 120])
     tell("a reader without power: failed", "", reader.failed)
@@ -148,6 +158,7 @@ def judge_power(folder, page):
     tell("a panel that restarts opens again", [2, 2], [panel.said.count(f"panel: reader {which} is there") for which in (1, 2)])
     tell("no order is done twice", (1, 1), (panel.counts["taken", 1], panel.counts["settled", 1]))
     tell("no schedule", True, panel.schedule.startswith("power was pulled"))
+    tell("restarts are told", [True, True], [judge_words(program, "power", each) > 2 for each in (reader, panel)])
 
 
 def clicked_opening():
@@ -167,6 +178,7 @@ def judge_heard(program, folder, page):
     heard = Clicked(folder, page, [*clicks(begun), *["#step"] * 60, *clicks("busy 2 off\n"), *["#step"] * 60])
     done = subprocess.run([program, "monitor"], input=heard.capture + "\n", capture_output=True, text=True)
     tell("the monitor's status", (0, ""), (done.returncode, done.stderr))
+    judge_words(program, "a quiet line", heard)
     table = {cells[0]: cells for cells in map(str.split, done.stdout.splitlines()) if len(cells) == 13}
     tell("events and openings that it has heard", [("1", "1"), ("0", "1")], [(table[each][7], table[each][8]) for each in ("5", "6")])
 
@@ -183,7 +195,7 @@ def main():
     with tempfile.TemporaryDirectory() as folder:
         judge_schedules(program, folder, page)
         judge_chance(program, folder, page)
-        judge_power(folder, page)
+        judge_power(program, folder, page)
         judge_heard(program, folder, page)
         judge_run(folder, page)
         if len(sys.argv) > 3:

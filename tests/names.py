@@ -31,6 +31,7 @@ NUMBERED = (
     ("Reports", r"^(?P<name>maybe_again) = (?P<number>\d+)$", "OSDP_EVENT_"),
     ("Reports", r"^cause_number (?P<name>\w+) = (?P<number>\d+)$", "OSDP_LOST_"),
     ("Answers", r"^kind_number (?P<name>\w+) = (?P<number>\d+)$", "OSDP_SAID_"),
+    ("Monitors", r"prints == (?P<number>\d+) then Some \(?(?P<name>\w+)", "OSDP_PRINTS_"),
     ("Readers", r"^how_expired \(?(?:Some \()?(?P<name>\w+).* = (?P<number>\d+)$", "OSDP_EXPIRED_"),
     ("Answers", r"^order_number (?P<name>\w+) = (?P<number>\d+)$", "OSDP_ORDER_"),
     ("Answers", r"^(?P<name>pends) .* \(ordered (?P<number>\d+) ", "OSDP_ORDER_"),
@@ -55,7 +56,8 @@ TERMS = {
 OTHERWISE = {
     "Done": "OK", "message.Length": "BAD_LENGTH", "message.Count": "BAD_COUNT", "bus.NoMemory": "PANEL_NO_MEMORY",
     "bus.OutOfRange": "PANEL_OUT_OF_RANGE", "bus.Full": "COMMANDS_FULL", "reader.NoMemory": "DEVICE_NO_MEMORY",
-    "reader.OutOfRange": "DEVICE_OUT_OF_RANGE", "check": "CRC", "PollAnswered": "ANSWERED", "Silent": "NONE",
+    "reader.OutOfRange": "DEVICE_OUT_OF_RANGE", "monitor.NoMemory": "MONITOR_NO_MEMORY", "monitor.TooLong": "MONITOR_TOO_LONG",
+    "monitor.OutOfRange": "MONITOR_OUT_OF_RANGE", "monitor.Stopped": "MONITOR_STOPPED", "Refusals": "FOUND", "Filtered": "TALK", "Full": "PACKETS", "check": "CRC", "PollAnswered": "ANSWERED", "Silent": "NONE",
     "Nothing": "NONE",
 }
 # Numbers in the fields of messages, from the tables of OSDP 2.2: no definition names them, since a message with any other number is read and written too

@@ -5,6 +5,7 @@
 - Each public name has a docstring, and each public call types.
 - A session between both ends: an order is done once, an event is told once, where answers are lost too; a device keeps what it is told, and lets old events go.
 - Each refusal comes as an OsdpError with its status, and changes nothing; what ctypes would cut is no number for it.
+- A monitor tells what the rows of `osdp monitor` have.
 - The example prints what docs/GUIDE.md promises of such a session."""
 import ctypes
 import inspect
@@ -20,6 +21,7 @@ sys.dont_write_bytecode = True
 import osdp  # noqa: E402
 from osdp import _library as library  # noqa: E402
 from osdp import message as messages  # noqa: E402
+from rows import rows_of  # noqa: E402
 
 faults = []
 PLAIN = {"uint8_t": "c_uint8", "uint16_t": "c_uint16", "uint32_t": "c_uint32", "uint64_t": "c_uint64", "size_t": "c_size_t", "osdp_size": "c_size_t", "char": "c_char", "void": "c_void_p"}
@@ -84,7 +86,7 @@ def judge_numbers(text):
     numbers = {name: int(value, 0) for name, value in re.findall(r"\bOSDP_(\w+) = (\w+)", text)}
     plain = re.search(r"typedef enum osdp_status \{(.*?)\}", text, re.S)[1]
     tell("statuses", {name: numbers[name] for name in re.findall(r"OSDP_(\w+) =", plain)}, {each.name: each.value for each in osdp.Status})
-    for kind, front, without in ((osdp.Kind, "REPORT_", "NONE"), (osdp.Cause, "LOST_", ""), (osdp.Said, "SAID_", ""), (osdp.Order, "ORDER_", ""), (osdp.Expired, "EXPIRED_", "NONE")):
+    for kind, front, without in ((osdp.Kind, "REPORT_", "NONE"), (osdp.Cause, "LOST_", ""), (osdp.Said, "SAID_", ""), (osdp.Order, "ORDER_", ""), (osdp.Expired, "EXPIRED_", "NONE"), (osdp.Prints, "PRINTS_", "")):
         wanted = {name[len(front):]: value for name, value in numbers.items() if name.startswith(front) and name != front + without}
         tell(front, wanted, {each.name: each.value for each in kind})
     tell("the longest text", numbers["MOST_TEXT"], messages.MOST_TEXT)
@@ -247,6 +249,28 @@ def judge_device():
     tell("replies", ["PDID 53494D 1 2 3 4 5 6", "PDCAP 2:1:4", "LSTATR 1 0", "ISTATR 0100", "OSTATR 0001", "RSTATR 00", "NAK 9", "MFGREP 53494D 02", "NAK 3"], replies)
 
 
+def judge_monitor():
+    """What a monitor tells of the rows of `osdp monitor`, whose texts are worked by hand; a closed one hears nothing."""
+    told = 0
+    for row in rows_of(TOP / "tests/rows/monitor.txt"):
+        for words in row.words:
+            if words in (["monitor", "--hex"], ["monitor", "--hex", "--standard"], ["monitor", "--talk"]) and row.status < 2:
+                with osdp.Monitor(osdp.Prints.TALK if "--talk" in words else osdp.Prints.FOUND, "--standard" in words) as monitor:
+                    text = ""
+                    for line in row.input.decode().splitlines():
+                        monitor.hear(bytes.fromhex(line))
+                        monitor.silence()
+                        text += monitor.text()
+                    monitor.tell_table()
+                    tell(f"{row.place}: the monitor", (row.output.decode(), bool(row.status), ""), (text + monitor.text(), monitor.is_wrong(), monitor.text()))
+                    told += 1
+    tell("rows of a monitor", True, told >= 25)
+    monitor = osdp.Monitor()
+    monitor.close(), monitor.close()
+    refused("a closed monitor", osdp.Status.NO_MACHINE, monitor.hear, b"")
+    refused("a closed monitor's text", osdp.Status.NO_MACHINE, monitor.text)
+
+
 def judge_example():
     done = subprocess.run([sys.executable, TOP / "python/examples/session.py"], capture_output=True, text=True)
     tell("the example", "OPENED: None PDID 53494D 0 0 1 0 0 0\ndone: OUT 0:5:30\nSETTLED: OUT 0:5:30 ACK\nEVENT: None KEYPAD 0 31\n", done.stdout + done.stderr)
@@ -256,6 +280,6 @@ if __name__ == "__main__":
     judge_structs(header()), judge_functions(header()), judge_numbers(header()), judge_docs()
     for lost in ([], [41], [46], [30, 61, 66]):
         judge_session(lost)
-    judge_again(), judge_pieces(), judge_refusals(), judge_rooms(), judge_device(), judge_example()
+    judge_again(), judge_pieces(), judge_refusals(), judge_rooms(), judge_device(), judge_monitor(), judge_example()
     print(f"python: {len(faults)} faults", *faults, sep="\n")
     sys.exit(1 if faults else 0)

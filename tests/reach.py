@@ -19,7 +19,7 @@ import kept  # noqa: E402
 from targets import TARGETS, clang, compiles  # noqa: E402
 
 REACH = TOP / "tests/reach"
-POOL = "-DOSDP_POOL=131072"
+POOL = "-DOSDP_POOL=262144"
 C = ["-std=c11", "-Wall", "-Wextra", "-Werror", f"-I{TOP / 'include'}", f"-isystem{TOP / 'tools/retargeting/freestanding'}"]
 # What each target's session is made of beside session.c, how it is linked, and what runs it
 CORTEX = ["-T", str(REACH / "cortex.ld")]

@@ -1,4 +1,4 @@
-"""Panel and device of an OSDP line, over the machines that are proved in Rattle, for test benches.
+"""Panel, device and monitor of an OSDP line, over the machines that are proved in Rattle, for test benches.
 
 What is proved is the shared library; this package is ordinary Python over it, by ctypes. Nothing here reads, writes, sleeps or keeps a clock: the program
 reads its port, hands in bytes and the moment, and writes what it is given. Moments and times are whole milliseconds, of any clock that doesn't go backwards.
@@ -16,7 +16,11 @@ docs/GUIDE.md says what a panel and a device do, and what each report asks for.
 from ._library import OsdpError, Status, library_version
 from .device import Answer, Device, Expired, Order, Said
 from .message import Card, Message
+from .monitor import Monitor, Prints
 from .panel import Cause, Kind, Panel, Report
 
-__all__ = ["Answer", "Card", "Cause", "Device", "Expired", "Kind", "Message", "Order", "OsdpError", "Panel", "Report", "Said", "Status", "library_version"]
+__all__ = [
+    "Answer", "Card", "Cause", "Device", "Expired", "Kind", "Message", "Monitor", "Order", "OsdpError", "Panel", "Prints", "Report", "Said", "Status",
+    "library_version",
+]
 __version__ = "0.1.0"

@@ -38,10 +38,14 @@ class Status(enum.IntEnum):
     DEVICE_NO_MEMORY = 41
     EVENTS_FULL = 42
     DEVICE_OUT_OF_RANGE = 43
+    MONITOR_NO_MEMORY = 51
+    MONITOR_TOO_LONG = 52
+    MONITOR_OUT_OF_RANGE = 53
+    MONITOR_STOPPED = 54
 
 
 class OsdpError(Exception):
-    """A call was refused, and has changed nothing. `status` says why."""
+    """A call was refused, and has changed nothing, but that a monitor without memory stops. `status` says why."""
 
     def __init__(self, status: Status) -> None:
         super().__init__(library.osdp_status_text(status).decode())
@@ -114,13 +118,19 @@ class AnswerStruct(ctypes.Structure):
     _fields_ = [("kind", c_uint32), ("order", c_uint32), ("moved", c_uint32), ("address", c_uint32), ("baud_rate", c_uint32), ("command", MessageStruct), ("burst", BurstStruct)]
 
 
+class MonitorHandle(ctypes.Structure):
+    """A monitor's handle; all zeros is none."""
+
+    _fields_ = [("monitor", c_void_p), ("monitor_live", c_size_t)]
+
+
 # the structs by their names in the header
 STRUCTS = {
     "osdp_message": MessageStruct, "osdp_burst": BurstStruct, "osdp_raw": RawStruct, "osdp_product": ProductStruct, "osdp_panel": PanelHandle,
     "osdp_panel_config": PanelConfigStruct, "osdp_moment": MomentStruct, "osdp_report": ReportStruct, "osdp_device": DeviceHandle,
-    "osdp_device_config": DeviceConfigStruct, "osdp_answer": AnswerStruct,
+    "osdp_device_config": DeviceConfigStruct, "osdp_answer": AnswerStruct, "osdp_monitor": MonitorHandle,
 }
-PANEL, DEVICE, MESSAGE, ANSWER = POINTER(PanelHandle), POINTER(DeviceHandle), POINTER(MessageStruct), POINTER(AnswerStruct)
+PANEL, DEVICE, MONITOR, MESSAGE, ANSWER = POINTER(PanelHandle), POINTER(DeviceHandle), POINTER(MonitorHandle), POINTER(MessageStruct), POINTER(AnswerStruct)
 SIZE, NUMBER = POINTER(c_size_t), POINTER(c_uint32)
 # what each function takes; each gives a status, but for those that give nothing
 TAKES = {
@@ -170,6 +180,13 @@ TAKES = {
     "osdp_device_answer_list_nonnull": (DEVICE, c_char_p, c_size_t),
     "osdp_device_answer_refused": (DEVICE, c_uint8),
     "osdp_device_answer_maker_nonnull": (DEVICE, c_char_p, c_char_p, c_size_t),
+    "osdp_monitor_new": (MONITOR, c_uint32, c_uint32),
+    "osdp_monitor_free": (MONITOR,),
+    "osdp_monitor_bytes_nonnull": (MONITOR, c_char_p, c_size_t),
+    "osdp_monitor_silence": (MONITOR,),
+    "osdp_monitor_table": (MONITOR,),
+    "osdp_monitor_next_text_nonnull": (MONITOR, c_char_p, c_size_t, SIZE),
+    "osdp_monitor_is_wrong": (MONITOR, NUMBER),
 }
 NO_STATUS = {"osdp_panel_defaults"}
 

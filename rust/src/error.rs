@@ -3,7 +3,7 @@
 use crate::sys;
 use core::fmt;
 
-/// Why a call is refused. A refused call has changed nothing.
+/// Why a call is refused. A refused call has changed nothing, but that a `Monitor` without memory stops.
 #[derive(Clone, Copy, Debug, PartialEq, Eq)]
 #[non_exhaustive]
 pub enum Error {
@@ -39,6 +39,10 @@ pub enum Error {
     NotAsked,
     /// The moment lies further after the greatest one seen than the setting allows: a clock has failed, or the host slept.
     MomentTooFar,
+    /// A monitor has counted 2^60 packets or bytes, and has stopped.
+    TooLong,
+    /// The monitor has stopped at an earlier call.
+    Stopped,
     /// A status that this crate doesn't know.
     Other(u32),
 }
@@ -62,6 +66,8 @@ impl fmt::Display for Error {
             Error::NotClosed => "the session isn't closed",
             Error::NotAsked => "no command waits for an answer",
             Error::MomentTooFar => "the moment lies too far ahead",
+            Error::TooLong => "the monitor has counted as much as it can",
+            Error::Stopped => "the monitor has stopped",
             Error::Other(status) => return write!(f, "status {status}"),
         })
     }
@@ -78,17 +84,23 @@ pub(crate) fn check(status: sys::osdp_status) -> Result<(), Error> {
         sys::OSDP_UNKNOWN_CODE => Error::UnknownCode,
         sys::OSDP_BAD_LENGTH => Error::BadLength,
         sys::OSDP_BAD_COUNT => Error::BadCount,
-        sys::OSDP_PANEL_NO_MEMORY | sys::OSDP_DEVICE_NO_MEMORY => Error::NoMemory,
+        sys::OSDP_PANEL_NO_MEMORY | sys::OSDP_DEVICE_NO_MEMORY | sys::OSDP_MONITOR_NO_MEMORY => {
+            Error::NoMemory
+        }
         sys::OSDP_TOO_MANY => Error::TooManyDevices,
         sys::OSDP_ADDRESS_TAKEN => Error::AddressTaken,
         sys::OSDP_NO_ENTRY => Error::NoEntry,
-        sys::OSDP_PANEL_OUT_OF_RANGE | sys::OSDP_DEVICE_OUT_OF_RANGE => Error::OutOfRange,
+        sys::OSDP_PANEL_OUT_OF_RANGE
+        | sys::OSDP_DEVICE_OUT_OF_RANGE
+        | sys::OSDP_MONITOR_OUT_OF_RANGE => Error::OutOfRange,
         sys::OSDP_ADDRESS_OUT_OF_RANGE => Error::AddressOutOfRange,
         sys::OSDP_COMMANDS_FULL | sys::OSDP_EVENTS_FULL => Error::Full,
         sys::OSDP_POLL_SUBMITTED => Error::PollSubmitted,
         sys::OSDP_NOT_CLOSED => Error::NotClosed,
         sys::OSDP_NOT_ASKED => Error::NotAsked,
         sys::OSDP_MOMENT_TOO_FAR => Error::MomentTooFar,
+        sys::OSDP_MONITOR_TOO_LONG => Error::TooLong,
+        sys::OSDP_MONITOR_STOPPED => Error::Stopped,
         other => Error::Other(other),
     })
 }

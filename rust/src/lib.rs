@@ -1,4 +1,4 @@
-//! Panel and device of an OSDP line, over machines that are proved in Rattle.
+//! Panel, device and monitor of an OSDP line, over machines that are proved in Rattle.
 //!
 //! This crate links `libosdp_c.a`, which `rt lib` builds from `crates/osdp_c`. What is proved is the archive; this crate is ordinary Rust, with
 //! `unsafe` calls into it. `docs/GUIDE.md` says what a panel and a device do, and what each report asks for.
@@ -62,6 +62,7 @@ mod fields;
 #[cfg(feature = "heap")]
 mod heap;
 mod message;
+mod monitor;
 pub mod named;
 mod numbered;
 mod panel;
@@ -78,6 +79,7 @@ pub use fields::{
     Product, Reply, Text,
 };
 pub use message::{Command, RawReply, Unsent};
+pub use monitor::{Monitor, Prints};
 pub use named::{card, color, function, led, output, reader, state, text, tone};
 pub use panel::{Check, Entry, LostCause, Panel, PanelConfig, Report};
 pub use site::{Presence, Site, SiteError};

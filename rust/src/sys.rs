@@ -29,6 +29,10 @@ pub const OSDP_NOT_CLOSED: u32 = 35;
 pub const OSDP_DEVICE_NO_MEMORY: u32 = 41;
 pub const OSDP_EVENTS_FULL: u32 = 42;
 pub const OSDP_DEVICE_OUT_OF_RANGE: u32 = 43;
+pub const OSDP_MONITOR_NO_MEMORY: u32 = 51;
+pub const OSDP_MONITOR_TOO_LONG: u32 = 52;
+pub const OSDP_MONITOR_OUT_OF_RANGE: u32 = 53;
+pub const OSDP_MONITOR_STOPPED: u32 = 54;
 
 pub const OSDP_MOST_DATA: u32 = 1432;
 pub const OSDP_MOST_PACKET: u32 = 1440;
@@ -161,6 +165,10 @@ pub const OSDP_ORDER_AGAIN: u32 = 2;
 pub const OSDP_ORDER_REFUSED: u32 = 3;
 pub const OSDP_ORDER_PENDING: u32 = 4;
 
+pub const OSDP_PRINTS_FOUND: u32 = 0;
+pub const OSDP_PRINTS_TALK: u32 = 1;
+pub const OSDP_PRINTS_PACKETS: u32 = 2;
+
 /// The structs of the header, each with the size that the header tells.
 macro_rules! structs {
     ($($(#[$about:meta])* $name:ident, $size:literal { $($(#[$told:meta])* $field:ident: $kind:ty,)* })*) => {
@@ -228,6 +236,9 @@ structs! {
 
     #[derive(Debug)]
     osdp_device, 16 { device: *mut c_void, device_live: usize, }
+
+    #[derive(Debug)]
+    osdp_monitor, 16 { monitor: *mut c_void, monitor_live: usize, }
 
     #[derive(Clone, Copy)]
     osdp_device_config, 28 {
@@ -414,6 +425,14 @@ calls! {
     osdp_device_step_nonnull(device: *mut osdp_device, bytes: *const u8, length: usize, now: u64, taken: *mut usize, answer: *mut osdp_answer);
     osdp_device_tick(device: *mut osdp_device, now: u64, answer: *mut osdp_answer);
     osdp_device_silence(device: *mut osdp_device, now: u64, answer: *mut osdp_answer);
+
+    osdp_monitor_new(monitor: *mut osdp_monitor, prints: u32, standard: u32);
+    osdp_monitor_free(monitor: *mut osdp_monitor);
+    osdp_monitor_bytes_nonnull(monitor: *mut osdp_monitor, bytes: *const u8, length: usize);
+    osdp_monitor_silence(monitor: *mut osdp_monitor);
+    osdp_monitor_table(monitor: *mut osdp_monitor);
+    osdp_monitor_next_text_nonnull(monitor: *mut osdp_monitor, text: *mut c_char, room: usize, text_length: *mut usize);
+    osdp_monitor_is_wrong(monitor: *mut osdp_monitor, wrong: *mut u32);
 
     osdp_raw_of(reply: *const osdp_message, raw: *mut osdp_raw);
     osdp_formatted_of(reply: *const osdp_message, formatted: *mut osdp_formatted);

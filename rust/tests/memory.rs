@@ -1,9 +1,9 @@
-//! Memory: what a panel and a device take is given back when they are dropped, and each block that is refused is told.
+//! Memory: what a panel, a device and a monitor take is given back when they are dropped, and each block that is refused is told.
 //!
 //! It is a program of one thread, since the allocator counts what the whole program takes.
 mod settings;
 
-use osdp::{Device, Error, Panel, PanelConfig};
+use osdp::{Device, Error, Monitor, Panel, PanelConfig, Prints};
 use settings::DEVICE;
 use std::alloc::{GlobalAlloc, Layout, System};
 use std::ptr::null_mut;
@@ -41,6 +41,40 @@ fn both() -> Result<(Panel, Device), Error> {
     panel.add(5)?;
     let device = Device::new(&DEVICE)?;
     Ok((panel, device))
+}
+
+/// How long the text is that a monitor tells of a POLL to address 5. Nothing else here asks for memory.
+fn listened() -> Result<usize, Error> {
+    let mut monitor = Monitor::new(Prints::Packets, false)?;
+    let heard = monitor
+        .on_bytes(&[0x53, 5, 7, 0, 0, 0x60, 0x41])
+        .and_then(|()| monitor.on_silence())
+        .and_then(|()| monitor.tell_table());
+    let mut text = [0; 1024];
+    let told = monitor.next_text(&mut text);
+    if heard.is_err() {
+        assert!(told.is_empty());
+        assert_eq!(monitor.on_bytes(&[]), Err(Error::Stopped));
+        assert_eq!(monitor.is_wrong(), Err(Error::Stopped));
+    }
+    heard.map(|()| told.len())
+}
+
+/// Each block that a monitor takes is refused once: it stops, or isn't made.
+fn monitors_stop() {
+    let before = HELD.load(SeqCst);
+    ASKED.store(0, SeqCst);
+    let told = listened();
+    let asked = ASKED.load(SeqCst);
+    assert!(told.is_ok_and(|length| length > 100) && asked > 4);
+    for number in 1..=asked {
+        ASKED.store(0, SeqCst);
+        REFUSED.store(number, SeqCst);
+        assert_eq!(listened(), Err(Error::NoMemory));
+        assert_eq!(HELD.load(SeqCst), before);
+    }
+    REFUSED.store(0, SeqCst);
+    assert_eq!(listened(), told);
 }
 
 /// How many bytes these machines hold.
@@ -81,4 +115,5 @@ fn main() {
     }
     REFUSED.store(0, SeqCst);
     assert!(asked > 0 && both().is_ok());
+    monitors_stop();
 }

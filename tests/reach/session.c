@@ -1,5 +1,6 @@
 /* A session without a C library, from one seed: a panel and two devices on a line that loses 5% of all bursts, damages 5% and brings 4% twice. There are orders
- * and cards, each device starts anew now and then, the panel too, and addresses are set by COMSET. All that either end says, tells and does goes into one number.
+ * and cards, each device starts anew now and then, the panel too, and addresses are set by COMSET. A monitor listens, and another one now and then takes its
+ * place. All that either end and the monitor say, tell and do goes into one number.
  * So two builds of the calls that differ in one answer print different lines. */
 #include "osdp_layout.h"
 #include "reach.h"
@@ -12,9 +13,10 @@ enum { DEVICES = 2, HELD = 8 };
 
 static osdp_panel panel;
 static osdp_device devices[DEVICES];
+static osdp_monitor monitor;
 static uint32_t addresses[DEVICES], waits[DEVICES];
 static uint64_t now, seed = 0x9E3779B97F4A7C15u, hash = 0xCBF29CE484222325u;
-static uint32_t opened, settled, moved, told, lost, orders, sent, restarts, refused;
+static uint32_t opened, settled, moved, told, lost, orders, sent, restarts, refused, heard;
 
 /* The next number of the seed, below a bound. */
 static uint32_t chance(uint32_t below)
@@ -151,6 +153,38 @@ static void take_reports(void)
     }
 }
 
+/* The text that waits at the monitor goes into the number. */
+static void take_text(void)
+{
+    static char text[64];
+    osdp_size length = 0;
+    while (is_done(osdp_monitor_next_text(&monitor, text, 1 + chance(sizeof text), &length)) && length > 0) {
+        hash_bytes((const uint8_t *)text, (uint32_t)length);
+        heard += (uint32_t)length;
+    }
+}
+
+/* A burst comes by the monitor, in one part or two. */
+static void listen(const struct osdp_burst *burst, uint32_t part)
+{
+    (void)is_done(osdp_monitor_bytes(&monitor, burst->bytes, part));
+    (void)is_done(osdp_monitor_bytes(&monitor, burst->bytes + part, burst->length - part));
+    (void)is_done(osdp_monitor_silence(&monitor));
+    take_text();
+}
+
+/* Another monitor takes the place of the one before, which tells its table. */
+static void begin_monitor(uint32_t number)
+{
+    uint32_t wrong = 0;
+    (void)is_done(osdp_monitor_table(&monitor));
+    take_text();
+    (void)is_done(osdp_monitor_is_wrong(&monitor, &wrong));
+    hash_number(wrong);
+    (void)is_done(osdp_monitor_free(&monitor));
+    (void)is_done(osdp_monitor_new(&monitor, number % 3, number % 2));
+}
+
 /* What is on the line comes to its ends. */
 static void arrive(void)
 {
@@ -159,6 +193,7 @@ static void arrive(void)
     to_devices.count = 0;
     for (uint32_t k = 0; k < taken.count; k++) {
         uint32_t length = taken.bursts[k].length, part = chance(2) ? chance(length) : length;
+        listen(&taken.bursts[k], part);
         for (int i = 0; i < DEVICES; i++) {
             device_hears(i, taken.bursts[k].bytes, part);
             device_hears(i, taken.bursts[k].bytes + part, length - part);
@@ -167,6 +202,7 @@ static void arrive(void)
     taken = to_panel;
     to_panel.count = 0;
     for (uint32_t k = 0; k < taken.count; k++) {
+        listen(&taken.bursts[k], chance(taken.bursts[k].length));
         (void)is_done(osdp_panel_bytes(&panel, taken.bursts[k].bytes, taken.bursts[k].length, now));
         take_reports();
     }
@@ -280,6 +316,9 @@ void session(void)
     }
     begin_panel();
     for (uint32_t k = 0; k < STEPS; k++) {
+        if (k % 400 == 0) {
+            begin_monitor(k / 400);
+        }
         step();
     }
     tell("opened ", opened);
@@ -291,6 +330,7 @@ void session(void)
     tell(" sent ", sent);
     tell(" restarts ", restarts);
     tell(" refused ", refused);
+    tell(" heard ", heard);
     tell(" hash ", hash);
     print("\n");
 }

@@ -1,4 +1,4 @@
-//! The machines for C: a panel and a reader by handles, statuses and plain structs.
+//! The machines for C: a panel, a reader and a monitor by handles, statuses and plain structs.
 //!
 //! `include/osdp.h` declares what is exported here. Each call moves the machine out of its handle, calls it, and moves it back. What
 //! a call does is the definitions in `specs/`, over those of the machines.
@@ -8,6 +8,7 @@ mod events;
 mod fields;
 mod held;
 mod messages;
+mod monitor;
 mod panel;
 mod panel_calls;
 mod read;

@@ -1,3 +1,4 @@
+pub mod AllTold
 pub mod Putting
 mod SlotForms
 mod Slots

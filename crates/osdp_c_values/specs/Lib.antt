@@ -5,9 +5,12 @@ pub mod Clocks
 pub mod Commands
 pub mod Events
 pub mod Fields
+pub mod HeldMonitors
 pub mod Machines
 pub mod Making
 pub mod Moments
+pub mod MonitorCalls
+pub mod Monitors
 pub mod Owning
 pub mod Panels
 pub mod Pieces

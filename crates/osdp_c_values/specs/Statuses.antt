@@ -6,8 +6,10 @@ use Rattle.osdp_msg.specs.declared.fault.MsgFault.{MsgFault}
 use Rattle.osdp_msg.specs.declared.fault.MsgFault.TheVariants as message
 use Rattle.osdp_reader.specs.declared.fault.ReaderFault.{ReaderFault}
 use Rattle.osdp_reader.specs.declared.fault.ReaderFault.TheVariants as reader
+use Rattle.osdp_c_values.specs.declared.monitor_fault.MonitorFault.{MonitorFault}
+use Rattle.osdp_c_values.specs.declared.monitor_fault.MonitorFault.TheVariants as monitor
 use Rattle.osdp_c_values.specs.declared.status.Status.{Status}
-use Rattle.osdp_c_values.specs.declared.status.Status.TheVariants.{Done, NoMachine, InUse, BadText, NoEvent, TooSmall, NotAsked, OtherMessage, MomentTooFar, Message, Panel, Reader, EventsFull}
+use Rattle.osdp_c_values.specs.declared.status.Status.TheVariants.{Done, NoMachine, InUse, BadText, NoEvent, TooSmall, NotAsked, OtherMessage, MomentTooFar, Message, Panel, Reader, EventsFull, Monitor}
 
 -- M1 to M3
 abbrev pub message_status : MsgFault → ℕ
@@ -32,6 +34,13 @@ abbrev pub reader_status : ReaderFault → ℕ
 reader_status reader.NoMemory = 41
 reader_status reader.OutOfRange = 43
 
+-- L1 to L4
+abbrev pub monitor_status : MonitorFault → ℕ
+monitor_status monitor.NoMemory = 51
+monitor_status monitor.TooLong = 52
+monitor_status monitor.OutOfRange = 53
+monitor_status monitor.Stopped = 54
+
 abbrev pub number : Status → ℕ
 number Done = 0
 -- of a handle: it has no machine, or has one already
@@ -46,9 +55,10 @@ number NotAsked = 7
 -- of what is handed over: the message is of another kind, the moment lies too far ahead
 number OtherMessage = 8
 number MomentTooFar = 9
--- faults of a message, a panel and a device
+-- faults of a message, a panel, a device and a monitor
 number (Message fault) = message_status fault
 number (Panel fault) = bus_status fault
 number (Reader fault) = reader_status fault
+number (Monitor fault) = monitor_status fault
 -- N2
 number EventsFull = 42

@@ -3,6 +3,7 @@
 ghost use Rattle.std.specs.Prelude.{◌≡◌};
 ghost use Rattle.osdp_c_values.specs.Statuses.{bus_status, message_status, number, reader_status};
 
+use crate::monitor_fault::MonitorFault;
 use osdp_bus::BusFault;
 use osdp_msg::MsgFault;
 use osdp_reader::ReaderFault;
@@ -36,6 +37,8 @@ pub enum Status {
     Reader(ReaderFault),
     /// N2: as many events wait as there is room for.
     EventsFull,
+    /// A monitor isn't made, or hears nothing.
+    Monitor(MonitorFault),
 }
 
 /// The number of a fault of messages.
@@ -95,6 +98,7 @@ impl Status {
             Status::Panel(fault) => bus_number(fault),
             Status::Reader(fault) => reader_number(fault),
             Status::EventsFull => 42,
+            Status::Monitor(fault) => fault.number(),
         }
     }
 }

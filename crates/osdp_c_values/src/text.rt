@@ -11,7 +11,7 @@ use crate::status::Status;
 use arrayvec::ArrayString;
 
 /// Writes a text, and a zero after it where there is room for one.
-fn fill_text(text: &[u8], out: &mut [u8])
+pub(crate) fn fill_text(text: &[u8], out: &mut [u8])
     requires { length text.now ≤ length out.old }
     ensures { out.new ≡ filled (ended_text text.now out.old) out.old }
 {

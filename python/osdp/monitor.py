@@ -1,0 +1,75 @@
+"""A monitor: what happens on a line, and which end breaks its rules."""
+from __future__ import annotations
+
+import ctypes
+import enum
+
+from ._library import MonitorHandle, call, library
+
+ROOM = 4096
+
+
+class Prints(enum.IntEnum):
+    """What has a line of text: what was found alone; each packet too, but no POLL, and no ACK that answers one; each packet."""
+
+    FOUND = 0
+    TALK = 1
+    PACKETS = 2
+
+
+class Monitor:
+    """A monitor of one line. It tells what it finds in the lines of text of the program `osdp monitor`, whose manual says what each means. It may begin to
+    listen at any moment: what it hasn't heard it doesn't judge. With `standard` it leaves out accusations that the standard doesn't ask for.
+
+    Where there is no memory it stops (MONITOR_NO_MEMORY), and each later call that hears or asks raises OsdpError, MONITOR_STOPPED: close it, and make another.
+
+    It is used by one thread at a time. `close` frees it, and so does the end of a `with`; a call after that raises OsdpError, NO_MACHINE."""
+
+    def __init__(self, prints: Prints = Prints.FOUND, standard: bool = False) -> None:
+        self._handle = MonitorHandle()
+        self._call("new", Prints(prints), bool(standard))
+
+    def _call(self, name: str, *words: object) -> None:
+        call(f"osdp_monitor_{name}", ctypes.byref(self._handle), *words)
+
+    def close(self) -> None:
+        """Frees the monitor. A second call does nothing."""
+        if self._handle.monitor_live:
+            self._call("free")
+
+    def __enter__(self) -> Monitor:
+        return self
+
+    def __exit__(self, *_: object) -> None:
+        self.close()
+
+    def __del__(self) -> None:
+        if library is not None and hasattr(self, "_handle"):
+            self.close()
+
+    def hear(self, data: bytes) -> None:
+        """Bytes have come on the line, in any pieces. OsdpError: MONITOR_NO_MEMORY, MONITOR_TOO_LONG, MONITOR_STOPPED."""
+        self._call("bytes_nonnull", data, len(data))
+
+    def silence(self) -> None:
+        """The line was silent for the gap: the run of bytes is over, and what was begun is no packet. OsdpError: those of `hear`."""
+        self._call("silence")
+
+    def tell_table(self) -> None:
+        """Puts the table of what was heard of each address after the text that waits, and what is amiss by it. OsdpError: those of `hear`."""
+        self._call("table")
+
+    def text(self) -> str:
+        """Takes all text that waits: whole lines, since a call tells whole ones."""
+        room, count, found = ctypes.create_string_buffer(ROOM), ctypes.c_size_t(), bytearray()
+        while True:
+            self._call("next_text_nonnull", room, ROOM, ctypes.byref(count))
+            if not count.value:
+                return found.decode()
+            found += room.raw[: count.value]
+
+    def is_wrong(self) -> bool:
+        """Whether somebody was accused or something refused so far, or packets came of which none could be judged. OsdpError: MONITOR_STOPPED."""
+        found = ctypes.c_uint32()
+        self._call("is_wrong", ctypes.byref(found))
+        return bool(found.value)
