@@ -9,7 +9,7 @@ _osdp_words() {
     make) echo 'sum crc' ;;
     panel) echo 'check reply-wait poll-interval sends busy-wait busy-limit quiet-wait gap capacity' ;;
     reader) echo 'address vendor model version serial firmware cap room gap expire presence' ;;
-    plan) echo 'readers rate check longest answer hold late orders poll-between-orders reply-wait poll-interval sends busy-wait busy-limit quiet-wait' ;;
+    plan) echo 'readers rate check longest answer hold late orders reply-wait poll-interval sends busy-wait busy-limit quiet-wait' ;;
     test) echo '--tap panel script' ;;
     help) echo 'show monitor check make sim panel reader plan test' ;;
   esac
