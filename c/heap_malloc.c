@@ -17,6 +17,18 @@ struct osdp_block rattle_alloc(size_t size, size_t align)
     return given;
 }
 
+struct osdp_block rattle_realloc(void *block, size_t kept, size_t size, size_t align)
+{
+    struct osdp_block given;
+    (void)kept;
+    given.block = realloc(block, size != 0 ? size : align);
+    given.ok = given.block != NULL;
+    if (!given.ok) {
+        given.block = &none;
+    }
+    return given;
+}
+
 void rattle_dealloc(void *block)
 {
     free(block);

@@ -77,3 +77,15 @@ void rattle_dealloc(void *block)
 {
     ((union unit *)block - 1)->head.used = false;
 }
+
+struct osdp_block rattle_realloc(void *block, size_t kept, size_t size, size_t align)
+{
+    struct osdp_block other = rattle_alloc(size, align);
+    if (other.ok) {
+        for (size_t i = 0; i < kept; i++) {
+            ((unsigned char *)other.block)[i] = ((const unsigned char *)block)[i];
+        }
+        rattle_dealloc(block);
+    }
+    return other;
+}

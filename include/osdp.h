@@ -43,8 +43,8 @@
  *   aren't given to `osdp_device_step` together with the struct that they stand in: copy them, or take another struct.
  * - The stack has room (see above): else other memory is overwritten. `struct osdp_report` and `struct osdp_answer` have 2.9 KB
  *   each: make them static where a task's stack is small.
- * - `rattle_alloc` and `rattle_dealloc` (below) are a heap, and `memcpy`, `memmove` and `memset` are those of C: else anything
- *   may happen.
+ * - `rattle_alloc`, `rattle_realloc` and `rattle_dealloc` (below) are a heap, and `memcpy`, `memmove` and `memset` are those of
+ *   C: else anything may happen.
  * - Moments are taken after the read, of a clock that doesn't go backwards. From a moment that is too early gaps and waits are
  *   over too late, and from one that is too late, too early: then packets are cut in two, and answers that come are not waited
  *   for. One that lies more than `clock_limit` after the greatest one seen is refused (OSDP_MOMENT_TOO_FAR), and nothing has
@@ -1223,10 +1223,12 @@ struct osdp_block {
  * The heap, which the program supplies: c/heap_malloc.c has it over malloc, c/heap_pool.c over a fixed pool. Both names are the toolchain's.
  * libosdp.a has the one over malloc; a heap of the program's own takes its place.
  *
- * `rattle_alloc` gives a block of `size` bytes at a multiple of `align`, a power of two up to 16; or `ok` is false. `rattle_dealloc` takes back
- * a block that it gave.
+ * `rattle_alloc` gives a block of `size` bytes at a multiple of `align`, a power of two up to 16; or `ok` is false. `rattle_realloc`
+ * makes a block one of `size` bytes, whose first `kept` bytes are as they were: it may move. Where `ok` is false the block is as it was. The calls of a monitor alone
+ * ask for that. `rattle_dealloc` takes back a block that they gave.
  */
 struct osdp_block rattle_alloc(size_t size, size_t align);
+struct osdp_block rattle_realloc(void *block, size_t kept, size_t size, size_t align);
 void rattle_dealloc(void *block);
 
 /* ---- Null pointers for no bytes ---- */

@@ -13,7 +13,7 @@ import sys
 from pathlib import Path
 
 TOP = Path(__file__).resolve().parent.parent
-HEAP = {"rattle_alloc", "rattle_dealloc"}
+HEAP = {"rattle_alloc", "rattle_realloc", "rattle_dealloc"}
 # What stands beside the archive: c/osdp_texts.c
 BESIDE = {"osdp_version", "osdp_status_text"}
 OUTSIDE = HEAP | {"memcpy", "memmove", "memset"}

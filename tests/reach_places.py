@@ -78,7 +78,8 @@ def of_division(found):
 
 def of_block(found):
     name, _, arguments = found.groups()
-    size, align = re.findall(r"i64 (\S+?)(?:,|$)", arguments)
+    *kept, size, align = re.findall(r"i64 (\S+?)(?:,|$)", arguments)
+    at = re.findall(r"ptr (?:\w+ )*(\S+?),", arguments)
     before = ["  %size = and i64 %count, 1023", "  %align = and i64 %count, 7"]
     after = [
         "  %ok = extractvalue { i64, i64 } %r, 0", "  %bit = and i64 %ok, 255", "  store i64 %bit, ptr %to, align 1",
@@ -86,7 +87,7 @@ def of_block(found):
         "  %wide = zext i1 %same to i64", "  %both = and i64 %wide, %bit", "  %to.other = getelementptr i8, ptr %to, i64 8",
         "  store i64 %both, ptr %to.other, align 1",
     ]
-    return {name: "%r", size: "%size", align: "%align"}, before, after
+    return {name: "%r", **dict.fromkeys(at, "%from"), **dict.fromkeys(kept, "%size"), size: "%size", align: "%align"}, before, after
 
 
 KINDS = {
@@ -129,7 +130,7 @@ def table(found):
 def native(kit, found, text, work):
     """What the lines of the proved module leave on 64-bit x86."""
     head = [line for line in text.splitlines() if line.startswith("target ")]
-    (work / "x86.ll").write_text(module(found, lambda one: [one[1]], [*head, "declare { i64, i64 } @rattle_alloc(i64, i64)"], []))
+    (work / "x86.ll").write_text(module(found, lambda one: [one[1]], [*head, "declare { i64, i64 } @rattle_alloc(i64, i64)", "declare { i64, i64 } @rattle_realloc(ptr, i64, i64, i64)"], []))
     run([*clang(kit), "--target=x86_64-unknown-linux-gnu", "-O1", "-fPIC", "-c", "-x", "ir", work / "x86.ll", "-o", work / "x86.o"])
     run(["cc", *reach.C[:5], "-o", work / "x86", REACH / "places.c", REACH / "host.c", work / "calls.c", work / "x86.o"])
     return run([work / "x86"]).splitlines()
@@ -139,7 +140,7 @@ def tried(kit, name, text, work):
     """Tries each place of a target, and gives how many places and calls there are, and those whose calls leave something else."""
     target = TARGETS[name]
     to = machine(kit, target)
-    places = [one for one in lowering.lower(text, to)[1] if "@rattle_realloc" not in one.text]
+    places = [one for one in lowering.lower(text, to)[1]]
     found, own = calls(places), work / name
     own.mkdir()
     (own / "calls.c").write_text(table(found))

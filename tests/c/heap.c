@@ -61,12 +61,30 @@ static bool step(int i)
     return !given.ok;
 }
 
+/* Makes a block of one place longer or shorter: what both have in common stays. Whether that was refused. */
+static bool grow(int i)
+{
+    size_t size = below(16000), kept = size < held[i].size ? size : held[i].size;
+    struct osdp_block given = rattle_realloc(held[i].block, kept, size, 16);
+    demand(given.block != NULL, "a pointer is null");
+    if (given.ok) {
+        held[i].block = given.block;
+        held[i].size = kept;
+        check(i);
+        held[i].size = size;
+        memset(held[i].block, held[i].mark, size);
+    }
+    check(i);
+    return !given.ok;
+}
+
 int main(int count, char **words)
 {
     bool is_pool = count > 1 && strcmp(words[1], "pool") == 0;
     int refused = 0;
     for (int k = 0; k < 20000; k++) {
-        refused += step((int)below(MOST));
+        int i = (int)below(MOST);
+        refused += held[i].block != NULL && below(2) == 0 ? grow(i) : step(i);
     }
     for (int i = 0; i < MOST; i++) {
         if (held[i].block != NULL) {

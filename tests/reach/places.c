@@ -30,6 +30,14 @@ struct osdp_block rattle_alloc(size_t size, size_t align)
     return given;
 }
 
+/* A block that grows, where the byte at `kept` of the old one is even: so it tells both. */
+struct osdp_block rattle_realloc(void *block, size_t kept, size_t size, size_t align)
+{
+    struct osdp_block given = rattle_alloc(size, align);
+    given.ok = given.ok && ((const uint8_t *)block)[kept] % 2 == 0;
+    return given;
+}
+
 void rattle_dealloc(void *block)
 {
     (void)block;

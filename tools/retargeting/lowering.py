@@ -255,11 +255,17 @@ define internal { i64, i64 } @narrow_rattle_alloc(i64 %size, i64 %align) nounwin
   ret { i64, i64 } %whole
 }
 """
-# No call of the library grows a block: one that did would end the program, and the archive would ask for it by a name that is refused.
+# A block that grows, in the same words.
 REALLOC = """
-declare { i64, i64 } @rattle_realloc(ptr, i64, i64, i64) nounwind
-define internal { i64, i64 } @narrow_rattle_realloc(ptr %block, i64 %size, i64 %align, i64 %wanted) nounwind {
-  %whole = call { i64, i64 } @rattle_realloc(ptr %block, i64 %size, i64 %align, i64 %wanted)
+declare i64 @osdp_grow_block(i64, i64, i64, i64) nounwind
+define internal { i64, i64 } @narrow_rattle_realloc(ptr %block, i64 %kept, i64 %size, i64 %align) nounwind {
+  %from = ptrtoint ptr %block to i64
+  %number = call i64 @osdp_grow_block(i64 %from, i64 %kept, i64 %size, i64 %align)
+  %ok = icmp ne i64 %number, 0
+  %some = select i1 %ok, i64 %number, i64 16
+  %wide = zext i1 %ok to i64
+  %half = insertvalue { i64, i64 } poison, i64 %wide, 0
+  %whole = insertvalue { i64, i64 } %half, i64 %some, 1
   ret { i64, i64 } %whole
 }
 """
@@ -297,7 +303,7 @@ REMAINDER = DIVIDES.replace("NAME", "remainder").replace("RESULT", "left")
 LEFT = {
     "a pair in memory": r"\bload \{|\bstore \{|alloca \{|getelementptr [^%@]*\{",
     "what is said of the proved machine": r'p270:32:32-p271:32:32-p272:64:64-i64:64-i128:128-f80|"target-cpu"|x86_64',
-    "a pair of the heap from outside": r"call \{ i64, i64 \} @rattle_alloc",
+    "a pair of the heap from outside": r"call \{ i64, i64 \} @rattle_(?:re)?alloc",
 }
 LEFT_NARROW = {
     "an address of 64 bits": r"ptrtoaddr ptr \S+ to i64",
