@@ -210,7 +210,7 @@ static void print_depths(void)
     message = answer.command;
     demand(report.kind == OSDP_REPORT_SETTLED && message.code == 0x68, "the order was not settled");
     print_depth("osdp_command_text", text, 6200);
-    print_depth("osdp_monitor_new", new_monitor, 17000);
+    print_depth("osdp_monitor_new", new_monitor, 6000);
     print_depth("osdp_monitor_bytes", monitor_bytes, 4096);
     print_depth("osdp_monitor_silence", monitor_silence, 4096);
     print_depth("osdp_monitor_table", monitor_table, 4096);
