@@ -257,7 +257,7 @@ def judge_monitor():
             if words in (["monitor", "--hex"], ["monitor", "--hex", "--standard"], ["monitor", "--talk"]) and row.status < 2:
                 with osdp.Monitor(osdp.Prints.TALK if "--talk" in words else osdp.Prints.FOUND, "--standard" in words) as monitor:
                     text = ""
-                    for line in row.input.decode().splitlines():
+                    for line in (each for each in row.input.decode().splitlines() if each and each[0] != "#"):
                         monitor.hear(bytes.fromhex(line))
                         monitor.silence()
                         text += monitor.text()
