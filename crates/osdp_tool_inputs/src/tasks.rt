@@ -4,11 +4,13 @@ ghost use Rattle.std.specs.Prelude.{◌≡◌, ◌<◌, ◌^◌, OnOk, false};
 ghost use Rattle.std.specs.Io.KnownBytes.{Appends};
 ghost use Rattle.osdp_tool_inputs.specs.Done.{Does, EndsHeard};
 ghost use Rattle.osdp_tool_inputs.specs.Times.{timed_text};
+ghost use Rattle.osdp_tool_inputs.specs.Heard.{heard_text};
 ghost use Rattle.osdp_tool_show.specs.Ending.{Ends, EndsWhole, watched};
 ghost use Rattle.osdp_tool_streams.specs.Watched.{has_failed, inner_of};
 
-use crate::asked::{Asked, Task, form_of};
+use crate::asked::{Asked, Task, form_of, has_lines};
 use crate::clock::Clock;
+use crate::heard::{answer_times, told_lines};
 use crate::times::timed;
 use osdp_tool_monitor::{MonitorMode, monitor};
 use osdp_tool_show::{Detail, command};
@@ -50,6 +52,45 @@ fn listen<R: Read, W: Write>(
     ensures { EndsHeard mode (watched R.remaining input.old input.new) (watched W.contents output.old output.new) result }
 {
     monitor(rt.alloc(), mode, &mut Clock::new(rt), input, output)
+}
+
+/// Prints these lines of `monitor`, those about a run after the moment and the way of it, which stand in the text, and then the answer times of each device.
+fn print_heard<W: Write>(
+    alloc: Global,
+    text: &[u8],
+    shown: &[u8],
+    output: &mut Watched<W>,
+) -> Result<(), ToolFault>
+    ensures { OnOk result (Appends (W.contents (inner_of output.old)) (W.contents (inner_of output.new)) (heard_text text.now shown.now)) }
+{
+    let Ok(lines) = told_lines(alloc, text, shown) else {
+        return Err(ToolFault::NoMemory);
+    };
+    let Ok(times) = answer_times(alloc, text) else {
+        return Err(ToolFault::NoMemory);
+    };
+    write_out(output, lines.as_slice())?;
+    write_out(output, times.as_bytes())?;
+    flush_out(output)
+}
+
+/// Listens to the digits in a text, and tells what it finds with the moments in the text. True where an end was accused.
+#[inline(never)]
+fn listen_timed<W: Write>(
+    rt: &HostRuntime,
+    mode: MonitorMode,
+    text: &[u8],
+    output: &mut Watched<W>,
+) -> Result<bool, ToolFault> {
+    let mut shown = Vec::new(rt.alloc());
+    let mut memory = Watched::new(&mut shown);
+    let mut input = Watched::new(text);
+    let answer = listen(rt, mode, &mut input, &mut memory);
+    if answer == Err(ToolFault::WriteFailed) {
+        return Err(ToolFault::NoMemory);
+    }
+    print_heard(rt.alloc(), text, shown.as_slice(), output)?;
+    answer
 }
 
 /// Prints these lines of `show`, each after the moment and the way of its run, which stand in the text.
@@ -116,6 +157,11 @@ pub fn do_task<R: Read, W: Write>(
         Task::Time(detail, join) => {
             print_timed(rt, detail, form_of(asked.format, join), text, output)
         }
-        Task::Listen(mode) => listen(rt, mode, input, output),
+        Task::Listen(mode) => {
+            if mode.times && has_lines(asked.format) {
+                return listen_timed(rt, mode, text, output);
+            }
+            listen(rt, mode, input, output)
+        }
     }
 }

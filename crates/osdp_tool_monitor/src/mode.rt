@@ -30,6 +30,8 @@ pub struct MonitorMode {
     pub standard: bool,
     /// Whether bytes were recorded before, so that no moment at which they come ends a run.
     pub recorded: bool,
+    /// Whether the moments of a capture are told too.
+    pub times: bool,
 }
 
 /// A word of the command `monitor`, with its number.
@@ -47,6 +49,8 @@ pub enum MonitorOption {
     Standard,
     /// `--recorded`
     Recorded,
+    /// `--times`
+    Times,
 }
 
 /// Which option a word names.
@@ -58,6 +62,7 @@ pub(crate) enum OptionName {
     Every,
     Standard,
     Recorded,
+    Times,
 }
 
 /// The option of this name.
@@ -71,6 +76,7 @@ fn option_name(word: &str) -> Option<OptionName>
         "--every" => Some(OptionName::Every),
         "--standard" => Some(OptionName::Standard),
         "--recorded" => Some(OptionName::Recorded),
+        "--times" => Some(OptionName::Times),
         _ => None,
     }
 }
@@ -105,6 +111,7 @@ impl MonitorOption {
             OptionName::Every => Some(MonitorOption::Every(take_wait(words)?)),
             OptionName::Standard => Some(MonitorOption::Standard),
             OptionName::Recorded => Some(MonitorOption::Recorded),
+            OptionName::Times => Some(MonitorOption::Times),
         }
     }
 }
@@ -139,12 +146,14 @@ impl CommandOption for MonitorOption {
             MonitorOption::Every(seconds) => mode.every = Some(seconds),
             MonitorOption::Standard => mode.standard = true,
             MonitorOption::Recorded => mode.recorded = true,
+            MonitorOption::Times => mode.times = true,
         }
     }
 }
 
 /// How the words after `monitor` ask to listen to an input of lines of digits, or to one of bytes: options in any order, of which a later one of a kind holds.
-/// Without options only what is found is printed, a run is over after 20 milliseconds, the table comes at the end alone, and no accusation is left out.
+/// Without options only what is found is printed, a run is over after 20 milliseconds, the table comes at the end alone, no accusation is left out, and
+/// no moment is told.
 /// None where the words are no options.
 pub fn monitor_mode(hex: bool, words: &[&str]) -> Option<MonitorMode>
     ensures { ReadsMode hex (texts words.now) result }
@@ -156,6 +165,7 @@ pub fn monitor_mode(hex: bool, words: &[&str]) -> Option<MonitorMode>
         every: None,
         standard: false,
         recorded: false,
+        times: false,
     };
     read_options::<MonitorOption>(mode, words)
 }
