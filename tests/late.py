@@ -3,7 +3,8 @@
 The panel and the reader are made from the rules alone. The panel waits 200 milliseconds for each answer, and then sends its packet again, or goes on with
 the next number; it takes an answer with the number of its last packet, and passes over any other. The reader answers each packet that it hears so many
 milliseconds after it, from 5 to 590. What it takes within the wait must never be told late, and what takes longer always, with the time that the line was
-made with. The moments stand in seconds, as dates over the end of a leap February, or in .osdpcap. Prints how many lines were made, found and told falsely."""
+made with. The moments stand in seconds, as dates over the end of a leap February, or in .osdpcap. Prints how many lines were made, and of how many something
+false was told."""
 import json
 import re
 import subprocess
@@ -21,7 +22,7 @@ LATE = re.compile(r"^times: 5 answered (\d+) late, after (\d+) ms at most: the p
 
 
 def line(delay, repeats):
-    """The bursts of a line: each with its moment in milliseconds, whether it is the panel's, and its bytes. And how many answers were late."""
+    """The bursts of a line: each with its moment in milliseconds, whether it is the panel's, and its bytes."""
     bursts, answers = [], []
     now, number, tries = 0, 0, 0
     while len([1 for burst in bursts if burst[1]]) < PACKETS:
