@@ -3,6 +3,7 @@
 ghost use Rattle.std.specs.Prelude.{◌≡◌, ◌++◌, IfOk, OnOk, length, string_bytes};
 
 use crate::moment::moment_after;
+use crate::run::from_start;
 use crate::table::Times;
 use crate::text::push_times;
 use osdp_frame::{Item, whole_item};
@@ -46,7 +47,7 @@ impl Timed {
         ensures times { self.new.times.items ≡ run_after self.old.bytes.items moment self.old.times.items }
         ensures moment { self.new.moment ≡ self.old.moment }
     {
-        let bytes = &self.bytes;
+        let bytes = from_start(&self.bytes);
         if let Some(Item::Packet(packet)) = whole_item(bytes) {
             let times = &mut self.times[usize::from(packet.address().get())];
             times.take(&packet, moment);

@@ -4,6 +4,7 @@
 mod capture;
 pub mod laws;
 mod moment;
+mod run;
 mod table;
 mod text;
 mod waits;
