@@ -85,7 +85,7 @@ docs/INSTALLING.md, \"A device that doesn't answer\".
 
 const MONITOR: &str = "osdp monitor: tells what happens on a line, and which end breaks its rules
 
-usage: osdp monitor [FORM] [--packets] [--talk] [--standard] [--recorded] [--times] [--gap N] [--every N] [FILE]...
+usage: osdp monitor [FORM] [OPTION]... [FILE]...
 
   --raw      the input is bytes, as they come from a port
   --osdpcap  the input is .osdpcap: an object of JSON a line
