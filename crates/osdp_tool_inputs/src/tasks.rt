@@ -86,7 +86,8 @@ fn listen_timed<W: Write>(
     let mut memory = Watched::new(&mut shown);
     let mut input = Watched::new(text);
     let answer = listen(rt, mode, &mut input, &mut memory);
-    if answer == Err(ToolFault::WriteFailed) {
+    // what was heard before memory ran out is no beginning of the whole: the times would stand before the table
+    if answer == Err(ToolFault::WriteFailed) || answer == Err(ToolFault::NoMemory) {
         return Err(ToolFault::NoMemory);
     }
     print_heard(rt.alloc(), text, shown.as_slice(), output)?;
