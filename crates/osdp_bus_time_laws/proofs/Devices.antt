@@ -157,7 +157,7 @@ module _ (g : ℕ) (Q : Device → Type 0) (heard : (p : Packet) (d : Device) �
 pub record Kept (c : BusConfig) (g : ℕ) (d : Device) : Type 0 where
   pub address : ℕ
   pub config : d.controller.session.config ≡ controller_config address c
-  pub behind : d.controller.session.greatest ≤ g
+  pub reached : d.controller.session.greatest ≤ g
   pub timely : IsTimely d.controller
 
 kept_call : (call : CallOf) (c : BusConfig) (g : ℕ) (d e : Device) → e.controller ≡ after_call_of call d.controller
@@ -167,28 +167,28 @@ kept_call call c g d e is near k =
       address = address_after call m;
       config = ap (λ (n : Machine). n.session.config) is ∙ keeps_settings call m
           ∙ ap (λ (s : ControllerConfig). record s { address = address_after call m }) k.config;
-      behind = subst (λ (n : Machine). n.session.greatest ≤ g) (sym is) near;
+      reached = subst (λ (n : Machine). n.session.greatest ≤ g) (sym is) near;
       timely = subst IsTimely (sym is) (stays_timely.later m (call ∷ []) k.timely);
     }
 
 kept_heard : (c : BusConfig) (g : ℕ) (p : Packet) (d : Device) → Kept c g d → Kept c g (device_hears p g d)
 kept_heard c g p d k =
     let near : (after_call_of (HearOf p g) d.controller).session.greatest ≡ max d.controller.session.greatest g = hears_at_moment p g d.controller.session in
-    let behind : d.controller.session.greatest ≤ g = k.behind in
+    let reached : d.controller.session.greatest ≤ g = k.reached in
     kept_call (HearOf p g) c g d (device_hears p g d) refl (omega arith) k
 
 kept_ticked : (c : BusConfig) (g : ℕ) (d : Device) → Kept c g d → Kept c g (device_ticks g d)
 kept_ticked c g d k =
     let near : (after_call_of (TickOf g) d.controller).session.greatest ≡ max d.controller.session.greatest g = tick_at_moment g d.controller in
-    let behind : d.controller.session.greatest ≤ g = k.behind in
+    let reached : d.controller.session.greatest ≤ g = k.reached in
     kept_call (TickOf g) c g d (device_ticks g d) refl (omega arith) k
 
 kept_begun : (c : BusConfig) (g now : ℕ) (d : Device) → now ≤ g → Kept c g d → Kept c g (device_begins now d)
 kept_begun c g now d near k =
-    let behind : d.controller.session.greatest ≤ g = k.behind in record {
+    let reached : d.controller.session.greatest ≤ g = k.reached in record {
       address = k.address;
       config = k.config;
-      behind = omega arith;
+      reached = omega arith;
       timely = later_within d.controller.session.config.quiet_wait (seen_by now d.controller.session);
     }
 
@@ -204,7 +204,7 @@ kept_retargeted c g address d k =
     let s = d.controller.session in record {
       address = address;
       config = ap (λ (x : ControllerConfig). record x { address = address }) k.config;
-      behind = k.behind;
+      reached = k.reached;
       timely = at_address s.config address s.greatest s.state k.timely;
     }
 
@@ -212,17 +212,17 @@ kept_same : (c : BusConfig) (g : ℕ) (d e : Device) → e.controller.session �
 kept_same c g d e same k = record {
   address = k.address;
   config = ap (λ s. s.config) same ∙ k.config;
-  behind = subst (λ s. s.greatest ≤ g) (sym same) k.behind;
+  reached = subst (λ s. s.greatest ≤ g) (sym same) k.reached;
   timely = subst (λ s. WaitsItsTime s.config s.greatest s.state) (sym same) k.timely;
 }
 
 kept_later : (c : BusConfig) (g next : ℕ) (d : Device) → g ≤ next → Kept c g d → Kept c next d
 kept_later c g next d on k =
-    let behind : d.controller.session.greatest ≤ g = k.behind in
-    record { address = k.address; config = k.config; behind = omega arith; timely = k.timely }
+    let reached : d.controller.session.greatest ≤ g = k.reached in
+    record { address = k.address; config = k.config; reached = omega arith; timely = k.timely }
 
 kept_new : (c : BusConfig) (g address : ℕ) → Kept c g (new_device address c)
-kept_new c g address = record { address = address; config = refl; behind = omega arith; timely = tt }
+kept_new c g address = record { address = address; config = refl; reached = omega arith; timely = tt }
 
 -- ---- a bus
 

@@ -148,7 +148,7 @@ rest_due wait e b d kept idle near interval = by_state d.controller.session.stat
     by_state : (state : State) → is_idle state ≡ true → WaitsItsTime d.controller.session.config d.controller.session.greatest state → until_of state ≤ e + wait
     by_state Closed h timely = cc
     by_state (Quiet until) h timely = cc
-    by_state (Idle due) h timely = (let same = settings in let behind = kept.behind in omega arith)
+    by_state (Idle due) h timely = (let same = settings in let reached = kept.reached in omega arith)
     by_state (Waiting until sends o) h timely = cc
     by_state (Pausing until o) h timely = cc
 

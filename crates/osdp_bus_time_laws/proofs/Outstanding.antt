@@ -134,8 +134,8 @@ module _ (late e : ℕ) (c : ControllerConfig) (more : ℕ) (many : c.sends ≡ 
   heard_out : (l : List CallOf) (g : ℕ) → (All IsNotBusy l → ⊥) → g ≤ e → (p : Packet) (s : Session) → s.greatest ≤ g → s.config ≡ c → Ph l s.state g
       → is_outstanding (hears p g s).session.state ≡ true
       → ((hears p g s).session.config ≡ c) × Ph l (hears p g s).session.state g
-  heard_out l g some near p s behind config phase stands =
-      let at = seen_max s.greatest g behind in
+  heard_out l g some near p s reached config phase stands =
+      let at = seen_max s.greatest g reached in
       let h : Holds late e c more (Unit {0}) is_outstanding refl l (hears p g s).session =
       frame_holds late e c more (Unit {0}) is_outstanding refl (λ due. refl) p g l s (omega arith) config
       (subst (λ (n : ℕ). Ph (HearOf p g ∷ l) s.state n) (sym at) (phase_before g p l some s.state phase))
@@ -144,7 +144,7 @@ module _ (late e : ℕ) (c : ControllerConfig) (more : ℕ) (many : c.sends ≡ 
 
   heard_on : (l : List CallOf) (g : ℕ) → (All IsNotBusy l → ⊥) → g ≤ e → (p : Packet) (d : Device) → On l g d → On l g (device_hears p g d)
   heard_on l g some near p d on = (
-    (let behind : d.controller.session.greatest ≤ g = on.0 in
+    (let reached : d.controller.session.greatest ≤ g = on.0 in
         let is : (hears p g d.controller.session).session.greatest ≡ max d.controller.session.greatest g = hears_at_moment p g d.controller.session in omega arith),
     λ stands. let before = on.1 (heard_holds p g d stands) in heard_out l g some near p d.controller.session on.0 before.0 before.1 stands,
   )
@@ -186,14 +186,14 @@ module _ (late e : ℕ) (c : ControllerConfig) (more : ℕ) (many : c.sends ≡ 
       let s = d.controller.session in
       let before = on.1 stands in
       let at = seen_max s.greatest g on.0 in
-      let within : (seen_by g s).greatest ≤ e = (let behind : s.greatest ≤ g = on.0 in omega arith) in
+      let within : (seen_by g s).greatest ≤ e = (let reached : s.greatest ≤ g = on.0 in omega arith) in
       let phase : Ph (x ∷ l) s.state (seen_by g s).greatest = subst (λ (n : ℕ). Ph (x ∷ l) s.state n) (sym at) before.1 in
       let is : (after_call_of (TickOf g) d.controller).session.greatest ≡ max s.greatest g = tick_at_moment g d.controller in
       let h : Holds late e c more (Unit {0}) is_outstanding refl l (ticks_in s.state (seen_by g s) d.controller.waiting).session =
       tick_holds late e c more (Unit {0}) is_outstanding refl (λ until n o so. tt) many s.state x l (seen_by g s) d.controller.waiting within before.0
       (stands_not_closed d stands) phase
       (λ below. still late e c more (Unit {0}) is_outstanding refl (λ until n o so. tt) many x l (seen_by g s) within before.0 below phase) in (
-        (let behind : s.greatest ≤ g = on.0 in omega arith),
+        (let reached : s.greatest ≤ g = on.0 in omega arith),
         λ so. ((h.1 so).0, subst (λ (n : ℕ). Ph l (ticks_in s.state (seen_by g s) d.controller.waiting).session.state n) (is ∙ at) (h.1 so).1),
       )
 
@@ -237,7 +237,7 @@ module _ (late e : ℕ) (c : ControllerConfig) (more : ℕ) (many : c.sends ≡ 
 
     on_then : On (x ∷ l) g d
     on_then = (
-      (let behind : d.controller.session.greatest ≤ b.greatest = (well.devices entry d there).behind in let on = grows call b in omega arith),
+      (let reached : d.controller.session.greatest ≤ b.greatest = (well.devices entry d there).reached in let on = grows call b in omega arith),
       λ so. (config, phase_then),
     )
 
@@ -340,7 +340,7 @@ begun_ends late call calls b entry well in_time begun =
     let moment : k.greatest ≡ r.greatest = ap (λ (x : BusState). x.greatest) after in
     let seen_now : k.greatest ≡ max b.greatest begun.now =
     ap (λ t. (after_call t b).greatest) begun.tick ∙ (moments_are_seen b).brought (Tick begun.now) begun.now refl in
-    let behind : s.greatest ≤ max b.greatest begun.now = kept.behind in
+    let reached : s.greatest ≤ max b.greatest begun.now = kept.reached in
     let at : (seen_by r.greatest s).greatest ≡ k.greatest = omega arith in
     let first = begun_tick late sends.0 s.config.busy_limit (moments calls k) s.state (seen_by r.greatest s) d.controller.waiting (inl (omega arith)) device.machine.session.state
     (began s.state (seen_by r.greatest s) d.controller.waiting free (begins_frame r.greatest d free begun.next.due.due)) in
@@ -386,11 +386,11 @@ outstanding_takes late calls b well in_time entry out =
       d,
       out.there,
       (
-        kept.behind,
+        kept.reached,
         λ so. (
           refl,
           phase_now late sends.0 (moments calls b) s.config b.greatest s.state device.machine.session.state
-              (timely_then s.config s.state s.greatest b.greatest kept.behind kept.timely) out.outstanding sends.1,
+              (timely_then s.config s.state s.greatest b.greatest kept.reached kept.timely) out.outstanding sends.1,
         ),
       ),
     ))
