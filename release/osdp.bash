@@ -29,7 +29,7 @@ _osdp_port() {
     --address | --every | --size | --set-address | --set-rate | --may) COMPREPLY=(); return ;;
   esac
   if [[ $word == -* ]]; then
-    COMPREPLY=($(compgen -W '--all --address --every --keep --trace --size --osdpcap --set-address --set-rate --may --sum --tap --plain --osdp --help --version' -- "$word"))
+    COMPREPLY=($(compgen -W '--all --address --every --live --keep --trace --size --osdpcap --set-address --set-rate --may --sum --tap --plain --osdp --help --version' -- "$word"))
   elif [[ $before == /dev/* || $before == *://* ]]; then
     COMPREPLY=($(compgen -W '9600 19200 38400 57600 115200 230400' -- "$word"))
   elif [[ $before =~ ^[0-9]+$ ]]; then

@@ -76,7 +76,7 @@ BAD_WORDS = (
     ["PORT", "9600", "reader"], ["PORT", "9600", "reader", "5,6"], ["PORT", "9600", "reader", "5", "model", "256"], ["PORT", "9600", "trace"],
     ["PORT", "9600", "show", "more"], ["PORT", "9600", "find", "more"], ["PORT", "9600", "trace", "/tmp/a", "more"], ["--keep"], ["--keep", "file", "PORT", "9600", "show"],
     ["--nonsense", "PORT", "9600", "show"], ["--address", "127", "PORT", "9600", "show"], ["--address", "x", "PORT", "9600", "show"], ["--every", "0", "PORT", "9600", "monitor"],
-    ["--size", "0", "PORT", "9600", "trace", "/tmp/a"], ["--set-rate", "12345", "PORT", "9600", "find"], ["PORT", "12345", "show"], ["--all", "PORT", "9600", "find"],
+    ["--size", "0", "PORT", "9600", "trace", "/tmp/a"], ["--set-rate", "12345", "PORT", "9600", "find"], ["PORT", "12345", "show"], ["--all", "PORT", "9600", "find"], ["--live", "PORT", "9600", "show"],
 )
 BAD_PORTS = (
     ["/nowhere/port", "9600", "show"], ["/dev/null", "9600", "panel", "5"], ["/etc/passwd", "9600", "monitor"], ["/", "9600", "show"], ["nonsense://x", "9600", "show"],
@@ -128,7 +128,7 @@ def bad_words():
 
 POOL = ("/nowhere/port", "/dev/null", "/", "", " ", "\n", "rfc2217://", "rfc2217://a:b:c", "socket://", "nonsense://x", "9600", "0", "-1", "127", "12345", "1e3", "0x10",
         "9" * 5000, "\u0663", "\udcff", "\0x"[1:], "%s", "5", "5,6", "5-", ",", "0-16", "check", "sum", "gap", "reply-wait", "vendor", "show", "monitor", "panel", "reader",
-        "find", "trace", "--all", "--plain", "--osdpcap", "--address", "--every", "--keep", "--trace", "--size", "--set-address", "--set-rate", "--osdp", "--", "-", "-x", "--nonsense")
+        "find", "trace", "--all", "--live", "--plain", "--osdpcap", "--address", "--every", "--keep", "--trace", "--size", "--set-address", "--set-rate", "--osdp", "--", "-", "-x", "--nonsense")
 ORDERS = ("open", "on", "off", "led", "green", "blink", "beep", "text", "move", "rate", "id", "accept", "output", "card", "keys", "event", "3s", "9" * 400 + "s", "9" * 5000,
           "1.5s", "0", "-1", "256", "127", "OUT", "0:5:30", "COMSET", "LED", "%s", "0x10")  # a line has printable ASCII alone
 

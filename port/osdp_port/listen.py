@@ -2,12 +2,11 @@
 import re
 
 from .console import wait_for
+from .live import HEADS, Live, is_other, is_terminal
 from .program import Stream
 from .shown import Shown
 from .trace import Bursts, Trace, digits, osdpcap
 
-OF_DEVICE = re.compile(r"^(?:\d+:\d+ )?(?:(?:device|panel to|reader) )?(\d+)\b")
-HEADS = ("device ", "runs ")  # of a table
 LOOK = 0.02  # seconds after which a burst is looked at again
 
 
@@ -47,8 +46,7 @@ class Monitor(Stream):
     def prints(self, line):
         """Prints a line; one of another device is left out."""
         is_table = line.startswith(HEADS) or re.match(r"\d+ ", line)
-        found = OF_DEVICE.match(line)
-        if self.address is not None and found and int(found[1]) != self.address and not line.startswith(HEADS):
+        if is_other(line, self.address):
             return
         if is_table or line.startswith(" "):
             self.console.raw(line)
@@ -56,7 +54,14 @@ class Monitor(Stream):
             self.console.say(re.sub(r"^\d+:\d+ ", "", line))
 
 
+def listener_of(words, port, console, osdp):
+    """What tells of the line: a picture, or lines where the output is no terminal."""
+    if words.get("--live") and is_terminal():
+        return Live(words, console, osdp, f"monitor at {port.path} {port.rate}")
+    return Monitor(words, console, osdp)
+
+
 def monitor(words, port, console, osdp):
-    listener = Monitor(words, console, osdp)
+    listener = listener_of(words, port, console, osdp)
     until_stopped(port, console, listener.write)
     return listener.ends()

@@ -1,0 +1,141 @@
+"""The monitor as a picture on a terminal: its table, redrawn in place, what came of the last seconds, and what was told last under it."""
+import re
+import shutil
+import sys
+import threading
+import time
+from collections import deque
+
+from .console import stamp, write_all
+from .program import Stream
+
+HEADS = ("device  ", "runs ")  # of a table
+OF_DEVICE = re.compile(r"^(?:\d+:\d+ )?(?:(?:device|panel to|reader) )?(\d+)\b")
+COUNTS = re.compile(r"(\w+) (\d+)")
+NAMES = "asked polls repeats answered busy nak events opened moved judged forgot accused".split()
+BITS = 10  # of a byte on the line: a start bit, eight bits and a stop bit
+DUE = 0.25  # seconds between two pictures
+WINDOW = 10.0  # seconds that the second table goes back
+CLEAR, HOME, LINE_END, REST, HIDE, SHOW = "\x1b[2J", "\x1b[H", "\x1b[K", "\x1b[J", "\x1b[?25l", "\x1b[?25h"
+
+
+def is_terminal():
+    return sys.stdout.isatty()
+
+
+def is_other(line, address):
+    """Whether a line is of another device than the one that is wanted."""
+    found = OF_DEVICE.match(line)
+    return bool(address is not None and found and int(found[1]) != address and not line.startswith(HEADS))
+
+
+def share(count, all_of):
+    return 100 * count / all_of if all_of else 0.0
+
+
+class Table:
+    """A table as the program told it, with the moment and how many bytes had come."""
+
+    def __init__(self, moment, size, lines):
+        self.moment, self.size, self.lines = moment, size, lines
+        self.devices, self.line = {}, {}
+        for line in lines:
+            if line.startswith("runs "):
+                self.line = {name: int(count) for name, count in COUNTS.findall(line)}
+            elif line[:1].isdigit():
+                address, *counts = (int(word) for word in line.split())
+                self.devices[address] = dict(zip(NAMES, counts))
+
+    def lost(self, address):
+        """Packets to a device that had no reply."""
+        row = self.devices.get(address, {})
+        return max(0, row.get("asked", 0) - row.get("answered", 0) - row.get("busy", 0) - row.get("nak", 0))
+
+
+def since(old, new, rate):
+    """The lines on what came between two tables: of the whole line, and of each device."""
+    seconds = max(new.moment - old.moment, 0.001)
+    packets = new.line.get("packets", 0) - old.line.get("packets", 0)
+    damaged = new.line.get("refused", 0) - old.line.get("refused", 0)
+    rows, turns = [], []
+    for address, row in sorted(new.devices.items()):
+        before = old.devices.get(address, {})
+        asked, repeats = row["asked"] - before.get("asked", 0), row["repeats"] - before.get("repeats", 0)
+        lost = new.lost(address) - old.lost(address)
+        if asked:
+            turns.append(asked - repeats)
+        heard = row["answered"] + row["busy"] + row["nak"] > sum(before.get(name, 0) for name in ("answered", "busy", "nak"))
+        state = "online" if heard else "no answer" if asked else "not asked"
+        rows.append(f"{address:<6} {asked:>6} {share(repeats, asked):>8.1f}% {share(lost, asked):>8.1f}%  {state}")
+    use = share((new.size - old.size) * BITS, rate * seconds)
+    line = f"last {seconds:.0f} s: {min(use, 100):.0f}% of the time in use; a second {packets / seconds:.1f} packets, {damaged / seconds:.1f} damaged, " \
+           f"{min(turns, default=0) / seconds:.1f} turns of the panel"
+    return [line, "device  asked   repeats      lost", *rows]
+
+
+class Live(Stream):
+    """`osdp monitor` beside the program, drawn on the terminal."""
+
+    def __init__(self, words, console, osdp, title):
+        self.rate, self.title, self.address = words.rate, title, words.get("--address")
+        self.tables, self.told = deque(), deque(maxlen=200)
+        self.part, self.in_table = [], False
+        self.size, self.came, self.drawn = 0, None, 0.0
+        self.lock = threading.Lock()
+        write_all(1, (HIDE + CLEAR).encode())
+        super().__init__(osdp, ["monitor", "--raw", "--every", str(words.get("--every", 1)), *(["--packets"] if words.get("--all") else [])], console)
+
+    def write(self, data):
+        if data:
+            self.size, self.came = self.size + len(data), time.monotonic()
+            super().write(data)
+        if time.monotonic() >= self.drawn + DUE:
+            self.draw()
+
+    def prints(self, line):
+        """Takes a line: of the table, or one that is told."""
+        if is_other(line, self.address):
+            return
+        with self.lock:
+            if line.startswith(HEADS[0]):
+                self.in_table, self.part = True, []
+            if self.in_table and (line.startswith((*HEADS, "diagnosis: ", "nothing was judged")) or re.match(r"\d+ ", line)):
+                self.part.append(line)
+                if line.startswith("runs "):
+                    self.keep(Table(time.monotonic(), self.size, self.part))
+            else:
+                self.in_table = False
+                self.told.append(line if line.startswith(" ") else f"{stamp()} {line.partition(' ')[2] if re.match(r'[0-9]+:', line) else line}")
+
+    def keep(self, table):
+        """Keeps the last table and, for what came lately, those of the last seconds."""
+        self.tables.append(table)
+        while len(self.tables) > 2 and self.tables[1].moment <= table.moment - WINDOW:
+            self.tables.popleft()
+
+    def lines(self):
+        """The picture, as many lines as the terminal has."""
+        width, height = shutil.get_terminal_size()
+        with self.lock:
+            silent = "nothing has come" if self.came is None else f"last byte {time.monotonic() - self.came:.0f} s ago"
+            lines = [f"{self.title}: {stamp()[:8]}, {silent}; Ctrl-C ends it", ""]
+            if self.tables:
+                lines += self.tables[-1].lines
+                if len(self.tables) > 1:
+                    lines += ["", *since(self.tables[0], self.tables[-1], self.rate)]
+            room = height - len(lines) - 2
+            lines += ["", *list(self.told)[-room:]] if room > 0 else []
+        return [line[:width] for line in lines[:height - 1]]
+
+    def draw(self):
+        self.drawn = time.monotonic()
+        write_all(1, (HOME + "".join(f"{line}{LINE_END}\n" for line in self.lines()) + REST).encode())
+
+    def ends(self):
+        """The input has ended: the last table stays, and what was told last."""
+        try:
+            return super().ends()
+        finally:
+            with self.lock:
+                table = self.tables[-1].lines if self.tables else []
+            write_all(1, (HOME + REST + SHOW + "".join(f"{line}\n" for line in [*list(self.told)[-20:], *table])).encode())

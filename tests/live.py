@@ -1,0 +1,173 @@
+"""`osdp-port --live`: the monitor's table as a picture on a terminal, redrawn in place. Takes the path of the program.
+
+The port is a pseudo terminal, and so is the output, of 100 columns and 30 lines, whose picture is kept as text: it is what a person sees. A panel asks three
+devices: 5 answers, 6 loses every second answer, and 7 has a reply that answers no command. Then the output is a pipe, which gets plain lines."""
+import os
+import pty
+import re
+import select
+import signal
+import struct
+import subprocess
+import sys
+import termios
+import time
+from fcntl import ioctl
+
+import port_line
+from terminals import Terminal, packet
+
+WIDTH, HEIGHT = 100, 30
+POLL, ACK, PDID = 0x60, 0x40, 0x45
+ESCAPE = re.compile(r"\x1b\[(\??\d*)([A-Za-z])")
+faults = []
+
+
+def asks(holds, what):
+    if not holds:
+        faults.append(what)
+
+
+class Picture:
+    """What stands on a terminal: lines of text, by the few escapes that are used."""
+
+    def __init__(self):
+        self.lines = [""] * HEIGHT
+        self.row = self.column = 0
+        self.scrolled = 0
+
+    def put(self, text):
+        line = self.lines[self.row].ljust(self.column)
+        self.lines[self.row] = line[:self.column] + text + line[self.column + len(text):]
+        self.column += len(text)
+
+    def feed(self, text):
+        while text:
+            found = ESCAPE.match(text)
+            if found:
+                text = text[found.end():]
+                self.escape(found[2])
+            elif text[0] == "\n":
+                text = text[1:]
+                self.row += 1
+                if self.row == HEIGHT:
+                    self.lines, self.row, self.scrolled = self.lines[1:] + [""], HEIGHT - 1, self.scrolled + 1
+            elif text[0] == "\r":
+                text, self.column = text[1:], 0
+            else:
+                plain = re.match(r"[^\x1b\r\n]+", text)[0]
+                text = text[len(plain):]
+                self.put(plain)
+
+    def escape(self, letter):
+        if letter == "H":
+            self.row = self.column = 0
+        elif letter == "K":
+            self.lines[self.row] = self.lines[self.row][:self.column]
+        elif letter == "J":
+            if (self.row, self.column) == (0, 0):
+                self.lines = [""] * HEIGHT
+            else:
+                self.lines[self.row] = self.lines[self.row][:self.column]
+                self.lines[self.row + 1:] = [""] * (HEIGHT - self.row - 1)
+
+    def text(self):
+        return "\n".join(line.rstrip() for line in self.lines).rstrip()
+
+
+def turn(number):
+    """The bursts of a turn of the panel."""
+    at = number % 3 + 1
+    yield packet(5, at, POLL)
+    yield packet(0x85, at, ACK)
+    yield packet(6, at, POLL)
+    if number % 2:
+        yield packet(0x86, at, ACK)
+    yield packet(7, at, POLL)
+    yield packet(0x87, at, PDID, bytes(12))
+
+
+def started(port, options, output):
+    words = [str(port_line.PORT), "--plain", "--osdp", sys.argv[1], *options, port.path, "9600", "monitor"]
+    return subprocess.Popen(words, stdin=subprocess.DEVNULL, stdout=output, start_new_session=True)
+
+
+def seen(options, seconds):
+    """What a terminal shows after so many seconds of a line, and when the program has ended, and whether each picture stood where the one before stood."""
+    port, (end, other), picture = Terminal(), pty.openpty(), Picture()
+    ioctl(other, termios.TIOCSWINSZ, struct.pack("HHHH", HEIGHT, WIDTH, 0, 0))
+    script = started(port, options, other)
+    os.close(other)
+    until, number, rest = time.monotonic() + seconds, 0, b""
+
+    def read(wait):
+        nonlocal rest
+        while select.select([end], [], [], wait)[0]:
+            try:
+                piece = os.read(end, 65536)
+            except OSError:
+                return
+            if not piece:
+                return
+            rest += piece
+            whole, feed, rest = rest.rpartition(b"\n")
+            picture.feed((whole + feed).decode())
+            wait = 0
+    while time.monotonic() < until:
+        for burst in turn(number):
+            os.write(port.end, burst)
+            time.sleep(0.01)
+        number += 1
+        read(0)
+    read(0.5)
+    live, scrolled = picture.text(), picture.scrolled
+    script.send_signal(signal.SIGINT)
+    limit = time.monotonic() + 20
+    while script.poll() is None and time.monotonic() < limit:
+        read(0.1)
+    read(0.3)
+    picture.feed(rest.decode())
+    status = script.wait(20)
+    port.close()
+    os.close(end)
+    return live, picture.text(), scrolled, status
+
+
+def is_drawn():
+    live, last, scrolled, status = seen(["--live"], 6)
+    print(live)
+    asks(scrolled == 0, f"the picture scrolled by {scrolled} lines")
+    asks(live.count("device  asked  polls") == 1, "not one table")
+    asks(re.search(r"^monitor at \S+ 9600: \d\d:\d\d:\d\d, last byte 0 s ago; Ctrl-C ends it$", live, re.M), "no heading")
+    asks(re.search(r"^last \d+ s: \d+% of the time in use; a second \d+\.\d packets, 0\.0 damaged, \d+\.\d turns of the panel$", live, re.M), "no line of the window")
+    lost = re.search(r"^6 +\d+ +0\.0% +(\d+\.\d)%  online$", live, re.M)
+    asks(lost and 35 <= float(lost[1]) <= 65, f"6 loses half: {lost and lost[0]}")
+    asks(re.search(r"^5 +\d+ +0\.0% +\d\.\d%  online$", live, re.M), "5 loses nothing")
+    asks("reader 7: a reply that doesn't fit the command" in live, "no accusation stands under the table")
+    asks(all(len(line) <= WIDTH for line in live.split("\n")), "a line is too long")
+    asks(re.search(r"^runs \d+ packets \d+ skipped 0 refused 0 judged \d+ accused \d+$", last, re.M), f"no table at the end: {last}")
+    asks(status == 1, f"status {status}")
+
+
+def is_plain():
+    """Where the output is no terminal, lines are printed as without the option."""
+    port = Terminal()
+    script = started(port, ["--live"], subprocess.PIPE)
+    time.sleep(1)
+    for number in range(3):
+        for burst in turn(number):
+            os.write(port.end, burst)
+            time.sleep(0.02)
+    time.sleep(1)
+    script.send_signal(signal.SIGINT)
+    output = script.communicate(timeout=20)[0].decode()
+    port.close()
+    asks("\x1b" not in output and "device  asked" in output and "reader 7:" in output, f"no plain lines: {output}")
+
+
+is_drawn()
+is_plain()
+for fault in faults:
+    print(f"live: {fault}")
+print(f"live: a picture and plain lines, {len(faults)} faults")
+sys.exit(1 if faults else 0)
