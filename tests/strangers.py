@@ -3,6 +3,7 @@
 Both ends are written here, by the rules of the standard alone, with habits of several makers. Each burst may be lost to the end that it is for, or damaged for
 all. A line whose ends keep the rules has nobody accused. A line with one fault has the words that tell it, and no others of those that accuse. The counts of
 what was found and of what was falsely told are printed. Moments are made up."""
+import binascii
 import bisect
 import heapq
 import itertools
@@ -24,12 +25,7 @@ counts = Counter()
 
 
 def crc(data):
-    value = 0x1D0F
-    for byte in data:
-        value ^= byte << 8
-        for _ in range(8):
-            value = (value << 1 ^ 0x1021 if value & 0x8000 else value << 1) & 0xFFFF
-    return value
+    return binascii.crc_hqx(data, 0x1D0F)
 
 
 def packet(address, number, code, data=b"", reply=False, check="sum"):

@@ -10,9 +10,13 @@ pub mod ReaderLines
 pub mod AnyReaders
 pub mod PanelFits
 pub mod PanelLines
+pub mod AnyPanels
 pub mod Remembering
 pub mod Missing
 pub mod Telling
 pub mod Naming
+pub mod Breaking
+pub mod Repeating
+pub mod Accusing
 pub mod Noticing
 pub mod FittingReplies

@@ -156,10 +156,10 @@ misses_no_unanswered line a p items q to first nothing each next plain number =
 -- ---- a repeat that is answered by something else
 
 -- the last packet has this number
-abbrev HasNumber : ℕ → Known → Type 0
+abbrev pub HasNumber : ℕ → Known → Type 0
 HasNumber n k = (q : Packet) × (k.last ≡ Some q) × (q.sequence ≡ n)
 
-abbrev IsPending : ℕ → Known → Type 0
+abbrev pub IsPending : ℕ → Known → Type 0
 IsPending n k = HasNumber n k × (k.taken ≢ Some n)
 
 untaken_sent : (n : ℕ) (k : Known) (p : Packet) (o : Option Packet) → k.taken ≢ Some n → (after_sent o k p).taken ≢ Some n
@@ -174,7 +174,7 @@ untaken_reply Damage n k p x untaken other = untaken
 untaken_reply Refusal n k p x untaken other = none_some n
 untaken_reply Answer n k p x untaken other = absurd (other refl)
 
-pending_step : (a n : ℕ) (line : Knowledge) (x : Packet) → IsPending n (line.devices a) → (x.address ≡ a → TakesNothing n x)
+pub pending_step : (a n : ℕ) (line : Knowledge) (x : Packet) → IsPending n (line.devices a) → (x.address ≡ a → TakesNothing n x)
     → IsRemembered a (PacketItem x) line → IsPending n ((after_packet line x).devices a)
 pending_step a n line x known each is =
     let k = line.devices a in
@@ -191,7 +191,7 @@ pending_step a n line x known each is =
       )
     ])
 
-first_pending : (a : ℕ) (line : Knowledge) (p : Packet) → IsTo a p → (line.devices a).taken ≢ Some p.sequence → IsRemembered a (PacketItem p) line
+pub first_pending : (a : ℕ) (line : Knowledge) (p : Packet) → IsTo a p → (line.devices a).taken ≢ Some p.sequence → IsRemembered a (PacketItem p) line
     → IsPending p.sequence ((after_packet line p).devices a)
 first_pending a line p to untaken is =
     let k = line.devices a in
@@ -199,14 +199,14 @@ first_pending a line p to untaken is =
     (λ _ _. ((p, (sent_asked k p).last, refl), untaken_sent p.sequence k p k.last untaken)) (λ _ reply. absurd (false≢true (sym to.0 ∙ reply)))
 
 -- what a packet with this number must be answered by
-abbrev Keeps : ℕ → Packet → Known → Type 0
+abbrev pub Keeps : ℕ → Packet → Known → Type 0
 Keeps n r k = (k.taken ≡ Some n) × (k.stored ≡ Some r)
 
 -- .. and the last packet has this number
-abbrev IsStored : ℕ → Packet → Known → Type 0
+abbrev pub IsStored : ℕ → Packet → Known → Type 0
 IsStored n r k = HasNumber n k × Keeps n r k
 
-not_number : (o : Option ℕ) (n : ℕ) → o ≢ Some n → is_number o n ≡ false
+pub not_number : (o : Option ℕ) (n : ℕ) → o ≢ Some n → is_number o n ≡ false
 not_number None n other = refl
 not_number (Some t) n other = ne_eqb t n (λ same. other (ap Some same))
 
@@ -215,7 +215,7 @@ new_repeat k q n number untaken =
     cond-false (not (eqb q.sequence 0) && is_number k.taken q.sequence) k.stored None
     (and_right (not (eqb q.sequence 0)) (is_number k.taken q.sequence) (subst (λ m. is_number k.taken m ≡ false) (sym number) (not_number k.taken n untaken)))
 
-old_repeat : (k : Known) (q : Packet) (n : ℕ) → n ≢ 0 → q.sequence ≡ n → k.taken ≡ Some n → repeat_reply k q ≡ k.stored
+pub old_repeat : (k : Known) (q : Packet) (n : ℕ) → n ≢ 0 → q.sequence ≡ n → k.taken ≡ Some n → repeat_reply k q ≡ k.stored
 old_repeat k q n above number taken =
     cond-true (not (eqb q.sequence 0) && is_number k.taken q.sequence) k.stored None
     (and_from (not (eqb q.sequence 0)) (is_number k.taken q.sequence)
@@ -237,7 +237,7 @@ answer_stored n k q r above number last new own =
     ))
     (λ other. absurd (other own)))
 
-taken_stored : (a n : ℕ) (line : Knowledge) (r : Packet) → n ≢ 0 → IsPending n (line.devices a) → IsFrom a r → said r ≡ Answer → r.sequence ≡ n
+pub taken_stored : (a n : ℕ) (line : Knowledge) (r : Packet) → n ≢ 0 → IsPending n (line.devices a) → IsFrom a r → said r ≡ Answer → r.sequence ≡ n
     → IsRemembered a (PacketItem r) line → IsStored n r ((after_packet line r).devices a)
 taken_stored a n line r above known from says own is =
     let k = line.devices a in
@@ -251,7 +251,7 @@ taken_stored a n line r above known from says own is =
     (answer_stored n k last r above number before (new_repeat k last n number known.1) (own ∙ sym number))))
 
 -- another packet with this number, and a copy
-stored_sent : (n : ℕ) (r : Packet) (k : Known) (x : Packet) (o : Option Packet) → n ≢ 0 → k.last ≡ o → x.sequence ≡ n → IsStored n r k
+pub stored_sent : (n : ℕ) (r : Packet) (k : Known) (x : Packet) (o : Option Packet) → n ≢ 0 → k.last ≡ o → x.sequence ≡ n → IsStored n r k
     → Keeps n r (after_sent o k x)
 stored_sent n r k x None above last number known = absurd (none_some known.0.0 (sym last ∙ known.0.1))
 stored_sent n r k x (Some old) above last number known =
@@ -278,7 +278,7 @@ stored_reply Answer n r k q x above last number other known =
     subst (λ o. Keeps n r (after_answer (is_some o) q.sequence k x)) (sym (old_repeat k q n above number known.1.0 ∙ known.1.1))
     (by_number (Keeps n r) true q.sequence k x (λ _. known.1) (λ _. known.1))
 
-stored_step : (a n : ℕ) (r : Packet) → n ≢ 0 → (line : Knowledge) (x : Packet) → IsStored n r (line.devices a) → (x.address ≡ a → RefusesNothing n x)
+pub stored_step : (a n : ℕ) (r : Packet) → n ≢ 0 → (line : Knowledge) (x : Packet) → IsStored n r (line.devices a) → (x.address ≡ a → RefusesNothing n x)
     → IsRemembered a (PacketItem x) line → IsStored n r ((after_packet line x).devices a)
 stored_step a n r above line x known each is =
     let k = line.devices a in
@@ -303,7 +303,7 @@ abbrev IsAccused : Option Accusation → Type 0
 IsAccused o = (accusation : Accusation) × (o ≡ Some accusation)
 
 -- it is judged
-none_doubtful : (k : Known) (q s : Packet) (n : ℕ) → n ≢ 0 → q.sequence ≡ n → SaysOther n s → is_doubtful k q s ≡ false
+pub none_doubtful : (k : Known) (q s : Packet) (n : ℕ) → n ≢ 0 → q.sequence ≡ n → SaysOther n s → is_doubtful k q s ≡ false
 none_doubtful k q s n above number says =
     or_from (is_late k q s || is_of_either k q s) (is_unheard k q s)
     (or_from (is_late k q s) (is_of_either k q s) (in_time says) (and_right (has_earlier_number k s) (eqb q.sequence 0) (ne_eqb q.sequence 0 (λ zero. above (sym number ∙ zero)))))

@@ -27,7 +27,7 @@ use Rattle.osdp_monitor_laws.proofs.Remembering.{after_append, after_one, at_rem
 use Rattle.osdp_monitor_laws.proofs.Same.{packet_is}
 use Rattle.osdp_monitor_laws.specs.Late.{IsNone}
 use Rattle.osdp_monitor_laws.specs.Misses.{Each, IsCopyOrReply, IsFrom, IsRemembered, IsTo, NothingForgotten}
-use Rattle.osdp_monitor_laws.specs.Names.{Breaks, Exchange, Happens, IsEvent, IsInTurn, IsTaken, MissesNoPacketOutOfTurn, NamesReaders, NamesSecondReplies, items_of}
+use Rattle.osdp_monitor_laws.specs.Names.{Breaks, Exchange, FitsNumber, Happens, IsEvent, IsInTurn, IsTaken, MissesNoPacketOutOfTurn, NamesSecondReplies, items_of}
 
 -- ---- a packet out of turn
 
@@ -55,7 +55,7 @@ quiet_step : (a : ℕ) (Q : Known → Type 0) (line : Knowledge) (x : Packet) �
 quiet_step a Q line x known each is =
     at_remembered a Q line x is (λ _. known) (λ _ _ _. known) (λ here _. absurd (each here)) (λ here _ _ _ _. absurd (each here))
 
-quiet_items : (a : ℕ) (Q : Known → Type 0) (items : List RunItem) (line : Knowledge) → Q (line.devices a) → NothingForgotten a items line
+pub quiet_items : (a : ℕ) (Q : Known → Type 0) (items : List RunItem) (line : Knowledge) → Q (line.devices a) → NothingForgotten a items line
     → Each a IsNone items → Q ((after_items line items).devices a)
 quiet_items a Q items line known nothing each = items_keep a Q IsNone (quiet_step a Q) items line known nothing each
 
@@ -245,7 +245,7 @@ module _ (line : Knowledge) (a : ℕ) (e : Exchange) (is : Happens a line e) whe
 -- ---- a reply to it is judged
 
 module _ (n : ℕ) (q : Packet) (k : Known) (known : IsFresh n q k) (r : Packet) where
-  none_earlier : has_earlier_number k r ≡ false
+  pub none_earlier : has_earlier_number k r ≡ false
   none_earlier =
       and_right (tells_number (said r) r.sequence) (not k.settled || is_number k.earlier r.sequence)
       (or_from (not k.settled) (is_number k.earlier r.sequence) (not_from_true k.settled known.settled) (ap (λ o. is_number o r.sequence) known.earlier))
@@ -257,12 +257,12 @@ module _ (n : ℕ) (q : Packet) (k : Known) (known : IsFresh n q k) (r : Packet)
   heard =
       and_left (is_answer (said r) && k.answered) (eqb r.sequence (next_sequence q.sequence)) (and_right (is_answer (said r)) k.answered known.answered)
 
-  in_no_doubt : is_doubtful k q r ≡ false
+  pub in_no_doubt : is_doubtful k q r ≡ false
   in_no_doubt =
       or_from (is_late k q r || is_of_either k q r) (is_unheard k q r)
       (or_from (is_late k q r) (is_of_either k q r) in_time (and_left (has_earlier_number k r) (eqb q.sequence 0) none_earlier)) heard
 
-  judged_is : reader_accused k q r ≡ reply_accused (said r) k q r
+  pub judged_is : reader_accused k q r ≡ reply_accused (said r) k q r
   judged_is =
       cond-false (is_doubtful k q r) None (cond (is_one_more k r && not (is_owed k)) (Some SecondReply) (reply_accused (said r) k q r)) in_no_doubt
       ∙ cond-false (is_one_more k r && not (is_owed k)) (Some SecondReply) (reply_accused (said r) k q r)
@@ -278,7 +278,7 @@ module _ (n : ℕ) (q : Packet) (k : Known) (known : IsFresh n q k) (r : Packet)
     | inr zero ↦ subst (λ o. is_number o q.sequence ≡ false) (sym zero.1) refl
   ]
 
-  new : repeat_reply k q ≡ None
+  pub new : repeat_reply k q ≡ None
   new =
       cond-false (not (eqb q.sequence 0) && is_number k.taken q.sequence) k.stored None
       (and_right (not (eqb q.sequence 0)) (is_number k.taken q.sequence) not_taken)
@@ -321,36 +321,44 @@ module _ (n : ℕ) (q : Packet) (k : Known) (known : IsFresh n q k) (r : Packet)
       (ap (λ o. answer_accused o k q r) new
       ∙ cond-false (eqb r.sequence q.sequence) (turn_accused k.taken q r) (Some AnotherNumber) (ne_eqb r.sequence q.sequence differs))
 
-checks_differ : (c d : CheckKind) → c ≢ d → same_check c d ≡ false
+pub checks_differ : (c d : CheckKind) → c ≢ d → same_check c d ≡ false
 checks_differ Sum Sum other = absurd (other refl)
 checks_differ Sum Crc other = refl
 checks_differ Crc Sum other = refl
 checks_differ Crc Crc other = absurd (other refl)
 
-checks_same : (c d : CheckKind) → c ≡ d → same_check c d ≡ true
+pub checks_same : (c d : CheckKind) → c ≡ d → same_check c d ≡ true
 checks_same Sum Sum same = refl
 checks_same Sum Crc same = absurd cc
 checks_same Crc Sum same = absurd cc
 checks_same Crc Crc same = refl
 
 module _ (n : ℕ) (q : Packet) (k : Known) (known : IsFresh n q k) (r : Packet) (other : q.sequence ≢ n) where
-  other_check : (s : Said) → said r ≡ s → s ≢ Damage → r.sequence ≡ q.sequence → r.check ≢ q.check → IsInTurn n q → reader_accused k q r ≡ Some AnotherCheck
-  other_check Busy says _ own differs turn =
+  -- a reply but BUSY has the packet's number
+  its_number : (s : Said) → said r ≡ s → FitsNumber q r → Busy ≢ s → r.sequence ≡ q.sequence
+  its_number s says (inl own) other_said = own
+  its_number s says (inr zero) other_said = absurd (other_said (sym zero.0 ∙ says))
+
+  other_check : (s : Said) → said r ≡ s → s ≢ Damage → FitsNumber q r → r.check ≢ q.check → (s ≡ Answer → IsInTurn n q) → reader_accused k q r ≡ Some AnotherCheck
+  other_check Busy says _ fits differs turn =
       judged n q k known r Busy AnotherCheck says
       (cond-false (not (eqb r.sequence q.sequence || eqb r.sequence 0)) (Some AnotherNumber) (cond (not (same_check r.check q.check)) (Some AnotherCheck) (cond (is_some (repeat_reply k q)) (Some BusyToRepeat) None))
-      (not_from_true (eqb r.sequence q.sequence || eqb r.sequence 0) (or_left (eqb r.sequence q.sequence) (eqb r.sequence 0) (eq-eqb r.sequence q.sequence own)))
+      (not_from_true (eqb r.sequence q.sequence || eqb r.sequence 0) (elim fits [
+        | inl own ↦ or_left (eqb r.sequence q.sequence) (eqb r.sequence 0) (eq-eqb r.sequence q.sequence own)
+        | inr zero ↦ or_right (eqb r.sequence q.sequence) (eqb r.sequence 0) (eq-eqb r.sequence 0 zero.1)
+      ]))
       ∙ cond-true (not (same_check r.check q.check)) (Some AnotherCheck) (cond (is_some (repeat_reply k q)) (Some BusyToRepeat) None)
       (not_from_false (same_check r.check q.check) (checks_differ r.check q.check differs)))
-  other_check Damage says none own differs turn = absurd (none refl)
-  other_check Refusal says _ own differs turn =
+  other_check Damage says none fits differs turn = absurd (none refl)
+  other_check Refusal says _ fits differs turn =
       judged n q k known r Refusal AnotherCheck says
       (cond-false (not (eqb r.sequence q.sequence)) (Some AnotherNumber) (cond (not (same_check r.check q.check)) (Some AnotherCheck) (cond (eqb q.sequence 0) (Some RefusedZero) None))
-      (not_from_true (eqb r.sequence q.sequence) (eq-eqb r.sequence q.sequence own))
+      (not_from_true (eqb r.sequence q.sequence) (eq-eqb r.sequence q.sequence (its_number Refusal says fits (λ e. absurd cc))))
       ∙ cond-true (not (same_check r.check q.check)) (Some AnotherCheck) (cond (eqb q.sequence 0) (Some RefusedZero) None)
       (not_from_false (same_check r.check q.check) (checks_differ r.check q.check differs)))
-  other_check Answer says _ own differs turn =
-      own_answer n q k known r other AnotherCheck says own
-      (by_turn n q k known r other AnotherCheck turn
+  other_check Answer says _ fits differs turn =
+      own_answer n q k known r other AnotherCheck says (its_number Answer says fits (λ e. absurd cc))
+      (by_turn n q k known r other AnotherCheck (turn refl)
       (cond-false (same_check r.check q.check) (reading_accused (reply_told r) q) (Some AnotherCheck) (checks_differ r.check q.check differs)))
 
   -- it was taken now, and is accused for what it is read as
@@ -400,7 +408,7 @@ module _ (n : ℕ) (q : Packet) (k : Known) (known : IsFresh n q k) (r : Packet)
       ∙ cond-true (is_event_at_zero Poll told q.sequence) (Some EventAtZero) None
       (and_from (eqb q.sequence 0) (not (is_plain told)) (eq-eqb q.sequence 0 zero) (not_from_false (is_plain told) (no_plain told event)))
 
-  named : (accusation : Accusation) → Breaks accusation n q r → reader_accused k q r ≡ Some accusation
+  pub named : (accusation : Accusation) → Breaks accusation n q r → reader_accused k q r ≡ Some accusation
   named AnotherNumber (some, differs, above) = other_number n q k known r other (said r) refl some differs above
   named AnotherCheck (some, own, differs, turn) = other_check (said r) refl some own differs turn
   named RefusedZero (says, zero, own, check) = refuses_zero says zero own check
@@ -410,22 +418,14 @@ module _ (n : ℕ) (q : Packet) (k : Known) (known : IsFresh n q k) (r : Packet)
   named EventAtZero (taken, told, zero, asks, tells, fits, event) = taken_now EventAtZero taken (event_at_zero told zero asks tells fits event)
   named accusation never = absurd never
 
-pub names_readers : NamesReaders
-names_readers line a e r accusation is from plain breaks =
-    let known = is_fresh line a e is in
-    let k = (line7 line a e is).devices a in
-    ap (λ (l : Knowledge). (found_in l r).accusation) (whole line a e is)
-    ∙ reply_found (line7 line a e is) a r e.last accusation from (device_of line a e.first is.first_to.1 is.nothing.0) plain known.last
-    (named e.second.sequence e.last k known r is.another accusation breaks)
-
 -- ---- a second reply
 
-record IsReplied (q : Packet) (k : Known) : Type 0 where
-  last : k.last ≡ Some q
-  replied : k.replied ≡ true
-  earlier : k.earlier ≡ None
-  owing : k.owing ≡ false
-  settled : k.settled ≡ true
+pub record IsReplied (q : Packet) (k : Known) : Type 0 where
+  pub last : k.last ≡ Some q
+  pub replied : k.replied ≡ true
+  pub earlier : k.earlier ≡ None
+  pub owing : k.owing ≡ false
+  pub settled : k.settled ≡ true
 
 replied_by : (s : Said) (n : ℕ) (q : Packet) (k : Known) (r : Packet) → s ≢ Damage → IsFresh n q k → IsReplied q (after_reply_of s k q r)
 replied_by Busy n q k r some known = record { last = known.last; replied = refl; earlier = known.earlier; owing = known.owing; settled = known.settled }
@@ -442,7 +442,7 @@ replied_by Answer n q k r some known =
     })
     (λ _. record { last = known.last; replied = refl; earlier = known.earlier; owing = known.owing; settled = known.settled })
 
-replied : (a n : ℕ) (q : Packet) (line : Knowledge) (r : Packet) → IsFrom a r → said r ≢ Damage → IsFresh n q (line.devices a)
+pub replied : (a n : ℕ) (q : Packet) (line : Knowledge) (r : Packet) → IsFrom a r → said r ≢ Damage → IsFresh n q (line.devices a)
     → IsRemembered a (PacketItem r) line → IsReplied q ((after_packet line r).devices a)
 replied a n q line r from some known is =
     let k = line.devices a in
@@ -476,7 +476,7 @@ second_accused q k s known some third =
     no_damage Refusal other = refl
     no_damage Answer other = refl
 
-nothing_more : (l : Knowledge) → after_items l [] ≡ l
+pub nothing_more : (l : Knowledge) → after_items l [] ≡ l
 unfolding after_items
 nothing_more l = refl
 

@@ -1,66 +1,120 @@
 -- Each notice by its name.
-use Rattle.std.proofs.Common.{◌≡◌, ◌≢◌, ℕ, Bool, true, false, cond, eqb, ◌&&◌, ◌||◌, not, Option, Some, None, Result, Ok, refl, sym, ap, ◌∙◌}
-use Rattle.std.proofs.lemmas.Bool.{and_from, cond-false, cond-true, eq-eqb, ne_eqb, not_from_false, or_from}
-use Rattle.osdp_frame.specs.Packet.{Packet}
+use Rattle.std.proofs.Common.{◌≡◌, ◌≢◌, ℕ, Bool, true, false, cond, eqb, ◌&&◌, ◌||◌, not, [], ◌∷◌, ◌++◌, Option, Some, None, Result, Ok, refl, sym, subst, ap, ◌∙◌}
+use Rattle.std.proofs.lemmas.Bool.{and_from, and_left, and_parts, and_right, cond-false, cond-true, cond_both, eq-eqb, eqb-true, false≢true, ne_eqb, not-true, not_from_false, not_from_true, or_from, or_left, or_right}
+use Rattle.std.specs.Prelude.{is_some}
+use Rattle.osdp_frame.specs.Packet.{Packet, next_sequence}
+use Rattle.osdp_frame.specs.Reading.{PacketItem}
 use Rattle.osdp_msg.specs.declared.fault.MsgFault.{MsgFault}
 use Rattle.osdp_msg.specs.declared.reply.Reply.{Reply}
 use Rattle.osdp_msg.specs.declared.reply.Reply.TheVariants as reply
 use Rattle.osdp_msg.specs.declared.reply_fields.Nak as nak
 use Rattle.osdp_monitor.specs.declared.found.Found.{Found}
-use Rattle.osdp_monitor.specs.declared.found.Notice.TheVariants.{Opened, Restarted, Unanswered, Unsure}
-use Rattle.osdp_monitor.specs.declared.said.Said.TheVariants.{Refusal, Answer}
-use Rattle.osdp_monitor.specs.Known.{Known}
-use Rattle.osdp_monitor.specs.Line.{Knowledge, found_in, found_in_reply, found_in_sent, late_notice, moves_to, nothing_found, notice_if, reply_notice}
-use Rattle.osdp_monitor.specs.Panel.{is_missed}
-use Rattle.osdp_monitor.specs.Reader.{is_late, is_nak, is_opening, is_unheard}
+use Rattle.osdp_monitor.specs.declared.found.Notice.{Notice}
+use Rattle.osdp_monitor.specs.declared.found.Notice.TheVariants.{Opened, Late, Moved, Restarted, Unanswered, Unsure}
+use Rattle.osdp_monitor.specs.declared.said.Said.{Said}
+use Rattle.osdp_monitor.specs.declared.said.Said.TheVariants.{Busy, Damage, Refusal, Answer}
+use Rattle.osdp_monitor.specs.Known.{Known, is_number, same_packet}
+use Rattle.osdp_monitor.specs.Line.{Knowledge, after_items, after_packet, found_in, found_in_reply, found_in_sent, late_notice, moves_to, nothing_found, notice_if, reply_notice}
+use Rattle.osdp_monitor.specs.Panel.{after_another, after_copy, after_sent, is_missed, keeps_number, left_waiting}
+use Rattle.osdp_monitor.specs.Reader.{has_earlier_number, is_doubtful, is_late, is_nak, is_of_either, is_one_more, is_opening, is_owed, is_unheard, reader_accused}
 use Rattle.osdp_monitor.specs.Saying.{is_answer, is_foreign, is_refusal, reply_told, said}
+use Rattle.osdp_monitor_laws.proofs.Accusing.{IsAnswered, now_answered}
+use Rattle.osdp_monitor_laws.proofs.Agreeing.{none_some, same_some, sent_asked}
 use Rattle.osdp_monitor_laws.proofs.Missing.{device_of}
-use Rattle.osdp_monitor_laws.proofs.Naming.{heard, in_time, is_fresh, line7, whole}
-use Rattle.osdp_monitor_laws.proofs.Telling.{reply_found}
-use Rattle.osdp_monitor_laws.specs.Misses.{IsTo}
-use Rattle.osdp_monitor_laws.specs.Notices.{TellsOpenings, TellsRestarts, TellsUnanswered}
+use Rattle.osdp_monitor_laws.proofs.Naming.{IsFresh, heard, in_time, is_fresh, line7, nothing_more, quiet_items, replied, whole}
+use Rattle.osdp_monitor_laws.proofs.Remembering.{after_append, after_one, at_remembered, forgotten_append}
+use Rattle.osdp_monitor_laws.proofs.Telling.{late_accused, reply_found, tells}
+use Rattle.osdp_monitor_laws.specs.Misses.{IsRemembered, IsTo, NothingForgotten}
+use Rattle.osdp_monitor_laws.specs.Names.{Exchange, Happens, items_of}
+use Rattle.osdp_monitor_laws.specs.Notices.{IsWorth, TellsNoAnswered, TellsReplies, TellsTooLittle, TellsUnanswered, TellsUnansweredOnce, TellsUnheard}
 
-restart_told : (k : Known) (q r : Packet) (o : Option ℕ) → o ≡ None → is_late k q r ≡ false → is_unheard k q r ≡ false → said r ≡ Refusal
-    → reply_notice o k q r ≡ Some Restarted
-restart_told k q r (Some place) none prompt known says = cc
-restart_told k q r None none prompt known says =
-    cond-false (is_late k q r) (Some (late_notice k)) _ prompt ∙ cond-false (is_unheard k q r) (Some Unsure) _ known
-    ∙ cond-true (is_refusal (said r)) (Some Restarted) _ (ap is_refusal says)
+-- ---- a reply
 
 no_nak : (told : Result Reply MsgFault) → ((n : nak.Nak) → told ≢ Ok (reply.Nak n)) → is_nak told ≡ false
 no_nak (Ok (reply.Nak n)) other = absurd (other n refl)
 no_nak told other = refl
 
+other_than_nak : (told : Result Reply MsgFault) → is_nak told ≡ false → (n : nak.Nak) → told ≢ Ok (reply.Nak n)
+other_than_nak told other n same = false≢true (sym other ∙ ap is_nak same)
+
 all_true : (a b c d e : Bool) → a ≡ true → b ≡ true → c ≡ true → d ≡ true → e ≡ true → (a && b && c && d && e) ≡ true
 all_true a b c d e pa pb pc pd pe = rw (pa, pb, pc, pd, pe) refl
 
-opening_told : (k : Known) (q r : Packet) (o : Option ℕ) → o ≡ None → is_late k q r ≡ false → is_unheard k q r ≡ false → said r ≡ Answer
-    → is_opening k q r ≡ true → reply_notice o k q r ≡ Some Opened
-opening_told k q r (Some place) none prompt known says opens = cc
-opening_told k q r None none prompt known says opens =
-    cond-false (is_late k q r) (Some (late_notice k)) _ prompt ∙ cond-false (is_unheard k q r) (Some Unsure) _ known
-    ∙ cond-false (is_refusal (said r)) (Some Restarted) _ (ap is_refusal says) ∙ cond-true (is_opening k q r) (Some Opened) _ opens
+says_refusal : (s : Said) → is_refusal s ≡ true → s ≡ Refusal
+says_refusal Busy is = absurd (false≢true is)
+says_refusal Damage is = absurd (false≢true is)
+says_refusal Refusal is = refl
+says_refusal Answer is = absurd (false≢true is)
 
-pub tells_restarts : TellsRestarts
-tells_restarts line a e r is answers says =
+says_answer : (s : Said) → is_answer s ≡ true → s ≡ Answer
+says_answer Busy is = absurd (false≢true is)
+says_answer Damage is = absurd (false≢true is)
+says_answer Refusal is = absurd (false≢true is)
+says_answer Answer is = refl
+
+module _ (n : ℕ) (p : Packet) (k : Known) (known : IsFresh n p k) (r : Packet) where
+  -- what is told of a reply that moves nothing, is in time, and whose packet was heard
+  abbrev rest : Option Notice
+  rest = cond (is_refusal (said r)) (Some Restarted) (cond (is_opening k p r) (Some Opened) (notice_if (is_one_more k r && is_owed k) (late_notice k)))
+
+  stays : reply_notice None k p r ≡ rest
+  stays =
+      cond-false (is_late k p r) (Some (late_notice k)) (cond (is_unheard k p r) (Some Unsure) rest) (in_time n p k known r)
+      ∙ cond-false (is_unheard k p r) (Some Unsure) rest (heard n p k known r)
+
+  nothing_more_told : notice_if (is_one_more k r && is_owed k) (late_notice k) ≡ None
+  nothing_more_told =
+      cond-false (is_one_more k r && is_owed k) (Some (late_notice k)) None
+      (and_right (is_one_more k r) (is_owed k) (or_from k.owing (is_some k.earlier) known.owing (ap is_some known.earlier)))
+
+  worth : (notice : Notice) (o : Option ℕ) → moves_to (Some p) r ≡ o → IsWorth notice p r → reply_notice o k p r ≡ Some notice
+  worth (Moved place) o moves is = ap (λ x. reply_notice x k p r) (sym moves ∙ is)
+  worth Restarted o moves is =
+      ap (λ x. reply_notice x k p r) (sym moves ∙ is.0) ∙ stays ∙ cond-true (is_refusal (said r)) (Some Restarted) _ (ap is_refusal is.1)
+  worth Opened o moves is =
+      ap (λ x. reply_notice x k p r) (sym moves ∙ is.0) ∙ stays ∙ cond-false (is_refusal (said r)) (Some Restarted) _ (ap is_refusal is.1)
+      ∙ cond-true (is_opening k p r) (Some Opened) _
+      (all_true (eqb p.sequence 0) (eqb r.sequence 0) (not k.answered) (is_answer (said r)) (not (is_nak (reply_told r))) (eq-eqb p.sequence 0 is.3)
+      (eq-eqb r.sequence 0 is.4) (not_from_false k.answered known.answered) (ap is_answer is.1) (not_from_false (is_nak (reply_told r)) (no_nak (reply_told r) is.2)))
+  worth notice o moves is = absurd is
+
+  by_name : (x notice : Notice) → IsWorth x p r → Some x ≡ Some notice → IsWorth notice p r
+  by_name x notice is same = subst (λ y. IsWorth y p r) (same_some x notice same) is
+
+  only : (notice : Notice) (o : Option ℕ) → moves_to (Some p) r ≡ o → reply_notice o k p r ≡ Some notice → IsWorth notice p r
+  only notice (Some place) moves is = by_name (Moved place) notice moves is
+  only notice None moves is =
+      cond_both (is_refusal (said r)) (Some Restarted) (cond (is_opening k p r) (Some Opened) (notice_if (is_one_more k r && is_owed k) (late_notice k)))
+      (λ x. x ≡ Some notice → IsWorth notice p r)
+      (λ refuses. by_name Restarted notice (moves, says_refusal (said r) refuses))
+      (λ _. cond_both (is_opening k p r) (Some Opened) (notice_if (is_one_more k r && is_owed k) (late_notice k)) (λ x. x ≡ Some notice → IsWorth notice p r)
+      (λ opens.
+      let a = and_parts (eqb p.sequence 0 && eqb r.sequence 0 && not k.answered && is_answer (said r)) (not (is_nak (reply_told r))) opens in
+      let b = and_parts (eqb p.sequence 0 && eqb r.sequence 0 && not k.answered) (is_answer (said r)) a.0 in
+      let c = and_parts (eqb p.sequence 0 && eqb r.sequence 0) (not k.answered) b.0 in
+      let d = and_parts (eqb p.sequence 0) (eqb r.sequence 0) c.0 in
+      by_name Opened notice (
+        moves,
+        says_answer (said r) b.1,
+        other_than_nak (reply_told r) (not-true (is_nak (reply_told r)) a.1),
+        eqb-true p.sequence 0 d.0,
+        eqb-true r.sequence 0 d.1,
+      ))
+      (λ _ some. absurd (none_some notice (sym nothing_more_told ∙ some)))) (sym stays ∙ is)
+
+pub tells_replies : TellsReplies
+tells_replies line a e r notice is from plain =
     let known = is_fresh line a e is in
     let k = (line7 line a e is).devices a in
-    ap (λ (l : Knowledge). (found_in l r).notice) (whole line a e is)
-    ∙ reply_found (λ (f : Found). f.notice ≡ Some Restarted) (line7 line a e is) a e.last r answers.from (device_of line a e.first is.first_to.1 is.nothing.0) answers.plain
-    known.last
-    (restart_told k e.last r (moves_to (Some e.last) r) answers.stays (in_time e.second.sequence e.last k known r) (heard e.second.sequence e.last k known r) says)
+    let found : (found_in (line7 line a e is) r).notice ≡ reply_notice (moves_to (Some e.last) r) k e.last r =
+    reply_found (λ (f : Found). f.notice ≡ reply_notice (moves_to (Some e.last) r) k e.last r) (line7 line a e is) a e.last r from
+    (device_of line a e.first is.first_to.1 is.nothing.0) plain known.last refl in
+    let all = ap (λ (l : Knowledge). (found_in l r).notice) (whole line a e is) ∙ found in (
+      λ told. only e.second.sequence e.last k known r notice (moves_to (Some e.last) r) refl (sym all ∙ told),
+      λ worth_it. all ∙ worth e.second.sequence e.last k known r notice (moves_to (Some e.last) r) refl worth_it,
+    )
 
-pub tells_openings : TellsOpenings
-tells_openings line a e r is answers says other zero number =
-    let known = is_fresh line a e is in
-    let k = (line7 line a e is).devices a in
-    let opens : is_opening k e.last r ≡ true =
-    all_true (eqb e.last.sequence 0) (eqb r.sequence 0) (not k.answered) (is_answer (said r)) (not (is_nak (reply_told r))) (eq-eqb e.last.sequence 0 zero)
-    (eq-eqb r.sequence 0 number) (not_from_false k.answered known.answered) (ap is_answer says) (not_from_false (is_nak (reply_told r)) (no_nak (reply_told r) other)) in
-    ap (λ (l : Knowledge). (found_in l r).notice) (whole line a e is)
-    ∙ reply_found (λ (f : Found). f.notice ≡ Some Opened) (line7 line a e is) a e.last r answers.from (device_of line a e.first is.first_to.1 is.nothing.0) answers.plain
-    known.last
-    (opening_told k e.last r (moves_to (Some e.last) r) answers.stays (in_time e.second.sequence e.last k known r) (heard e.second.sequence e.last k known r) says opens)
+-- ---- a packet without a reply
 
 sent_notice : (line : Knowledge) (a : ℕ) (q : Packet) → IsTo a q → a ≢ 127 → is_foreign q ≡ false → (found_in line q).notice ≡ (found_in_sent (line.devices a) q).notice
 sent_notice line a q to device plain =
@@ -79,3 +133,121 @@ tells_unanswered line a e q is to plain =
     ∙ ap (λ o. notice_if (is_missed o k) Unanswered) known.last
     ∙ cond-true (not k.replied && not k.missed) (Some Unanswered) None
     (and_from (not k.replied) (not k.missed) (not_from_false k.replied known.replied) (not_from_false k.missed known.missed))
+
+-- the line after one more packet
+more : (line : Knowledge) (a : ℕ) (e : Exchange) (is : Happens a line e) (x : Packet)
+    → after_items line (items_of e ++ PacketItem x ∷ []) ≡ after_packet (line7 line a e is) x
+more line a e is x =
+    after_append line (items_of e) (PacketItem x ∷ []) ∙ ap (λ (l : Knowledge). after_items l (PacketItem x ∷ [])) (whole line a e is)
+    ∙ after_one (line7 line a e is) (PacketItem x) [] ∙ nothing_more (after_packet (line7 line a e is) x)
+
+remembered : (line : Knowledge) (a : ℕ) (e : Exchange) (is : Happens a line e) (x : Packet) → NothingForgotten a (items_of e ++ PacketItem x ∷ []) line
+    → IsRemembered a (PacketItem x) (line7 line a e is)
+remembered line a e is x nothing =
+    subst (λ (l : Knowledge). IsRemembered a (PacketItem x) l) (whole line a e is) (forgotten_append a line (items_of e) (PacketItem x ∷ []) nothing).1.0
+
+-- the last packet had no reply, nor had the one before
+abbrev IsMissed : Packet → Known → Type 0
+IsMissed p k = (k.last ≡ Some p) × (k.missed ≡ true)
+
+missed_sent : (k : Known) (p : Packet) (o : Option Packet) (last : Packet) → o ≡ Some last → k.replied ≡ false → (after_sent o k p).missed ≡ true
+missed_sent k p None last is none = absurd (none_some last is)
+missed_sent k p (Some old) last is none =
+    cond_both (same_packet old p) (after_copy k) (after_another (keeps_number old k p) (left_waiting old k) k p) (λ j. j.missed ≡ true)
+    (λ _. not_from_false k.replied none) (λ _. not_from_false k.replied none)
+
+missed : (a : ℕ) (last : Packet) (line : Knowledge) (p : Packet) → IsTo a p → (line.devices a).last ≡ Some last → (line.devices a).replied ≡ false
+    → IsRemembered a (PacketItem p) line → IsMissed p ((after_packet line p).devices a)
+missed a last line p to known none is =
+    let k = line.devices a in
+    at_remembered a (IsMissed p) line p is (λ away. absurd (away to.1)) (λ _ reply. absurd (false≢true (sym to.0 ∙ reply)))
+    (λ _ _. ((sent_asked k p).last, missed_sent k p k.last last known none)) (λ _ reply. absurd (false≢true (sym to.0 ∙ reply)))
+
+-- nothing is told at the next packet to the device
+none_told : (line : Knowledge) (a : ℕ) (p q : Packet) → IsTo a q → a ≢ 127 → is_foreign q ≡ false → (line.devices a).last ≡ Some p
+    → (not (line.devices a).replied && not (line.devices a).missed) ≡ false → (found_in line q).notice ≡ None
+none_told line a p q to device plain last none =
+    let k = line.devices a in
+    sent_notice line a q to device plain ∙ ap (λ o. notice_if (is_missed o k) Unanswered) last ∙ cond-false (not k.replied && not k.missed) (Some Unanswered) None none
+
+pub tells_unanswered_once : TellsUnansweredOnce
+tells_unanswered_once line a e p q is to nothing next plain =
+    let known = is_fresh line a e is in
+    let before = line7 line a e is in
+    let now = after_packet before p in
+    let twice = missed a e.last before p to known.last known.replied (remembered line a e is p nothing) in
+    ap (λ (l : Knowledge). (found_in l q).notice) (more line a e is p)
+    ∙ none_told now a p q next (device_of line a e.first is.first_to.1 is.nothing.0) plain twice.0
+    (and_right (not (now.devices a).replied) (not (now.devices a).missed) (not_from_true (now.devices a).missed twice.1))
+
+pub tells_no_answered : TellsNoAnswered
+tells_no_answered line a e r q is from some nothing next plain =
+    let before = line7 line a e is in
+    let now = after_packet before r in
+    let known = replied a e.second.sequence e.last before r from some (is_fresh line a e is) (remembered line a e is r nothing) in
+    ap (λ (l : Knowledge). (found_in l q).notice) (more line a e is r)
+    ∙ none_told now a e.last q next (device_of line a e.first is.first_to.1 is.nothing.0) plain known.last
+    (and_left (not (now.devices a).replied) (not (now.devices a).missed) (not_from_true (now.devices a).replied known.replied))
+
+-- ---- too little was heard
+
+-- the packet is the first that is known
+abbrev IsFirst : Packet → Known → Type 0
+IsFirst p k = (k.last ≡ Some p) × (k.settled ≡ false)
+
+first_sent : (k : Known) (p : Packet) (o : Option Packet) → o ≡ None → (after_sent o k p).settled ≡ false
+first_sent k p None none = refl
+first_sent k p (Some old) none = absurd cc
+
+first : (a : ℕ) (line : Knowledge) (p : Packet) → IsTo a p → (line.devices a).last ≡ None → IsRemembered a (PacketItem p) line
+    → IsFirst p ((after_packet line p).devices a)
+first a line p to none is =
+    let k = line.devices a in
+    at_remembered a (IsFirst p) line p is (λ away. absurd (away to.1)) (λ _ reply. absurd (false≢true (sym to.0 ∙ reply)))
+    (λ _ _. ((sent_asked k p).last, first_sent k p k.last none)) (λ _ reply. absurd (false≢true (sym to.0 ∙ reply)))
+
+unsure : (k : Known) (p r : Packet) (o : Option ℕ) → o ≡ None → is_late k p r ≡ true → k.settled ≡ false → reply_notice o k p r ≡ Some Unsure
+unsure k p r (Some place) none late new = absurd cc
+unsure k p r None none late new =
+    cond-true (is_late k p r) (Some (late_notice k)) _ late ∙ ap Some (cond-false k.settled Late Unsure new)
+
+pub tells_too_little : TellsTooLittle
+tells_too_little line a p items r unknown to nothing quiet from plain says other stays =
+    let line0 = after_packet line p in
+    let now = after_items line0 items in
+    let k = now.devices a in
+    let known : IsFirst p k = quiet_items a (IsFirst p) items line0 (first a line p to unknown nothing.0) nothing.1 quiet in
+    let late : is_late k p r ≡ true =
+    and_from (has_earlier_number k r) (not (eqb r.sequence p.sequence))
+    (and_from _ _ (tells r says) (or_left (not k.settled) _ (not_from_false k.settled known.1)))
+    (not_from_false (eqb r.sequence p.sequence) (ne_eqb r.sequence p.sequence other)) in
+    subst (λ (l : Knowledge). ((found_in l r).accusation ≡ None) × ((found_in l r).notice ≡ Some Unsure)) (sym (after_one line (PacketItem p) items))
+    (reply_found (λ (f : Found). (f.accusation ≡ None) × (f.notice ≡ Some Unsure)) now a p r from (device_of line a p to.1 nothing.0) plain known.0
+    (late_accused k p r late, unsure k p r (moves_to (Some p) r) stays late known.1))
+
+unheard_accused : (k : Known) (p r : Packet) → is_unheard k p r ≡ true → reader_accused k p r ≡ None
+unheard_accused k p r unheard =
+    cond-true (is_doubtful k p r) None _ (or_right (is_late k p r || is_of_either k p r) (is_unheard k p r) unheard)
+
+unheard_told : (k : Known) (p r : Packet) (o : Option ℕ) → o ≡ None → is_late k p r ≡ false → is_unheard k p r ≡ true → reply_notice o k p r ≡ Some Unsure
+unheard_told k p r (Some place) none prompt unheard = absurd cc
+unheard_told k p r None none prompt unheard = cond-false (is_late k p r) (Some (late_notice k)) _ prompt ∙ cond-true (is_unheard k p r) (Some Unsure) _ unheard
+
+pub tells_unheard : TellsUnheard
+tells_unheard line a e r s is from answers own nothing second plain says number stays =
+    let fresh = is_fresh line a e is in
+    let before = line7 line a e is in
+    let remembers = remembered line a e is r nothing in
+    let now = after_packet before r in
+    let k = now.devices a in
+    let known = replied a e.second.sequence e.last before r from (λ damage. absurd cc) fresh remembers in
+    let taken : IsAnswered e.last k = now_answered a e.last before r fresh.last from.1 from.0 answers own remembers in
+    let none : has_earlier_number k s ≡ false =
+    and_right _ (not k.settled || _) (or_from (not k.settled) _ (not_from_true k.settled known.settled) (ap (λ o. is_number o s.sequence) known.earlier)) in
+    let prompt : is_late k e.last s ≡ false = and_left (has_earlier_number k s) (not (eqb s.sequence e.last.sequence)) none in
+    let unheard : is_unheard k e.last s ≡ true =
+    and_from (is_answer (said s) && k.answered) (eqb s.sequence (next_sequence e.last.sequence))
+    (and_from (is_answer (said s)) k.answered (ap is_answer says) taken.1) (eq-eqb s.sequence (next_sequence e.last.sequence) number) in
+    subst (λ (l : Knowledge). ((found_in l s).accusation ≡ None) × ((found_in l s).notice ≡ Some Unsure)) (sym (more line a e is r))
+    (reply_found (λ (f : Found). (f.accusation ≡ None) × (f.notice ≡ Some Unsure)) now a e.last s second (device_of line a e.first is.first_to.1 is.nothing.0) plain
+    known.last (unheard_accused k e.last s unheard, unheard_told k e.last s (moves_to (Some e.last) s) stays prompt unheard))

@@ -34,13 +34,13 @@ last_by Damage k p q = refl
 last_by Refusal k p q = refl
 last_by Answer k p q = by_number (λ j. j.last ≡ k.last) (is_some (repeat_reply k p)) p.sequence k q (λ _. refl) (λ _. refl)
 
-answered_by : (s : Said) (k : Known) (p q : Packet) → k.answered ≡ true → (after_reply_of s k p q).answered ≡ true
+pub answered_by : (s : Said) (k : Known) (p q : Packet) → k.answered ≡ true → (after_reply_of s k p q).answered ≡ true
 answered_by Busy k p q is = is
 answered_by Damage k p q is = is
 answered_by Refusal k p q is = is
 answered_by Answer k p q is = by_number (λ j. j.answered ≡ true) (is_some (repeat_reply k p)) p.sequence k q (λ _. refl) (λ _. is)
 
-answers : (k : Known) (p q : Packet) → said q ≡ Answer → q.sequence ≡ p.sequence → (after_reply k p q).answered ≡ true
+pub answers : (k : Known) (p q : Packet) → said q ≡ Answer → q.sequence ≡ p.sequence → (after_reply k p q).answered ≡ true
 answers k p q says number =
     ap (λ j. j.answered) (own_counts k p q number)
     ∙ subst (λ s. (after_reply_of s k p q).answered ≡ true) (sym says)

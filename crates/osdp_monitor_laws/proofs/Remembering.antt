@@ -65,7 +65,7 @@ forgotten_append a line (x ∷ xs) ys nothing =
 module _ (a : ℕ) (Q : Known → Type 0) (E : Packet → Type 0)
     (step : (line : Knowledge) (p : Packet) → Q (line.devices a) → (p.address ≡ a → E p) → IsRemembered a (PacketItem p) line
     → Q ((after_packet line p).devices a)) where
-  item_keeps : (part : RunItem) (line : Knowledge) → Q (line.devices a) → IsRemembered a part line → OfAddress a E part
+  pub item_keeps : (part : RunItem) (line : Knowledge) → Q (line.devices a) → IsRemembered a part line → OfAddress a E part
       → Q ((after_item line part).devices a)
   item_keeps (PacketItem p) line known is each = step line p known each is
   item_keeps (SkippedItem b) line known is each =

@@ -147,7 +147,7 @@ left_step a n q command line x known each is =
 
 -- ---- the reply
 
-tells : (r : Packet) → HasItsNumber r → tells_number (said r) r.sequence ≡ true
+pub tells : (r : Packet) → HasItsNumber r → tells_number (said r) r.sequence ≡ true
 tells r (inl answer) = ap (λ s. tells_number s r.sequence) answer
 tells r (inr (inl refusal)) = ap (λ s. tells_number s r.sequence) refusal
 tells r (inr (inr busy)) =
@@ -161,7 +161,7 @@ comes_late k n q r owes other says number =
     (subst (λ o. is_number o r.sequence ≡ true) (sym owes.0) (eq-eqb n r.sequence (sym number)))))
     (not_from_false (eqb r.sequence q.sequence) (ne_eqb r.sequence q.sequence (λ same. other (sym same ∙ number))))
 
-late_accused : (k : Known) (q r : Packet) → is_late k q r ≡ true → reader_accused k q r ≡ None
+pub late_accused : (k : Known) (q r : Packet) → is_late k q r ≡ true → reader_accused k q r ≡ None
 late_accused k q r late =
     cond-true (is_doubtful k q r) None (cond (is_one_more k r && not (is_owed k)) (Some SecondReply) (reply_accused (said r) k q r))
     (or_left (is_late k q r || is_of_either k q r) (is_unheard k q r) (or_left (is_late k q r) (is_of_either k q r) late))

@@ -1,8 +1,11 @@
 pub mod ReaderLine
 pub mod AnyReader
 pub mod PanelLine
+pub mod AnyPanel
 pub mod Misses
 pub mod Late
 pub mod Names
+pub mod Repeats
+pub mod Panels
 pub mod Notices
 pub mod Laws

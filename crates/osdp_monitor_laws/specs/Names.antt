@@ -1,5 +1,5 @@
 -- Each accusation by its name: what a line holds that is accused so, in other words than the rules.
-use Rattle.std.specs.Prelude.{◌≡◌, ◌≢◌, ◌⊎◌, ℕ, true, false, List, [], ◌∷◌, ◌++◌, Some, Ok, Err}
+use Rattle.std.specs.Prelude.{◌≡◌, ◌≢◌, ◌↔◌, ◌⊎◌, ℕ, true, false, List, [], ◌∷◌, ◌++◌, Some, Ok, Err}
 use Rattle.osdp_frame.specs.Packet.{Packet, next_sequence}
 use Rattle.osdp_frame.specs.Reading.{RunItem, PacketItem}
 use Rattle.osdp_msg.specs.Fitting.{reply_fits}
@@ -77,10 +77,14 @@ pub record IsEvent (told : Reply) : Type 0 where
   pub no_ack : told ≢ Ack
   pub no_nak : (n : nak.Nak) → told ≢ Nak n
 
+-- it has the packet's number; a BUSY may have number 0
+abbrev pub FitsNumber : Packet → Packet → Type 0
+FitsNumber p r = (r.sequence ≡ p.sequence) ⊎ ((said r ≡ Busy) × (r.sequence ≡ 0))
+
 -- how a reply to the packet breaks the rule
 abbrev pub Breaks : Accusation → ℕ → Packet → Packet → Type 0
 Breaks AnotherNumber number p r = (said r ≢ Damage) × (r.sequence ≢ p.sequence) × (said r ≡ Busy → r.sequence ≢ 0)
-Breaks AnotherCheck number p r = (said r ≢ Damage) × (r.sequence ≡ p.sequence) × (r.check ≢ p.check) × IsInTurn number p
+Breaks AnotherCheck number p r = (said r ≢ Damage) × FitsNumber p r × (r.check ≢ p.check) × (said r ≡ Answer → IsInTurn number p)
 Breaks RefusedZero number p r = (said r ≡ Refusal) × (p.sequence ≡ 0) × (r.sequence ≡ p.sequence) × (r.check ≡ p.check)
 Breaks TakenOutOfTurn number p r =
     (said r ≡ Answer) × (r.sequence ≡ p.sequence) × (p.sequence ≢ 0) × (p.sequence ≢ next_sequence number)
@@ -91,11 +95,11 @@ Breaks EventAtZero number p r =
     IsTaken number p r × (told : Reply) × (p.sequence ≡ 0) × (asked p ≡ Ok Poll) × (reply_told r ≡ Ok told) × (reply_fits Poll told ≡ true) × IsEvent told
 Breaks _ number p r = ⊥
 
--- the first reply that breaks a rule is accused by its name
+-- the first reply is accused by the name of the rule that it breaks, and of nothing else
 abbrev pub NamesReaders : Type 0
 NamesReaders = (line : Knowledge) (address : ℕ) (e : Exchange) (r : Packet) (accusation : Accusation)
-    → Happens address line e → IsFrom address r → is_foreign r ≡ false → Breaks accusation e.second.sequence e.last r
-    → accused_after line (items_of e) r ≡ Some accusation
+    → Happens address line e → IsFrom address r → is_foreign r ≡ false
+    → (accused_after line (items_of e) r ≡ Some accusation) ↔ Breaks accusation e.second.sequence e.last r
 
 -- After a first reply, whatever it says but NAK 1, a second one is accused, but NAK 1 and an answer with the next number.
 abbrev pub NamesSecondReplies : Type 0

@@ -2,7 +2,7 @@
 //! their contracts are laws.
 #![tactic(auto)]
 
-ghost use Rattle.osdp_monitor_laws.specs.Laws.{AccusesNoPanel, AccusesNoReader, AccusesNoReaderByTheRules, MissesNoOtherPacket, MissesNoOtherReply, MissesNoPacketOutOfTurn, MissesNoUnanswered, NamesReaders, NamesSecondReplies, TellsLateAnswers, TellsOpenings, TellsRestarts, TellsUnanswered};
+ghost use Rattle.osdp_monitor_laws.specs.Laws.{AccusesNoPanel, AccusesNoPanelByTheRules, AccusesNoReader, AccusesNoReaderByTheRules, AccusesTheSender, MissesNoOtherPacket, MissesNoOtherReply, MissesNoPacketOutOfTurn, MissesNoUnanswered, NamesAnswersToRepeats, NamesPanels, NamesReaders, NamesSecondReplies, TellsLateAnswers, TellsNoAnswered, TellsReplies, TellsTooLittle, TellsUnanswered, TellsUnansweredOnce, TellsUnheard};
 
 use osdp_reader::Handler;
 
@@ -24,6 +24,11 @@ pub fn accuses_no_reader_by_the_rules()
 /// replies come, and however often it starts anew.
 pub fn accuses_no_panel()
     ensures { AccusesNoPanel }
+{}
+
+/// The same of any maker's panel that keeps the rules, whatever replies come, and however late: nothing that it sends is accused.
+pub fn accuses_no_panel_by_the_rules()
+    ensures { AccusesNoPanelByTheRules }
 {}
 
 /// Where nothing was forgotten since, another packet with the number of the last, which isn't 0, is accused.
@@ -52,7 +57,23 @@ pub fn misses_no_packet_out_of_turn()
     ensures { MissesNoPacketOutOfTurn }
 {}
 
-/// Where nothing was forgotten since, the first reply to a packet after one that was answered is accused by the name of the rule that it breaks.
+/// Whoever sent the packet is accused, by a rule that is its own: a device for a reply, and else the panel. And only what was judged is accused.
+pub fn accuses_the_sender()
+    ensures { AccusesTheSender }
+{}
+
+/// Where nothing was forgotten since, a packet after another, its copies and any replies is accused by the name of the rule that it breaks, and of nothing else.
+pub fn names_panels()
+    ensures { NamesPanels }
+{}
+
+/// Where nothing was forgotten since, the first reply to a packet that was answered before is accused by the name of the rule that it breaks, and of nothing else.
+pub fn names_answers_to_repeats()
+    ensures { NamesAnswersToRepeats }
+{}
+
+/// Where nothing was forgotten since, the first reply to a packet after one that was answered is accused by the name of the rule that it breaks, and of nothing
+/// else.
 pub fn names_readers()
     ensures { NamesReaders }
 {}
@@ -62,17 +83,35 @@ pub fn names_second_replies()
     ensures { NamesSecondReplies }
 {}
 
-/// Where nothing was forgotten since, NAK 4 to a packet after one that was answered is told as a restart.
-pub fn tells_restarts()
-    ensures { TellsRestarts }
-{}
-
-/// Where nothing was forgotten since, an answer to number 0 after a packet that was answered is told as the opening of a session.
-pub fn tells_openings()
-    ensures { TellsOpenings }
+/// Where nothing was forgotten since, the first reply to a packet after one that was answered is told by what it is, and by nothing else: a COM that moves the
+/// device, NAK 4 as a restart, and an answer to number 0 but a NAK as the opening of a session.
+pub fn tells_replies()
+    ensures { TellsReplies }
 {}
 
 /// Where nothing was forgotten since, a packet without a reply after one that was answered is told as unanswered, at the next packet to the device.
 pub fn tells_unanswered()
     ensures { TellsUnanswered }
+{}
+
+/// Where nothing was forgotten since, of two packets in a row without a reply the first alone is told as unanswered.
+pub fn tells_unanswered_once()
+    ensures { TellsUnansweredOnce }
+{}
+
+/// Where nothing was forgotten since, a packet that has had a reply but NAK 1 is not told as unanswered.
+pub fn tells_no_answered()
+    ensures { TellsNoAnswered }
+{}
+
+/// Where nothing was known before a packet, and nothing was forgotten since, a reply with another number is told as too little heard, and its reader is not
+/// accused.
+pub fn tells_too_little()
+    ensures { TellsTooLittle }
+{}
+
+/// Where nothing was forgotten since, an answer with the number after that of a packet that was answered is told as too little heard, and its reader is not
+/// accused.
+pub fn tells_unheard()
+    ensures { TellsUnheard }
 {}

@@ -1,4 +1,4 @@
-use Rattle.osdp_monitor_laws.proofs.Naming.{names_readers}
+use Rattle.osdp_monitor_laws.proofs.Breaking.{names_readers}
 use Rattle.osdp_monitor_laws.proofs.names_readers.Goals as goal
 
 pub returns : goal.returns
