@@ -1,0 +1,4 @@
+pub mod Calls
+pub mod Pacing
+pub mod Places
+pub mod OfTheBus

@@ -1,0 +1,34 @@
+//! What orders that wait for POLLs come to over whole runs of calls. The functions do nothing: their contracts are laws.
+#![tactic(auto)]
+
+ghost use Rattle.osdp_orders.specs.Orders.{PanelState};
+ghost use Rattle.osdp_orders_laws.specs.Calls.{Always};
+ghost use Rattle.osdp_orders_laws.specs.OfTheBus.{AreCallsOfTheBus, WithoutTheSetting};
+ghost use Rattle.osdp_orders_laws.specs.Pacing.{PollsStandBetween};
+ghost use Rattle.osdp_orders_laws.specs.Places.{OrdersKeepTheirPlaces, TellAllThatWaits};
+
+/// Between two orders of one entry a POLL of that entry is answered, or its session begins anew. So orders that come as fast as they go keep no card waiting without
+/// end: after each of them the device is asked for its events.
+pub fn polls_stand_between_orders()
+    ensures { Always PollsStandBetween }
+{}
+
+/// The orders of an entry go out, or are taken back, in the order in which they were accepted. None is lost, and none goes out twice.
+pub fn orders_keep_their_places()
+    ensures { Always OrdersKeepTheirPlaces }
+{}
+
+/// What waits is told: how many wait of an entry, those that are held back too, and the one that has waited longest, which may be withdrawn where there is no session.
+pub fn what_waits_is_told()
+    ensures { (x : PanelState) → TellAllThatWaits x }
+{}
+
+/// Whatever is called, the bus beside the orders comes of calls of a bus, those that are named. So what the bus keeps after every list of calls it keeps here too.
+pub fn orders_are_calls_of_their_bus()
+    ensures { (x : PanelState) → AreCallsOfTheBus x }
+{}
+
+/// Where orders wait for no POLL, each call does to the bus what the bus's own does, and is refused and told as there.
+pub fn without_the_setting_orders_are_the_buses()
+    ensures { WithoutTheSetting }
+{}
