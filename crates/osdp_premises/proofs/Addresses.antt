@@ -1,0 +1,191 @@
+-- The tests on addresses decide the premise on them.
+use Rattle.std.proofs.Common.{◌≡◌, ◌≢◌, ◌≤◌, ◌&&◌, ◌||◌, ◌⊎◌, ◌==◌, ℕ, not, Decides, List, length, Option, Some, None, refl, subst, ap, ◌∙◌, arith, inl, inr, ⊎_elim}
+use Rattle.std.proofs.lemmas.Bool.{cases_eq}
+use Rattle.std.proofs.lemmas.Bool.Decides.{Decides-and, Decides-eqb, Decides-like, Decides-not, Decides-or}
+use Rattle.osdp_frame.specs.Packet.{Packet}
+use Rattle.osdp_msg.specs.declared.command_fields.Communication.{Communication}
+use Rattle.osdp_controller.specs.Hearing.{comset_of}
+use Rattle.osdp_bus.specs.Buses.{device_of}
+use Rattle.osdp_bus.specs.Machine.{retarget_refusal_at, submit_refusal_at}
+use Rattle.osdp_bus.specs.declared.device.Device.{Device}
+use Rattle.osdp_bus.specs.declared.fault.BusFault.{BusFault}
+use Rattle.osdp_bus_laws.specs.Calls as bus
+use Rattle.osdp_reader.specs.Table.{command_in, new_address}
+use Rattle.osdp_shared_line.specs.Addresses.{Sets, SetsReader, Somewhere, address_in}
+use Rattle.osdp_shared_line.specs.Line.{site_at}
+use Rattle.osdp_calls.specs.Lines.{InUse, Station, ahead_of_device}
+use Rattle.osdp_calls.specs.Premises.{IsAsked, IsFreeFor, IsNoOthers, IsSaid, IsThere, MayBeAt, PanelAddresses, PanelIsApart, unended_of}
+use Rattle.osdp_premises.specs.Deciding.{address_asked, count_of, differ, each_below, each_of, each_other, gives_no_others, if_there, is_apart_from, is_asked_to, is_entry_at, is_free_for, is_no_others, is_sent_to, is_there_with, may_be_at, panel_addresses, panel_is_apart, sets, sets_reader, stands_at}
+use Rattle.osdp_premises.proofs.Deciding.{always, below_decides, each_decides, get_below, if_decides, other_decides, site_below, some_decides, there_decides}
+
+-- that number is there
+number_decides : (a : ℕ) (o : Option ℕ) → Decides (is_there_with (λ to. to == a) o) (o ≡ Some a)
+number_decides a o = Decides-like (is_there_with (λ to. to == a) o)
+    (λ h. h.1 ∙ ap (λ (x : ℕ). Some x) h.2) (λ e. (a, e, refl)) (there_decides (λ to. to == a) (λ to. to ≡ a) (λ to. Decides-eqb to a) o)
+
+is_that_one : {A : Type 0} (x y : A) → Some x ≡ Some y → x ≡ y
+is_that_one x y e = cc
+
+-- an entry of a list that is not this one, or whose address is another
+away_decides : (k a : ℕ) (q : ℕ × Packet) → Decides ((q.0 == k) || not (q.1.address == a)) (q.0 ≢ k → q.1.address ≢ a)
+away_decides k a q = Decides-like ((q.0 == k) || not (q.1.address == a)) to from
+    (Decides-or (q.0 == k) (not (q.1.address == a)) (Decides-eqb q.0 k) (Decides-not (q.1.address == a) (Decides-eqb q.1.address a)))
+  where
+    to : (q.0 ≡ k) ⊎ (q.1.address ≡ a → ⊥) → q.0 ≢ k → q.1.address ≢ a
+    to (inl same) other = absurd (other same)
+    to (inr away) other = away
+
+    from : (q.0 ≢ k → q.1.address ≢ a) → (q.0 ≡ k) ⊎ (q.1.address ≡ a → ⊥)
+    from all = ⊎_elim (λ same. inl same) (λ other. inr (all other)) (cases_eq q.0 k)
+
+asked_decides : (a : ℕ) (d : Device) → Decides (is_asked_to a d) (Somewhere (Sets a) (unended_of d))
+asked_decides a d = some_decides (sets a) (Sets a) (λ c. number_decides a (new_address c)) (unended_of d)
+
+abbrev Differ : List ℕ → ℕ → ℕ → Type 0
+Differ addresses k j = (a : ℕ) → site_at j addresses ≡ Some a → (b : ℕ) → site_at k addresses ≡ Some b → a ≢ b
+
+differ_decides : (addresses : List ℕ) (k j : ℕ) → Decides (differ (site_at j addresses) (site_at k addresses)) (Differ addresses k j)
+differ_decides addresses k j =
+    if_decides (λ x. if_there (λ y. not (x == y)) (site_at k addresses)) (λ a. (b : ℕ) → site_at k addresses ≡ Some b → a ≢ b)
+    (λ a. if_decides (λ y. not (a == y)) (λ b. a ≢ b) (λ b. Decides-not (a == b) (Decides-eqb a b)) (site_at k addresses)) (site_at j addresses)
+
+module _ {H : Type 0} where
+  sent_decides : (a k : ℕ) (l : InUse H) (t : Station H)
+      → Decides (is_sent_to a k l t) (Somewhere (λ (q : ℕ × Packet). (q.0 ≡ k) × SetsReader a q.1) (ahead_of_device k t.place l.openings l.said))
+  sent_decides a k l t =
+      some_decides (λ (q : ℕ × Packet). (q.0 == k) && sets_reader a q.1) (λ (q : ℕ × Packet). (q.0 ≡ k) × SetsReader a q.1)
+      (λ q. Decides-and (q.0 == k) (sets_reader a q.1) (Decides-eqb q.0 k) (number_decides a (address_in (command_in q.1))))
+      (ahead_of_device k t.place l.openings l.said)
+
+  stands_decides : (a : ℕ) (t : Station H) → Decides (stands_at a t) (t.reader.config.address ≡ a)
+  stands_decides a t = Decides-eqb t.reader.config.address a
+
+  may_decides : (a k : ℕ) (l : InUse H) → Decides (may_be_at a k l) (MayBeAt a k l)
+  may_decides a k l =
+      let there = is_there_with (stands_at a) (site_at k l.stations) in
+      let asked = is_there_with (is_asked_to a) (device_of k l.bus) in
+      let sent = is_there_with (is_sent_to a k l) (site_at k l.stations) in
+      Decides-like (there || (asked || sent)) to from
+      (Decides-or there (asked || sent)
+      (there_decides (stands_at a) (λ (t : Station H). t.reader.config.address ≡ a) (stands_decides a) (site_at k l.stations))
+      (Decides-or asked sent
+      (there_decides (is_asked_to a) (λ (d : Device). Somewhere (Sets a) (unended_of d)) (asked_decides a) (device_of k l.bus))
+      (there_decides (is_sent_to a k l)
+      (λ (t : Station H). Somewhere (λ (q : ℕ × Packet). (q.0 ≡ k) × SetsReader a q.1) (ahead_of_device k t.place l.openings l.said))
+      (sent_decides a k l) (site_at k l.stations))))
+    where
+      to : ((t : Station H) × (site_at k l.stations ≡ Some t) × (t.reader.config.address ≡ a))
+          ⊎ (((d : Device) × (device_of k l.bus ≡ Some d) × Somewhere (Sets a) (unended_of d))
+          ⊎ ((t : Station H) × (site_at k l.stations ≡ Some t)
+          × Somewhere (λ (q : ℕ × Packet). (q.0 ≡ k) × SetsReader a q.1) (ahead_of_device k t.place l.openings l.said))) → MayBeAt a k l
+      to (inl h) = IsThere h.0 h.1 h.2
+      to (inr (inl h)) = IsAsked h.0 h.1 h.2
+      to (inr (inr h)) = IsSaid h.0 h.1 h.2
+
+      from : MayBeAt a k l → ((t : Station H) × (site_at k l.stations ≡ Some t) × (t.reader.config.address ≡ a))
+          ⊎ (((d : Device) × (device_of k l.bus ≡ Some d) × Somewhere (Sets a) (unended_of d))
+          ⊎ ((t : Station H) × (site_at k l.stations ≡ Some t)
+          × Somewhere (λ (q : ℕ × Packet). (q.0 ≡ k) × SetsReader a q.1) (ahead_of_device k t.place l.openings l.said)))
+      from (IsThere t at is) = inl (t, at, is)
+      from (IsAsked d at is) = inr (inl (d, at, is))
+      from (IsSaid t at is) = inr (inr (t, at, is))
+
+  -- past all entries and devices nobody is
+  nobody_past : (a : ℕ) (l : InUse H) (j : ℕ) → count_of l ≤ j → MayBeAt a j l → ⊥
+  nobody_past a l j above (IsThere t at is) = let below = site_below j l.stations t at in absurd (omega (arith, above, below))
+  nobody_past a l j above (IsAsked d at is) = let below = get_below j l.bus.devices.entries d at in absurd (omega (arith, above, below))
+  nobody_past a l j above (IsSaid t at is) = let below = site_below j l.stations t at in absurd (omega (arith, above, below))
+
+  pub no_others_decides : (k a : ℕ) (l : InUse H) → Decides (is_no_others k a l) (IsNoOthers k a l)
+  no_others_decides k a l =
+      other_decides k (count_of l) (λ j. not (may_be_at a j l)) (λ j. MayBeAt a j l → ⊥)
+      (λ j. Decides-not (may_be_at a j l) (may_decides a j l)) (λ j above. nobody_past a l j above)
+
+  gives_decides : (k : ℕ) (refused : Option BusFault) (asked : Option Communication) (l : InUse H)
+      → Decides (gives_no_others k refused (address_asked asked) l)
+      (refused ≡ None → (c : Communication) → asked ≡ Some c → IsNoOthers k c.address l)
+  gives_decides k (Some fault) asked l = always (λ none. absurd (let e = none in cc))
+  gives_decides k None None l = always (λ e c none. absurd (let x = none in cc))
+  gives_decides k None (Some c) l = Decides-like (is_no_others k c.address l)
+      (λ h e other same. subst (λ (x : Communication). IsNoOthers k x.address l) (is_that_one c other same) h)
+      (λ all. all refl c refl) (no_others_decides k c.address l)
+
+  goes_decides : (k : ℕ) (refused : Option BusFault) (address : ℕ) (l : InUse H)
+      → Decides (gives_no_others k refused (Some address) l) (refused ≡ None → IsNoOthers k address l)
+  goes_decides k (Some fault) address l = always (λ none. absurd (let e = none in cc))
+  goes_decides k None address l =
+      Decides-like (is_no_others k address l) (λ h e. h) (λ all. all refl) (no_others_decides k address l)
+
+  pub panel_decides : (call : bus.Call) (l : InUse H) → Decides (panel_addresses call l) (PanelAddresses call l)
+  panel_decides (bus.Submit k command) l = gives_decides k (submit_refusal_at k command l.bus) (comset_of command) l
+  panel_decides (bus.Retarget k address) l = goes_decides k (retarget_refusal_at k address l.bus) address l
+  panel_decides (bus.Add address) l = always tt
+  panel_decides (bus.Begin entry now) l = always tt
+  panel_decides (bus.Withdraw entry) l = always tt
+  panel_decides (bus.OnBytes bytes now) l = always tt
+  panel_decides (bus.OnSilence now) l = always tt
+  panel_decides (bus.Tick now) l = always tt
+  panel_decides bus.NextReport l = always tt
+
+  pub free_decides : (k a : ℕ) (l : InUse H) (t : Station H) → Decides (is_free_for k a l t) (IsFreeFor k a t l)
+  free_decides k a l t =
+      let entries = each_other k (length l.bus.devices.entries) (λ j. not (is_there_with (is_entry_at a) (device_of j l.bus))) in
+      let said = each_of (λ (q : ℕ × Packet). (q.0 == k) || not (q.1.address == a)) (ahead_of_device k t.place l.openings l.said) in
+      Decides-like (entries && (is_no_others k a l && said))
+      (λ h. record { entries = λ j d other at same. h.0 j other (d, at, same); devices = h.1.0; said = h.1.1 })
+      (λ (r : IsFreeFor k a t l). ((λ j other held. r.entries j held.0 other held.1 held.2), (r.devices, r.said)))
+      (Decides-and entries (is_no_others k a l && said)
+      (other_decides k (length l.bus.devices.entries) (λ j. not (is_there_with (is_entry_at a) (device_of j l.bus)))
+      (λ j. ((d : Device) × (device_of j l.bus ≡ Some d) × (d.controller.session.config.address ≡ a)) → ⊥)
+      (λ j. Decides-not (is_there_with (is_entry_at a) (device_of j l.bus))
+      (there_decides (is_entry_at a) (λ (d : Device). d.controller.session.config.address ≡ a)
+      (λ d. Decides-eqb d.controller.session.config.address a) (device_of j l.bus)))
+      (λ j above held. let below = get_below j l.bus.devices.entries held.0 held.1 in absurd (omega (arith, above, below))))
+      (Decides-and (is_no_others k a l) said (no_others_decides k a l)
+      (each_decides (λ (q : ℕ × Packet). (q.0 == k) || not (q.1.address == a)) (λ (q : ℕ × Packet). q.0 ≢ k → q.1.address ≢ a)
+      (away_decides k a) (ahead_of_device k t.place l.openings l.said))))
+
+  -- ---- a panel that is made anew
+
+  abbrev Apart : List ℕ → InUse H → ℕ → ℕ → Type 0
+  Apart addresses l k j = (a : ℕ) → site_at k addresses ≡ Some a → (t : Station H) → site_at j l.stations ≡ Some t
+      → (t.reader.config.address ≡ a → ⊥)
+      × (Somewhere (λ (q : ℕ × Packet). (q.0 ≡ j) × SetsReader a q.1) (ahead_of_device j t.place l.openings l.said) → ⊥)
+
+  from_decides : (j : ℕ) (l : InUse H) (a : ℕ) → Decides (is_apart_from j l a) ((t : Station H) → site_at j l.stations ≡ Some t
+      → (t.reader.config.address ≡ a → ⊥)
+      × (Somewhere (λ (q : ℕ × Packet). (q.0 ≡ j) × SetsReader a q.1) (ahead_of_device j t.place l.openings l.said) → ⊥))
+  from_decides j l a =
+      if_decides (λ (t : Station H). not (stands_at a t) && not (is_sent_to a j l t))
+      (λ (t : Station H). (t.reader.config.address ≡ a → ⊥)
+      × (Somewhere (λ (q : ℕ × Packet). (q.0 ≡ j) × SetsReader a q.1) (ahead_of_device j t.place l.openings l.said) → ⊥))
+      (λ t. Decides-and (not (stands_at a t)) (not (is_sent_to a j l t))
+      (Decides-not (stands_at a t) (stands_decides a t)) (Decides-not (is_sent_to a j l t) (sent_decides a j l t))) (site_at j l.stations)
+
+  pub apart_decides : (addresses : List ℕ) (l : InUse H) → Decides (panel_is_apart addresses l) (PanelIsApart addresses l)
+  apart_decides addresses l =
+      let own = each_below (λ k. each_other k (length addresses) (λ j. differ (site_at j addresses) (site_at k addresses))) (length addresses) in
+      let others = each_below (λ k. each_other k (length l.stations) (λ j. if_there (is_apart_from j l) (site_at k addresses))) (length addresses) in
+      Decides-like (own && others)
+      (λ h. record {
+        own = λ j k a b other at there. h.0 k (site_below k addresses b there) j other a at b there;
+        there = λ j k a t other at there. (h.1 k (site_below k addresses a at) j other a at t there).0;
+        said = λ j k a t other at there. (h.1 k (site_below k addresses a at) j other a at t there).1;
+      })
+      (λ (r : PanelIsApart addresses l). (
+        (λ k below j other a at b there. r.own j k a b other at there),
+        (λ k below j other a at t there. (r.there j k a t other at there, r.said j k a t other at there)),
+      ))
+      (Decides-and own others
+      (below_decides (λ k. each_other k (length addresses) (λ j. differ (site_at j addresses) (site_at k addresses)))
+      (λ k. (j : ℕ) → j ≢ k → Differ addresses k j)
+      (λ k. other_decides k (length addresses) (λ j. differ (site_at j addresses) (site_at k addresses)) (Differ addresses k) (differ_decides addresses k)
+      (λ j above a at. let below = site_below j addresses a at in absurd (omega (arith, above, below)))) (length addresses))
+      (below_decides (λ k. each_other k (length l.stations) (λ j. if_there (is_apart_from j l) (site_at k addresses)))
+      (λ k. (j : ℕ) → j ≢ k → Apart addresses l k j)
+      (λ k. other_decides k (length l.stations) (λ j. if_there (is_apart_from j l) (site_at k addresses)) (Apart addresses l k)
+      (λ j. if_decides (is_apart_from j l) (λ a. (t : Station H) → site_at j l.stations ≡ Some t
+      → (t.reader.config.address ≡ a → ⊥)
+      × (Somewhere (λ (q : ℕ × Packet). (q.0 ≡ j) × SetsReader a q.1) (ahead_of_device j t.place l.openings l.said) → ⊥))
+      (from_decides j l) (site_at k addresses))
+      (λ j above a at t there. let below = site_below j l.stations t there in absurd (omega (arith, above, below)))) (length addresses)))

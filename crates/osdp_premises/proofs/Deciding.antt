@@ -1,0 +1,135 @@
+-- Tests of lists, of what may be there, and of packets.
+use Rattle.std.proofs.Common.{◌≡◌, ◌≢◌, ◌≤◌, ◌<◌, ◌&&◌, ◌||◌, ◌⊎◌, ◌==◌, ℕ, zero, suc, not, leb, Bool, true, false, Decides, All, List, [], ◌∷◌, length, Option, Some, None, refl, sym, subst, ap, arith, inl, inr, ⊎_elim}
+use Rattle.std.specs.Bool.{beq}
+use Rattle.std.specs.Cmp.{booleans_Decides}
+use Rattle.std.specs.Prelude.{slice_get}
+use Rattle.std.specs.Str.{bytes_eq}
+use Rattle.std.proofs.lemmas.Bool.{cases_eq, cases_lt, false≢true, le-leb, leb-true}
+use Rattle.std.proofs.lemmas.Bool.Decides.{Decides-and, Decides-below_and, Decides-by_and, Decides-eqb, Decides-like, Decides-or}
+use Rattle.std.proofs.lemmas.Slice.Eq.{bytes_eq-Decides}
+use Rattle.osdp_frame.specs.Packet.{Packet}
+use Rattle.osdp_frame.specs.declared.check_kind.CheckKind.{CheckKind}
+use Rattle.osdp_frame.specs.declared.check_kind.CheckKind.TheVariants.{Sum, Crc}
+use Rattle.osdp_frame.proofs.Spelled.{same_packet}
+use Rattle.osdp_shared_line.specs.Addresses.{Somewhere}
+use Rattle.osdp_shared_line.specs.Line.{site_at}
+use Rattle.osdp_calls.specs.Lines.{Burst}
+use Rattle.osdp_calls.specs.Premises.{AreNotPast, AreSaid}
+use Rattle.osdp_premises.specs.Deciding.{are_not_past, are_said, each_below, each_of, each_other, if_there, is_check, is_packet, is_there_with, some_of}
+
+pub always : {P : Type 0} → P → Decides true P
+always p = (λ e. p, λ q. refl)
+
+pub never : {P : Type 0} → (P → ⊥) → Decides false P
+never none = (λ e. absurd (false≢true e), λ p. absurd (none p))
+
+pub leb_decides : (a b : ℕ) → Decides (leb a b) (a ≤ b)
+leb_decides a b = (leb-true a b, le-leb a b)
+
+-- ---- lists, and what may be there
+
+pub some_decides : {A : Type 0} (p : A → Bool) (P : A → Type 0) → ((x : A) → Decides (p x) (P x)) → (xs : List A) → Decides (some_of p xs) (Somewhere P xs)
+some_decides p P each [] = never (λ h. h)
+some_decides p P each (x ∷ xs) = Decides-or (p x) (some_of p xs) (each x) (some_decides p P each xs)
+
+pub each_decides : {A : Type 0} (p : A → Bool) (P : A → Type 0) → ((x : A) → Decides (p x) (P x)) → (xs : List A) → Decides (each_of p xs) (All P xs)
+each_decides p P each xs = Decides-by_and p P (each_of p) each refl (λ _ _. refl) xs
+
+pub below_decides : (p : ℕ → Bool) (P : ℕ → Type 0) → ((k : ℕ) → Decides (p k) (P k)) → (n : ℕ) → Decides (each_below p n) ((k : ℕ) → k < n → P k)
+below_decides p P each n = Decides-below_and p P (each_below p) each refl (λ _. refl) n
+
+pub there_decides : {A : Type 0} (p : A → Bool) (P : A → Type 0) → ((x : A) → Decides (p x) (P x)) → (o : Option A)
+    → Decides (is_there_with p o) ((x : A) × (o ≡ Some x) × P x)
+there_decides p P each None = never (λ h. absurd (let none = h.1 in cc))
+there_decides p P each (Some x) = Decides-like (p x) (λ h. (x, refl, h)) (λ h. subst P (sym (some_is x h.0 h.1)) h.2) (each x)
+  where
+    some_is : {A : Type 0} (x y : A) → Some x ≡ Some y → x ≡ y
+    some_is x y e = cc
+
+pub if_decides : {A : Type 0} (p : A → Bool) (P : A → Type 0) → ((x : A) → Decides (p x) (P x)) → (o : Option A)
+    → Decides (if_there p o) ((x : A) → o ≡ Some x → P x)
+if_decides p P each None = always (λ x none. absurd (let e = none in cc))
+if_decides p P each (Some x) = Decides-like (p x) (λ h y e. subst P (some_is x y e) h) (λ all. all x refl) (each x)
+  where
+    some_is : {A : Type 0} (x y : A) → Some x ≡ Some y → x ≡ y
+    some_is x y e = cc
+
+-- what stands at a place of a list is at a place of it
+pub site_below : {A : Type 0} (k : ℕ) (xs : List A) (x : A) → site_at k xs ≡ Some x → k < length xs
+site_below k [] x none = absurd (let e = none in cc)
+site_below zero (y ∷ ys) x is = omega arith
+site_below (suc k) (y ∷ ys) x is = let below = site_below k ys x is in omega (arith, below)
+
+pub get_below : {A : Type 0} (k : ℕ) (xs : List A) (x : A) → slice_get xs k ≡ Some x → k < length xs
+get_below k [] x none = absurd (let e = none in cc)
+get_below zero (y ∷ ys) x is = omega arith
+get_below (suc k) (y ∷ ys) x is = let below = get_below k ys x is in omega (arith, below)
+
+-- of each number but one, below a number past which there is nothing
+pub other_decides : (k n : ℕ) (p : ℕ → Bool) (P : ℕ → Type 0) → ((j : ℕ) → Decides (p j) (P j)) → ((j : ℕ) → n ≤ j → P j)
+    → Decides (each_other k n p) ((j : ℕ) → j ≢ k → P j)
+other_decides k n p P each past =
+    Decides-like (each_other k n p) to from (below_decides (λ j. (j == k) || p j) (λ j. (j ≡ k) ⊎ P j) (λ j. Decides-or (j == k) (p j) (Decides-eqb j k) (each j)) n)
+  where
+    by : (j : ℕ) → j ≢ k → (j ≡ k) ⊎ P j → P j
+    by j other (inl same) = absurd (other same)
+    by j other (inr holds) = holds
+
+    to : ((j : ℕ) → j < n → (j ≡ k) ⊎ P j) → (j : ℕ) → j ≢ k → P j
+    to all j other = ⊎_elim (λ below. by j other (all j below)) (λ above. past j above) (cases_lt j n)
+
+    from : ((j : ℕ) → j ≢ k → P j) → (j : ℕ) → j < n → (j ≡ k) ⊎ P j
+    from all j below = ⊎_elim (λ same. inl same) (λ other. inr (all j other)) (cases_eq j k)
+
+-- ---- packets
+
+check_decides : (a b : CheckKind) → Decides (is_check a b) (a ≡ b)
+check_decides Sum Sum = always refl
+check_decides Sum Crc = never (λ e. cc)
+check_decides Crc Sum = never (λ e. cc)
+check_decides Crc Crc = always refl
+
+packet_decides : (p q : Packet) → Decides (is_packet p q) (p ≡ q)
+packet_decides p q = Decides-like (is_packet p q)
+    (λ h. same_packet p q h.0 h.1.0 h.1.1.0 h.1.1.1.0 h.1.1.1.1.0 h.1.1.1.1.1.0 h.1.1.1.1.1.1)
+    (λ e. (
+      ap (λ (x : Packet). x.reply) e,
+      (
+        ap (λ (x : Packet). x.address) e,
+        (
+          ap (λ (x : Packet). x.sequence) e,
+          (ap (λ (x : Packet). x.check) e, (ap (λ (x : Packet). x.block) e, (ap (λ (x : Packet). x.reserved) e, ap (λ (x : Packet). x.body) e))),
+        ),
+      ),
+    ))
+    (Decides-and (beq p.reply q.reply) _ (booleans_Decides p.reply q.reply)
+    (Decides-and (p.address == q.address) _ (Decides-eqb p.address q.address)
+    (Decides-and (p.sequence == q.sequence) _ (Decides-eqb p.sequence q.sequence)
+    (Decides-and (is_check p.check q.check) _ (check_decides p.check q.check)
+    (Decides-and (beq p.block q.block) _ (booleans_Decides p.block q.block)
+    (Decides-and (p.reserved == q.reserved) (bytes_eq p.body q.body) (Decides-eqb p.reserved q.reserved) (bytes_eq-Decides p.body q.body)))))))
+
+-- ---- what is read
+
+pub said_decides : (said : List Burst) (ps : List Packet) (places : List ℕ) (before : ℕ) → Decides (are_said said ps places before) (AreSaid said ps places before)
+said_decides said [] [] before = always tt
+said_decides said [] (i ∷ places) before = never (λ h. h)
+said_decides said (p ∷ ps) [] before = never (λ h. h)
+said_decides said (p ∷ ps) (i ∷ places) before =
+    let there = is_there_with (λ (b : Burst). is_packet b.packet p) (site_at i said) in
+    let rest = leb before i && are_said said ps places i in
+    Decides-like (there && rest)
+    (λ h. (h.0.0, h.0.1, h.0.2, h.1.0, h.1.1))
+    (λ h. ((h.0, h.1, h.2), (h.3, h.4)))
+    (Decides-and there rest
+    (there_decides (λ (b : Burst). is_packet b.packet p) (λ (b : Burst). b.packet ≡ p) (λ b. packet_decides b.packet p) (site_at i said))
+    (Decides-and (leb before i) (are_said said ps places i) (leb_decides before i) (said_decides said ps places i)))
+
+not_decides : (b : Bool) → Decides (not b) (b ≡ false)
+not_decides true = never (λ e. false≢true (sym e))
+not_decides false = always refl
+
+pub past_decides : (is_past : ℕ → Burst → Bool) (said : List Burst) (places : List ℕ) → Decides (are_not_past is_past said places) (AreNotPast is_past said places)
+past_decides is_past said places =
+    each_decides (λ i. if_there (λ b. not (is_past i b)) (site_at i said)) (λ i. (b : Burst) → site_at i said ≡ Some b → is_past i b ≡ false)
+    (λ i. if_decides (λ b. not (is_past i b)) (λ b. is_past i b ≡ false) (λ b. not_decides (is_past i b)) (site_at i said)) places

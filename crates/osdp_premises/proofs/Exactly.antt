@@ -1,0 +1,91 @@
+-- Each test holds exactly where its premise does, call by call.
+use Rattle.std.proofs.Common.{◌≡◌, ◌&&◌, ◌||◌, ◌⊎◌, ℕ, Decides, List, [], ◌∷◌, Option, Some, None}
+use Rattle.std.proofs.lemmas.Bool.{and_parts}
+use Rattle.std.proofs.lemmas.Bool.Decides.{Decides-eqb, Decides-or}
+use Rattle.osdp_msg.specs.declared.command.Command.{Command}
+use Rattle.osdp_device.specs.Telling.{items_of}
+use Rattle.osdp_reader.specs.declared.handler.Answer.{Answer}
+use Rattle.osdp_shared_line.specs.Line.{site_at}
+use Rattle.osdp_calls.specs.Calls.{Call, NewDevice, NewPanel, Next, OfPanel, Pending, SetBusy, SetHandler, Silence, Step, SubmitEvent, Take, TickDevice, WithdrawEvent, after_call, read_by, read_up_to}
+use Rattle.osdp_calls.specs.Lines.{Burst, InUse, Station, is_past_for_device, is_past_for_panel}
+use Rattle.osdp_calls.specs.Premises.{Addresses, InOrder, IsFreeFor, NextInOrder, QuietOpening}
+use Rattle.osdp_premises.specs.Deciding.{are_fair, are_said, has_addresses, if_there, is_fair, is_free_for, is_in_order, is_quiet, stands_at}
+use Rattle.osdp_premises.specs.Exactly.{FairCallsKeep, PremisesAreExact}
+use Rattle.osdp_premises.proofs.Addresses.{apart_decides, free_decides, panel_decides}
+use Rattle.osdp_premises.proofs.Deciding.{always, if_decides, past_decides, said_decides}
+
+module _ {H : Type 0} where
+  next_decides : (said : List Burst) (places : List ℕ) (o : Option (Station H))
+      → Decides (if_there (λ (t : Station H). are_said said (read_up_to t.reader (items_of t.line.held)) places t.place) o) (NextInOrder said places o)
+  next_decides said places None = always tt
+  next_decides said places (Some t) = said_decides said (read_up_to t.reader (items_of t.line.held)) places t.place
+
+  order_decides : (call : Call H) (places : List ℕ) (l : InUse H) → Decides (is_in_order call places l) (InOrder call places l)
+  order_decides (OfPanel call) places l = said_decides l.said (read_by call l.bus) places l.place
+  order_decides (Next k) places l = next_decides l.said places (site_at k l.stations)
+  order_decides (SubmitEvent k event) places l = always tt
+  order_decides (SetBusy k busy) places l = always tt
+  order_decides (SetHandler k handler) places l = always tt
+  order_decides (WithdrawEvent k) places l = always tt
+  order_decides (Take k bytes now) places l = always tt
+  order_decides (TickDevice k now) places l = always tt
+  order_decides (Silence k now) places l = always tt
+  order_decides (Pending k) places l = always tt
+  order_decides (NewDevice k address handler room gap) places l = always tt
+  order_decides (NewPanel config addresses) places l = always tt
+
+  quiet_decides : (call : Call H) (places : List ℕ) (l : InUse H) → Decides (is_quiet call places l) (QuietOpening call places l)
+  quiet_decides (OfPanel call) places l = past_decides (is_past_for_panel l.openings) l.said places
+  quiet_decides (Next k) places l = past_decides (is_past_for_device k l.openings) l.said places
+  quiet_decides (SubmitEvent k event) places l = always tt
+  quiet_decides (SetBusy k busy) places l = always tt
+  quiet_decides (SetHandler k handler) places l = always tt
+  quiet_decides (WithdrawEvent k) places l = always tt
+  quiet_decides (Take k bytes now) places l = always tt
+  quiet_decides (TickDevice k now) places l = always tt
+  quiet_decides (Silence k now) places l = always tt
+  quiet_decides (Pending k) places l = always tt
+  quiet_decides (NewDevice k address handler room gap) places l = always tt
+  quiet_decides (NewPanel config addresses) places l = always tt
+
+  addresses_decide : (call : Call H) (l : InUse H) → Decides (has_addresses call l) (Addresses call l)
+  addresses_decide (OfPanel call) l = panel_decides call l
+  addresses_decide (NewDevice k address handler room gap) l =
+      if_decides (λ (t : Station H). stands_at address t || is_free_for k address l t)
+      (λ (t : Station H). (t.reader.config.address ≡ address) ⊎ IsFreeFor k address t l)
+      (λ t. Decides-or (stands_at address t) (is_free_for k address l t) (Decides-eqb t.reader.config.address address) (free_decides k address l t))
+      (site_at k l.stations)
+  addresses_decide (NewPanel config addresses) l = apart_decides addresses l
+  addresses_decide (SubmitEvent k event) l = always tt
+  addresses_decide (SetBusy k busy) l = always tt
+  addresses_decide (SetHandler k handler) l = always tt
+  addresses_decide (WithdrawEvent k) l = always tt
+  addresses_decide (Take k bytes now) l = always tt
+  addresses_decide (TickDevice k now) l = always tt
+  addresses_decide (Silence k now) l = always tt
+  addresses_decide (Next k) l = always tt
+  addresses_decide (Pending k) l = always tt
+
+  pub exact : PremisesAreExact H
+  exact = record {
+    order = λ (step : Step H) (l : InUse H). order_decides step.call step.places l;
+    quiet = λ (step : Step H) (l : InUse H). quiet_decides step.call step.places l;
+    addresses = λ (step : Step H) (l : InUse H). addresses_decide step.call l;
+  }
+
+module _ {H : Type 0} (answer_of : H → Command → Answer) (after : H → Command → H) where
+  pub fair_keep : FairCallsKeep answer_of after
+  fair_keep [] l fair fits = tt
+  fair_keep (step ∷ steps) l fair fits =
+      let next = after_call answer_of after step.call step.places l in
+      let both = and_parts (is_fair step l) (are_fair answer_of after steps next) fair in
+      let order = and_parts (is_in_order step.call step.places l) (is_quiet step.call step.places l && has_addresses step.call l) both.0 in
+      let rest = and_parts (is_quiet step.call step.places l) (has_addresses step.call l) order.1 in (
+        record {
+          in_order = (order_decides step.call step.places l).0 order.0;
+          quiet_opening = (quiet_decides step.call step.places l).0 rest.0;
+          addresses = (addresses_decide step.call l).0 rest.1;
+          in_range = fits.0;
+        },
+        fair_keep steps next both.1 fits.1,
+      )

@@ -1,0 +1,246 @@
+-- The long day keeps the premises: by the tests of each call, and since its values are in their ranges.
+use Rattle.std.proofs.Common.{◌≡◌, ◌≢◌, ◌<◌, ℕ, zero, suc, true, IfSome, List, [], ◌∷◌, length, Option, Some, None, is_some, refl, sym, subst, ap, ◌∙◌, arith}
+use Rattle.std.specs.Prelude.{slice_index, take}
+use Rattle.osdp_frame.specs.Held.{decided}
+use Rattle.osdp_frame.specs.Items.{items, left_over}
+use Rattle.osdp_frame.specs.declared.check_kind.CheckKind.TheVariants.{Sum}
+use Rattle.osdp_msg.specs.CommandTable.{command_at, command_fault, command_of}
+use Rattle.osdp_msg.specs.Limits.{AreRoom}
+use Rattle.osdp_msg.specs.ReplyFields.{CapabilityFits, KeypadFits, PdIdFits}
+use Rattle.osdp_msg.specs.ReplyTable.{ReplyFits, reply_at, reply_fault, reply_of}
+use Rattle.osdp_msg.specs.declared.command.Command.{Command}
+use Rattle.osdp_bus.specs.Buses.{device_of}
+use Rattle.osdp_bus.specs.Machine.{new_device}
+use Rattle.osdp_bus.specs.Settings.{IsBusConfig}
+use Rattle.osdp_bus.specs.declared.device.Device.{Device}
+use Rattle.osdp_bus.proofs.Defaults.{bus_in_range}
+use Rattle.osdp_device.specs.Telling.{items_of}
+use Rattle.osdp_link_laws.specs.Link.{new_account}
+use Rattle.osdp_link_laws.proofs.Lines.{each_all}
+use Rattle.osdp_link_laws.proofs.Stages.{Each}
+use Rattle.osdp_reader.specs.Table.{hears}
+use Rattle.osdp_reader.specs.declared.handler.Answer.{Answer}
+use Rattle.osdp_shared_line.specs.Line.{site_at}
+use Rattle.osdp_calls.specs.Calls.{Call, NewDevice, NewPanel, Next, OfPanel, Pending, SetBusy, SetHandler, Silence, Step, SubmitEvent, Take, TickDevice, WithdrawEvent, after_call, after_calls, read_up_to}
+use Rattle.osdp_calls.specs.Lines.{InUse, Station}
+use Rattle.osdp_calls.specs.Premises.{AllKeep, InRange, IsSetUp, Keeps, NextInRange, PanelInRange}
+use Rattle.osdp_premises.specs.Exactly.{AllInRange}
+use Rattle.osdp_premises.specs.LongDay.{LongDayKeeps, RestartHappens, RestartsHappen, calls, device_at, first_line, four, long_day, station_at, twice}
+use Rattle.osdp_premises.proofs.Exactly.{fair_keep}
+
+twice_fits : IsBusConfig twice
+twice_fits = bus_in_range Sum four 2 ((omega arith, omega arith), omega arith, omega arith) (omega arith, omega arith)
+
+room_fits : AreRoom four.messages four.bytes
+room_fits = ((omega arith, omega arith), omega arith, omega arith)
+
+vendor_bytes : (i : ℕ) → slice_index (1 ∷ 2 ∷ 3 ∷ []) i < 256
+vendor_bytes zero = omega arith
+vendor_bytes (suc zero) = omega arith
+vendor_bytes (suc (suc zero)) = omega arith
+vendor_bytes (suc (suc (suc i))) = omega arith
+
+id_fits : PdIdFits (device_at 3).id
+id_fits = record { vendor_length = refl; vendor = vendor_bytes; model = omega arith; version = omega arith; serial = omega arith; firmware_major = omega arith; firmware_minor = omega arith; firmware_build = omega arith }
+
+key_bytes : (i : ℕ) → slice_index (49 ∷ []) i < 256
+key_bytes zero = omega arith
+key_bytes (suc i) = omega arith
+
+no_bytes : (i : ℕ) → slice_index [] i < 256
+no_bytes i = omega arith
+
+key_fits : KeypadFits (record { reader = 0; digits = record { items = 49 ∷ [] } })
+key_fits = record { reader = omega arith; room = omega arith; digits = key_bytes }
+
+is_the_one : {A : Type 0} (x y : A) → Some x ≡ Some y → x ≡ y
+is_the_one x y e = cc
+
+-- the addresses of the two
+abbrev at_place : ℕ → ℕ
+at_place zero = 3
+at_place (suc k) = 4
+
+far : (j k : ℕ) → j ≢ k → j < 2 → k < 2 → at_place j ≢ at_place k
+far zero zero other lj lk e = other refl
+far zero (suc k) other lj lk e = let e' : 3 ≡ 4 = e in absurd (omega (arith, e'))
+far (suc j) zero other lj lk e = let e' : 4 ≡ 3 = e in absurd (omega (arith, e'))
+far (suc j) (suc k) other lj lk e = other (omega (arith, lj, lk))
+
+abbrev the_entry : Option Device → Device
+the_entry None = new_device 0 twice
+the_entry (Some d) = d
+
+module _ {H : Type 0} where
+  abbrev the_station : Option (Station H) → H → Station H
+  the_station None handler = station_at 3 handler
+  the_station (Some t) handler = t
+
+  -- what holds of both stations at set-up
+  both : (handler : H) (Q : Station H → Type 0) → Q (station_at 3 handler) → Q (station_at 4 handler) → (k : ℕ) (t : Station H)
+      → site_at k (station_at 3 handler ∷ station_at 4 handler ∷ []) ≡ Some t → Q t
+  both handler Q first second zero t is = subst Q (is_the_one (station_at 3 handler) t is) first
+  both handler Q first second (suc zero) t is = subst Q (is_the_one (station_at 4 handler) t is) second
+  both handler Q first second (suc (suc k)) t is = absurd cc
+
+  stands : (handler : H) (k : ℕ) (t : Station H) → site_at k (station_at 3 handler ∷ station_at 4 handler ∷ []) ≡ Some t
+      → (k < 2) × (t.reader.config.address ≡ at_place k)
+  stands handler zero t is = (omega arith, sym (ap (λ (x : Station H). x.reader.config.address) (is_the_one (station_at 3 handler) t is)))
+  stands handler (suc zero) t is = (omega arith, sym (ap (λ (x : Station H). x.reader.config.address) (is_the_one (station_at 4 handler) t is)))
+  stands handler (suc (suc k)) t is = absurd cc
+
+  is_set_up : (handler : H) → IsSetUp (first_line handler)
+  is_set_up handler = record {
+    config = twice;
+    settings = twice_fits;
+    bus = refl;
+    devices = both handler (λ t. t.reader.config.address < 127) (omega arith) (omega arith);
+    apart = λ j k s t other at there e.
+        far j k other (stands handler j s at).0 (stands handler k t there).0 (sym (stands handler j s at).1 ∙ e ∙ (stands handler k t there).1);
+    stored = both handler (λ t. t.reader.stored ≡ None) refl refl;
+    place = both handler (λ t. (t.place ≡ 0) × (t.begun ≡ None)) (refl, refl) (refl, refl);
+    account = both handler (λ t. (t.account ≡ new_account [] t.reader.queue.events) × (t.earlier ≡ [])) (refl, refl) (refl, refl);
+    said = refl;
+    read = refl;
+    openings = refl;
+  }
+
+module _ {H : Type 0} (answer_of : H → Command → Answer) (after : H → Command → H) where
+  -- the ranges of a call, said by what is there
+  abbrev NextEach : Option (Station H) → Type 0
+  NextEach None = Unit {0}
+  NextEach (Some t) = Each (λ p. IfSome (hears answer_of after t.reader p).said ReplyFits) (read_up_to t.reader (items_of t.line.held))
+
+  abbrev RangeOf : Call H → InUse H → Type 0
+  RangeOf (OfPanel call) l = PanelInRange answer_of after call
+  RangeOf (Next k) l = NextEach (site_at k l.stations)
+  RangeOf (NewDevice k address handler room gap) l = (address < 127) × AreRoom room.messages room.bytes
+  RangeOf (NewPanel config addresses) l = IsBusConfig config × Each (λ a. a < 127) addresses × (length addresses ≡ length l.stations)
+  RangeOf (SubmitEvent k event) l = Unit {0}
+  RangeOf (SetBusy k busy) l = Unit {0}
+  RangeOf (SetHandler k handler) l = Unit {0}
+  RangeOf (WithdrawEvent k) l = Unit {0}
+  RangeOf (Take k bytes now) l = Unit {0}
+  RangeOf (TickDevice k now) l = Unit {0}
+  RangeOf (Silence k now) l = Unit {0}
+  RangeOf (Pending k) l = Unit {0}
+
+  next_range : (o : Option (Station H)) → NextEach o → NextInRange answer_of after o
+  next_range None fits = tt
+  next_range (Some t) fits =
+      each_all (λ p. IfSome (hears answer_of after t.reader p).said ReplyFits) (read_up_to t.reader (items_of t.line.held)) fits
+
+  range_of : (call : Call H) (l : InUse H) → RangeOf call l → InRange answer_of after call l
+  range_of (OfPanel call) l fits = fits
+  range_of (Next k) l fits = next_range (site_at k l.stations) fits
+  range_of (NewDevice k address handler room gap) l fits = fits
+  range_of (NewPanel config addresses) l fits = (fits.0, each_all (λ a. a < 127) addresses fits.1, fits.2)
+  range_of (SubmitEvent k event) l fits = tt
+  range_of (SetBusy k busy) l fits = tt
+  range_of (SetHandler k handler) l fits = tt
+  range_of (WithdrawEvent k) l fits = tt
+  range_of (Take k bytes now) l fits = tt
+  range_of (TickDevice k now) l fits = tt
+  range_of (Silence k now) l fits = tt
+  range_of (Pending k) l fits = tt
+
+  abbrev AllRanges : List (Step H) → InUse H → Type 0
+  AllRanges [] l = Unit {0}
+  AllRanges (step ∷ steps) l = RangeOf step.call l × AllRanges steps (after_call answer_of after step.call step.places l)
+
+  all_range : (steps : List (Step H)) (l : InUse H) → AllRanges steps l → AllInRange answer_of after steps l
+  all_range [] l fits = tt
+  all_range (step ∷ steps) l fits =
+      (range_of step.call l fits.0, all_range steps (after_call answer_of after step.call step.places l) fits.1)
+
+  ranges : (handler other : H) → AllRanges (long_day handler other) (first_line handler)
+  unfolding items left_over decided reply_of reply_fault reply_at command_of command_fault command_at
+  ranges handler other =
+      (tt, (tt, (tt, (tt, (tt, (tt, ((id_fits, tt), (tt, ((tt, tt), (tt, (tt, (tt, (omega arith, (tt, (tt, ((id_fits, tt), (tt, (tt, (tt, (tt, (tt, (tt, (tt, (tt, (tt, (((omega arith, each_all CapabilityFits [] tt), tt), (tt, ((tt, tt), (tt, (tt, (tt, (tt, (tt, (tt, ((tt, tt), (tt, (tt, (tt, (tt, ((tt, tt), (tt, (tt, (tt, (tt, ((key_fits, tt), (tt, (tt, (tt, (tt, ((tt, tt), (tt, (tt, (tt, (tt, (tt, (tt, (omega arith, (tt, (tt, (tt, (tt, (tt, (tt, ((omega arith, room_fits), (tt, ((record { reason = tt; room = omega arith; detail = no_bytes }, tt), (tt, (tt, (tt, (tt, ((id_fits, tt), (tt, (tt, (tt, (tt, ((key_fits, tt), (tt, (tt, ((omega arith, omega arith), (tt, (tt, (((omega arith, omega arith), tt), (tt, (tt, (tt, (tt, (tt, ((id_fits, tt), (tt, (tt, ((omega arith, omega arith), (tt, (tt, (((omega arith, omega arith), tt), (tt, (tt, ((tt, tt), (tt, (tt, (tt, (tt, (tt, (tt, ((id_fits, tt), (tt, (tt, ((omega arith, room_fits), (tt, (tt, (tt, (tt, (tt, (tt, (tt, (tt, ((id_fits, tt), (tt, (tt, (omega arith, (tt, (tt, (((omega arith, each_all CapabilityFits [] tt), tt), ((twice_fits, (omega arith, (omega arith, tt)), refl), (tt, (tt, (tt, ((id_fits, tt), (tt, (tt, (tt, (tt, (tt, tt))))))))))))))))))))))))))))))))))))))))))))))))))))))))))))))))))))))))))))))))))))))))))))))))))))))))))))))))))))))))))))))))))))
+
+  pub day_keeps : (handler other : H) → LongDayKeeps answer_of after handler other
+  unfolding items left_over decided reply_of reply_fault reply_at command_of command_fault command_at
+  day_keeps handler other = record {
+    up = is_set_up handler;
+    keep = fair_keep answer_of after (long_day handler other) (first_line handler) refl
+        (all_range (long_day handler other) (first_line handler) (ranges handler other));
+    openings = refl;
+    addresses = refl;
+    taken = refl;
+    settled = refl;
+    in_doubt = refl;
+    forgotten = refl;
+    reported = refl;
+    withdrawn = refl;
+  }
+
+  -- ---- restarts of that day
+
+  abbrev line_after : ℕ → H → H → InUse H
+  line_after count handler other = after_calls answer_of after (take count (long_day handler other)) (first_line handler)
+
+  abbrev line_then : ℕ → Call H → H → H → InUse H
+  line_then count call handler other = after_call answer_of after call [] (line_after count handler other)
+
+  keep_before : (count : ℕ) (steps : List (Step H)) (l : InUse H) → AllKeep answer_of after steps l → AllKeep answer_of after (take count steps) l
+  keep_before zero steps l keep = tt
+  keep_before (suc count) [] l keep = tt
+  keep_before (suc count) (step ∷ steps) l keep =
+      (keep.0, keep_before count steps (after_call answer_of after step.call step.places l) keep.1)
+
+  keep_at : (count : ℕ) (steps : List (Step H)) (l : InUse H) (step : Step H) → site_at count steps ≡ Some step → AllKeep answer_of after steps l
+      → Keeps answer_of after step (after_calls answer_of after (take count steps) l)
+  keep_at count [] l step none keep = absurd (let e = none in cc)
+  keep_at zero (first ∷ steps) l step is keep = subst (λ x. Keeps answer_of after x l) (is_the_one first step is) keep.0
+  keep_at (suc count) (first ∷ steps) l step is keep =
+      keep_at count steps (after_call answer_of after first.call first.places l) step is keep.1
+
+  there : (o : Option (Station H)) (handler : H) → is_some o ≡ true → o ≡ Some (the_station o handler)
+  there None handler some = absurd (let e = some in cc)
+  there (Some t) handler some = refl
+
+  stands_there : (o : Option Device) → is_some o ≡ true → o ≡ Some (the_entry o)
+  stands_there None some = absurd (let e = some in cc)
+  stands_there (Some d) some = refl
+
+  restart : (count k : ℕ) (call : Call H) (handler other : H) (first : Station H)
+      → site_at count (long_day handler other) ≡ Some (calls call []) → site_at k (first_line handler).stations ≡ Some first
+      → is_some (site_at k (line_after count handler other).stations) ≡ true → is_some (device_of k (line_after count handler other).bus) ≡ true
+      → is_some (site_at k (line_then count call handler other).stations) ≡ true → is_some (device_of k (line_then count call handler other).bus) ≡ true
+      → RestartHappens answer_of after count k call handler other
+  restart count k call handler other first at was station entry next_station next_entry =
+      let keep = (day_keeps handler other).keep in
+      record {
+        first = first;
+        before = the_station (site_at k (line_after count handler other).stations) handler;
+        next = the_station (site_at k (line_then count call handler other).stations) handler;
+        entry = the_entry (device_of k (line_after count handler other).bus);
+        next_entry = the_entry (device_of k (line_then count call handler other).bus);
+        at = at;
+        happens = record {
+          up = is_set_up handler;
+          keep = keep_before count (long_day handler other) (first_line handler) keep;
+          keeps = keep_at count (long_day handler other) (first_line handler) (calls call []) at keep;
+          was = was;
+          station = there (site_at k (line_after count handler other).stations) handler station;
+          entry = stands_there (device_of k (line_after count handler other).bus) entry;
+          next_station = there (site_at k (line_then count call handler other).stations) handler next_station;
+          next_entry = stands_there (device_of k (line_then count call handler other).bus) next_entry;
+        };
+      }
+
+  in_place : (handler other : H) → RestartHappens answer_of after 63 1 (NewDevice 1 4 other four 20) handler other
+  unfolding items left_over decided reply_of reply_fault reply_at command_of command_fault command_at
+  in_place handler other = restart 63 1 (NewDevice 1 4 other four 20) handler other (station_at 4 handler) refl refl refl refl refl refl
+
+  elsewhere : (handler other : H) → RestartHappens answer_of after 106 0 (NewDevice 0 9 handler four 20) handler other
+  unfolding items left_over decided reply_of reply_fault reply_at command_of command_fault command_at
+  elsewhere handler other = restart 106 0 (NewDevice 0 9 handler four 20) handler other (station_at 3 handler) refl refl refl refl refl refl
+
+  of_panel : (handler other : H) → RestartHappens answer_of after 122 0 (NewPanel twice (9 ∷ 4 ∷ [])) handler other
+  unfolding items left_over decided reply_of reply_fault reply_at command_of command_fault command_at
+  of_panel handler other = restart 122 0 (NewPanel twice (9 ∷ 4 ∷ [])) handler other (station_at 3 handler) refl refl refl refl refl refl
+
+  pub restarts_happen : (handler other : H) → RestartsHappen answer_of after handler other
+  restarts_happen handler other =
+      record { in_place = in_place handler other; elsewhere = elsewhere handler other; panel = of_panel handler other }

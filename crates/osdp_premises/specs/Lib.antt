@@ -1,0 +1,4 @@
+pub mod Deciding
+pub mod Exactly
+pub mod Leaving
+pub mod LongDay

@@ -1,0 +1,328 @@
+-- A list of calls in which all of it happens that a line knows: two devices, bytes in pieces, damage, lost packets and repeated ones, a packet that is
+-- read twice, a busy device, an event that is told again, orders and events that are taken back, another handler, a COMSET that is settled and one
+-- that is in doubt, devices that restart where they are and elsewhere, and a panel that restarts.
+use Rattle.std.specs.Prelude.{◌≡◌, ℕ, true, false, List, [], ◌∷◌, ◌++◌, map, length, take, drop, Option, Some, None}
+use Rattle.osdp_frame.specs.Packed.{packed}
+use Rattle.osdp_frame.specs.Receiving.{new_line}
+use Rattle.osdp_frame.specs.Spelling.{spelling}
+use Rattle.osdp_frame.specs.declared.check_kind.CheckKind.TheVariants.{Sum}
+use Rattle.osdp_msg.specs.declared.command.Command.{Command}
+use Rattle.osdp_msg.specs.declared.command.Command.TheVariants.{Cap, Comset}
+use Rattle.osdp_msg.specs.declared.event.Event.{Event}
+use Rattle.osdp_msg.specs.declared.event.Event.TheVariants.{Keypad}
+use Rattle.osdp_msg.specs.declared.limits.Room.{Room}
+use Rattle.osdp_bus.specs.Settings.{default_config}
+use Rattle.osdp_bus.specs.declared.config.BusConfig.{BusConfig}
+use Rattle.osdp_bus.specs.declared.device.Device.{Device}
+use Rattle.osdp_bus_laws.specs.Calls as bus
+use Rattle.osdp_link_laws.specs.Link.{Account, new_account}
+use Rattle.osdp_reader.specs.State.{new_reader}
+use Rattle.osdp_reader.specs.declared.config.ReaderConfig.{ReaderConfig}
+use Rattle.osdp_reader.specs.declared.handler.Answer.{Answer}
+use Rattle.osdp_shared_line.specs.Line.{site_at}
+use Rattle.osdp_calls.specs.Calls.{Call, NewDevice, NewPanel, Next, OfPanel, Pending, SetBusy, SetHandler, Silence, Step, SubmitEvent, Take, TickDevice, WithdrawEvent, after_calls}
+use Rattle.osdp_calls.specs.Lines.{InUse, Opening, Station, bus_with}
+use Rattle.osdp_calls.specs.Premises.{AllKeep, IsSetUp}
+use Rattle.osdp_calls.specs.Restarts.{IsBeforeAndAfter}
+
+-- room for four messages, however long each is
+abbrev pub four : Room
+four = record { messages = 4; bytes = 5732 }
+
+-- a bus whose controllers send each packet twice
+abbrev pub twice : BusConfig
+twice = record (default_config Sum four) { sends = 2 }
+
+abbrev pub device_at : ℕ → ReaderConfig
+device_at address = record {
+  address = address;
+  id = record { vendor = 1 ∷ 2 ∷ 3 ∷ []; model = 4; version = 5; serial = 6; firmware_major = 7; firmware_minor = 8; firmware_build = 9 };
+  caps = record { items = [] };
+}
+
+-- the bytes of a packet to this address, and of one from it, with this number and this body
+abbrev pub asks : ℕ → ℕ → List ℕ → List ℕ
+asks address number body = spelling (packed false address number Sum false 0 body)
+
+abbrev pub answers : ℕ → ℕ → List ℕ → List ℕ
+answers address number body = spelling (packed true address number Sum false 0 body)
+
+-- COMSET to an address, at 9600 bits a second
+abbrev pub away : ℕ → Command
+away address = Comset (record { address = address; baud_rate = 9600 })
+
+-- the key 1 is pressed
+abbrev pub key : Event
+key = Keypad (record { reader = 0; digits = record { items = 49 ∷ [] } })
+
+module _ {H : Type 0} where
+  abbrev pub calls : Call H → List ℕ → Step H
+  calls call places = record { call = call; places = places }
+
+  abbrev pub station_at : ℕ → H → Station H
+  station_at address handler = record {
+    reader = new_reader (device_at address) handler four;
+    line = new_line 20;
+    place = 0;
+    begun = None;
+    account = new_account [] [];
+    earlier = [];
+  }
+
+  -- two devices, at 3 and at 4
+  abbrev pub first_line : H → InUse H
+  first_line handler = record {
+    bus = bus_with twice (3 ∷ 4 ∷ []);
+    stations = station_at 3 handler ∷ station_at 4 handler ∷ [];
+    said = [];
+    place = 0;
+    openings = [];
+  }
+
+  -- Sessions are begun. The first opening ID comes to its device in two pieces, and the other device passes it over. The PDID comes back in two
+  -- pieces, at one moment.
+  abbrev pub opening : H → H → List (Step H)
+  opening handler other =
+      calls (OfPanel (bus.Begin 0 0)) []
+      ∷ calls (OfPanel (bus.Begin 1 0)) []
+      ∷ calls (OfPanel (bus.Tick 400)) []
+      ∷ calls (Take 0 (take 5 (asks 3 0 (97 ∷ 0 ∷ []))) 401) []
+      ∷ calls (Next 0) []
+      ∷ calls (Take 0 (drop 5 (asks 3 0 (97 ∷ 0 ∷ []))) 402) []
+      ∷ calls (Next 0) (0 ∷ [])
+      ∷ calls (Take 1 (asks 3 0 (97 ∷ 0 ∷ [])) 402) []
+      ∷ calls (Next 1) (0 ∷ [])
+      ∷ calls (OfPanel (bus.OnBytes (take 9 (answers 3 0 (69 ∷ 1 ∷ 2 ∷ 3 ∷ 4 ∷ 5 ∷ 6 ∷ 0 ∷ 0 ∷ 0 ∷ 7 ∷ 8 ∷ 9 ∷ []))) 405)) []
+      ∷ calls (OfPanel (bus.OnBytes (drop 9 (answers 3 0 (69 ∷ 1 ∷ 2 ∷ 3 ∷ 4 ∷ 5 ∷ 6 ∷ 0 ∷ 0 ∷ 0 ∷ 7 ∷ 8 ∷ 9 ∷ []))) 405)) (1 ∷ [])
+      ∷ calls (OfPanel bus.NextReport) []
+      ∷ []
+
+  -- The other session opens.
+  abbrev pub other_opening : H → H → List (Step H)
+  other_opening handler other =
+      calls (OfPanel (bus.Submit 0 (Cap 0))) []
+      ∷ calls (OfPanel (bus.Tick 406)) []
+      ∷ calls (Take 1 (asks 4 0 (97 ∷ 0 ∷ [])) 407) []
+      ∷ calls (Next 1) (2 ∷ [])
+      ∷ calls (OfPanel (bus.OnBytes (answers 4 0 (69 ∷ 1 ∷ 2 ∷ 3 ∷ 4 ∷ 5 ∷ 6 ∷ 0 ∷ 0 ∷ 0 ∷ 7 ∷ 8 ∷ 9 ∷ [])) 410)) (3 ∷ [])
+      ∷ calls (OfPanel bus.NextReport) []
+      ∷ []
+
+  -- An order comes damaged, and is sent again. Its answer is lost, and the line says the order once more: the device gives the kept answer, and
+  -- the order is settled.
+  abbrev pub order : H → H → List (Step H)
+  order handler other =
+      calls (OfPanel (bus.Tick 411)) []
+      ∷ calls (Take 0 (83 ∷ 3 ∷ 8 ∷ 0 ∷ 1 ∷ 98 ∷ 1 ∷ 63 ∷ []) 412) []
+      ∷ calls (Next 0) []
+      ∷ calls (Silence 0 413) []
+      ∷ calls (Next 0) []
+      ∷ calls (OfPanel (bus.Tick 611)) []
+      ∷ calls (Take 0 (asks 3 1 (98 ∷ 0 ∷ [])) 612) []
+      ∷ calls (Next 0) (5 ∷ [])
+      ∷ calls (Take 0 (asks 3 1 (98 ∷ 0 ∷ [])) 613) []
+      ∷ calls (Next 0) (5 ∷ [])
+      ∷ calls (OfPanel (bus.OnBytes (answers 3 1 (70 ∷ [])) 614)) (7 ∷ [])
+      ∷ calls (OfPanel bus.NextReport) []
+      ∷ []
+
+  -- A key is pressed while the device is busy. It is told as soon as the device isn't.
+  abbrev pub busy : H → H → List (Step H)
+  busy handler other =
+      calls (SubmitEvent 0 key) []
+      ∷ calls (SetBusy 0 true) []
+      ∷ calls (OfPanel (bus.Tick 615)) []
+      ∷ calls (Take 1 (asks 4 1 (96 ∷ [])) 616) []
+      ∷ calls (Next 1) (8 ∷ [])
+      ∷ calls (OfPanel (bus.OnBytes (answers 4 1 (64 ∷ [])) 618)) (9 ∷ [])
+      ∷ calls (OfPanel bus.NextReport) []
+      ∷ calls (OfPanel (bus.Tick 664)) []
+      ∷ calls (Take 0 (asks 3 2 (96 ∷ [])) 665) []
+      ∷ calls (Next 0) (10 ∷ [])
+      ∷ calls (OfPanel (bus.OnBytes (answers 3 0 (121 ∷ [])) 667)) (11 ∷ [])
+      ∷ calls (SetBusy 0 false) []
+      ∷ calls (OfPanel (bus.Tick 717)) []
+      ∷ calls (Take 0 (asks 3 2 (96 ∷ [])) 718) []
+      ∷ calls (Next 0) (12 ∷ [])
+      ∷ calls (OfPanel (bus.OnBytes (answers 3 2 (83 ∷ 0 ∷ 1 ∷ 49 ∷ [])) 720)) (13 ∷ [])
+      ∷ calls (OfPanel bus.NextReport) []
+      ∷ []
+
+  -- The next POLL is lost twice, and the session has ended. An order is taken back, and an event that was never offered. The device has another
+  -- handler.
+  abbrev pub lost : H → H → List (Step H)
+  lost handler other =
+      calls (OfPanel (bus.Tick 769)) []
+      ∷ calls (Take 1 (asks 4 2 (96 ∷ [])) 769) []
+      ∷ calls (Next 1) (14 ∷ [])
+      ∷ calls (OfPanel (bus.OnBytes (answers 4 2 (64 ∷ [])) 769)) (15 ∷ [])
+      ∷ calls (OfPanel bus.NextReport) []
+      ∷ calls (OfPanel (bus.Tick 770)) []
+      ∷ calls (OfPanel (bus.Tick 970)) []
+      ∷ calls (OfPanel (bus.Tick 1170)) []
+      ∷ calls (OfPanel bus.NextReport) []
+      ∷ calls (OfPanel (bus.Submit 0 (Cap 0))) []
+      ∷ calls (OfPanel (bus.Withdraw 0)) []
+      ∷ calls (SubmitEvent 0 key) []
+      ∷ calls (WithdrawEvent 0) []
+      ∷ calls (SetHandler 0 other) []
+      ∷ []
+
+  -- The other device loses power, and comes back where it is. It refuses the number of the next POLL.
+  abbrev pub restart : H → H → List (Step H)
+  restart handler other =
+      calls (OfPanel (bus.Begin 0 1171)) []
+      ∷ calls (OfPanel (bus.Tick 1172)) []
+      ∷ calls (NewDevice 1 4 other four 20) []
+      ∷ calls (Take 1 (asks 4 3 (96 ∷ [])) 1173) []
+      ∷ calls (Next 1) (18 ∷ [])
+      ∷ calls (OfPanel (bus.OnBytes (answers 4 3 (65 ∷ 4 ∷ [])) 1174)) (19 ∷ [])
+      ∷ calls (OfPanel bus.NextReport) []
+      ∷ []
+
+  -- The next session begins, and the key is told again.
+  abbrev pub again : H → H → List (Step H)
+  again handler other =
+      calls (OfPanel (bus.Tick 1571)) []
+      ∷ calls (Take 0 (asks 3 0 (97 ∷ 0 ∷ [])) 1572) []
+      ∷ calls (Next 0) (20 ∷ [])
+      ∷ calls (OfPanel (bus.OnBytes (answers 3 0 (69 ∷ 1 ∷ 2 ∷ 3 ∷ 4 ∷ 5 ∷ 6 ∷ 0 ∷ 0 ∷ 0 ∷ 7 ∷ 8 ∷ 9 ∷ [])) 1574)) (21 ∷ [])
+      ∷ calls (OfPanel bus.NextReport) []
+      ∷ calls (OfPanel (bus.Tick 1624)) []
+      ∷ calls (Take 0 (asks 3 1 (96 ∷ [])) 1625) []
+      ∷ calls (Next 0) (22 ∷ [])
+      ∷ calls (OfPanel (bus.OnBytes (answers 3 1 (83 ∷ 0 ∷ 1 ∷ 49 ∷ [])) 1627)) (23 ∷ [])
+      ∷ calls (OfPanel bus.NextReport) []
+      ∷ []
+
+  -- A COMSET is settled: the device goes to 5, and the next session opens there.
+  abbrev pub move : H → H → List (Step H)
+  move handler other =
+      calls (OfPanel (bus.Submit 0 (away 5))) []
+      ∷ calls (OfPanel (bus.Tick 1628)) []
+      ∷ calls (Take 0 (asks 3 2 (110 ∷ 5 ∷ 128 ∷ 37 ∷ 0 ∷ 0 ∷ [])) 1629) []
+      ∷ calls (Next 0) (24 ∷ [])
+      ∷ calls (OfPanel (bus.OnBytes (answers 3 2 (84 ∷ 5 ∷ 128 ∷ 37 ∷ 0 ∷ 0 ∷ [])) 1631)) (25 ∷ [])
+      ∷ calls (OfPanel bus.NextReport) []
+      ∷ calls (OfPanel (bus.Begin 0 1632)) []
+      ∷ calls (OfPanel (bus.Tick 2032)) []
+      ∷ calls (Take 0 (asks 5 0 (97 ∷ 0 ∷ [])) 2033) []
+      ∷ calls (Next 0) (26 ∷ [])
+      ∷ calls (OfPanel (bus.OnBytes (answers 5 0 (69 ∷ 1 ∷ 2 ∷ 3 ∷ 4 ∷ 5 ∷ 6 ∷ 0 ∷ 0 ∷ 0 ∷ 7 ∷ 8 ∷ 9 ∷ [])) 2035)) (27 ∷ [])
+      ∷ calls (OfPanel bus.NextReport) []
+      ∷ []
+
+  -- Another COMSET is taken, and its answer is lost. It is told in doubt. The panel looks for the device where it may be.
+  abbrev pub doubt : H → H → List (Step H)
+  doubt handler other =
+      calls (OfPanel (bus.Submit 0 (away 7))) []
+      ∷ calls (OfPanel (bus.Tick 2036)) []
+      ∷ calls (Take 0 (asks 5 1 (110 ∷ 7 ∷ 128 ∷ 37 ∷ 0 ∷ 0 ∷ [])) 2037) []
+      ∷ calls (Next 0) (28 ∷ [])
+      ∷ calls (OfPanel (bus.Tick 2236)) []
+      ∷ calls (Take 0 (asks 5 1 (110 ∷ 7 ∷ 128 ∷ 37 ∷ 0 ∷ 0 ∷ [])) 2237) []
+      ∷ calls (Next 0) (30 ∷ [])
+      ∷ calls (OfPanel (bus.Tick 2436)) []
+      ∷ calls (OfPanel bus.NextReport) []
+      ∷ calls (OfPanel (bus.Retarget 0 7)) []
+      ∷ calls (OfPanel (bus.Begin 0 2437)) []
+      ∷ calls (OfPanel (bus.Tick 2837)) []
+      ∷ calls (Take 0 (asks 7 0 (97 ∷ 0 ∷ [])) 2838) []
+      ∷ calls (Next 0) (31 ∷ [])
+      ∷ calls (OfPanel (bus.OnBytes (answers 7 0 (69 ∷ 1 ∷ 2 ∷ 3 ∷ 4 ∷ 5 ∷ 6 ∷ 0 ∷ 0 ∷ 0 ∷ 7 ∷ 8 ∷ 9 ∷ [])) 2840)) (32 ∷ [])
+      ∷ calls (OfPanel bus.NextReport) []
+      ∷ []
+
+  -- The device loses power, and comes back at 9. Its session is lost, and the panel finds it there.
+  abbrev pub elsewhere : H → H → List (Step H)
+  elsewhere handler other =
+      calls (NewDevice 0 9 handler four 20) []
+      ∷ calls (OfPanel (bus.Tick 2890)) []
+      ∷ calls (OfPanel (bus.Tick 3090)) []
+      ∷ calls (OfPanel (bus.Tick 3290)) []
+      ∷ calls (OfPanel bus.NextReport) []
+      ∷ calls (OfPanel (bus.Retarget 0 9)) []
+      ∷ calls (OfPanel (bus.Begin 0 3291)) []
+      ∷ calls (OfPanel (bus.Tick 3691)) []
+      ∷ calls (Take 0 (asks 9 0 (97 ∷ 0 ∷ [])) 3692) []
+      ∷ calls (Next 0) (35 ∷ [])
+      ∷ calls (OfPanel (bus.OnBytes (answers 9 0 (69 ∷ 1 ∷ 2 ∷ 3 ∷ 4 ∷ 5 ∷ 6 ∷ 0 ∷ 0 ∷ 0 ∷ 7 ∷ 8 ∷ 9 ∷ [])) 3694)) (36 ∷ [])
+      ∷ calls (OfPanel bus.NextReport) []
+      ∷ []
+
+  -- An order is taken, and the panel loses power before its answer comes. The next session begins without it.
+  abbrev pub panel_restart : H → H → List (Step H)
+  panel_restart handler other =
+      calls (OfPanel (bus.Submit 0 (Cap 0))) []
+      ∷ calls (OfPanel (bus.Tick 3695)) []
+      ∷ calls (Take 0 (asks 9 1 (98 ∷ 0 ∷ [])) 3696) []
+      ∷ calls (Next 0) (37 ∷ [])
+      ∷ calls (NewPanel twice (9 ∷ 4 ∷ [])) []
+      ∷ calls (OfPanel (bus.Begin 0 3700)) []
+      ∷ calls (OfPanel (bus.Tick 4100)) []
+      ∷ calls (Take 0 (asks 9 0 (97 ∷ 0 ∷ [])) 4101) []
+      ∷ calls (Next 0) (39 ∷ [])
+      ∷ calls (OfPanel (bus.OnBytes (answers 9 0 (69 ∷ 1 ∷ 2 ∷ 3 ∷ 4 ∷ 5 ∷ 6 ∷ 0 ∷ 0 ∷ 0 ∷ 7 ∷ 8 ∷ 9 ∷ [])) 4103)) (40 ∷ [])
+      ∷ calls (OfPanel bus.NextReport) []
+      ∷ calls (OfPanel (bus.OnSilence 4104)) []
+      ∷ calls (TickDevice 0 4104) []
+      ∷ calls (Pending 0) []
+      ∷ []
+
+  abbrev pub long_day : H → H → List (Step H)
+  long_day handler other =
+      opening handler other
+      ++ other_opening handler other
+      ++ order handler other
+      ++ busy handler other
+      ++ lost handler other
+      ++ restart handler other
+      ++ again handler other
+      ++ move handler other
+      ++ doubt handler other
+      ++ elsewhere handler other
+      ++ panel_restart handler other
+
+  -- the accounts of the sessions of an entry, the last of them first
+  abbrev pub sessions_of : Option (Station H) → List Account
+  sessions_of None = []
+  sessions_of (Some t) = t.account ∷ t.earlier
+
+  module _ (answer_of : H → Command → Answer) (after : H → Command → H) where
+    abbrev pub line_at_night : H → H → InUse H
+    line_at_night handler other = after_calls answer_of after (long_day handler other) (first_line handler)
+
+    abbrev pub first_sessions : H → H → List Account
+    first_sessions handler other = sessions_of (site_at 0 (line_at_night handler other).stations)
+
+    -- All of these calls keep the premises, whatever the devices' handlers answer. What they come to: seven sessions have opened, six of the first entry.
+    -- In its sessions, the last of them first, so many commands were taken, and so many of them settled, told in doubt, and forgotten by the panel's
+    -- restart; and so many events were reported. The key was told twice.
+    pub record LongDayKeeps (handler other : H) : Type 0 where
+      pub up : IsSetUp (first_line handler)
+      pub keep : AllKeep answer_of after (long_day handler other) (first_line handler)
+      pub openings : map (λ (o : Opening). o.entry) (line_at_night handler other).openings ≡ 0 ∷ 0 ∷ 0 ∷ 0 ∷ 0 ∷ 1 ∷ 0 ∷ []
+      pub addresses : map (λ (o : Opening). o.address) (line_at_night handler other).openings ≡ 9 ∷ 9 ∷ 7 ∷ 5 ∷ 3 ∷ 4 ∷ 3 ∷ []
+      pub taken : map (λ (a : Account). length a.taken) (first_sessions handler other) ≡ 0 ∷ 1 ∷ 0 ∷ 1 ∷ 1 ∷ 1 ∷ 0 ∷ []
+      pub settled : map (λ (a : Account). length a.settled) (first_sessions handler other) ≡ 0 ∷ 0 ∷ 0 ∷ 0 ∷ 1 ∷ 1 ∷ 0 ∷ []
+      pub in_doubt : map (λ (a : Account). a.unsettled) (first_sessions handler other) ≡ [] ∷ [] ∷ [] ∷ (away 7 ∷ []) ∷ [] ∷ [] ∷ [] ∷ []
+      pub forgotten : map (λ (a : Account). a.forgotten) (first_sessions handler other) ≡ [] ∷ (Cap 0 ∷ []) ∷ [] ∷ [] ∷ [] ∷ [] ∷ [] ∷ []
+      pub reported : map (λ (a : Account). a.reported) (first_sessions handler other) ≡ [] ∷ [] ∷ [] ∷ [] ∷ (key ∷ []) ∷ (key ∷ []) ∷ [] ∷ []
+      pub withdrawn : map (λ (a : Account). a.withdrawn) (first_sessions handler other) ≡ [] ∷ [] ∷ [] ∷ [] ∷ [] ∷ (key ∷ []) ∷ [] ∷ []
+
+    -- a call of that list that makes an end of an entry anew, after so many: what restarts cost speaks of the entry before it and after it
+    pub record RestartHappens (count k : ℕ) (call : Call H) (handler other : H) : Type 0 where
+      pub first : Station H
+      pub before : Station H
+      pub next : Station H
+      pub entry : Device
+      pub next_entry : Device
+      pub at : site_at count (long_day handler other) ≡ Some (calls call [])
+      pub happens : IsBeforeAndAfter answer_of after (first_line handler) (take count (long_day handler other)) (calls call []) k first before next
+          entry next_entry
+
+    -- a device comes back where it is, and one elsewhere; and the panel
+    pub record RestartsHappen (handler other : H) : Type 0 where
+      pub in_place : RestartHappens 63 1 (NewDevice 1 4 other four 20) handler other
+      pub elsewhere : RestartHappens 106 0 (NewDevice 0 9 handler four 20) handler other
+      pub panel : RestartHappens 122 0 (NewPanel twice (9 ∷ 4 ∷ [])) handler other

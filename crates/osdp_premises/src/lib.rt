@@ -1,0 +1,31 @@
+//! The premises on any calls of a line hold of something that happens, and exactly where tests say that they hold. The functions do nothing: their
+//! contracts are laws.
+#![tactic(auto)]
+
+ghost use Rattle.osdp_premises.specs.Exactly.{FairCallsKeep, PremisesAreExact};
+ghost use Rattle.osdp_premises.specs.Leaving.{LeavingIsExact};
+ghost use Rattle.osdp_premises.specs.LongDay.{LongDayKeeps, RestartsHappen};
+
+use osdp_reader::Handler;
+
+/// What the theorem of any calls asks of each call is computed by tests: of what is read, of quiet openings, and of addresses. A test holds exactly
+/// where its premise does, whatever the line is.
+pub fn premises_are_exact<H: Handler>()
+    ensures exact { PremisesAreExact H }
+    ensures suffice { FairCallsKeep H.answer_of H.after }
+{}
+
+/// What laws of one life of an end ask of each call, of a device that is never made anew or that keeps its handler, and of an entry of which nothing is
+/// taken back, holds exactly where a test of the call does. Most calls pass all of these.
+pub fn leaving_is_exact<H: Handler>()
+    ensures { LeavingIsExact H }
+{}
+
+/// One list of calls in which all of it happens that a line knows keeps all premises, whatever the devices' handlers answer: bytes in pieces, damage,
+/// a lost packet and a repeated one, a packet that is read twice, a busy device, an event that is told again, an order and an event that are taken
+/// back, another handler, a COMSET that is settled and one that is in doubt, a device that restarts where it is and one that comes back elsewhere, and
+/// a panel that restarts.
+pub fn a_long_day_keeps_the_premises<H: Handler>()
+    ensures keeps { (handler other : H) → LongDayKeeps H.answer_of H.after handler other }
+    ensures restarts { (handler other : H) → RestartsHappen H.answer_of H.after handler other }
+{}
