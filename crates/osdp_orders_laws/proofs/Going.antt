@@ -43,7 +43,7 @@ pub record Goes (entry : ℕ) (d : Device) (q : Queue) (new back : Option Comman
 
 -- ---- one device or one queue is changed
 
-changed_here : (entry : ℕ) (change : Device → Device) (d : Device) (b : BusState) → device_of entry b ≡ Some d → device_of entry (changes_device entry change b) ≡ Some (change d)
+pub changed_here : (entry : ℕ) (change : Device → Device) (d : Device) (b : BusState) → device_of entry b ≡ Some d → device_of entry (changes_device entry change b) ≡ Some (change d)
 changed_here entry change d b at =
     ap (λ o. device_of entry (option_map_or (λ d. record b { devices = record b.devices { entries = slice_set b.devices.entries entry (change d) } }) o b)) at
     ∙ set_same b.devices.entries entry d (change d) at
@@ -85,7 +85,7 @@ let_there (Some r) entry other d q x apart at =
 
 -- ---- .. and of this one
 
-no_commands : (w : List Command) → (length w == 0) ≡ true → w ≡ []
+pub no_commands : (w : List Command) → (length w == 0) ≡ true → w ≡ []
 no_commands [] h = refl
 no_commands (c ∷ w) h = absurd (let e = eqb-true (length (c ∷ w)) 0 h in omega (arith, e))
 

@@ -146,13 +146,13 @@ is_past xs i none = elim (slice_get_cases xs i).1 [
   | inr past ↦ past.0
 ]
 
-something_at : {X : Type 0} (xs : List X) (i : ℕ) (n : ℕ) → i < n → n ≡ length xs → (x : X) × (slice_get xs i ≡ Some x)
+pub something_at : {X : Type 0} (xs : List X) (i : ℕ) (n : ℕ) → i < n → n ≡ length xs → (x : X) × (slice_get xs i ≡ Some x)
 something_at xs i n within is = elim (slice_get_cases xs i).1 [
   | inl here ↦ (here.0, here.2)
   | inr past ↦ absurd (omega (arith, within, past.0, is))
 ]
 
-within_at : {X : Type 0} (xs : List X) (i : ℕ) (x : X) → slice_get xs i ≡ Some x → i < length xs
+pub within_at : {X : Type 0} (xs : List X) (i : ℕ) (x : X) → slice_get xs i ≡ Some x → i < length xs
 within_at xs i x at = elim (slice_get_cases xs i).1 [
   | inl here ↦ here.1
   | inr past ↦ absurd (let none = past.1 in cc)

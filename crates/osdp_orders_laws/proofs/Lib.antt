@@ -9,3 +9,5 @@ mod Keeping
 mod Along
 mod Telling
 mod Without
+mod Fitting
+mod Freeing

@@ -1,4 +1,5 @@
 pub mod Calls
 pub mod Pacing
 pub mod Places
+pub mod Freeing
 pub mod OfTheBus

@@ -3,6 +3,7 @@
 
 ghost use Rattle.osdp_orders.specs.Orders.{PanelState};
 ghost use Rattle.osdp_orders_laws.specs.Calls.{Always};
+ghost use Rattle.osdp_orders_laws.specs.Freeing.{GoAsSoonAsTheyMay};
 ghost use Rattle.osdp_orders_laws.specs.OfTheBus.{AreCallsOfTheBus, WithoutTheSetting};
 ghost use Rattle.osdp_orders_laws.specs.Pacing.{PollsStandBetween};
 ghost use Rattle.osdp_orders_laws.specs.Places.{OrdersKeepTheirPlaces, TellAllThatWaits};
@@ -16,6 +17,12 @@ pub fn polls_stand_between_orders()
 /// The orders of an entry go out, or are taken back, in the order in which they were accepted. None is lost, and none goes out twice.
 pub fn orders_keep_their_places()
     ensures { Always OrdersKeepTheirPlaces }
+{}
+
+/// An order goes to its controller as soon as it may: once a POLL of its entry has gone out, also once more, or its session has begun, none of its orders waits or one is in the
+/// controller. There it is the next to go out, before the next POLL.
+pub fn orders_go_as_soon_as_they_may()
+    ensures { GoAsSoonAsTheyMay }
 {}
 
 /// What waits is told: how many wait of an entry, those that are held back too, and the one that has waited longest, which may be withdrawn where there is no session.
