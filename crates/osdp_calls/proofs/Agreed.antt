@@ -1,5 +1,5 @@
 -- What is noted of the entries of a line in use agrees with what is noted along the moves of its net, as a controller ticks.
-use Rattle.std.proofs.Common.{◌≡◌, ◌≢◌, ℕ, Bool, true, false, cond, List, [], ◌∷◌, ◌++◌, Option, Some, None, refl, sym, subst, ap, ◌∙◌, inl, inr}
+use Rattle.std.proofs.Common.{◌≡◌, ◌≢◌, ◌⊎◌, ℕ, Bool, true, false, cond, List, [], ◌∷◌, ◌++◌, Option, Some, None, refl, sym, subst, ap, ◌∙◌, inl, inr}
 use Rattle.std.proofs.lemmas.Bool.Decides.{eqb_tells}
 use Rattle.std.specs.Prelude.{◌==◌, ◌&&◌, slice_get}
 use Rattle.osdp_frame.specs.Packet.{Packet}
@@ -26,9 +26,9 @@ use Rattle.osdp_calls.specs.Lines.{InUse, Station}
 use Rattle.osdp_calls.specs.Programs.{noted_report, noted_reports}
 use Rattle.osdp_calls.proofs.Agreeing.{AllAgree, begun_heard, told_note}
 use Rattle.osdp_calls.proofs.Along.{IsFree, along_then, notes_along, still_along, still_free}
-use Rattle.osdp_calls.proofs.Losing.{IsStill}
+use Rattle.osdp_calls.proofs.Losing.{IsLoss, IsStill, loss_still}
 use Rattle.osdp_calls.proofs.Noticing.{Agrees, agrees_next, got_new, got_other, same_begun, ticked_closed, ticked_next}
-use Rattle.osdp_calls.proofs.Ticking.{GoesOn, IsTicked, Opens}
+use Rattle.osdp_calls.proofs.Ticking.{GoesOn, IsTicked, Opens, Rests}
 
 -- ---- a tick tells of no session that has opened
 
@@ -132,10 +132,11 @@ module _ {H : Type 0} where
 
   module _ (answer_of : H → Command → Answer) (after : H → Command → H) where
     pub ticked_free : (o : Option ℕ) (l : InUse H) (n : Net H) (moves : List (NetMove H)) → IsTicked answer_of after o l n moves → Each IsFree moves
-    ticked_free o l n moves (GoesOn still why) = each_map IsStill IsFree still_free moves still
-    ticked_free o l n moves (Opens k began p s mid lost is begun sent still runs there closed are) =
+    ticked_free o l n moves (Rests are told sent) = subst (Each IsFree) (sym are) tt
+    ticked_free o l n moves (GoesOn k is begun are) = subst (Each IsFree) (sym are) (tt, tt)
+    ticked_free o l n moves (Opens k began p s mid lost is begun sent told losses runs there closed opening are) =
         subst (Each IsFree) (sym are) (each_append IsFree lost (Reopen k began ∷ Tick k l.bus.greatest ∷ [])
-        (each_map IsStill IsFree still_free lost still) (tt, (tt, tt)))
+        (each_map IsLoss IsFree (λ move loss. still_free move (loss_still move loss)) lost losses) (tt, (tt, tt)))
 
     opened_along : (k began now : ℕ) (mid n : Net H) (lost moves : List (NetMove H)) (noted : ℕ → Note) → Each IsStill lost
         → run answer_of after lost n ≡ mid → moves ≡ lost ++ Reopen k began ∷ Tick k now ∷ []
@@ -165,17 +166,19 @@ module _ {H : Type 0} where
           )) (agree k d was)
         where
           by_moves : IsTicked answer_of after (Some e) l n moves → notes_along answer_of after moves n noted k ≡ noted k
-          by_moves (GoesOn still why) = (λ i. still_along answer_of after moves n noted still i k)
-          by_moves (Opens j began p s mid lost is begun sent still runs there closed are) =
+          by_moves (Rests are told sent) = ap (λ ms. notes_along answer_of after ms n noted k) are
+          by_moves (GoesOn j is begun are) = (λ i. still_along answer_of after moves n noted (subst (Each IsStill) (sym are) (tt, tt)) i k)
+          by_moves (Opens j began p s mid lost is begun sent told losses runs there closed opening are) =
               let mine : e ≡ j = some_same e j is in
-              (λ i. opened_along j began l.bus.greatest mid n lost moves noted still runs are i k)
+              (λ i. opened_along j began l.bus.greatest mid n lost moves noted (each_map IsLoss IsStill loss_still lost losses) runs are i k)
               ∙ reopened_other k j began (site_at k mid.sites) mid (noted k) (λ f. other (sym (mine ∙ f)))
 
-      -- of the one that ticks
-      of_it : ReadsWhatIsAsked → (d : Device) → device_of e l.bus ≡ Some d → (moves : List (NetMove H)) → IsTicked answer_of after (Some e) l n moves
+      -- of the one that ticks, where no session begins
+      it_goes_on : ReadsWhatIsAsked → (d : Device) → device_of e l.bus ≡ Some d → (moves : List (NetMove H)) → Each IsStill moves
+          → (begun_of (site_at e l.stations) ≡ None) ⊎ ((ticks_at (Some e) l.bus).sent ≡ None)
           → Agrees (begun_of (site_at e (ticks_to (Some e) l).stations)) (device_ticks l.bus.greatest d).controller.session.state (notes e)
           (notes_along answer_of after moves n noted e)
-      of_it reads d was moves (GoesOn still why) =
+      it_goes_on reads d was moves still why =
           subst (λ (q : Option ℕ × Note). Agrees q.0 (device_ticks l.bus.greatest d).controller.session.state (notes e) q.1)
           (λ i. (sym begun i, sym (λ j. still_along answer_of after moves n noted still j e) i))
           (agrees_next (begun_of (site_at e l.stations)) d.controller.session.state (device_ticks l.bus.greatest d).controller.session.state (notes e) (noted e)
@@ -183,12 +186,22 @@ module _ {H : Type 0} where
           (ticked_next reads l.bus.greatest d.controller.session d.controller.waiting) (agree e d was))
         where
           begun : begun_of (site_at e (ticks_to (Some e) l).stations) ≡ begun_of (site_at e l.stations)
-          begun = elim (why e refl) [
+          begun = elim why [
             | inl none ↦ says_on e (ticks_at (Some e) l.bus).sent Ticked (begun_heard e (told_by_ticking (Some e) l.bus) l.stations ∙ none) ∙ sym none
             | inr nothing ↦
                 ap (λ s. begun_of (site_at e (panel_says (Some e) s Ticked).stations)) nothing ∙ begun_heard e (told_by_ticking (Some e) l.bus) l.stations
           ]
-      of_it reads d was moves (Opens j began p s mid lost is begun sent still runs there closed are) =
+
+      -- .. or one does
+      of_it : ReadsWhatIsAsked → (d : Device) → device_of e l.bus ≡ Some d → (moves : List (NetMove H)) → IsTicked answer_of after (Some e) l n moves
+          → Agrees (begun_of (site_at e (ticks_to (Some e) l).stations)) (device_ticks l.bus.greatest d).controller.session.state (notes e)
+          (notes_along answer_of after moves n noted e)
+      of_it reads d was moves (Rests are told sent) =
+          it_goes_on reads d was moves (subst (Each IsStill) (sym are) tt) (inr sent)
+      of_it reads d was moves (GoesOn j is begun are) =
+          it_goes_on reads d was moves (subst (Each IsStill) (sym are) (tt, tt))
+          (inl (subst (λ i. begun_of (site_at i l.stations) ≡ None) (sym (some_same e j is)) begun))
+      of_it reads d was moves (Opens j began p s mid lost is begun sent told losses runs there closed opening are) =
           let mine : j ≡ e = sym (some_same e j is) in
           let to_begin : begun_of (site_at e l.stations) ≡ Some began = subst (λ i. begun_of (site_at i l.stations) ≡ Some began) mine begun in
           let old = subst (λ o. Agrees o d.controller.session.state (notes e) (noted e)) to_begin (agree e d was) in
@@ -196,7 +209,7 @@ module _ {H : Type 0} where
           ap (λ q. begun_of (site_at e (panel_says (Some e) q Ticked).stations)) sent
           ∙ says_opening e began p Ticked (begun_heard e (told_by_ticking (Some e) l.bus) l.stations ∙ to_begin) in
           let note : notes_along answer_of after moves n noted e ≡ record (noted e) { begun = true } =
-          (λ i. opened_along j began l.bus.greatest mid n lost moves noted still runs are i e)
+          (λ i. opened_along j began l.bus.greatest mid n lost moves noted (each_map IsLoss IsStill loss_still lost losses) runs are i e)
           ∙ ap (λ i. noted_at e (site_at e mid.sites) (Reopen i began) mid (noted e)) mine
           ∙ reopened e began s mid (noted e) (subst (λ i. site_at i mid.sites ≡ Some s) mine there) closed in
           subst (λ (q : Option ℕ × Note). Agrees q.0 (device_ticks l.bus.greatest d).controller.session.state (notes e) q.1)
@@ -209,9 +222,10 @@ module _ {H : Type 0} where
 
     pub all_ticked : ReadsWhatIsAsked → (o : Option ℕ) (l : InUse H) (n : Net H) (notes noted : ℕ → Note) → AllAgree l notes noted
         → (moves : List (NetMove H)) → IsTicked answer_of after o l n moves → AllAgree (ticks_to o l) notes (notes_along answer_of after moves n noted)
-    all_ticked reads None l n notes noted agree moves (GoesOn still why) k next at =
-        (subst (AllAgree l notes) (sym (still_along answer_of after moves n noted still)) agree) k next at
-    all_ticked reads None l n notes noted agree moves (Opens j began p s mid lost is begun sent still runs there closed are) k next at =
+    all_ticked reads None l n notes noted agree moves (Rests are told sent) k next at =
+        (subst (λ ms. AllAgree l notes (notes_along answer_of after ms n noted)) (sym are) agree) k next at
+    all_ticked reads None l n notes noted agree moves (GoesOn j is begun are) k next at = absurd (let f = is in cc)
+    all_ticked reads None l n notes noted agree moves (Opens j began p s mid lost is begun sent told losses runs there closed opening are) k next at =
         absurd (let f = is in cc)
     all_ticked reads (Some e) l n notes noted agree moves ticked k next at = by_entry (ticked_at e k l.bus next at_bus)
       where

@@ -33,7 +33,7 @@ use Rattle.osdp_calls.specs.Premises.{AreSaid}
 use Rattle.osdp_calls.specs.Programs.{noted_reports}
 use Rattle.osdp_calls.proofs.Along.{IsFree, Path, free_rule, heard_by_own, notes_along, path_on, still_along, still_free}
 use Rattle.osdp_calls.proofs.Controllers.{config_same, hears_same, ignored_quiet, waiting_same}
-use Rattle.osdp_calls.proofs.Losing.{IsStill}
+use Rattle.osdp_calls.proofs.Losing.{IsLoss, IsStill, loss_still}
 use Rattle.osdp_calls.proofs.Matching.{FoundAt, Nobody, Somebody, found}
 use Rattle.osdp_calls.proofs.Nexts.{place_within}
 use Rattle.osdp_calls.proofs.Noticing.{Agrees, HeardAt, Touched, Untouched, address_stays, begun_before, chosen, false_so, heard_at, reports_then, same_reports, touched}
@@ -125,7 +125,7 @@ module _ {H : Type 0} where
   address_same k d l t s is = ap (λ (c : _). c.address) (config_same t.begun l.bus.greatest d.controller s.controller is.controller)
 
   -- a controller whose session is to begin tells nothing of a packet, and neither does its site's
-  to_begin : (p : Packet) (k began : ℕ) (d : Device) (l : InUse H) (t : Station H) (s : Site H) → Sites l k d t s → t.begun ≡ Some began
+  pub to_begin : (p : Packet) (k began : ℕ) (d : Device) (l : InUse H) (t : Station H) (s : Site H) → Sites l k d t s → t.begun ≡ Some began
       → (is_opened (hears p l.bus.greatest d.controller.session).report ≡ false) × (is_opened (hears p l.bus.greatest s.controller.session).report ≡ false)
   to_begin p k began d l t s is begun =
       let control : IsToOpen began l.bus.greatest d.controller s.controller = subst (λ o. Controls o l.bus.greatest d.controller s.controller) begun is.controller in (
@@ -331,10 +331,11 @@ module _ {H : Type 0} where
           let more = told_by_all g ps (hears_packet p g l.bus.devices) in
           let on = panel_on answer_of after i l n h all.3 (omega (arith, inside)) in
           let o = on.refines in
+          let still = each_map IsLoss IsStill loss_still o.reached.moves on.made in
           let path1 : Path answer_of after n0 o.net noted =
-          subst (Path answer_of after n0 o.net) (still_along answer_of after o.reached.moves n noted on.made)
+          subst (Path answer_of after n0 o.net) (still_along answer_of after o.reached.moves n noted still)
           (path_on answer_of after n0 n o.net noted o.reached.moves path
-          (free_rule answer_of after o.reached.moves n noted (each_map IsStill IsFree still_free o.reached.moves on.made) o.reached.fit) o.reached.run) in
+          (free_rule answer_of after o.reached.moves n noted (each_map IsStill IsFree still_free o.reached.moves still) o.reached.fit) o.reached.run) in
           let whole = heard_by_own answer_of after suffices n0 up nobody o.net noted path1 in
           let read = reads_here answer_of after p all.0 l1 o.net o.same all.1 all.2 (past.0 all.0 all.1) in
           let r = read.refines in

@@ -80,7 +80,7 @@ module _ {H : Type 0} where
   each_none k s (RestartReader i address handler room) n none = one_none i k (link.RestartReader address handler room) tt
   each_none k s (RestartPanel settings) n none = (tt, tt)
 
-  quietly : (answer_of : H → Command → Answer) (after : H → Command → H) (move : NetMove H) (n : Net H) → NetMoveFits answer_of after move n
+  pub quietly : (answer_of : H → Command → Answer) (after : H → Command → H) (move : NetMove H) (n : Net H) → NetMoveFits answer_of after move n
       → OpensQuietly move n
   quietly answer_of after (Reopen i now) n fits = fits
   quietly answer_of after _ n fits = tt

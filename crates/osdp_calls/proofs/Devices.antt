@@ -8,27 +8,28 @@ use Rattle.osdp_bus.specs.declared.device.Device.{Device}
 use Rattle.osdp_frame.specs.Receiving.{Received}
 use Rattle.osdp_device.specs.Telling.{items_of, next_told}
 use Rattle.osdp_link_laws.specs.Link as link
+use Rattle.osdp_link_laws.specs.Link.{Repeated}
 use Rattle.osdp_link_laws.specs.Sessions.{unless_full}
-use Rattle.osdp_link_laws.proofs.Lines.{each_of}
+use Rattle.osdp_link_laws.proofs.Lines.{each_append, each_map, each_of}
 use Rattle.osdp_link_laws.proofs.Stages.{Each}
 use Rattle.osdp_reader.specs.State.{ReaderState, after_set_handler, after_submit, after_withdraw_event}
 use Rattle.osdp_reader.specs.Table.{hears}
 use Rattle.osdp_reader.specs.declared.handler.Answer.{Answer}
 use Rattle.osdp_reader.specs.Queue.{lacks_room}
 use Rattle.osdp_shared_line.specs.Line as line
-use Rattle.osdp_shared_line.specs.Line.{Net, Queue, Site, after_net, changed, left_by, link_of, site_at}
+use Rattle.osdp_shared_line.specs.Line.{Net, NetMove, Queue, Site, ToReader, after_net, changed, left_by, link_of, site_at}
 use Rattle.osdp_shared_line.proofs.Sites.{at_changed, some_same}
 use Rattle.osdp_calls.specs.Accepted.{queued_at}
 use Rattle.osdp_calls.specs.Calls as calls
 use Rattle.osdp_calls.specs.Calls.{SubmitEvent, after_next, answers, by_device, changes_at, first_answered, last_of, on_station, queues, read_up_to, reply_to, withdraws_event}
 use Rattle.osdp_calls.specs.Lines.{Burst, InUse, Station, is_past_for_device}
 use Rattle.osdp_calls.specs.Premises.{NextInOrder, NextInRange}
-use Rattle.osdp_calls.proofs.Losing.{IsStill, changed_twice}
+use Rattle.osdp_calls.proofs.Losing.{IsLoss, IsStill, changed_twice, loss_still}
 use Rattle.osdp_calls.proofs.Matching.{FoundAt, Nobody, Somebody, found}
-use Rattle.osdp_calls.proofs.Nexts.{read_to, reads_all, then_rests_to}
+use Rattle.osdp_calls.proofs.Nexts.{IsAnswered, IsNext, IsPassed, read_to, reads_all}
 use Rattle.osdp_calls.proofs.Replying.{told_first, reader_with}
 use Rattle.osdp_calls.proofs.Same.{IsNetOf, read_so}
-use Rattle.osdp_calls.proofs.Stations.{RestsTo, Sites, both_change, make_none, station_changes}
+use Rattle.osdp_calls.proofs.Stations.{Makes, Sites, both_change, make_none, makes_is, station_changes}
 use Rattle.osdp_calls.proofs.Steps.{StepsTo, by_own, one_queue, queue_no_command, site_queues}
 
 module _ {H : Type 0} (answer_of : H → Command → Answer) (after : H → Command → H) where
@@ -65,7 +66,7 @@ module _ {H : Type 0} (answer_of : H → Command → Answer) (after : H → Comm
         (ap (λ (r : ReaderState H). lacks_room event r.queue) is.reader)
         (queued_so (lacks_room event s.reader.queue) event l k d t s is));
     kinds = (refl, tt);
-    made = (tt, tt);
+    made = refl;
     submitted = λ j. queue_no_command answer_of after k j event n;
     queued = λ j. one_queue answer_of after k j event n ∙ ap (λ xs. cond (k == j) xs []) (takes_same k event l n h);
   }
@@ -74,7 +75,7 @@ module _ {H : Type 0} (answer_of : H → Command → Answer) (after : H → Comm
       → StepsTo answer_of after (calls.SetHandler k handler) l n (on_station k (λ t. record t { reader = after_set_handler handler t.reader }) l)
   handling k handler l n h =
       by_own answer_of after (calls.SetHandler k handler) (line.SetHandler k handler) l n
-      (on_station k (λ t. record t { reader = after_set_handler handler t.reader }) l) (λ j. refl) (λ j. refl) tt refl (tt, tt) tt
+      (on_station k (λ t. record t { reader = after_set_handler handler t.reader }) l) (λ j. refl) (λ j. refl) tt refl refl tt
       (both_change k (λ t. record t { reader = after_set_handler handler t.reader }) (line.calls answer_of after (link.SetHandler handler)) l n h
       (λ d t s is. read_so is (ap (after_set_handler handler) is.reader) is.account is.stored))
 
@@ -82,17 +83,20 @@ module _ {H : Type 0} (answer_of : H → Command → Answer) (after : H → Comm
   pub withdrawing_event : (k : ℕ) (l : InUse H) (n : Net H) → IsNetOf l n
       → StepsTo answer_of after (calls.WithdrawEvent k) l n (on_station k withdraws_event l)
   withdrawing_event k l n h =
-      by_own answer_of after (calls.WithdrawEvent k) (line.WithdrawEvent k) l n (on_station k withdraws_event l) (λ j. refl) (λ j. refl) tt refl (tt, tt) tt
+      by_own answer_of after (calls.WithdrawEvent k) (line.WithdrawEvent k) l n (on_station k withdraws_event l) (λ j. refl) (λ j. refl) tt refl refl tt
       (both_change k withdraws_event (line.calls answer_of after link.WithdrawEvent) l n h
       (λ d t s is. read_so is (ap after_withdraw_event is.reader)
       (λ i. link.event_withdrawn (is.reader i).queue (is.account i)) is.stored))
 
   -- what has come on a line is nothing to the net
+  line_is : (k : ℕ) (change : Station H → Received) (l : InUse H) (n : Net H) → IsNetOf l n → IsNetOf (on_station k (λ t. record t { line = change t }) l) n
+  line_is k change l n h =
+      station_changes k (λ t. record t { line = change t }) l n h (λ d t s is. read_so is is.reader is.account is.stored)
+
   pub lines_change : (k : ℕ) (change : Station H → Received) (l : InUse H) (n : Net H) → IsNetOf l n
-      → RestsTo answer_of after n (on_station k (λ t. record t { line = change t }) l)
+      → Makes answer_of after (λ moves. moves ≡ []) n (on_station k (λ t. record t { line = change t }) l)
   lines_change k change l n h =
-      make_none answer_of after (Each IsStill) (on_station k (λ t. record t { line = change t }) l) n tt
-      (station_changes k (λ t. record t { line = change t }) l n h (λ d t s is. read_so is is.reader is.account is.stored))
+      make_none answer_of after (λ moves. moves ≡ []) (on_station k (λ t. record t { line = change t }) l) n refl (line_is k change l n h)
 
   pub place_of : (k : ℕ) (t : Station H) (l : InUse H) (n : Net H) → IsNetOf l n → site_at k l.stations ≡ Some t → t.place ≤ length l.said
   place_of k t l n h is = by_found (found (Sites l) k l.bus.devices.entries l.stations n.sites h.sites)
@@ -101,14 +105,27 @@ module _ {H : Type 0} (answer_of : H → Command → Answer) (after : H → Comm
       by_found (Nobody a none c) = absurd (let e = sym none ∙ is in cc)
       by_found (Somebody d t1 s a there c here) = subst (λ (u : Station H). u.place ≤ length l.said) (some_same t1 t (sym there ∙ is)) here.place
 
+  -- what a `next` of this station comes to
+  abbrev pub IsNextOf : ℕ → Option (Station H) → Net H → List (NetMove H) → Type 0
+  IsNextOf k None n moves = moves ≡ []
+  IsNextOf k (Some t) n moves = IsNext answer_of after k (first_answered t.reader (read_up_to t.reader (items_of t.line.held))) t.reader n moves
+
+  pub next_still : (k : ℕ) (o : Option (Station H)) (n : Net H) (moves : List (NetMove H)) → IsNextOf k o n moves → Each IsStill moves
+  next_still k None n moves are = subst (Each IsStill) (sym are) tt
+  next_still k (Some t) n moves (IsPassed none losses) = each_map IsLoss IsStill loss_still moves losses
+  next_still k (Some t) n moves (IsAnswered p s entry rest mid lost more some losses runs there reader coming after_it are) =
+      subst (Each IsStill) (sym are) (each_append IsStill lost (ToReader k Repeated ∷ more) (each_map IsLoss IsStill loss_still lost losses)
+      (tt, each_map IsLoss IsStill loss_still more after_it))
+
   pub nexting : (k : ℕ) (places : List ℕ) (l : InUse H) (n : Net H) → IsNetOf l n → NextInOrder l.said places (site_at k l.stations)
       → All (λ i. (b : Burst) → site_at i l.said ≡ Some b → is_past_for_device k l.openings i b ≡ false) places
-      → NextInRange answer_of after (site_at k l.stations) → RestsTo answer_of after n (after_next answer_of after k places (site_at k l.stations) l)
+      → NextInRange answer_of after (site_at k l.stations)
+      → Makes answer_of after (IsNextOf k (site_at k l.stations) n) n (after_next answer_of after k places (site_at k l.stations) l)
   nexting k places l n h in_order quiet in_range = by_station (site_at k l.stations) refl in_order in_range
     where
       by_station : (o : Option (Station H)) → site_at k l.stations ≡ o → NextInOrder l.said places o → NextInRange answer_of after o
-          → RestsTo answer_of after n (after_next answer_of after k places o l)
-      by_station None none in_order in_range = make_none answer_of after (Each IsStill) l n tt h
+          → Makes answer_of after (IsNextOf k o n) n (after_next answer_of after k places o l)
+      by_station None none in_order in_range = make_none answer_of after (IsNextOf k None n) l n refl h
       by_station (Some t) is in_order in_range =
           let parts = items_of t.line.held in
           let ps = read_up_to t.reader parts in
@@ -121,12 +138,12 @@ module _ {H : Type 0} (answer_of : H → Command → Answer) (after : H → Comm
           let t1 : Station H = record (answers answer_of after o t) { reader = reader_with answer_of after o t.reader; place = last_of places t.place } in
           let with_line : Received → Station H = λ q. record t1 { line = q } in
           let held : Received = record t.line { held = told.held } in
-          let second = then_rests_to answer_of after n l1 (on_station k (λ u. record u { line = held }) l1) first (λ m h1. lines_change k (λ u. held) l1 m h1) in
-          subst (λ (r : _). RestsTo answer_of after n (record l {
+          let second = makes_is answer_of after (IsNextOf k (Some t) n) l1 (on_station k (λ u. record u { line = held }) l1) n first (λ m h1. line_is k (λ u. held) l1 m h1) in
+          subst (λ (r : _). Makes answer_of after (IsNextOf k (Some t) n) n (record l {
             stations = changed k (record (answers answer_of after o t) { reader = r; line = held; place = last_of places t.place }) l.stations;
             said = l.said ++ by_device k (reply_to answer_of after o t.reader);
           })) (sym (told_first answer_of after parts t.reader t.line.held).1)
-          (subst (λ ts. RestsTo answer_of after n (record l { stations = ts; said = l.said ++ by_device k (reply_to answer_of after o t.reader) }))
+          (subst (λ ts. Makes answer_of after (IsNextOf k (Some t) n) n (record l { stations = ts; said = l.said ++ by_device k (reply_to answer_of after o t.reader) }))
           (ap (λ u. changes_at k (λ v. record v { line = held }) u (changed k t1 l.stations)) (at_changed k t1 t l.stations is)
           ∙ changed_twice k (with_line held) t1 l.stations)
           second)

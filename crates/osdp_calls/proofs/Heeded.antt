@@ -40,7 +40,7 @@ use Rattle.osdp_calls.proofs.Same.{IsNetOf, IsRightly, IsSiteOf}
 use Rattle.osdp_calls.proofs.Steps.{StepsTo}
 use Rattle.osdp_calls.proofs.Ticking.{ticks_entry}
 
-ticks_greatest : (o : Option ℕ) (b : BusState) → (ticks_at o b).bus.greatest ≡ b.greatest
+pub ticks_greatest : (o : Option ℕ) (b : BusState) → (ticks_at o b).bus.greatest ≡ b.greatest
 ticks_greatest None b = refl
 ticks_greatest (Some e) b = by_device (device_of e b)
   where
@@ -53,16 +53,16 @@ either true note = refl
 either false note = refl
 
 -- the entries, the greatest moment seen, the stations, what was said, the panel's place in it, and the sessions that have begun
-abbrev OfLine : Type 0 → Type 0
+abbrev pub OfLine : Type 0 → Type 0
 OfLine H = List Device × ℕ × List (Station H) × List Burst × ℕ × List Opening
 
 module _ {H : Type 0} where
   -- ---- all that a net is of
 
-  abbrev of_line : InUse H → OfLine H
+  abbrev pub of_line : InUse H → OfLine H
   of_line l = (l.bus.devices.entries, l.bus.greatest, l.stations, l.said, l.place, l.openings)
 
-  net_as : (l m : InUse H) (n : Net H) → of_line l ≡ of_line m → IsNetOf l n → IsNetOf m n
+  pub net_as : (l m : InUse H) (n : Net H) → of_line l ≡ of_line m → IsNetOf l n → IsNetOf m n
   net_as l m n e h = record {
     sites = subst (λ (q : OfLine H). Match (IsSiteOf q.5 q.3 q.1) 0 q.0 q.2 n.sites) e h.sites;
     to_panel = h.to_panel ∙ (λ i. ahead_of_panel (e i).4 (e i).5 (e i).3);
@@ -77,7 +77,7 @@ module _ {H : Type 0} where
       → Agrees (begun_of (site_at k q.2)) d.controller.session.state (notes k) (noted k)) e agree
 
   -- a bus that is alike says the same
-  says_alike : (o : Option ℕ) (s : Option Packet) (b c : BusState) (ts : List (Station H)) (place : ℕ) (l : InUse H) → b.devices ≡ c.devices → b.greatest ≡ c.greatest
+  pub says_alike : (o : Option ℕ) (s : Option Packet) (b c : BusState) (ts : List (Station H)) (place : ℕ) (l : InUse H) → b.devices ≡ c.devices → b.greatest ≡ c.greatest
       → of_line (panel_says o s (record l { bus = b; stations = ts; place = place })) ≡ of_line (panel_says o s (record l { bus = c; stations = ts; place = place }))
   says_alike None s b c ts place l ds g = (λ i. ((ds i).entries, g i, ts, l.said, place, l.openings))
   says_alike (Some e) None b c ts place l ds g = (λ i. ((ds i).entries, g i, ts, l.said, place, l.openings))

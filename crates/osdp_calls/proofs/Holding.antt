@@ -30,7 +30,7 @@ use Rattle.osdp_calls.specs.Lines.{InUse, Station}
 use Rattle.osdp_calls.specs.Premises.{Addresses, AllKeep, InOrder, InRange, IsSetUp, QuietOpening}
 use Rattle.osdp_calls.specs.Promises.{CallsHoldOnce, CallsKeepApart, link_of_entry, state_until}
 use Rattle.osdp_calls.proofs.Counting.{LinkGivesNone, all_heard, counted, in_link, in_net, in_net_more, net_none}
-use Rattle.osdp_calls.proofs.Devices.{handling, lines_change, nexting, queueing, withdrawing_event}
+use Rattle.osdp_calls.proofs.Devices.{handling, lines_change, next_still, nexting, queueing, withdrawing_event}
 use Rattle.osdp_calls.proofs.Losing.{fit_then, run_then}
 use Rattle.osdp_calls.proofs.Orders.{beginning, retargeting, submitting, withdrawing}
 use Rattle.osdp_calls.proofs.Panel.{at_seen}
@@ -77,7 +77,7 @@ module _ {H : Type 0} (answer_of : H → Command → Answer) (after : H → Comm
   panel_call (bus.Tick now) places l n h order past addresses range =
       reads (bus.Tick now) places l n (λ k. refl) (record { refines = ticking answer_of after now places l n h order past; made = tt })
   panel_call bus.NextReport [] l n h order past addresses range =
-      reads bus.NextReport [] l n (λ k. refl) (make_none answer_of after (λ moves. Made (OfPanel bus.NextReport) l moves) (after_call answer_of after (OfPanel bus.NextReport) [] l) n tt
+      reads bus.NextReport [] l n (λ k. refl) (make_none answer_of after (λ moves. Made (OfPanel bus.NextReport) l moves) (after_call answer_of after (OfPanel bus.NextReport) [] l) n refl
       (record { sites = h.sites; to_panel = h.to_panel; place = h.place; openings = h.openings; said = h.said }))
   panel_call bus.NextReport (i ∷ places) l n h order past addresses range = absurd order
 
@@ -105,8 +105,9 @@ module _ {H : Type 0} (answer_of : H → Command → Answer) (after : H → Comm
       device_reads (Silence k now) (after_call answer_of after (Silence k now) places l) l n (λ j. refl) (λ j. refl)
       (lines_change answer_of after k (λ t. after_silence now t.line) l n h)
   one_call (Next k) places l n h order quiet addresses range =
+      let x = nexting answer_of after k places l n h order quiet range in
       device_reads (Next k) (after_call answer_of after (Next k) places l) l n (λ j. refl) (λ j. refl)
-      (nexting answer_of after k places l n h order quiet range)
+      (record { refines = x.refines; made = next_still answer_of after k (site_at k l.stations) n x.refines.reached.moves x.made })
   one_call (Pending k) places l n h order quiet addresses range =
       device_reads (Pending k) (after_call answer_of after (Pending k) places l) l n (λ j. refl) (λ j. refl)
       (lines_change answer_of after k (λ t. record t.line { held = passed t.reader t.line.held }) l n h)

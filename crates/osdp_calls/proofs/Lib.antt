@@ -1,41 +1,41 @@
-mod Losing
-mod Matching
-mod Same
-mod Stations
-mod Counting
-mod Steps
-mod Ahead
-mod Replying
-mod Nexts
-mod Devices
-mod Controllers
-mod Panel
-mod Runs
-mod Opens
-mod Ticking
-mod Ticks
-mod Orders
-mod Powers
-mod Setting
-mod Holding
-mod Costing
+pub mod Losing
+pub mod Matching
+pub mod Same
+pub mod Stations
+pub mod Counting
+pub mod Steps
+pub mod Ahead
+pub mod Replying
+pub mod Nexts
+pub mod Devices
+pub mod Controllers
+pub mod Panel
+pub mod Runs
+pub mod Opens
+pub mod Ticking
+pub mod Ticks
+pub mod Orders
+pub mod Powers
+pub mod Setting
+pub mod Holding
+pub mod Costing
 pub mod Sayings
-mod Handing
-mod Turning
+pub mod Handing
+pub mod Turning
 pub mod Places
 pub mod Ends
-mod Refusing
-mod OneDevice
-mod Undisturbed
-mod Along
-mod Noticing
-mod Agreeing
-mod Agreed
-mod Accepting
-mod Heeding
-mod Heeded
-mod Ruling
-mod Marking
-mod Marked
-mod MarkedDevices
-mod Takings
+pub mod Refusing
+pub mod OneDevice
+pub mod Undisturbed
+pub mod Along
+pub mod Noticing
+pub mod Agreeing
+pub mod Agreed
+pub mod Accepting
+pub mod Heeding
+pub mod Heeded
+pub mod Ruling
+pub mod Marking
+pub mod Marked
+pub mod MarkedDevices
+pub mod Takings

@@ -65,6 +65,17 @@ IsStill (RestartReader k address handler room) = ⊥
 IsStill (RestartPanel settings) = ⊥
 IsStill _ = Unit {0}
 
+-- a move by which what is on its way is lost
+abbrev pub IsLoss : {H : Type 0} → NetMove H → Type 0
+IsLoss (LoseToReader k place) = Unit {0}
+IsLoss (LoseToPanel place) = Unit {0}
+IsLoss _ = ⊥
+
+pub loss_still : {H : Type 0} (move : NetMove H) → IsLoss move → IsStill move
+loss_still (LoseToReader k place) loss = tt
+loss_still (LoseToPanel place) loss = tt
+loss_still _ loss = absurd loss
+
 module _ {H : Type 0} (answer_of : H → Command → Answer) (after : H → Command → H) where
   -- ---- what moves come to
 
@@ -108,39 +119,37 @@ module _ {H : Type 0} (answer_of : H → Command → Answer) (after : H → Comm
   pub one_move : (move : NetMove H) (n : Net H) → IsPlain move → NetMoveFits answer_of after move n → Reaches n (after_net answer_of after move n)
   one_move move n plain fits = record { moves = move ∷ []; fit = (fits, tt); run = refl; plain = (plain, tt) }
 
-  -- .. by moves that are still
-  pub record Rests (n m : Net H) : Type 0 where
+  -- .. by losses alone
+  pub record Loses (n m : Net H) : Type 0 where
     pub reached : Reaches n m
-    pub still : Each IsStill reached.moves
+    pub lost : Each IsLoss reached.moves
 
-  rests_there : (n : Net H) → Rests n n
-  rests_there n = record { reached = record { moves = []; fit = tt; run = refl; plain = tt }; still = tt }
+  loses_none : (n : Net H) → Loses n n
+  loses_none n = record { reached = record { moves = []; fit = tt; run = refl; plain = tt }; lost = tt }
 
-  pub both_still : (a b c : Net H) (x : Reaches a b) (y : Reaches b c) → Each IsStill x.moves → Each IsStill y.moves → Each IsStill (joins a b c x y).reached.moves
-  both_still a b c x y first second = subst (Each IsStill) (sym (joins a b c x y).are) (each_append IsStill x.moves y.moves first second)
+  pub then_loses : (a b c : Net H) → Loses a b → Loses b c → Loses a c
+  then_loses a b c p q =
+      let both = joins a b c p.reached q.reached in
+      record { reached = both.reached; lost = subst (Each IsLoss) (sym both.are) (each_append IsLoss p.reached.moves q.reached.moves p.lost q.lost) }
 
-  pub then_rests : (a b c : Net H) → Rests a b → Rests b c → Rests a c
-  then_rests a b c p q =
-      record { reached = (joins a b c p.reached q.reached).reached; still = both_still a b c p.reached q.reached p.still q.still }
-
-  pub one_rest : (move : NetMove H) (n : Net H) → IsPlain move → IsStill move → NetMoveFits answer_of after move n → Rests n (after_net answer_of after move n)
-  one_rest move n plain still fits = record { reached = record { moves = move ∷ []; fit = (fits, tt); run = refl; plain = (plain, tt) }; still = (still, tt) }
+  one_loss : (move : NetMove H) (n : Net H) → IsPlain move → IsLoss move → NetMoveFits answer_of after move n → Loses n (after_net answer_of after move n)
+  one_loss move n plain loss fits = record { reached = record { moves = move ∷ []; fit = (fits, tt); run = refl; plain = (plain, tt) }; lost = (loss, tt) }
 
   -- ---- losses
 
   abbrev pub with_panel : List (ℕ × Packet) → Net H → Net H
   with_panel qs n = record n { to_panel = qs }
 
-  pub lose_to_panel : (xs ys front : List (ℕ × Packet)) (n : Net H) → Sub xs ys → Rests (with_panel (front ++ ys) n) (with_panel (front ++ xs) n)
-  lose_to_panel us vs front n SubNil = rests_there (with_panel (front ++ []) n)
+  pub lose_to_panel : (xs ys front : List (ℕ × Packet)) (n : Net H) → Sub xs ys → Loses (with_panel (front ++ ys) n) (with_panel (front ++ xs) n)
+  lose_to_panel us vs front n SubNil = loses_none (with_panel (front ++ []) n)
   lose_to_panel us vs front n (SubKeep x xs ys sub) =
-      subst (λ l. Rests (with_panel l n) (with_panel (front ++ x ∷ xs) n)) (append_assoc front (x ∷ []) ys)
-      (subst (λ l. Rests (with_panel ((front ++ x ∷ []) ++ ys) n) (with_panel l n)) (append_assoc front (x ∷ []) xs)
+      subst (λ l. Loses (with_panel l n) (with_panel (front ++ x ∷ xs) n)) (append_assoc front (x ∷ []) ys)
+      (subst (λ l. Loses (with_panel ((front ++ x ∷ []) ++ ys) n) (with_panel l n)) (append_assoc front (x ∷ []) xs)
       (lose_to_panel xs ys (front ++ x ∷ []) n sub))
   lose_to_panel us vs front n (SubLeave x xs ys sub) =
-      then_rests (with_panel (front ++ x ∷ ys) n) (with_panel (front ++ ys) n) (with_panel (front ++ xs) n)
-      (subst (λ l. Rests (with_panel (front ++ x ∷ ys) n) (with_panel l n)) (lost_middle front x ys)
-      (one_rest (LoseToPanel (length front)) (with_panel (front ++ x ∷ ys) n) tt tt tt))
+      then_loses (with_panel (front ++ x ∷ ys) n) (with_panel (front ++ ys) n) (with_panel (front ++ xs) n)
+      (subst (λ l. Loses (with_panel (front ++ x ∷ ys) n) (with_panel l n)) (lost_middle front x ys)
+      (one_loss (LoseToPanel (length front)) (with_panel (front ++ x ∷ ys) n) tt tt tt))
       (lose_to_panel xs ys front n sub)
 
   abbrev pub with_coming : ℕ → Site H → List (ℕ × Packet) → Net H → Net H
@@ -157,14 +166,14 @@ module _ {H : Type 0} (answer_of : H → Command → Answer) (after : H → Comm
       ∙ ap (λ l. with_coming k s l n) (lost_middle front x ys)
 
   pub lose_to_reader : (k : ℕ) (s : Site H) (xs ys front : List (ℕ × Packet)) (n : Net H) → site_at k n.sites ≡ Some s → Sub xs ys
-      → Rests (with_coming k s (front ++ ys) n) (with_coming k s (front ++ xs) n)
-  lose_to_reader k s us vs front n is SubNil = rests_there (with_coming k s (front ++ []) n)
+      → Loses (with_coming k s (front ++ ys) n) (with_coming k s (front ++ xs) n)
+  lose_to_reader k s us vs front n is SubNil = loses_none (with_coming k s (front ++ []) n)
   lose_to_reader k s us vs front n is (SubKeep x xs ys sub) =
-      subst (λ l. Rests (with_coming k s l n) (with_coming k s (front ++ x ∷ xs) n)) (append_assoc front (x ∷ []) ys)
-      (subst (λ l. Rests (with_coming k s ((front ++ x ∷ []) ++ ys) n) (with_coming k s l n)) (append_assoc front (x ∷ []) xs)
+      subst (λ l. Loses (with_coming k s l n) (with_coming k s (front ++ x ∷ xs) n)) (append_assoc front (x ∷ []) ys)
+      (subst (λ l. Loses (with_coming k s ((front ++ x ∷ []) ++ ys) n) (with_coming k s l n)) (append_assoc front (x ∷ []) xs)
       (lose_to_reader k s xs ys (front ++ x ∷ []) n is sub))
   lose_to_reader k s us vs front n is (SubLeave x xs ys sub) =
-      then_rests (with_coming k s (front ++ x ∷ ys) n) (with_coming k s (front ++ ys) n) (with_coming k s (front ++ xs) n)
-      (subst (λ m. Rests (with_coming k s (front ++ x ∷ ys) n) m) (lose_one k s front ys x n is)
-      (one_rest (LoseToReader k (length front)) (with_coming k s (front ++ x ∷ ys) n) tt tt tt))
+      then_loses (with_coming k s (front ++ x ∷ ys) n) (with_coming k s (front ++ ys) n) (with_coming k s (front ++ xs) n)
+      (subst (λ m. Loses (with_coming k s (front ++ x ∷ ys) n) m) (lose_one k s front ys x n is)
+      (one_loss (LoseToReader k (length front)) (with_coming k s (front ++ x ∷ ys) n) tt tt tt))
       (lose_to_reader k s xs ys front n is sub)

@@ -1,5 +1,5 @@
 -- What a device reads: what stands before it is lost to it, and what it reads stays in front of it and may be read again.
-use Rattle.std.proofs.Common.{◌≡◌, ◌≤◌, ◌<◌, ℕ, zero, suc, ◌+◌, not, Bool, true, false, cond, List, [], ◌∷◌, ◌++◌, length, Option, Some, None, IfSome, refl, sym, subst, ap, ◌∙◌, arith, append-nil}
+use Rattle.std.proofs.Common.{◌≡◌, ◌≤◌, ◌<◌, ℕ, zero, suc, ◌+◌, not, Bool, true, false, cond, List, [], ◌∷◌, ◌++◌, length, Option, Some, None, IfSome, refl, sym, subst, ap, ◌∙◌, arith, append-nil, append_assoc}
 use Rattle.std.specs.Prelude.{option_to_list}
 use Rattle.osdp_frame.specs.Packet.{Packet}
 use Rattle.osdp_msg.specs.ReplyTable.{ReplyFits}
@@ -15,17 +15,17 @@ use Rattle.osdp_reader.specs.Table.{hears, kind_of}
 use Rattle.osdp_reader.specs.declared.handler.Answer.{Answer}
 use Rattle.osdp_shared_line.specs.Addresses.{in_front}
 use Rattle.osdp_shared_line.specs.Line as line
-use Rattle.osdp_shared_line.specs.Line.{Net, ToReader, after_net, changed, left_by, link_of, site_at, tagged}
+use Rattle.osdp_shared_line.specs.Line.{Net, NetMove, Site, ToReader, after_net, changed, left_by, link_of, run, site_at, tagged}
 use Rattle.osdp_shared_line.proofs.Sites.{at_changed, some_same}
 use Rattle.osdp_calls.specs.Calls.{answers, by_device, first_answered, last_of, reply_to}
 use Rattle.osdp_calls.specs.Lines.{Burst, InUse, Opening, Station, ahead_of_device, is_past_for_device}
 use Rattle.osdp_calls.specs.Premises.{AreSaid}
 use Rattle.osdp_calls.proofs.Ahead.{AreWithin, device_front, device_further, device_told_device, device_told_panel, from_device}
-use Rattle.osdp_calls.proofs.Losing.{IsStill, Rests, both_still, changed_twice, joins, lose_to_reader, then_reaches, with_coming}
+use Rattle.osdp_calls.proofs.Losing.{IsLoss, Loses, changed_twice, joins, lose_to_reader, run_then, then_reaches, with_coming}
 use Rattle.osdp_calls.proofs.Matching.{FoundAt, Nobody, Somebody, changed_same, found, matched, set_station}
 use Rattle.osdp_calls.proofs.Replying.{IsReply, hears_replies, reader_with, silent_to_replies}
 use Rattle.osdp_calls.proofs.Same.{IsNetOf, IsRightly, IsSiteOf, placed_so, read_so, sites_so}
-use Rattle.osdp_calls.proofs.Stations.{Refines, RestsTo, Sites, make_move, make_none}
+use Rattle.osdp_calls.proofs.Stations.{LosesTo, Makes, Refines, Sites, make_move, make_none}
 
 pub length_more : {A : Type 0} (xs : List A) (x : A) → length (xs ++ x ∷ []) ≡ length xs + 1
 length_more [] x = refl
@@ -73,28 +73,28 @@ module _ {H : Type 0} where
   }
 
   module _ (answer_of : H → Command → Answer) (after : H → Command → H) where
-    -- ---- moves that are still
+    -- ---- losses
 
-    pub rests_to : (n m : Net H) (l : InUse H) → Rests answer_of after n m → IsNetOf l m → RestsTo answer_of after n l
-    rests_to n m l r same = record { refines = record { net = m; reached = r.reached; same = same }; made = r.still }
+    pub loses_to : (n m : Net H) (l : InUse H) → Loses answer_of after n m → IsNetOf l m → LosesTo answer_of after n l
+    loses_to n m l r same = record { refines = record { net = m; reached = r.reached; same = same }; made = r.lost }
 
     -- ---- a place moves on
 
     pub moves_on : (k i : ℕ) (t : Station H) (l : InUse H) (n : Net H) → IsNetOf l n → site_at k l.stations ≡ Some t → t.place ≤ i → i ≤ length l.said
-        → RestsTo answer_of after n (with_station k (record t { place = i }) l)
+        → LosesTo answer_of after n (with_station k (record t { place = i }) l)
     moves_on k i t l n h is le within = by_found (found (Sites l) k l.bus.devices.entries l.stations n.sites h.sites)
       where
-        by_found : FoundAt (Sites l) k k l.bus.devices.entries l.stations n.sites → RestsTo answer_of after n (with_station k (record t { place = i }) l)
+        by_found : FoundAt (Sites l) k k l.bus.devices.entries l.stations n.sites → LosesTo answer_of after n (with_station k (record t { place = i }) l)
         by_found (Nobody a b c) = absurd (let e = sym b ∙ is in cc)
         by_found (Somebody d t1 s a b c here) =
             let at : Sites l k d t s = subst (λ u. Sites l k d u s) (some_same t1 t (sym b ∙ is)) here in
             let before : n ≡ with_coming answer_of after k s (ahead_of_device k t.place l.openings l.said) n =
             sym (ap (λ ss. record n { sites = ss }) (changed_same k s n.sites c)) ∙ ap (λ q. with_coming answer_of after k s q n) at.coming in
-            let lost : Rests answer_of after n (with_coming answer_of after k s (ahead_of_device k i l.openings l.said) n) =
-            subst (λ m. Rests answer_of after m (with_coming answer_of after k s (ahead_of_device k i l.openings l.said) n)) (sym before)
+            let lost : Loses answer_of after n (with_coming answer_of after k s (ahead_of_device k i l.openings l.said) n) =
+            subst (λ m. Loses answer_of after m (with_coming answer_of after k s (ahead_of_device k i l.openings l.said) n)) (sym before)
             (lose_to_reader answer_of after k s (ahead_of_device k i l.openings l.said) (ahead_of_device k t.place l.openings l.said) [] n c
             (device_further k t.place i l.openings l.said le)) in
-            rests_to n (with_coming answer_of after k s (ahead_of_device k i l.openings l.said) n) (with_station k (record t { place = i }) l) lost
+            loses_to n (with_coming answer_of after k s (ahead_of_device k i l.openings l.said) n) (with_station k (record t { place = i }) l) lost
             (sites_so h (set_station (Sites l) k d (record t { place = i }) (record s { coming = ahead_of_device k i l.openings l.said })
             l.bus.devices.entries l.stations n.sites h.sites a (placed_so at refl within)))
 
@@ -103,14 +103,24 @@ module _ {H : Type 0} where
     abbrev pub has_read : Packet → Station H → Station H
     has_read p t = record (answers answer_of after (Some p) t) { reader = (hears answer_of after t.reader p).reader }
 
+    -- the packet is in front for the reader, and may be read again
+    pub record IsInFront (k : ℕ) (p : Packet) (r : ReaderState H) (n : Net H) (moves : List (NetMove H)) : Type 0 where
+      pub site : Site H
+      pub there : site_at k n.sites ≡ Some site
+      pub reader : site.reader ≡ r
+      pub entry : ℕ
+      pub rest : List (ℕ × Packet)
+      pub coming : site.coming ≡ (entry, p) ∷ rest
+      pub are : moves ≡ ToReader k Repeated ∷ []
+
     pub reads_front : (k : ℕ) (p : Packet) (b : Burst) (t : Station H) (l : InUse H) (n : Net H) → IsNetOf l n → site_at k l.stations ≡ Some t
         → site_at t.place l.said ≡ Some b → b.packet ≡ p → b.by_panel ≡ true → is_past_for_device k l.openings t.place b ≡ false
         → IfSome (hears answer_of after t.reader p).said ReplyFits
-        → RestsTo answer_of after n (device_says k (option_to_list (hears answer_of after t.reader p).reply) (with_station k (has_read p t) l))
+        → Makes answer_of after (IsInFront k p t.reader n) n (device_says k (option_to_list (hears answer_of after t.reader p).reply) (with_station k (has_read p t) l))
     reads_front k p b t l n h is said_it same by past fits = by_found (found (Sites l) k l.bus.devices.entries l.stations n.sites h.sites)
       where
         by_found : FoundAt (Sites l) k k l.bus.devices.entries l.stations n.sites
-            → RestsTo answer_of after n (device_says k (option_to_list (hears answer_of after t.reader p).reply) (with_station k (has_read p t) l))
+            → Makes answer_of after (IsInFront k p t.reader n) n (device_says k (option_to_list (hears answer_of after t.reader p).reply) (with_station k (has_read p t) l))
         by_found (Nobody a none c) = absurd (let e = sym none ∙ is in cc)
         by_found (Somebody d t1 s a there c here) =
             let at : Sites l k d t s = subst (λ u. Sites l k d u s) (some_same t1 t (sym there ∙ is)) here in
@@ -132,7 +142,16 @@ module _ {H : Type 0} where
             device_said k o.reply l1 n1 replies.said read in
             let there_too : line.hears_at answer_of after k p s n ≡ record n1 { to_panel = n1.to_panel ++ tagged k (option_to_list o.reply) } =
             ap (λ (r : ReaderState H). record n1 { to_panel = n1.to_panel ++ tagged k (option_to_list (hears answer_of after r p).reply) }) at.reader in
-            make_move answer_of after (Each IsStill) (ToReader k Repeated) (device_says k (option_to_list o.reply) l1) n (tt, tt) tt
+            make_move answer_of after (IsInFront k p t.reader n) (ToReader k Repeated) (device_says k (option_to_list o.reply) l1) n
+            (record {
+              site = s;
+              there = c;
+              reader = at.reader;
+              entry = b.entry;
+              rest = front.0;
+              coming = coming ∙ ap (λ q. (b.entry, q) ∷ front.0) same;
+              are = refl;
+            }) tt
             (λ s1 at1. subst (λ u. SaysWhatFitsIf answer_of after Repeated (in_front u.coming) u.reader) (some_same s s1 (sym c ∙ at1))
             (subst (λ qs. SaysWhatFitsIf answer_of after Repeated (in_front qs) s.reader) (sym coming)
             (subst (λ q. IfSome (hears answer_of after s.reader q).said ReplyFits) (sym same)
@@ -147,15 +166,32 @@ module _ {H : Type 0} where
         let y = f x.net x.same in
         record { net = y.net; reached = then_reaches answer_of after n x.net y.net x.reached y.reached; same = y.same }
 
-    pub then_rests_to : (n : Net H) (l m : InUse H) → RestsTo answer_of after n l → ((k : Net H) → IsNetOf l k → RestsTo answer_of after k m)
-        → RestsTo answer_of after n m
-    then_rests_to n l m p f =
+    -- what a `next` comes to: what it passes over is lost, and what it answers is in front for the reader
+    pub data IsNext (k : ℕ) (o : Option Packet) (r : ReaderState H) (n : Net H) (moves : List (NetMove H)) : Type 0 where
+      IsPassed : o ≡ None → Each IsLoss moves → IsNext k o r n moves
+      IsAnswered : (p : Packet) (s : Site H) (entry : ℕ) (rest : List (ℕ × Packet)) (mid : Net H) (lost more : List (NetMove H)) → o ≡ Some p
+          → Each IsLoss lost → run answer_of after lost n ≡ mid → site_at k mid.sites ≡ Some s → s.reader ≡ r → s.coming ≡ (entry, p) ∷ rest
+          → Each IsLoss more → moves ≡ lost ++ ToReader k Repeated ∷ more → IsNext k o r n moves
+
+    -- more is lost before it
+    passed_before : (k : ℕ) (o : Option Packet) (r : ReaderState H) (n m : Net H) (before moves : List (NetMove H)) → Each IsLoss before
+        → run answer_of after before n ≡ m → IsNext k o r m moves → IsNext k o r n (before ++ moves)
+    passed_before k o r n m before moves losses is (IsPassed none all) = IsPassed none (each_append IsLoss before moves losses all)
+    passed_before k o r n m before moves losses is (IsAnswered p s entry rest mid lost more some all runs there reader coming after_it are) =
+        IsAnswered p s entry rest mid (before ++ lost) more some (each_append IsLoss before lost losses all)
+        (run_then answer_of after before lost n ∙ ap (run answer_of after lost) is ∙ runs) there reader coming after_it
+        (ap (λ ms. before ++ ms) are ∙ sym (append_assoc before lost (ToReader k Repeated ∷ more)))
+
+    then_next : (k : ℕ) (o : Option Packet) (r : ReaderState H) (n : Net H) (l m : InUse H) → LosesTo answer_of after n l
+        → ((q : Net H) → IsNetOf l q → Makes answer_of after (IsNext k o r q) q m) → Makes answer_of after (IsNext k o r n) n m
+    then_next k o r n l m p f =
         let x = p.refines in
         let q = f x.net x.same in
         let y = q.refines in
+        let both = joins answer_of after n x.net y.net x.reached y.reached in
         record {
-          refines = record { net = y.net; reached = (joins answer_of after n x.net y.net x.reached y.reached).reached; same = y.same };
-          made = both_still answer_of after n x.net y.net x.reached y.reached p.made q.made;
+          refines = record { net = y.net; reached = both.reached; same = y.same };
+          made = subst (IsNext k o r n) (sym both.are) (passed_before k o r n x.net x.reached.moves y.reached.moves p.made x.reached.run q.made);
         }
 
     last_within : (said : List Burst) (ps : List Packet) (places : List ℕ) (before : ℕ) → before ≤ length said → AreSaid said ps places before
@@ -198,10 +234,11 @@ module _ {H : Type 0} where
         → site_at k l.stations ≡ Some t → t.place ≤ length l.said → AreSaid l.said ps places t.place
         → Each (λ i. (b : Burst) → site_at i l.said ≡ Some b → is_past_for_device k l.openings i b ≡ false) places
         → Each (λ p. IfSome (hears answer_of after t.reader p).said ReplyFits) ps
-        → RestsTo answer_of after n (read_to k (first_answered t.reader ps) (last_of places t.place) t l)
+        → Makes answer_of after (IsNext k (first_answered t.reader ps) t.reader n) n (read_to k (first_answered t.reader ps) (last_of places t.place) t l)
     reads_all k [] [] t l n h is within all past fits =
-        subst (λ bs. RestsTo answer_of after n (record l { stations = changed k t l.stations; said = bs })) (sym (append-nil l.said))
-        (subst (λ ts. RestsTo answer_of after n (record l { stations = ts })) (sym (changed_same k t l.stations is)) (make_none answer_of after (Each IsStill) l n tt h))
+        subst (λ bs. Makes answer_of after (IsNext k None t.reader n) n (record l { stations = changed k t l.stations; said = bs })) (sym (append-nil l.said))
+        (subst (λ ts. Makes answer_of after (IsNext k None t.reader n) n (record l { stations = ts })) (sym (changed_same k t l.stations is))
+        (make_none answer_of after (IsNext k None t.reader n) l n (IsPassed refl tt) h))
     reads_all k [] (i ∷ places) t l n h is within all past fits = absurd all
     reads_all k (p ∷ ps) [] t l n h is within all past fits = absurd all
     reads_all k (p ∷ ps) (i ∷ places) t l n h is within all past fits =
@@ -209,11 +246,10 @@ module _ {H : Type 0} where
         let t1 = record t { place = i } in
         let l1 = with_station k t1 l in
         let there : site_at k l1.stations ≡ Some t1 = at_changed k t1 t l.stations is in
-        let goal : Option Packet → Type 0 = λ o. RestsTo answer_of after n (read_to k o (last_of places i) t l) in
         let first = moves_on k i t l n h is all.3 (omega (arith, inside)) in
         by_answer (speaks (kind_of t.reader p)) refl
-        (subst (RestsTo answer_of after n) (moved_first k (first_answered t.reader ps) i (last_of places i) t l)
-        (then_rests_to n l1 (read_to k (first_answered t.reader ps) (last_of places i) t1 l1) first
+        (subst (Makes answer_of after (IsNext k (first_answered t.reader ps) t.reader n) n) (moved_first k (first_answered t.reader ps) i (last_of places i) t l)
+        (then_next k (first_answered t.reader ps) t.reader n l1 (read_to k (first_answered t.reader ps) (last_of places i) t1 l1) first
         (λ m h1. reads_all k ps places t1 l1 m h1 there (omega (arith, inside)) all.4 past.1 fits.1)))
         (λ speaks_so.
         let by = said_by_panel t p all.0 (each_at IsRightly i all.0 l.said h.said all.1) all.2 speaks_so in
@@ -224,17 +260,28 @@ module _ {H : Type 0} where
         let more : length l.said ≤ length (l.said ++ by_device k (option_to_list o.reply)) = longer l.said (by_device k (option_to_list o.reply)) in
         let least = last.0 in
         let most = last.1 in
-        subst (RestsTo answer_of after n)
+        let a = first.refines in
+        let front = reads_front k p all.0 t1 l1 a.net a.same there all.1 all.2 by (past.0 all.0 all.1) fits.0 in
+        let f = front.made in
+        let b = front.refines in
+        let on = moves_on k (last_of places i) t2 l2 b.net b.same (at_changed k t2 t1 (changed k t1 l.stations) there) least (omega (arith, most, more)) in
+        let c = on.refines in
+        let two = joins answer_of after a.net b.net c.net b.reached c.reached in
+        let three = joins answer_of after n a.net c.net a.reached two.reached in
+        subst (Makes answer_of after (IsNext k (Some p) t.reader n) n)
         (ap (λ ts. record l { stations = ts; said = l.said ++ by_device k (option_to_list o.reply) })
         (changed_twice k (record t2 { place = last_of places i }) t2 (changed k t1 l.stations)
         ∙ changed_twice k (record t2 { place = last_of places i }) t1 l.stations))
-        (then_rests_to n l2 (with_station k (record t2 { place = last_of places i }) l2)
-        (then_rests_to n l1 l2 first (λ m h1. reads_front k p all.0 t1 l1 m h1 there all.1 all.2 by (past.0 all.0 all.1) fits.0))
-        (λ m h2. moves_on k (last_of places i) t2 l2 m h2 (at_changed k t2 t1 (changed k t1 l.stations) there) least (omega (arith, most, more)))))
+        (record {
+          refines = record { net = c.net; reached = three.reached; same = c.same };
+          made = IsAnswered p f.site f.entry f.rest a.net a.reached.moves c.reached.moves refl first.made a.reached.run f.there f.reader f.coming on.made
+              (three.are ∙ ap (λ ms. a.reached.moves ++ ms) (two.are ∙ ap (λ ms. ms ++ c.reached.moves) f.are));
+        }))
       where
         by_answer : (x : Bool) → speaks (kind_of t.reader p) ≡ x
-            → RestsTo answer_of after n (read_to k (first_answered t.reader ps) (last_of places i) t l)
-            → (speaks (kind_of t.reader p) ≡ true → RestsTo answer_of after n (read_to k (Some p) (last_of places i) t l))
-            → RestsTo answer_of after n (read_to k (cond x (Some p) (first_answered t.reader ps)) (last_of places i) t l)
+            → Makes answer_of after (IsNext k (first_answered t.reader ps) t.reader n) n (read_to k (first_answered t.reader ps) (last_of places i) t l)
+            → (speaks (kind_of t.reader p) ≡ true → Makes answer_of after (IsNext k (Some p) t.reader n) n (read_to k (Some p) (last_of places i) t l))
+            → Makes answer_of after (IsNext k (cond x (Some p) (first_answered t.reader ps)) t.reader n) n
+            (read_to k (cond x (Some p) (first_answered t.reader ps)) (last_of places i) t l)
         by_answer true is silent answered = answered is
         by_answer false is silent answered = silent

@@ -197,7 +197,7 @@ pub data FirstAt (i a : ℕ) (ds : List Device) : Type 0 where
   NoneAt : first_from i (is_at a) ds ≡ None → ((k : ℕ) (d : Device) → slice_get ds k ≡ Some d → (address_of d == a) ≡ false) → FirstAt i a ds
   OneAt : (j : ℕ) (d : Device) → first_from i (is_at a) ds ≡ Some (i + j) → slice_get ds j ≡ Some d → (address_of d == a) ≡ true → FirstAt i a ds
 
-first_at : (i a : ℕ) (ds : List Device) → FirstAt i a ds
+pub first_at : (i a : ℕ) (ds : List Device) → FirstAt i a ds
 first_at i a [] = NoneAt refl (λ k d is. absurd (let e = is in cc))
 first_at i a (d ∷ ds) = by_test (address_of d == a) refl (first_at (i + 1) a ds)
   where

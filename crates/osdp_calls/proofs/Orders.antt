@@ -23,22 +23,20 @@ use Rattle.osdp_bus.specs.declared.fault.BusFault.{BusFault}
 use Rattle.osdp_bus.specs.declared.fault.BusFault.TheVariants.{AddressTaken}
 use Rattle.osdp_bus_laws.specs.Calls as panel
 use Rattle.osdp_link_laws.specs.Link as link
-use Rattle.osdp_link_laws.proofs.Stages.{Each}
 use Rattle.osdp_reader.specs.declared.handler.Answer.{Answer}
 use Rattle.osdp_shared_line.specs.Addresses as addresses
 use Rattle.osdp_shared_line.specs.Addresses.{HasNoOther, Sets, Somewhere, asked_in}
 use Rattle.osdp_shared_line.specs.Line as line
 use Rattle.osdp_shared_line.specs.Line.{Net, NetMove, Retarget, Site, Submit, Withdraw, after_net, changed, site_at}
 use Rattle.osdp_shared_line.proofs.Sites.{some_same}
-use Rattle.osdp_calls.specs.Calls.{OfPanel, change_at, changes_at, is_to_begin, issues, takes_back, withdrawn}
+use Rattle.osdp_calls.specs.Calls.{OfPanel, begun_of, change_at, changes_at, is_to_begin, issues, takes_back, withdrawn}
 use Rattle.osdp_calls.specs.Lines.{InUse, Station}
 use Rattle.osdp_calls.specs.Premises.{IsAsked, IsNoOthers, IsSaid, IsThere, MayBeAt}
-use Rattle.osdp_calls.proofs.Losing.{IsStill}
 use Rattle.osdp_calls.proofs.Controllers.{closed_of, config_same, is_to_open, retargeted_same, submitted_same, waiting_same, withdrawn_same}
 use Rattle.osdp_calls.proofs.Matching.{And, Done, FoundAt, Match, Nobody, Somebody, changed_same, found, set, set_same}
 use Rattle.osdp_calls.proofs.Panel.{at_seen}
 use Rattle.osdp_calls.proofs.Same.{Controls, IsNetOf, IsSame, IsToOpen, controlled_so, sites_so}
-use Rattle.osdp_calls.proofs.Stations.{Makes, RestsTo, Sites, make_move, make_none}
+use Rattle.osdp_calls.proofs.Stations.{Makes, Sites, make_move, make_none}
 use Rattle.osdp_calls.proofs.Steps.{Made, MadeByPanel, StepsTo, by_own, by_plain, by_refusal, by_submit}
 
 some_fault : (o : Option ControllerFault) → option_map bus_fault o ≡ None → o ≡ None
@@ -142,20 +140,20 @@ module _ {H : Type 0} where
   module _ (answer_of : H → Command → Answer) (after : H → Command → H) where
     -- ---- a session is to begin
 
-    pub beginning : (entry now : ℕ) (l : InUse H) (n : Net H) → IsNetOf l n → RestsTo answer_of after n (record l {
+    pub beginning : (entry now : ℕ) (l : InUse H) (n : Net H) → IsNetOf l n → Makes answer_of after (λ moves. moves ≡ []) n (record l {
       bus = changed_unless (begin_refusal_at entry l.bus) l.bus (after_begin_at entry now l.bus);
       stations = changed_unless (begin_refusal_at entry l.bus) l.stations (change_at entry (is_to_begin (max l.bus.greatest now)) l.stations);
     })
     beginning entry now l n h = by_fault (begin_refusal_at entry l.bus) refl
       where
-        by_fault : (f : Option BusFault) → begin_refusal_at entry l.bus ≡ f → RestsTo answer_of after n (record l {
+        by_fault : (f : Option BusFault) → begin_refusal_at entry l.bus ≡ f → Makes answer_of after (λ moves. moves ≡ []) n (record l {
           bus = changed_unless f l.bus (after_begin_at entry now l.bus);
           stations = changed_unless f l.stations (change_at entry (is_to_begin (max l.bus.greatest now)) l.stations);
         })
-        by_fault (Some fault) is = make_none answer_of after (Each IsStill) l n tt h
+        by_fault (Some fault) is = make_none answer_of after (λ moves. moves ≡ []) l n refl h
         by_fault None is = by_found (found (Sites l) entry l.bus.devices.entries l.stations n.sites h.sites)
           where
-            by_found : FoundAt (Sites l) entry entry l.bus.devices.entries l.stations n.sites → RestsTo answer_of after n (record l {
+            by_found : FoundAt (Sites l) entry entry l.bus.devices.entries l.stations n.sites → Makes answer_of after (λ moves. moves ≡ []) n (record l {
               bus = after_begin_at entry now l.bus;
               stations = change_at entry (is_to_begin (max l.bus.greatest now)) l.stations;
             })
@@ -170,11 +168,11 @@ module _ {H : Type 0} where
                 let control : IsSame l.bus.greatest d.controller s.controller = subst (λ o. Controls o l.bus.greatest d.controller s.controller) begun has.controller in
                 let e : Device = device_begins moment d in
                 let u : Station H = is_to_begin moment t in
-                subst (RestsTo answer_of after n) (sym (changes_one entry (device_begins moment) (is_to_begin moment) l1 d t a b))
-                (make_none answer_of after (Each IsStill) (record l1 {
+                subst (Makes answer_of after (λ moves. moves ≡ []) n) (sym (changes_one entry (device_begins moment) (is_to_begin moment) l1 d t a b))
+                (make_none answer_of after (λ moves. moves ≡ []) (record l1 {
                   bus = record l1.bus { devices = record l1.bus.devices { entries = slice_set l.bus.devices.entries entry e } };
                   stations = changed entry u l.stations;
-                }) n tt (sites_so h1
+                }) n refl (sites_so h1
                 (subst (λ ss. Match (Sites l1) 0 (slice_set l.bus.devices.entries entry e) (changed entry u l.stations) ss) (changed_same entry s n.sites c)
                 (set (Sites l1) entry e u s l.bus.devices.entries l.stations n.sites h1.sites
                 (controlled_so has (is_to_open l.bus.greatest moment d.controller s.controller (omega arith) shut control) has.reserved has.account)))))
@@ -279,7 +277,7 @@ module _ {H : Type 0} where
             by_own answer_of after (OfPanel (panel.Withdraw k)) (Withdraw k) l n (record l {
               bus = record l.bus { devices = record l.bus.devices { entries = slice_set l.bus.devices.entries k e } };
               stations = changed k u l.stations;
-            }) (λ j. refl) (λ j. refl) tt refl (tt, tt) tt
+            }) (λ j. refl) (λ j. refl) tt refl (inr (refl, ap begun_of b ∙ begun)) tt
             (subst (IsNetOf (record l {
               bus = record l.bus { devices = record l.bus.devices { entries = slice_set l.bus.devices.entries k e } };
               stations = changed k u l.stations;
@@ -305,7 +303,8 @@ module _ {H : Type 0} where
               stations = changed k (takes_back (option_to_list (bus.withdrawn_of d)) t) l.stations;
             })) (sym (ap (slice_set l.bus.devices.entries k) kept ∙ set_same k d l.bus.devices.entries a))
             (subst (λ x. StepsTo answer_of after (OfPanel (panel.Withdraw k)) l n (record l { stations = x })) (sym (ap (λ x. changed k x l.stations) stays ∙ changed_same k t l.stations b))
-            (by_plain answer_of after (OfPanel (panel.Withdraw k)) l n l (λ j. refl) (λ j. refl) (make_none answer_of after (λ moves. Made (OfPanel (panel.Withdraw k)) l moves) l n tt h)))
+            (by_plain answer_of after (OfPanel (panel.Withdraw k)) l n l (λ j. refl) (λ j. refl) (make_none answer_of after (λ moves. Made (OfPanel (panel.Withdraw k)) l moves) l n
+            (inl (refl, ap (λ o. withdrawn (bus.withdrawal_of o)) a ∙ ap option_to_list nothing)) h)))
 
         by_found : FoundAt (Sites l) k k l.bus.devices.entries l.stations n.sites → StepsTo answer_of after (OfPanel (panel.Withdraw k)) l n (record l {
           bus = bus.after_withdraw_at k l.bus;
@@ -318,7 +317,8 @@ module _ {H : Type 0} where
                 devices = record l.bus.devices { entries = slice_set l.bus.devices.entries k (bus.device_withdraws e) };
               }) (sym a i) l.bus;
               stations = changes_at k (takes_back (withdrawn (bus.withdrawal_at k l.bus))) (sym b i) l.stations;
-            }) (by_plain answer_of after (OfPanel (panel.Withdraw k)) l n l (λ j. refl) (λ j. refl) (make_none answer_of after (λ moves. Made (OfPanel (panel.Withdraw k)) l moves) l n tt h))
+            }) (by_plain answer_of after (OfPanel (panel.Withdraw k)) l n l (λ j. refl) (λ j. refl) (make_none answer_of after (λ moves. Made (OfPanel (panel.Withdraw k)) l moves) l n
+            (inl (refl, ap (λ o. withdrawn (bus.withdrawal_of o)) a)) h))
         by_found (Somebody d t s a b c has) =
             subst (λ o. StepsTo answer_of after (OfPanel (panel.Withdraw k)) l n (record l {
               bus = bus.after_withdraw_at k l.bus;

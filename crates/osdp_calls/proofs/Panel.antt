@@ -23,11 +23,11 @@ use Rattle.osdp_calls.specs.Calls.{all_hear, change_at, changes_at, hears_of}
 use Rattle.osdp_calls.specs.Lines.{Burst, InUse, Station, ahead_of_panel, is_past_for_panel}
 use Rattle.osdp_calls.proofs.Ahead.{panel_front, panel_further}
 use Rattle.osdp_calls.proofs.Controllers.{config_same, controls_later, heard_same, hears_same, ignored_command, ignored_quiet, saw}
-use Rattle.osdp_calls.proofs.Losing.{Rests, lose_to_panel, with_panel}
+use Rattle.osdp_calls.proofs.Losing.{Loses, lose_to_panel, with_panel}
 use Rattle.osdp_calls.proofs.Matching.{And, Done, Match, changed_same, matched, set}
-use Rattle.osdp_calls.proofs.Nexts.{each_at, rests_to}
+use Rattle.osdp_calls.proofs.Nexts.{each_at, loses_to}
 use Rattle.osdp_calls.proofs.Same.{Controls, IsNetOf, IsRightly, IsSame, IsSiteOf, IsToOpen, controlled_so, sites_so}
-use Rattle.osdp_calls.proofs.Stations.{Makes, RestsTo, Sites, make_move, make_none}
+use Rattle.osdp_calls.proofs.Stations.{LosesTo, Makes, Sites, make_move, make_none}
 
 -- ---- the address that is kept
 
@@ -108,12 +108,12 @@ module _ {H : Type 0} where
   told_then (x ∷ xs) ys ts = told_then xs ys (change_at x.0 (hears_of x.1) ts)
 
   module _ (answer_of : H → Command → Answer) (after : H → Command → H) where
-    pub panel_on : (i : ℕ) (l : InUse H) (n : Net H) → IsNetOf l n → l.place ≤ i → i ≤ length l.said → RestsTo answer_of after n (record l { place = i })
+    pub panel_on : (i : ℕ) (l : InUse H) (n : Net H) → IsNetOf l n → l.place ≤ i → i ≤ length l.said → LosesTo answer_of after n (record l { place = i })
     panel_on i l n h le within =
         let ahead = ahead_of_panel i l.openings l.said in
         let before : n ≡ with_panel answer_of after (ahead_of_panel l.place l.openings l.said) n = ap (λ qs. with_panel answer_of after qs n) h.to_panel in
-        rests_to answer_of after n (with_panel answer_of after ahead n) (record l { place = i })
-        (subst (λ m. Rests answer_of after m (with_panel answer_of after ahead n)) (sym before)
+        loses_to answer_of after n (with_panel answer_of after ahead n) (record l { place = i })
+        (subst (λ m. Loses answer_of after m (with_panel answer_of after ahead n)) (sym before)
         (lose_to_panel answer_of after ahead (ahead_of_panel l.place l.openings l.said) [] n (panel_further l.place i l.openings l.said le)))
         (record { sites = h.sites; to_panel = refl; place = within; openings = h.openings; said = h.said })
 

@@ -1,5 +1,5 @@
 -- So programs that keep to the rule keep the premise on addresses, over every list of calls.
-use Rattle.std.proofs.Common.{◌≡◌, ◌<◌, ℕ, zero, suc, Bool, true, false, List, [], ◌∷◌, length, map, Option, Some, None, refl, sym, subst, ap, ◌∙◌, arith, inl}
+use Rattle.std.proofs.Common.{◌≡◌, ◌<◌, ℕ, zero, suc, Bool, true, false, List, [], ◌∷◌, length, map, Option, Some, None, refl, sym, subst, ap, ◌∙◌, arith, inl, inr}
 use Rattle.osdp_frame.specs.Packet.{Packet}
 use Rattle.osdp_msg.specs.declared.command.Command.{Command}
 use Rattle.osdp_msg.specs.declared.event.Event.{Event}
@@ -121,19 +121,22 @@ module _ {H : Type 0} where
       panel_ruled (panel.Add address) places order quiet rule range = absurd range
       panel_ruled (panel.Begin k now) places order quiet rule range =
           let s = steps_to (OfPanel (panel.Begin k now)) places order quiet rule range in
+          let still = subst (Each IsStill) (sym s.made) tt in
           by_steps answer_of after suffices nobody reads n0 up l n notes noted h path agree (OfPanel (panel.Begin k now))
           (after_call answer_of after (OfPanel (panel.Begin k now)) places l) s
-          (free_rule answer_of after s.moves n noted (each_map IsStill IsFree still_free s.moves s.made) s.fit)
-          (begin_agrees answer_of after k now l n n notes noted s.moves h s.made agree)
+          (free_rule answer_of after s.moves n noted (each_map IsStill IsFree still_free s.moves still) s.fit)
+          (begin_agrees answer_of after k now l n n notes noted s.moves h still agree)
       panel_ruled (panel.Submit k command) places order quiet rule range =
           submit_ruled answer_of after suffices nobody reads n0 up l n notes noted h path agree k command places rule range
           (steps_to (OfPanel (panel.Submit k command)) places order quiet rule range)
       panel_ruled (panel.Withdraw k) places order quiet rule range =
           let s = steps_to (OfPanel (panel.Withdraw k)) places order quiet rule range in
+          let still : Each IsStill s.moves =
+          elim s.made [ inl (are, nothing) ↦ subst (Each IsStill) (sym are) tt | inr (are, none) ↦ subst (Each IsStill) (sym are) (tt, tt) ] in
           by_steps answer_of after suffices nobody reads n0 up l n notes noted h path agree (OfPanel (panel.Withdraw k))
           (after_call answer_of after (OfPanel (panel.Withdraw k)) places l) s
-          (free_rule answer_of after s.moves n noted (each_map IsStill IsFree still_free s.moves s.made) s.fit)
-          (withdraw_agrees answer_of after k l n notes noted s.moves s.made agree)
+          (free_rule answer_of after s.moves n noted (each_map IsStill IsFree still_free s.moves still) s.fit)
+          (withdraw_agrees answer_of after k l n notes noted s.moves still agree)
       panel_ruled (panel.Retarget k address) places order quiet rule range =
           retarget_ruled answer_of after suffices nobody reads n0 up l n notes noted h path agree k address places rule
           (steps_to (OfPanel (panel.Retarget k address)) places order quiet rule range)
@@ -145,7 +148,7 @@ module _ {H : Type 0} where
           tick_ruled answer_of after suffices nobody reads n0 up l n notes noted h path agree now places order quiet
       panel_ruled panel.NextReport places order quiet rule range =
           let s = steps_to (OfPanel panel.NextReport) places order quiet rule range in
-          rests (OfPanel panel.NextReport) (after_call answer_of after (OfPanel panel.NextReport) places l) s s.made refl (λ j. refl) (λ j d. refl)
+          rests (OfPanel panel.NextReport) (after_call answer_of after (OfPanel panel.NextReport) places l) s (subst (Each IsStill) (sym s.made) tt) refl (λ j. refl) (λ j d. refl)
 
       device_ruled : (k address : ℕ) (handler : H) (room : Room) (gap : ℕ) (places : List ℕ)
           → KeepsRule (NewDevice k address handler room gap) l notes
@@ -200,26 +203,26 @@ module _ {H : Type 0} where
       call_ruled (OfPanel call) places order quiet rule range = panel_ruled call places order quiet rule range
       call_ruled (SubmitEvent k event) places order quiet rule range =
           station_ruled (SubmitEvent k event) k (λ t. queues (lacks_room event t.reader.queue) event t) (λ t. queues_begun (lacks_room event t.reader.queue) event t) (λ j d. refl)
-          (steps_to (SubmitEvent k event) places order quiet rule range) (λ s. s.made)
+          (steps_to (SubmitEvent k event) places order quiet rule range) (λ s. subst (Each IsStill) (sym s.made) (tt, tt))
       call_ruled (SetBusy k busy) places order quiet rule range =
-          let s = steps_to (SetBusy k busy) places order quiet rule range in reader_ruled (SetBusy k busy) k (after_set_busy busy) (λ j d. refl) s s.made
+          let s = steps_to (SetBusy k busy) places order quiet rule range in reader_ruled (SetBusy k busy) k (after_set_busy busy) (λ j d. refl) s (subst (Each IsStill) (sym s.made) (tt, tt))
       call_ruled (SetHandler k handler) places order quiet rule range =
-          let s = steps_to (SetHandler k handler) places order quiet rule range in reader_ruled (SetHandler k handler) k (after_set_handler handler) (λ j d. refl) s s.made
+          let s = steps_to (SetHandler k handler) places order quiet rule range in reader_ruled (SetHandler k handler) k (after_set_handler handler) (λ j d. refl) s (subst (Each IsStill) (sym s.made) (tt, tt))
       call_ruled (WithdrawEvent k) places order quiet rule range =
-          station_ruled (WithdrawEvent k) k withdraws_event (λ t. refl) (λ j d. refl) (steps_to (WithdrawEvent k) places order quiet rule range) (λ s. s.made)
+          station_ruled (WithdrawEvent k) k withdraws_event (λ t. refl) (λ j d. refl) (steps_to (WithdrawEvent k) places order quiet rule range) (λ s. subst (Each IsStill) (sym s.made) (tt, tt))
       call_ruled (Take k bytes now) places order quiet rule range =
-          let s = steps_to (Take k bytes now) places order quiet rule range in line_ruled (Take k bytes now) k (after_take bytes now) (λ j d. refl) s s.made
+          let s = steps_to (Take k bytes now) places order quiet rule range in line_ruled (Take k bytes now) k (after_take bytes now) (λ j d. refl) s (subst (Each IsStill) (sym s.made) tt)
       call_ruled (TickDevice k now) places order quiet rule range =
-          let s = steps_to (TickDevice k now) places order quiet rule range in line_ruled (TickDevice k now) k (after_tick now) (λ j d. refl) s s.made
+          let s = steps_to (TickDevice k now) places order quiet rule range in line_ruled (TickDevice k now) k (after_tick now) (λ j d. refl) s (subst (Each IsStill) (sym s.made) tt)
       call_ruled (Silence k now) places order quiet rule range =
-          let s = steps_to (Silence k now) places order quiet rule range in line_ruled (Silence k now) k (after_silence now) (λ j d. refl) s s.made
+          let s = steps_to (Silence k now) places order quiet rule range in line_ruled (Silence k now) k (after_silence now) (λ j d. refl) s (subst (Each IsStill) (sym s.made) tt)
       call_ruled (Next k) places order quiet rule range =
           let s = steps_to (Next k) places order quiet rule range in
           rests (Next k) (after_call answer_of after (Next k) places l) s s.made (next_entries k places (site_at k l.stations) l)
           (λ j. next_begun j k places (site_at k l.stations) l refl) (λ j d. refl)
       call_ruled (Pending k) places order quiet rule range =
           station_ruled (Pending k) k (λ t. record t { line = record t.line { held = passed t.reader t.line.held } }) (λ t. refl) (λ j d. refl)
-          (steps_to (Pending k) places order quiet rule range) (λ s. s.made)
+          (steps_to (Pending k) places order quiet rule range) (λ s. subst (Each IsStill) (sym s.made) tt)
       call_ruled (NewDevice k address handler room gap) places order quiet rule range =
           device_ruled k address handler room gap places rule (steps_to (NewDevice k address handler room gap) places order quiet rule range)
       call_ruled (NewPanel config xs) places order quiet rule range =

@@ -13,7 +13,7 @@ use Rattle.osdp_shared_line.specs.Line.{Net, NetMove, SetBusy, Site, after_net, 
 use Rattle.osdp_shared_line.proofs.Sites.{some_same}
 use Rattle.osdp_calls.specs.Calls.{changes_at, on_station}
 use Rattle.osdp_calls.specs.Lines.{InUse, Station}
-use Rattle.osdp_calls.proofs.Losing.{IsPlain, IsStill, Reaches, one_move, stays}
+use Rattle.osdp_calls.proofs.Losing.{IsLoss, IsPlain, IsStill, Reaches, one_move, stays}
 use Rattle.osdp_calls.proofs.Matching.{FoundAt, Match, Nobody, Somebody, changed_same, found, set_station}
 use Rattle.osdp_calls.proofs.Same.{IsNetOf, IsSiteOf, read_so, sites_so}
 
@@ -106,6 +106,15 @@ module _ {H : Type 0} where
     abbrev pub RestsTo : Net H → InUse H → Type 0
     RestsTo n l = Makes (Each IsStill) n l
 
+    -- .. losses alone
+    abbrev pub LosesTo : Net H → InUse H → Type 0
+    LosesTo n l = Makes (Each IsLoss) n l
+
+    -- what is no matter to the net
+    pub makes_is : (Q : List (NetMove H) → Type 0) (l m : InUse H) (n : Net H) → Makes Q n l → ((k : Net H) → IsNetOf l k → IsNetOf m k) → Makes Q n m
+    makes_is Q l m n x f =
+        let r = x.refines in record { refines = record { net = r.net; reached = r.reached; same = f r.net r.same }; made = x.made }
+
     pub make_move : (Q : List (NetMove H) → Type 0) (move : NetMove H) (l : InUse H) (n : Net H) → Q (move ∷ []) → IsPlain move
         → NetMoveFits answer_of after move n → IsNetOf l (after_net answer_of after move n) → Makes Q n l
     make_move Q move l n made plain fits same = record {
@@ -124,8 +133,8 @@ module _ {H : Type 0} where
     }
 
     pub busying : (k : ℕ) (busy : Bool) (l : InUse H) (n : Net H) → IsNetOf l n
-        → RestsTo n (on_station k (λ t. record t { reader = after_set_busy busy t.reader }) l)
+        → Makes (λ moves. moves ≡ SetBusy k busy ∷ []) n (on_station k (λ t. record t { reader = after_set_busy busy t.reader }) l)
     busying k busy l n h =
-        make_move (Each IsStill) (SetBusy k busy) (on_station k (λ t. record t { reader = after_set_busy busy t.reader }) l) n (tt, tt) tt tt
+        make_move (λ moves. moves ≡ SetBusy k busy ∷ []) (SetBusy k busy) (on_station k (λ t. record t { reader = after_set_busy busy t.reader }) l) n refl tt tt
         (both_change k (λ t. record t { reader = after_set_busy busy t.reader }) (line.calls answer_of after (link.SetBusy busy)) l n h
         (λ d t s is. read_so is (ap (after_set_busy busy) is.reader) is.account is.stored))

@@ -8,7 +8,7 @@ use Rattle.osdp_msg.specs.declared.event.Event.{Event}
 use Rattle.osdp_controller.specs.Hearing.{comset_of}
 use Rattle.osdp_controller.specs.Machine.{submit_refusal}
 use Rattle.osdp_controller.specs.declared.config.ControllerConfig.{ControllerConfig}
-use Rattle.osdp_bus.specs.Machine.{changed_unless, retarget_refusal_at, submit_refusal_at}
+use Rattle.osdp_bus.specs.Machine.{changed_unless, retarget_refusal_at, submit_refusal_at, withdrawal_at}
 use Rattle.osdp_bus.specs.declared.config.BusConfig.{BusConfig}
 use Rattle.osdp_bus.specs.declared.fault.BusFault.{BusFault}
 use Rattle.osdp_bus_laws.specs.Calls as bus
@@ -25,7 +25,7 @@ use Rattle.osdp_shared_line.specs.Line as line
 use Rattle.osdp_shared_line.specs.Views.{one_if, view}
 use Rattle.osdp_calls.specs.Accepted.{accepted_by, queued_by}
 use Rattle.osdp_calls.specs.Calls as calls
-use Rattle.osdp_calls.specs.Calls.{Call, NewDevice, NewPanel, OfPanel, Step, SubmitEvent}
+use Rattle.osdp_calls.specs.Calls.{Call, NewDevice, NewPanel, OfPanel, Step, SubmitEvent, begun_of, withdrawn}
 use Rattle.osdp_calls.specs.Lines.{InUse}
 use Rattle.osdp_calls.proofs.Counting.{GivesNone, LinkGivesNone, at_site, counted, in_net, net_none}
 use Rattle.osdp_calls.proofs.Losing.{IsPlain, IsStill}
@@ -48,7 +48,7 @@ module _ {H : Type 0} where
   abbrev pub IsOfOne : List (Step H) → NetMove H → Type 0
   IsOfOne steps move = Somewhere (λ (step : Step H). IsOf step.call move) steps
 
-  -- what a call comes to that reads nothing: the move of its own name, unless the bus refuses it, or moves that are still
+  -- what a call of the panel comes to that reads nothing: the move of its own name, unless the bus refuses it, or nothing
   abbrev pub MadeByPanel : bus.Call → InUse H → List (NetMove H) → Type 0
   MadeByPanel (bus.Submit k command) l moves =
       ((fault : BusFault) × (submit_refusal_at k command l.bus ≡ Some fault) × (moves ≡ []))
@@ -56,18 +56,30 @@ module _ {H : Type 0} where
   MadeByPanel (bus.Retarget k address) l moves =
       ((fault : BusFault) × (retarget_refusal_at k address l.bus ≡ Some fault) × (moves ≡ []))
       ⊎ ((retarget_refusal_at k address l.bus ≡ None) × (moves ≡ Retarget k address ∷ []))
+  MadeByPanel (bus.Withdraw k) l moves =
+      ((moves ≡ []) × (withdrawn (withdrawal_at k l.bus) ≡ [])) ⊎ ((moves ≡ Withdraw k ∷ []) × (begun_of (site_at k l.stations) ≡ None))
   MadeByPanel (bus.OnBytes bytes now) l moves = Unit {0}
   MadeByPanel (bus.OnSilence now) l moves = Unit {0}
   MadeByPanel (bus.Tick now) l moves = Unit {0}
-  MadeByPanel _ l moves = Each IsStill moves
+  MadeByPanel _ l moves = moves ≡ []
 
+  -- .. and a call of a device
+  abbrev pub device_moves : Call H → List (NetMove H)
+  device_moves (SubmitEvent k event) = Queue k event ∷ []
+  device_moves (calls.SetBusy k busy) = SetBusy k busy ∷ []
+  device_moves (calls.SetHandler k handler) = line.SetHandler k handler ∷ []
+  device_moves (calls.WithdrawEvent k) = line.WithdrawEvent k ∷ []
+  device_moves (NewDevice k address handler room gap) = RestartReader k address handler room ∷ []
+  device_moves _ = []
+
+  -- a `next` that answers comes to still ones
   abbrev pub Made : Call H → InUse H → List (NetMove H) → Type 0
   Made (OfPanel call) l moves = MadeByPanel call l moves
-  Made (NewDevice k address handler room gap) l moves = moves ≡ RestartReader k address handler room ∷ []
   Made (NewPanel config addresses) l moves =
       (settings : ℕ → ControllerConfig × Room) × (moves ≡ RestartPanel settings ∷ [])
       × ((k a : ℕ) → site_at k addresses ≡ Some a → (settings k).0.address ≡ a)
-  Made _ l moves = Each IsStill moves
+  Made (calls.Next k) l moves = Each IsStill moves
+  Made call l moves = moves ≡ device_moves call
 
   plain_of : (call : Call H) (move : NetMove H) → IsPlain move → IsOf call move
   plain_of call (Submit k command) plain = absurd plain

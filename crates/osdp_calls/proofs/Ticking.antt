@@ -1,5 +1,5 @@
 -- A tick of one of the bus's controllers: what it says goes to every device. Where a session was to begin, it begins with that.
-use Rattle.std.proofs.Common.{◌≡◌, ◌≢◌, ℕ, zero, suc, ◌+◌, Bool, true, false, cond, List, [], ◌∷◌, ◌++◌, length, Option, Some, None, IfSome, ◌⊎◌, refl, sym, subst, ap, ◌∙◌, arith, append-nil, inl, inr}
+use Rattle.std.proofs.Common.{◌≡◌, ◌≢◌, ℕ, zero, suc, ◌+◌, Bool, true, false, cond, List, [], ◌∷◌, ◌++◌, length, Option, Some, None, IfSome, refl, sym, subst, ap, ◌∙◌, arith, append-nil}
 use Rattle.std.specs.Prelude.{map, nat_le, nat_lt, option_to_list, slice_get, slice_set}
 use Rattle.osdp_frame.specs.Packet.{Packet, next_sequence}
 use Rattle.osdp_msg.specs.declared.command.Command.{Command}
@@ -32,7 +32,7 @@ use Rattle.osdp_calls.specs.Calls.{all_hear, begins_session, begins_with, begun_
 use Rattle.osdp_calls.specs.Lines.{InUse, Opening, Station}
 use Rattle.osdp_calls.proofs.Ahead.{device_quiet, from_panel, panel_quiet, panel_told_device, panel_told_panel}
 use Rattle.osdp_calls.proofs.Controllers.{equal_same, opened_ticks, ticked_same, ticks_same}
-use Rattle.osdp_calls.proofs.Losing.{IsStill, changed_twice, joins}
+use Rattle.osdp_calls.proofs.Losing.{IsLoss, changed_twice, joins}
 use Rattle.osdp_calls.proofs.Matching.{FoundAt, Match, Nobody, Somebody, found, matched_map, set}
 use Rattle.osdp_calls.proofs.Nexts.{within_more, length_more}
 use Rattle.osdp_calls.proofs.Opens.{opens}
@@ -101,13 +101,20 @@ module _ {H : Type 0} where
   ticked_line k d t l = panel_says (Some k) t.step.frame (ticked_bus k d t l)
 
   module _ (answer_of : H → Command → Answer) (after : H → Command → H) where
-    -- what a tick comes to: moves that are still, where no session begins; or what is lost as one opens, its beginning, and the tick
+    -- this is the opening ID that goes out as a controller begins and ticks
+    abbrev pub IsOpeningOf : ℕ → ℕ → Packet → Machine → Type 0
+    IsOpeningOf began g p m =
+        ((ticks g (after_begin began m).session (after_begin began m).waiting).step.frame ≡ Some p)
+        × ((ticks g (after_begin began m).session (after_begin began m).waiting).step.report ≡ None)
+
+    -- what a tick comes to: nothing; the tick, where no session begins; or what is lost as one opens, its beginning, and the tick
     pub data IsTicked (o : Option ℕ) (l : InUse H) (n : Net H) (moves : List (NetMove H)) : Type 0 where
-      GoesOn : Each IsStill moves
-          → ((k : ℕ) → o ≡ Some k → (begun_of (site_at k l.stations) ≡ None) ⊎ ((ticks_at o l.bus).sent ≡ None)) → IsTicked o l n moves
+      Rests : moves ≡ [] → told_by_ticking o l.bus ≡ [] → (ticks_at o l.bus).sent ≡ None → IsTicked o l n moves
+      GoesOn : (k : ℕ) → o ≡ Some k → begun_of (site_at k l.stations) ≡ None → moves ≡ Tick k l.bus.greatest ∷ [] → IsTicked o l n moves
       Opens : (k began : ℕ) (p : Packet) (s : Site H) (mid : Net H) (lost : List (NetMove H)) → o ≡ Some k
-          → begun_of (site_at k l.stations) ≡ Some began → (ticks_at o l.bus).sent ≡ Some p → Each IsStill lost → run answer_of after lost n ≡ mid
-          → site_at k mid.sites ≡ Some s → is_closed s.controller.session.state ≡ true
+          → begun_of (site_at k l.stations) ≡ Some began → (ticks_at o l.bus).sent ≡ Some p → told_by_ticking o l.bus ≡ [] → Each IsLoss lost
+          → run answer_of after lost n ≡ mid → site_at k mid.sites ≡ Some s → is_closed s.controller.session.state ≡ true
+          → IsOpeningOf began l.bus.greatest p s.controller
           → moves ≡ lost ++ Reopen k began ∷ Tick k l.bus.greatest ∷ [] → IsTicked o l n moves
 
     -- ---- a controller whose session has begun, or is not to begin
@@ -154,7 +161,7 @@ module _ {H : Type 0} where
             (ticks_same l.bus.greatest d.controller s.controller (subst (λ o. Controls o l.bus.greatest d.controller s.controller) begun is.controller))
 
         still : IsTicked (Some k) l n (Tick k l.bus.greatest ∷ [])
-        still = GoesOn (tt, tt) (λ j is. inl (subst (λ i. begun_of (site_at i l.stations) ≡ None) (some_same k j is) (ap begun_of b ∙ begun)))
+        still = GoesOn k refl (ap begun_of b ∙ begun) refl
 
         not_begun : begun_of (site_at k (ticked_bus k d (ticks l.bus.greatest d.controller.session d.controller.waiting) l).stations) ≡ None
         not_begun =
@@ -202,10 +209,11 @@ module _ {H : Type 0} where
     }
 
     -- of a closed controller a session begins, and it ticks
-    pub record IsBegun (k began g : ℕ) (m : Net H) (moves : List (NetMove H)) : Type 0 where
+    pub record IsBegun (k began g : ℕ) (p : Packet) (m : Net H) (moves : List (NetMove H)) : Type 0 where
       pub site : Site H
       pub there : site_at k m.sites ≡ Some site
       pub closed : is_closed site.controller.session.state ≡ true
+      pub opening : IsOpeningOf began g p site.controller
       pub are : moves ≡ Reopen k began ∷ Tick k g ∷ []
 
     -- the session of a site begins, and its controller ticks
@@ -213,7 +221,7 @@ module _ {H : Type 0} where
         → slice_get l.bus.devices.entries k ≡ Some d → site_at k l.stations ≡ Some t → site_at k m.sites ≡ Some s
         → Sites (record l { openings = opening_of k d l ∷ l.openings }) k d t s → IsToOpen began l.bus.greatest d.controller s.controller
         → ticks l.bus.greatest d.controller.session d.controller.waiting ≡ opened d.controller l.bus.greatest
-        → Makes answer_of after (IsBegun k began l.bus.greatest m) m (with_opening k d t l)
+        → Makes answer_of after (IsBegun k began l.bus.greatest (opening_packet d.controller) m) m (with_opening k d t l)
     begins_then k began d t s l m h a b c is control ticked =
         let g = l.bus.greatest in
         let lo : InUse H = record l { openings = opening_of k d l ∷ l.openings } in
@@ -275,7 +283,13 @@ module _ {H : Type 0} where
             };
             same = panel_said k (opening_packet d.controller) lb (record m { sites = changed k s2 m.sites }) refl before;
           };
-          made = record { site = s; there = c; closed = ap (λ (x : Machine). is_closed x.session.state) control.same; are = refl };
+          made = record {
+            site = s;
+            there = c;
+            closed = ap (λ (x : Machine). is_closed x.session.state) control.same;
+            opening = (ap (λ (z : Ticked). z.step.frame) eq, ap (λ (z : Ticked). z.step.report) eq);
+            are = refl;
+          };
         }
 
     pub opens_then : (k began : ℕ) (d : Device) (t : Station H) (s : Site H) (l : InUse H) (n : Net H) → IsNetOf l n
@@ -292,13 +306,14 @@ module _ {H : Type 0} where
         record {
           refines = record { net = y.net; reached = both.reached; same = y.same };
           made = Opens k began (opening_packet d.controller) begins.made.site x.net x.reached.moves refl (ap begun_of b ∙ begun)
-              (ap (λ o. (ticks_with k o l.bus).sent) a ∙ ap (λ (z : Ticked). z.step.frame) ticked) quiet.made x.reached.run begins.made.there
-              begins.made.closed (both.are ∙ ap (λ ms. x.reached.moves ++ ms) begins.made.are);
+              (ap (λ o. (ticks_with k o l.bus).sent) a ∙ ap (λ (z : Ticked). z.step.frame) ticked)
+              (ap (λ o. told_by_device k o l.bus) a ∙ ap (λ (z : Ticked). told_at k z.step.report) ticked) quiet.made x.reached.run begins.made.there
+              begins.made.closed begins.made.opening (both.are ∙ ap (λ ms. x.reached.moves ++ ms) begins.made.are);
         }
       where
         by_found : (m : Net H) → IsNetOf (record l { openings = opening_of k d l ∷ l.openings }) m
             → FoundAt (Sites (record l { openings = opening_of k d l ∷ l.openings })) k k l.bus.devices.entries l.stations m.sites
-            → Makes answer_of after (IsBegun k began l.bus.greatest m) m (with_opening k d t l)
+            → Makes answer_of after (IsBegun k began l.bus.greatest (opening_packet d.controller) m) m (with_opening k d t l)
         by_found m h1 (Nobody x y z) = absurd (let e = sym y ∙ b in cc)
         by_found m h1 (Somebody d1 t1 s1 x y z has) =
             let lo : InUse H = record l { openings = opening_of k d l ∷ l.openings } in
@@ -324,7 +339,9 @@ module _ {H : Type 0} where
 
         resting : (ticks l.bus.greatest d.controller.session d.controller.waiting
             ≡ ticking.stays (clocks.seen l.bus.greatest d.controller.session) d.controller.waiting) → IsTicked (Some k) l n []
-        resting eq = GoesOn tt (λ j e. inr (ap (λ o. (ticks_with k o l.bus).sent) a ∙ ap (λ (z : Ticked). z.step.frame) eq))
+        resting eq =
+            Rests refl (ap (λ o. told_by_device k o l.bus) a ∙ ap (λ (z : Ticked). told_at k z.step.report) eq)
+            (ap (λ o. (ticks_with k o l.bus).sent) a ∙ ap (λ (z : Ticked). z.step.frame) eq)
 
         waits : IsTicked (Some k) l n [] → Makes answer_of after (IsTicked (Some k) l n) n (ticked_line k d (ticking.stays (clocks.seen l.bus.greatest d.controller.session) d.controller.waiting) l)
         waits rests =
@@ -357,7 +374,7 @@ module _ {H : Type 0} where
 
     pub ticks_entry : (o : Option ℕ) (l : InUse H) (n : Net H) → IsNetOf l n
         → Makes answer_of after (IsTicked o l n) n (panel_says o (ticks_at o l.bus).sent (record l { bus = (ticks_at o l.bus).bus; stations = all_hear (told_by_ticking o l.bus) l.stations }))
-    ticks_entry None l n h = make_none answer_of after (IsTicked None l n) l n (GoesOn tt (λ k e. absurd (let f = e in cc))) h
+    ticks_entry None l n h = make_none answer_of after (IsTicked None l n) l n (Rests refl refl refl) h
     ticks_entry (Some k) l n h = by_found (found (Sites l) k l.bus.devices.entries l.stations n.sites h.sites)
       where
         Goal : Option Device → Type 0
@@ -378,6 +395,6 @@ module _ {H : Type 0} where
               stations = all_hear (told_by_ticking (Some k) l.bus) l.stations;
             }))
         by_found (Nobody a b c) =
-            let nobody : IsTicked (Some k) l n [] = GoesOn tt (λ j e. inr (ap (λ o. (ticks_with k o l.bus).sent) a)) in
+            let nobody : IsTicked (Some k) l n [] = Rests refl (ap (λ o. told_by_device k o l.bus) a) (ap (λ o. (ticks_with k o l.bus).sent) a) in
             subst Goal (sym a) (make_none answer_of after (IsTicked (Some k) l n) l n nobody h)
         by_found (Somebody d t s a b c is) = subst Goal (sym a) (by_begun d t s a b c is t.begun refl)
