@@ -1,0 +1,357 @@
+-- The steps of a call accept what the call does: no command and no event is forgotten, and none is made up.
+use Rattle.std.proofs.Common.{◌≡◌, ℕ, ◌+◌, Bool, true, false, cond, List, [], ◌∷◌, ◌++◌, Option, Some, None, refl, sym, ap, ◌∙◌, inl, inr, append_assoc, append-nil}
+use Rattle.std.proofs.lemmas.Bool.Decides.{eqb_tells}
+use Rattle.std.proofs.lemmas.List.{map-append}
+use Rattle.std.specs.Prelude.{◌==◌}
+use Rattle.osdp_frame.specs.Packet.{Packet}
+use Rattle.osdp_msg.specs.Events.{event_in}
+use Rattle.osdp_msg.specs.declared.command.Command.{Command}
+use Rattle.osdp_msg.specs.declared.command.Command.TheVariants.{Id, Poll}
+use Rattle.osdp_msg.specs.declared.event.Event.{Event}
+use Rattle.osdp_msg.specs.declared.reply.Reply.{Reply}
+use Rattle.osdp_controller.specs.declared.report.Report.{Report}
+use Rattle.osdp_controller.specs.declared.report.Report.TheVariants as report
+use Rattle.osdp_controller.specs.declared.state.State.{State}
+use Rattle.osdp_controller.specs.declared.state.State.TheVariants.{Closed, Quiet, Idle, Waiting, Pausing}
+use Rattle.osdp_bus.specs.Buses.{BusState, device_of}
+use Rattle.osdp_bus.specs.Machine.{changed_unless, submit_refusal_at, withdrawal_at}
+use Rattle.osdp_bus.specs.Ticking.{bus_ticks}
+use Rattle.osdp_bus.specs.declared.device.Device.{Device}
+use Rattle.osdp_bus.specs.declared.fault.BusFault.{BusFault}
+use Rattle.osdp_bus_laws.specs.Calls as bus
+use Rattle.osdp_bus_laws.specs.Reports.{told_in}
+use Rattle.osdp_device.specs.Telling.{items_of}
+use Rattle.osdp_reader.specs.Queue.{lacks_room, never_offered}
+use Rattle.osdp_reader.specs.State.{ReaderState}
+use Rattle.osdp_reader.specs.Table.{hears, kind_of}
+use Rattle.osdp_reader.specs.declared.handler.Answer.{Answer}
+use Rattle.osdp_reader.specs.declared.kind.Kind.{Kind}
+use Rattle.osdp_reader.specs.declared.kind.Kind.TheVariants as kind
+use Rattle.osdp_ledger.specs.Ledger as ledger
+use Rattle.osdp_ledger.specs.Ledger.{Card, Ledger, Order, new_ledger}
+use Rattle.osdp_ledger.specs.History.{History, new_history, runs, steps_on}
+use Rattle.osdp_link_laws.specs.Sessions.{unless_full}
+use Rattle.osdp_link_laws.proofs.Lines.{both, each_append}
+use Rattle.osdp_link_laws.proofs.Stages.{Each}
+use Rattle.osdp_link_ledger.specs.Steps as links
+use Rattle.osdp_link_ledger.specs.Steps.{acts, acts_at_zero, acts_on, after_steps, gets, leaves, leaving, offers, opens, queues, submits, told, withdraws, withdraws_event}
+use Rattle.osdp_link_ledger.proofs.Lists.{commands, events}
+use Rattle.osdp_shared_line.specs.Line.{site_at}
+use Rattle.osdp_calls.specs.Accepted.{accepted_by, accepted_by_panel, all_accepted, all_queued, queued_at, queued_by}
+use Rattle.osdp_calls.specs.Calls as calls
+use Rattle.osdp_calls.specs.Calls.{Call, NewDevice, NewPanel, Next, OfPanel, Pending, SetHandler, Silence, Step, SubmitEvent, Take, TickDevice, WithdrawEvent, after_call, asked_at, first_answered, read_up_to}
+use Rattle.osdp_calls.specs.Handing.{heard}
+use Rattle.osdp_calls.specs.Lines.{InUse, Station}
+use Rattle.osdp_calls_ledger.specs.Steps.{answered, device_steps, given_back, opening, panel_restarts, panel_steps, reported, steps_along, steps_at, steps_from, steps_of}
+
+-- ---- what steps accept
+
+abbrev pub commands_in : List ledger.Step → List Command
+commands_in [] = []
+commands_in (ledger.Submit order ∷ steps) = order.command ∷ commands_in steps
+commands_in (_ ∷ steps) = commands_in steps
+
+abbrev pub events_in : List ledger.Step → List Event
+events_in [] = []
+events_in (ledger.Queue card ∷ steps) = card.event ∷ events_in steps
+events_in (_ ∷ steps) = events_in steps
+
+commands_more : (xs ys : List ledger.Step) → commands_in (xs ++ ys) ≡ commands_in xs ++ commands_in ys
+commands_more [] ys = refl
+commands_more (ledger.Submit order ∷ xs) ys = ap (λ cs. order.command ∷ cs) (commands_more xs ys)
+commands_more (_ ∷ xs) ys = commands_more xs ys
+
+events_more : (xs ys : List ledger.Step) → events_in (xs ++ ys) ≡ events_in xs ++ events_in ys
+events_more [] ys = refl
+events_more (ledger.Queue card ∷ xs) ys = ap (λ es. card.event ∷ es) (events_more xs ys)
+events_more (_ ∷ xs) ys = events_more xs ys
+
+pub runs_accepted : (steps : List ledger.Step) (h : History) → commands (runs steps h).accepted ≡ commands h.accepted ++ commands_in steps
+runs_accepted [] h = sym (append-nil (commands h.accepted))
+runs_accepted (ledger.Submit order ∷ steps) h =
+    runs_accepted steps (steps_on (ledger.Submit order) h)
+    ∙ ap (λ cs. cs ++ commands_in steps) (map-append (λ (o : Order). o.command) h.accepted (order ∷ []))
+    ∙ append_assoc (commands h.accepted) (order.command ∷ []) (commands_in steps)
+runs_accepted (step ∷ steps) h = runs_accepted steps (steps_on step h)
+
+pub runs_queued : (steps : List ledger.Step) (h : History) → events (runs steps h).queued ≡ events h.queued ++ events_in steps
+runs_queued [] h = sym (append-nil (events h.queued))
+runs_queued (ledger.Queue card ∷ steps) h =
+    runs_queued steps (steps_on (ledger.Queue card) h)
+    ∙ ap (λ es. es ++ events_in steps) (map-append (λ (c : Card). c.event) h.queued (card ∷ []))
+    ∙ append_assoc (events h.queued) (card.event ∷ []) (events_in steps)
+runs_queued (step ∷ steps) h = runs_queued steps (steps_on step h)
+
+-- ---- steps that accept nothing
+
+abbrev AcceptsNone : ledger.Step → Type 0
+AcceptsNone (ledger.Submit order) = ⊥
+AcceptsNone (ledger.Queue card) = ⊥
+AcceptsNone _ = Unit {0}
+
+no_commands : (steps : List ledger.Step) → Each AcceptsNone steps → commands_in steps ≡ []
+no_commands [] none = refl
+no_commands (ledger.Submit order ∷ steps) none = absurd none.0
+no_commands (_ ∷ steps) none = no_commands steps none.1
+
+no_events : (steps : List ledger.Step) → Each AcceptsNone steps → events_in steps ≡ []
+no_events [] none = refl
+no_events (ledger.Queue card ∷ steps) none = absurd none.0
+no_events (_ ∷ steps) none = no_events steps none.1
+
+told_none : (r : Option Report) (g : Ledger) → Each AcceptsNone (told r g)
+told_none None g = tt
+told_none (Some (report.Opened id)) g = tt
+told_none (Some (report.Settled command answer)) g = (tt, tt)
+told_none (Some (report.Moved command moved)) g = (tt, (tt, tt))
+told_none (Some (report.Event event)) g = (tt, tt)
+told_none (Some (report.PollAnswered answer)) g = tt
+told_none (Some (report.Unread command code)) g = (tt, tt)
+told_none (Some (report.Lost cause (Some command))) g = (tt, tt)
+told_none (Some (report.Lost cause None)) g = (tt, tt)
+
+reported_none : (k : ℕ) (told_all : List (ℕ × Report)) (g : Ledger) → Each AcceptsNone (reported k told_all g)
+reported_none k [] g = tt
+reported_none k (x ∷ xs) g =
+    let here = cond (x.0 == k) (told (Some x.1) g) [] in
+    each_append AcceptsNone here (reported k xs (after_steps here g)) (both (Each AcceptsNone) (x.0 == k) (told (Some x.1) g) [] (told_none (Some x.1) g) tt)
+    (reported_none k xs (after_steps here g))
+
+opens_accept : (st : State) (sent : Option Packet) → Each AcceptsNone (opens st sent)
+opens_accept (Quiet until) (Some p) = (tt, tt)
+opens_accept (Quiet until) None = tt
+opens_accept Closed sent = tt
+opens_accept (Idle due) sent = tt
+opens_accept (Waiting until sends o) sent = tt
+opens_accept (Pausing until o) sent = tt
+
+opening_none : (k : ℕ) (o : Option ℕ) (sent : Option Packet) (q : Option Device) → Each AcceptsNone (opening k o sent q)
+opening_none k None sent q = tt
+opening_none k (Some e) sent None = tt
+opening_none k (Some e) sent (Some d) =
+    both (Each AcceptsNone) (e == k) (opens d.controller.session.state sent) [] (opens_accept d.controller.session.state sent) tt
+
+withdraws_none : (o : Option Command) (g : Ledger) → Each AcceptsNone (withdraws o g)
+withdraws_none None g = tt
+withdraws_none (Some command) g = (tt, tt)
+
+withdraws_event_none : (o : Option Event) (ever : Bool) (g : Ledger) → Each AcceptsNone (withdraws_event o ever g)
+withdraws_event_none None ever g = tt
+withdraws_event_none (Some event) ever g = (tt, tt)
+
+leaves_none : (es : List Event) (g : Ledger) → Each AcceptsNone (leaves es g)
+leaves_none [] g = tt
+leaves_none (e ∷ es) g = (tt, tt)
+
+offers_none : (o : Option Event) (g : Ledger) → Each AcceptsNone (offers o g)
+offers_none None g = tt
+offers_none (Some event) g = (tt, tt)
+
+acts_on_none : (command : Command) (answer : Reply) (g : Ledger) → Each AcceptsNone (acts_on command answer g)
+acts_on_none Poll answer g = offers_none (event_in answer) g
+acts_on_none command answer g = (tt, tt)
+
+acts_at_zero_none : (command : Command) (answer : Reply) (g : Ledger) → Each AcceptsNone (acts_at_zero command answer g)
+acts_at_zero_none (Id kept) answer g = tt
+acts_at_zero_none command answer g = (tt, tt)
+
+acts_none : (k : Kind) (command : Option Command) (said : Option Reply) (g : Ledger) → Each AcceptsNone (acts k command said g)
+acts_none kind.Taken (Some command) (Some answer) g = acts_on_none command answer g
+acts_none kind.Zero (Some command) (Some answer) g = acts_at_zero_none command answer g
+acts_none kind.Taken None said g = tt
+acts_none kind.Taken (Some command) None g = tt
+acts_none kind.Zero None said g = tt
+acts_none kind.Zero (Some command) None g = tt
+acts_none kind.Silent command said g = tt
+acts_none kind.Secured command said g = tt
+acts_none kind.Repeat command said g = tt
+acts_none kind.Busy command said g = tt
+acts_none kind.Wrong command said g = tt
+
+restarts_none : (o : Option Device) → Each AcceptsNone (panel_restarts o)
+restarts_none None = tt
+restarts_none (Some d) = (tt, tt)
+
+-- ---- what the panel's calls accept
+
+panel_commands : (k : ℕ) (call : bus.Call) (b : BusState) (g : Ledger) → commands_in (panel_steps k call b g) ≡ accepted_by_panel k call b
+panel_commands k (bus.Submit i command) b g = by_test (i == k) (submit_refusal_at i command b)
+  where
+    by_test : (x : Bool) (f : Option BusFault)
+        → commands_in (cond x (changed_unless f [] (submits None command g)) []) ≡ cond x (changed_unless f [] (command ∷ [])) []
+    by_test false f = refl
+    by_test true None = refl
+    by_test true (Some fault) = refl
+panel_commands k (bus.Withdraw i) b g =
+    no_commands (panel_steps k (bus.Withdraw i) b g)
+    (both (Each AcceptsNone) (i == k) (withdraws (given_back (withdrawal_at i b)) g) [] (withdraws_none (given_back (withdrawal_at i b)) g) tt)
+panel_commands k (bus.Tick now) b g =
+    let sends = opening k (asked_at now b) (bus_ticks now b).sent (device_of k (heard (bus.Tick now) now b)) in
+    no_commands (panel_steps k (bus.Tick now) b g)
+    (each_append AcceptsNone (reported k (told_in (bus.Tick now) b) g) sends (reported_none k (told_in (bus.Tick now) b) g)
+    (opening_none k (asked_at now b) (bus_ticks now b).sent (device_of k (heard (bus.Tick now) now b))))
+panel_commands k (bus.OnBytes bytes now) b g = no_commands (reported k (told_in (bus.OnBytes bytes now) b) g) (reported_none k (told_in (bus.OnBytes bytes now) b) g)
+panel_commands k (bus.OnSilence now) b g = no_commands (reported k (told_in (bus.OnSilence now) b) g) (reported_none k (told_in (bus.OnSilence now) b) g)
+panel_commands k (bus.Add address) b g = refl
+panel_commands k (bus.Begin i now) b g = refl
+panel_commands k (bus.Retarget i address) b g = refl
+panel_commands k bus.NextReport b g = refl
+
+panel_events : (k : ℕ) (call : bus.Call) (b : BusState) (g : Ledger) → events_in (panel_steps k call b g) ≡ []
+panel_events k (bus.Submit i command) b g = by_test (i == k) (submit_refusal_at i command b)
+  where
+    by_test : (x : Bool) (f : Option BusFault) → events_in (cond x (changed_unless f [] (submits None command g)) []) ≡ []
+    by_test false f = refl
+    by_test true None = refl
+    by_test true (Some fault) = refl
+panel_events k (bus.Withdraw i) b g =
+    no_events (panel_steps k (bus.Withdraw i) b g)
+    (both (Each AcceptsNone) (i == k) (withdraws (given_back (withdrawal_at i b)) g) [] (withdraws_none (given_back (withdrawal_at i b)) g) tt)
+panel_events k (bus.Tick now) b g =
+    let sends = opening k (asked_at now b) (bus_ticks now b).sent (device_of k (heard (bus.Tick now) now b)) in
+    no_events (panel_steps k (bus.Tick now) b g)
+    (each_append AcceptsNone (reported k (told_in (bus.Tick now) b) g) sends (reported_none k (told_in (bus.Tick now) b) g)
+    (opening_none k (asked_at now b) (bus_ticks now b).sent (device_of k (heard (bus.Tick now) now b))))
+panel_events k (bus.OnBytes bytes now) b g = no_events (reported k (told_in (bus.OnBytes bytes now) b) g) (reported_none k (told_in (bus.OnBytes bytes now) b) g)
+panel_events k (bus.OnSilence now) b g = no_events (reported k (told_in (bus.OnSilence now) b) g) (reported_none k (told_in (bus.OnSilence now) b) g)
+panel_events k (bus.Add address) b g = refl
+panel_events k (bus.Begin i now) b g = refl
+panel_events k (bus.Retarget i address) b g = refl
+panel_events k bus.NextReport b g = refl
+
+module _ {H : Type 0} (answer_of : H → Command → Answer) (after : H → Command → H) where
+  gets_accept : (o : Option Packet) (r : ReaderState H) (g : Ledger) → Each AcceptsNone (answered answer_of after o r g)
+  gets_accept None r g = tt
+  gets_accept (Some p) r g =
+      let out = hears answer_of after r p in
+      let left = leaves (leaving (kind_of r p) r.queue) g in
+      each_append AcceptsNone left (acts (kind_of r p) out.command out.said (after_steps left g)) (leaves_none (leaving (kind_of r p) r.queue) g)
+      (acts_none (kind_of r p) out.command out.said (after_steps left g))
+
+  -- ---- .. and those of its devices
+
+  queues_events : (full : Bool) (event : Event) (g : Ledger) → events_in (queues full event g) ≡ unless_full full event
+  queues_events true event g = refl
+  queues_events false event g = refl
+
+  queues_commands : (full : Bool) (event : Event) (g : Ledger) → commands_in (queues full event g) ≡ []
+  queues_commands true event g = refl
+  queues_commands false event g = refl
+
+  -- a call at the station of its entry
+  at_commands : (call : Call H) (k : ℕ) (b : Bool) (o : Option (Station H)) (g : Ledger)
+      → ((t : Station H) → commands_in (device_steps answer_of after call t g) ≡ []) → commands_in (cond b (steps_at answer_of after call o g) []) ≡ []
+  at_commands call k false o g none = refl
+  at_commands call k true None g none = refl
+  at_commands call k true (Some t) g none = none t
+
+  at_events : (call : Call H) (k : ℕ) (b : Bool) (o : Option (Station H)) (g : Ledger)
+      → ((t : Station H) → events_in (device_steps answer_of after call t g) ≡ []) → events_in (cond b (steps_at answer_of after call o g) []) ≡ []
+  at_events call k false o g none = refl
+  at_events call k true None g none = refl
+  at_events call k true (Some t) g none = none t
+
+  queue_at : (i : ℕ) (event : Event) (o : Option (Station H)) (g : Ledger) → events_in (steps_at answer_of after (SubmitEvent i event) o g) ≡ queued_at o event
+  queue_at i event None g = refl
+  queue_at i event (Some t) g = queues_events (lacks_room event t.reader.queue) event g
+
+  device_accepts : (call : Call H) (t : Station H) (g : Ledger) → commands_in (device_steps answer_of after call t g) ≡ []
+  device_accepts (SubmitEvent i event) t g = queues_commands (lacks_room event t.reader.queue) event g
+  device_accepts (WithdrawEvent i) t g =
+      no_commands (withdraws_event (never_offered t.reader.queue) t.reader.queue.ever_offered g) (withdraws_event_none (never_offered t.reader.queue) t.reader.queue.ever_offered g)
+  device_accepts (Next i) t g =
+      let o = first_answered t.reader (read_up_to t.reader (items_of t.line.held)) in
+      no_commands (answered answer_of after o t.reader g) (gets_accept o t.reader g)
+  device_accepts _ t g = refl
+
+  pub call_commands : (k : ℕ) (call : Call H) (l : InUse H) (g : Ledger) → commands_in (steps_of answer_of after k call l g) ≡ accepted_by k call l
+  call_commands k (OfPanel call) l g = panel_commands k call l.bus g
+  call_commands k (NewPanel config xs) l g = no_commands (panel_restarts (device_of k l.bus)) (restarts_none (device_of k l.bus))
+  call_commands k (SubmitEvent i event) l g = at_commands (SubmitEvent i event) k (i == k) (site_at k l.stations) g (λ t. device_accepts (SubmitEvent i event) t g)
+  call_commands k (calls.SetBusy i busy) l g = at_commands (calls.SetBusy i busy) k (i == k) (site_at k l.stations) g (λ t. refl)
+  call_commands k (SetHandler i handler) l g = at_commands (SetHandler i handler) k (i == k) (site_at k l.stations) g (λ t. refl)
+  call_commands k (WithdrawEvent i) l g = at_commands (WithdrawEvent i) k (i == k) (site_at k l.stations) g (λ t. device_accepts (WithdrawEvent i) t g)
+  call_commands k (Take i bytes now) l g = at_commands (Take i bytes now) k (i == k) (site_at k l.stations) g (λ t. refl)
+  call_commands k (TickDevice i now) l g = at_commands (TickDevice i now) k (i == k) (site_at k l.stations) g (λ t. refl)
+  call_commands k (Silence i now) l g = at_commands (Silence i now) k (i == k) (site_at k l.stations) g (λ t. refl)
+  call_commands k (Next i) l g = at_commands (Next i) k (i == k) (site_at k l.stations) g (λ t. device_accepts (Next i) t g)
+  call_commands k (Pending i) l g = at_commands (Pending i) k (i == k) (site_at k l.stations) g (λ t. refl)
+  call_commands k (NewDevice i address handler room gap) l g =
+      at_commands (NewDevice i address handler room gap) k (i == k) (site_at k l.stations) g (λ t. refl)
+
+  pub call_events : (k : ℕ) (call : Call H) (l : InUse H) (g : Ledger) → events_in (steps_of answer_of after k call l g) ≡ queued_by k call l
+  call_events k (OfPanel call) l g = panel_events k call l.bus g
+  call_events k (NewPanel config xs) l g = no_events (panel_restarts (device_of k l.bus)) (restarts_none (device_of k l.bus))
+  call_events k (SubmitEvent i event) l g = elim (eqb_tells i k) [
+    | inl equal ↦
+        ap (λ b. events_in (cond b (steps_at answer_of after (SubmitEvent i event) (site_at k l.stations) g) [])) equal.0
+        ∙ queue_at i event (site_at k l.stations) g
+        ∙ ap (λ j. queued_at (site_at j l.stations) event) (sym equal.1)
+        ∙ sym (ap (λ b. cond b (queued_at (site_at i l.stations) event) []) equal.0)
+    | inr differs ↦
+        ap (λ b. events_in (cond b (steps_at answer_of after (SubmitEvent i event) (site_at k l.stations) g) [])) differs.0
+        ∙ sym (ap (λ b. cond b (queued_at (site_at i l.stations) event) []) differs.0)
+  ]
+  call_events k (calls.SetBusy i busy) l g = at_events (calls.SetBusy i busy) k (i == k) (site_at k l.stations) g (λ t. refl)
+  call_events k (SetHandler i handler) l g = at_events (SetHandler i handler) k (i == k) (site_at k l.stations) g (λ t. refl)
+  call_events k (WithdrawEvent i) l g =
+      at_events (WithdrawEvent i) k (i == k) (site_at k l.stations) g
+      (λ t. no_events (withdraws_event (never_offered t.reader.queue) t.reader.queue.ever_offered g) (withdraws_event_none (never_offered t.reader.queue) t.reader.queue.ever_offered g))
+  call_events k (Take i bytes now) l g = at_events (Take i bytes now) k (i == k) (site_at k l.stations) g (λ t. refl)
+  call_events k (TickDevice i now) l g = at_events (TickDevice i now) k (i == k) (site_at k l.stations) g (λ t. refl)
+  call_events k (Silence i now) l g = at_events (Silence i now) k (i == k) (site_at k l.stations) g (λ t. refl)
+  call_events k (Next i) l g =
+      at_events (Next i) k (i == k) (site_at k l.stations) g (λ t.
+      let o = first_answered t.reader (read_up_to t.reader (items_of t.line.held)) in
+      no_events (answered answer_of after o t.reader g) (gets_accept o t.reader g))
+  call_events k (Pending i) l g = at_events (Pending i) k (i == k) (site_at k l.stations) g (λ t. refl)
+  call_events k (NewDevice i address handler room gap) l g =
+      at_events (NewDevice i address handler room gap) k (i == k) (site_at k l.stations) g (λ t. refl)
+
+  -- ---- lists of calls
+
+  pub along_commands : (k : ℕ) (steps : List (Step H)) (l : InUse H) (g : Ledger)
+      → commands_in (steps_along answer_of after k steps l g) ≡ all_accepted answer_of after k steps l
+  along_commands k [] l g = refl
+  along_commands k (step ∷ steps) l g =
+      let now = steps_of answer_of after k step.call l g in
+      let next = after_call answer_of after step.call step.places l in
+      commands_more now (steps_along answer_of after k steps next (after_steps now g))
+      ∙ (λ i. call_commands k step.call l g i ++ along_commands k steps next (after_steps now g) i)
+
+  pub along_events : (k : ℕ) (steps : List (Step H)) (l : InUse H) (g : Ledger)
+      → events_in (steps_along answer_of after k steps l g) ≡ all_queued answer_of after k steps l
+  along_events k [] l g = refl
+  along_events k (step ∷ steps) l g =
+      let now = steps_of answer_of after k step.call l g in
+      let next = after_call answer_of after step.call step.places l in
+      events_more now (steps_along answer_of after k steps next (after_steps now g))
+      ∙ (λ i. call_events k step.call l g i ++ along_events k steps next (after_steps now g) i)
+
+before_commands : (place : ℕ) (es : List Event) → commands_in (links.queued_before place es) ≡ []
+before_commands place [] = refl
+before_commands place (e ∷ es) = before_commands (place + 1) es
+
+before_events : (place : ℕ) (es : List Event) → events_in (links.queued_before place es) ≡ es
+before_events place [] = refl
+before_events place (e ∷ es) = ap (λ xs. e ∷ xs) (before_events (place + 1) es)
+
+module _ {H : Type 0} (answer_of : H → Command → Answer) (after : H → Command → H) where
+  -- from the beginning
+  pub all_commands : (k : ℕ) (first : Station H) (steps : List (Step H)) (l : InUse H)
+      → commands (runs (steps_from answer_of after k first steps l) new_history).accepted ≡ all_accepted answer_of after k steps l
+  all_commands k first steps l =
+      let before = links.queued_before 0 first.reader.queue.events in
+      let rest = steps_along answer_of after k steps l (after_steps before new_ledger) in
+      runs_accepted (before ++ rest) new_history
+      ∙ commands_more before rest
+      ∙ (λ i. before_commands 0 first.reader.queue.events i ++ along_commands answer_of after k steps l (after_steps before new_ledger) i)
+
+  pub all_events : (k : ℕ) (first : Station H) (steps : List (Step H)) (l : InUse H)
+      → events (runs (steps_from answer_of after k first steps l) new_history).queued ≡ first.reader.queue.events ++ all_queued answer_of after k steps l
+  all_events k first steps l =
+      let before = links.queued_before 0 first.reader.queue.events in
+      let rest = steps_along answer_of after k steps l (after_steps before new_ledger) in
+      runs_queued (before ++ rest) new_history
+      ∙ events_more before rest
+      ∙ (λ i. before_events 0 first.reader.queue.events i ++ along_events answer_of after k steps l (after_steps before new_ledger) i)

@@ -1,0 +1,211 @@
+-- What each call comes to, with the steps of each entry.
+use Rattle.std.proofs.Common.{◌≡◌, ℕ, max, Bool, cond, List, [], ◌∷◌, ◌++◌, Option, Some, None, refl, sym, ap, ◌∙◌, inl, inr, append_assoc}
+use Rattle.std.specs.Prelude.{◌==◌}
+use Rattle.osdp_msg.specs.declared.command.Command.{Command}
+use Rattle.osdp_bus.specs.Buses.{device_of, seen as seen_by_bus}
+use Rattle.osdp_bus.specs.Machine.{changed_unless, submit_refusal_at}
+use Rattle.osdp_bus.specs.Ticking.{bus_ticks, ticks_at}
+use Rattle.osdp_bus_laws.specs.Calls as bus
+use Rattle.osdp_bus_laws.specs.Reports.{told_by_ticking, told_in}
+use Rattle.osdp_bus_laws.proofs.Moments.{moments_are_seen}
+use Rattle.osdp_reader.specs.Queue.{lacks_room, never_offered}
+use Rattle.osdp_reader.specs.State.{ReaderState}
+use Rattle.osdp_reader.specs.declared.handler.Answer.{Answer}
+use Rattle.osdp_ledger.specs.Ledger.{Ledger}
+use Rattle.osdp_link_laws.specs.Link as link
+use Rattle.osdp_link_laws.proofs.Lines.{each_of}
+use Rattle.osdp_link_ledger.specs.Steps.{after_steps, queues, submits, withdraws, withdraws_event}
+use Rattle.osdp_shared_line.specs.Line as line
+use Rattle.osdp_shared_line.specs.Line.{Net, NetMove, Queue, RestartPanel, RestartReader, Retarget, SetBusy, Submit, Withdraw, site_at}
+use Rattle.osdp_calls.specs.Calls as calls
+use Rattle.osdp_calls.specs.Calls.{Call, NewDevice, NewPanel, Next, OfPanel, Pending, SetHandler, Silence, SubmitEvent, Take, TickDevice, WithdrawEvent, after_call, all_hear, asked_at, last_of, panel_says, read_by}
+use Rattle.osdp_calls.specs.Handing.{told_by_all}
+use Rattle.osdp_calls.specs.Lines.{InUse, Station}
+use Rattle.osdp_calls.specs.Premises.{Addresses, InOrder, InRange, QuietOpening}
+use Rattle.osdp_calls.proofs.Agreed.{ticks_to}
+use Rattle.osdp_calls.proofs.Agreeing.{reads_those}
+use Rattle.osdp_calls.proofs.Devices.{IsNextOf, nexting}
+use Rattle.osdp_calls.proofs.Handing.{hands_over}
+use Rattle.osdp_calls.proofs.Heeded.{net_as, of_line, says_alike, ticks_greatest}
+use Rattle.osdp_calls.proofs.Holding.{one_call}
+use Rattle.osdp_calls.proofs.Panel.{at_seen, told_then}
+use Rattle.osdp_calls.proofs.Runs.{NotPast}
+use Rattle.osdp_calls.proofs.Same.{IsNetOf}
+use Rattle.osdp_calls.proofs.Steps.{Made, StepsTo, device_moves}
+use Rattle.osdp_calls_ledger.specs.Steps.{device_steps, opening, reported, steps_at, steps_of}
+use Rattle.osdp_calls_ledger.proofs.Nexting.{next_of_shows}
+use Rattle.osdp_calls_ledger.proofs.Own.{no_steps, none_back, of_device, of_power, of_submit, of_withdraw}
+use Rattle.osdp_calls_ledger.proofs.Quiet.{seen_none}
+use Rattle.osdp_calls_ledger.proofs.Reading.{reads_show, reads_shown, reported_more}
+use Rattle.osdp_calls_ledger.proofs.Seen.{seen}
+use Rattle.osdp_calls_ledger.proofs.Shows.{Shown, Shows, both_shown, by_made, shows_as, shows_line, then_shows}
+use Rattle.osdp_calls_ledger.proofs.Ticks.{tick_shown, ticks_show}
+
+module _ {H : Type 0} (answer_of : H → Command → Answer) (after : H → Command → H) where
+  -- the steps of a call
+  abbrev pub call_shown : Call H → InUse H → Shown
+  call_shown call l k g = steps_of answer_of after k call l g
+
+  -- ---- calls that read nothing
+
+  by_steps : (call : Call H) (l : InUse H) (n : Net H) (next : InUse H) (s : StepsTo answer_of after call l n next)
+      → ((k : ℕ) (g : Ledger) → seen answer_of after k s.moves n g ≡ steps_of answer_of after k call l g) → Shows answer_of after (call_shown call l) n next
+  by_steps call l n next s shows =
+      record { net = s.net; moves = s.moves; fit = s.fit; run = s.run; same = s.same; shows = λ heard k g. shows k g }
+
+  -- a call that shows nothing of any station
+  quiet_at : (call : Call H) → ((t : Station H) (q : Ledger) → device_steps answer_of after call t q ≡ []) → (b : Bool) (o : Option (Station H)) (g : Ledger)
+      → cond b (steps_at answer_of after call o g) [] ≡ []
+  quiet_at call none b None g = no_steps b [] refl
+  quiet_at call none b (Some t) g = no_steps b (device_steps answer_of after call t g) (none t g)
+
+  -- ---- calls of the panel that read
+
+  module _ (l : InUse H) (n : Net H) (h : IsNetOf l n) where
+    reads_call : (call : bus.Call) (now : ℕ) (places : List ℕ) (next : InUse H) → InOrder (OfPanel call) places l → QuietOpening (OfPanel call) places l
+        → of_line (reads_those answer_of after (read_by call l.bus) places (record l { bus = seen_by_bus now l.bus })) ≡ of_line next
+        → told_in call l.bus ≡ told_by_all (max l.bus.greatest now) (read_by call l.bus) l.bus.devices
+        → Shows answer_of after (λ k. reported k (told_in call l.bus)) n next
+    reads_call call now places next order quiet e told =
+        let l0 : InUse H = record l { bus = seen_by_bus now l.bus } in
+        let ps = read_by call l.bus in
+        let read = reads_show answer_of after ps places l0 n (at_seen now l n h) order (each_of (NotPast l) places quiet) in
+        shows_line answer_of after (λ k. reported k (told_in call l.bus)) n (reads_those answer_of after ps places l0) next
+        (λ q same. net_as (reads_those answer_of after ps places l0) next q e same)
+        (shows_as answer_of after (reads_shown answer_of after ps l0) (λ k. reported k (told_in call l.bus)) n (reads_those answer_of after ps places l0)
+        (λ k g. ap (λ xs. reported k xs g) (sym told)) read)
+
+    ticks_call : (now : ℕ) (places : List ℕ) → InOrder (OfPanel (bus.Tick now)) places l → QuietOpening (OfPanel (bus.Tick now)) places l
+        → Shows answer_of after (call_shown (OfPanel (bus.Tick now)) l) n (after_call answer_of after (OfPanel (bus.Tick now)) places l)
+    ticks_call now places order quiet =
+        let call : bus.Call = bus.Tick now in
+        let l0 : InUse H = record l { bus = seen_by_bus now l.bus } in
+        let ps = read_by call l.bus in
+        let o = asked_at now l.bus in
+        let told = told_by_all (max l.bus.greatest now) ps l.bus.devices in
+        let l1 = reads_those answer_of after ps places l0 in
+        let ticked = told_by_ticking o l1.bus in
+        let first = reads_show answer_of after ps places l0 n (at_seen now l n h) order (each_of (NotPast l) places quiet) in
+        let both = then_shows answer_of after (reads_shown answer_of after ps l0) (tick_shown answer_of after o l1) n l1 (ticks_to answer_of after o l1) first
+        (λ m h1. ticks_show answer_of after o l1 m h1) in
+        let hands = (hands_over l.bus).tick now in
+        let greatest : (ticks_at o l1.bus).bus.greatest ≡ (bus_ticks now l.bus).bus.greatest =
+        ticks_greatest o l1.bus ∙ sym ((moments_are_seen l.bus).brought (bus.Tick now) now refl) in
+        let alike : of_line (ticks_to answer_of after o l1) ≡ of_line (after_call answer_of after (OfPanel (bus.Tick now)) places l) =
+        says_alike o (ticks_at o l1.bus).sent (ticks_at o l1.bus).bus (bus_ticks now l.bus).bus (all_hear (told_by_ticking o l1.bus) l1.stations) l1.place l
+        (sym hands.0) greatest
+        ∙ (λ i. of_line (panel_says o (sym hands.1 i) (record l {
+          bus = (bus_ticks now l.bus).bus;
+          stations = (sym (told_then told (told_by_ticking o l1.bus) l.stations) ∙ ap (λ xs. all_hear xs l.stations) (sym hands.2)) i;
+          place = last_of places l.place;
+        }))) in
+        shows_line answer_of after (call_shown (OfPanel call) l) n (ticks_to answer_of after o l1) (after_call answer_of after (OfPanel call) places l)
+        (λ q same. net_as (ticks_to answer_of after o l1) (after_call answer_of after (OfPanel call) places l) q alike same)
+        (shows_as answer_of after (both_shown (reads_shown answer_of after ps l0) (tick_shown answer_of after o l1)) (call_shown (OfPanel call) l) n
+        (ticks_to answer_of after o l1)
+        (λ k g.
+        let sends = opening k o (ticks_at o l1.bus).sent (device_of k l1.bus) in
+        let before = reported k told g in
+        sym (append_assoc before (reported k ticked (after_steps before g)) sends)
+        ∙ ap (λ xs. xs ++ sends) (sym (reported_more k told ticked g))
+        ∙ (λ i. reported k (sym hands.2 i) g ++ opening k o (sym hands.1 i) (device_of k l1.bus))) both)
+
+    -- ---- any call
+
+    panel_shows : (call : bus.Call) (places : List ℕ) → InOrder (OfPanel call) places l → QuietOpening (OfPanel call) places l → Addresses (OfPanel call) l
+        → InRange answer_of after (OfPanel call) l
+        → (StepsTo answer_of after (OfPanel call) l n (after_call answer_of after (OfPanel call) places l))
+        → Shows answer_of after (call_shown (OfPanel call) l) n (after_call answer_of after (OfPanel call) places l)
+    panel_shows (bus.Add address) places order quiet addresses range s = absurd range
+    panel_shows (bus.Begin i now) places order quiet addresses range s =
+        by_steps (OfPanel (bus.Begin i now)) l n (after_call answer_of after (OfPanel (bus.Begin i now)) places l) s
+        (λ k g. ap (λ ms. seen answer_of after k ms n g) s.made)
+    panel_shows (bus.Submit i command) places order quiet addresses range s =
+        by_steps (OfPanel (bus.Submit i command)) l n (after_call answer_of after (OfPanel (bus.Submit i command)) places l) s
+        (λ k g. elim s.made [
+          | inl (fault, is, are) ↦
+              ap (λ ms. seen answer_of after k ms n g) are
+              ∙ sym (ap (λ f. cond (i == k) (changed_unless f [] (submits None command g)) []) is ∙ no_steps (i == k) [] refl)
+          | inr (none, are) ↦ ap (λ ms. seen answer_of after k ms n g) are ∙ of_submit answer_of after i command l n h none k g
+        ])
+    panel_shows (bus.Withdraw i) places order quiet addresses range s =
+        by_steps (OfPanel (bus.Withdraw i)) l n (after_call answer_of after (OfPanel (bus.Withdraw i)) places l) s
+        (λ k g. elim s.made [
+          | inl (are, back) ↦
+              ap (λ ms. seen answer_of after k ms n g) are
+              ∙ sym (ap (λ o. cond (i == k) (withdraws o g) []) (none_back (Rattle.osdp_bus.specs.Machine.withdrawal_at i l.bus) back) ∙ no_steps (i == k) [] refl)
+          | inr (are, none) ↦ ap (λ ms. seen answer_of after k ms n g) are ∙ of_withdraw answer_of after i l n h none k g
+        ])
+    panel_shows (bus.Retarget i address) places order quiet addresses range s =
+        by_steps (OfPanel (bus.Retarget i address)) l n (after_call answer_of after (OfPanel (bus.Retarget i address)) places l) s
+        (λ k g. elim s.made [
+          | inl (fault, is, are) ↦ ap (λ ms. seen answer_of after k ms n g) are
+          | inr (none, are) ↦ ap (λ ms. seen answer_of after k ms n g) are ∙ seen_none answer_of after k (Retarget i address ∷ []) n g (tt, tt)
+        ])
+    panel_shows (bus.OnBytes bytes now) places order quiet addresses range s =
+        let hands = (hands_over l.bus).bytes bytes now in
+        let greatest = (moments_are_seen l.bus).brought (bus.OnBytes bytes now) now refl in
+        reads_call (bus.OnBytes bytes now) now places (after_call answer_of after (OfPanel (bus.OnBytes bytes now)) places l) order quiet
+        (λ i. ((sym hands.0 i).entries, sym greatest i, all_hear (sym hands.1 i) l.stations, l.said, last_of places l.place, l.openings)) hands.1
+    panel_shows (bus.OnSilence now) places order quiet addresses range s =
+        let hands = (hands_over l.bus).silence now in
+        let greatest = (moments_are_seen l.bus).brought (bus.OnSilence now) now refl in
+        reads_call (bus.OnSilence now) now places (after_call answer_of after (OfPanel (bus.OnSilence now)) places l) order quiet
+        (λ i. ((sym hands.0 i).entries, sym greatest i, all_hear (sym hands.1 i) l.stations, l.said, last_of places l.place, l.openings)) hands.1
+    panel_shows (bus.Tick now) places order quiet addresses range s = ticks_call now places order quiet
+    panel_shows bus.NextReport places order quiet addresses range s =
+        by_steps (OfPanel bus.NextReport) l n (after_call answer_of after (OfPanel bus.NextReport) places l) s (λ k g. ap (λ ms. seen answer_of after k ms n g) s.made)
+
+    -- a call of a device that comes to the move of its own name, or to none
+    by_moves : (call : Call H) (places : List ℕ) → InOrder call places l → QuietOpening call places l → Addresses call l → InRange answer_of after call l
+        → ((moves : List (NetMove H)) → Made call l moves → moves ≡ device_moves call)
+        → ((k : ℕ) (g : Ledger) → seen answer_of after k (device_moves call) n g ≡ steps_of answer_of after k call l g)
+        → Shows answer_of after (call_shown call l) n (after_call answer_of after call places l)
+    by_moves call places order quiet addresses range are shows =
+        let s = one_call answer_of after call places l n h order quiet addresses range in
+        by_steps call l n (after_call answer_of after call places l) s
+        (λ k g. ap (λ ms. seen answer_of after k ms n g) (are s.moves s.made) ∙ shows k g)
+
+    pub call_shows : (call : Call H) (places : List ℕ) → InOrder call places l → QuietOpening call places l → Addresses call l → InRange answer_of after call l
+        → Shows answer_of after (call_shown call l) n (after_call answer_of after call places l)
+    call_shows (OfPanel call) places order quiet addresses range =
+        panel_shows call places order quiet addresses range (one_call answer_of after (OfPanel call) places l n h order quiet addresses range)
+    call_shows (SubmitEvent i event) places order quiet addresses range =
+        by_moves (SubmitEvent i event) places order quiet addresses range (λ moves are. are)
+        (of_device answer_of after i (SubmitEvent i event) (Queue i event) (link.Queue event) l n h (λ k s. refl)
+        (λ k s t g is. ap (λ (r : ReaderState H). queues (lacks_room event r.queue) event g) is))
+    call_shows (calls.SetBusy i busy) places order quiet addresses range =
+        by_moves (calls.SetBusy i busy) places order quiet addresses range (λ moves are. are)
+        (λ k g. seen_none answer_of after k (SetBusy i busy ∷ []) n g (tt, tt) ∙ sym (quiet_at (calls.SetBusy i busy) (λ t q. refl) (i == k) (site_at k l.stations) g))
+    call_shows (SetHandler i handler) places order quiet addresses range =
+        by_moves (SetHandler i handler) places order quiet addresses range (λ moves are. are)
+        (λ k g. seen_none answer_of after k (line.SetHandler i handler ∷ []) n g (tt, tt)
+        ∙ sym (quiet_at (SetHandler i handler) (λ t q. refl) (i == k) (site_at k l.stations) g))
+    call_shows (WithdrawEvent i) places order quiet addresses range =
+        by_moves (WithdrawEvent i) places order quiet addresses range (λ moves are. are)
+        (of_device answer_of after i (WithdrawEvent i) (line.WithdrawEvent i) link.WithdrawEvent l n h (λ k s. refl)
+        (λ k s t g is. ap (λ (r : ReaderState H). withdraws_event (never_offered r.queue) r.queue.ever_offered g) is))
+    call_shows (Take i bytes now) places order quiet addresses range =
+        by_moves (Take i bytes now) places order quiet addresses range (λ moves are. are)
+        (λ k g. sym (quiet_at (Take i bytes now) (λ t q. refl) (i == k) (site_at k l.stations) g))
+    call_shows (TickDevice i now) places order quiet addresses range =
+        by_moves (TickDevice i now) places order quiet addresses range (λ moves are. are)
+        (λ k g. sym (quiet_at (TickDevice i now) (λ t q. refl) (i == k) (site_at k l.stations) g))
+    call_shows (Silence i now) places order quiet addresses range =
+        by_moves (Silence i now) places order quiet addresses range (λ moves are. are)
+        (λ k g. sym (quiet_at (Silence i now) (λ t q. refl) (i == k) (site_at k l.stations) g))
+    call_shows (Next i) places order quiet addresses range =
+        by_made answer_of after (call_shown (Next i) l) (IsNextOf answer_of after i (site_at i l.stations) n) n (after_call answer_of after (Next i) places l)
+        (λ moves next whole k g. next_of_shows answer_of after i (site_at i l.stations) l n moves refl next whole k g)
+        (nexting answer_of after i places l n h order quiet range)
+    call_shows (Pending i) places order quiet addresses range =
+        by_moves (Pending i) places order quiet addresses range (λ moves are. are)
+        (λ k g. sym (quiet_at (Pending i) (λ t q. refl) (i == k) (site_at k l.stations) g))
+    call_shows (NewDevice i address handler room gap) places order quiet addresses range =
+        by_moves (NewDevice i address handler room gap) places order quiet addresses range (λ moves are. are)
+        (of_device answer_of after i (NewDevice i address handler room gap) (RestartReader i address handler room) (link.RestartReader address handler room) l n h
+        (λ k s. refl) (λ k s t g is. refl))
+    call_shows (NewPanel config xs) places order quiet addresses range =
+        let s = one_call answer_of after (NewPanel config xs) places l n h order quiet addresses range in
+        by_steps (NewPanel config xs) l n (after_call answer_of after (NewPanel config xs) places l) s
+        (λ k g. ap (λ ms. seen answer_of after k ms n g) s.made.1 ∙ of_power answer_of after s.made.0 l n h k g)

@@ -1,0 +1,11 @@
+pub mod Seen
+pub mod Quiet
+pub mod Shows
+pub mod Own
+pub mod Reading
+pub mod Ticks
+pub mod Nexting
+pub mod Calling
+pub mod Accepted
+pub mod Keeping
+pub mod Promising

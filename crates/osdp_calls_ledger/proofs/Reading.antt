@@ -1,0 +1,241 @@
+-- What the panel reads: of each packet the controller at its address tells, and nobody else.
+use Rattle.std.proofs.Common.{◌≡◌, ◌≢◌, ◌+◌, ℕ, Bool, true, false, cond, List, [], ◌∷◌, ◌++◌, Option, Some, None, All, refl, sym, subst, ap, ◌∙◌, inl, inr, arith, append-nil}
+use Rattle.std.proofs.lemmas.Bool.Decides.{eqb_tells}
+use Rattle.std.specs.Prelude.{◌==◌, slice_get}
+use Rattle.osdp_frame.specs.Packet.{Packet}
+use Rattle.osdp_frame.specs.Reading.{PacketItem}
+use Rattle.osdp_msg.specs.declared.command.Command.{Command}
+use Rattle.osdp_controller.specs.Hearing.{Heard, hears}
+use Rattle.osdp_controller.specs.Machine.{Machine}
+use Rattle.osdp_controller.specs.Sessions as clocks
+use Rattle.osdp_controller.specs.Ticking.{Ticked, ticks, ticks_in}
+use Rattle.osdp_controller.specs.declared.report.Report.{Report}
+use Rattle.osdp_controller.specs.declared.state.State.{State}
+use Rattle.osdp_controller.specs.declared.state.State.TheVariants.{Closed}
+use Rattle.osdp_bus.specs.Devices as devices
+use Rattle.osdp_bus.specs.Devices.{first_from, is_at, told_of}
+use Rattle.osdp_bus.specs.Hearing.{hears_packet}
+use Rattle.osdp_bus.specs.declared.device.Device.{Device}
+use Rattle.osdp_bus_laws.specs.Reports.{told_at, told_by_entry, told_by_item, told_with}
+use Rattle.osdp_reader.specs.declared.handler.Answer.{Answer}
+use Rattle.osdp_ledger.specs.Ledger.{Ledger}
+use Rattle.osdp_link_laws.specs.Link as link
+use Rattle.osdp_link_laws.specs.Link.{Repeated}
+use Rattle.osdp_link_laws.proofs.Lines.{each_of}
+use Rattle.osdp_link_laws.proofs.Numbers.{is_false, is_true}
+use Rattle.osdp_link_laws.proofs.Stages.{Each}
+use Rattle.osdp_link_ledger.specs.Steps.{after_steps, all_steps, opens, ticked, told}
+use Rattle.osdp_shared_line.specs.Line.{Net, NetMove, Site, ToPanel, address_of, link_of, site_at}
+use Rattle.osdp_shared_line.specs.Views.{HeardByOwn, front_to_panel, other_reply, own, own_reply}
+use Rattle.osdp_shared_line.proofs.Hearing.{closed_hears}
+use Rattle.osdp_calls.specs.Calls.{last_of}
+use Rattle.osdp_calls.specs.Handing.{told_by_all}
+use Rattle.osdp_calls.specs.Lines.{Burst, InUse, Station}
+use Rattle.osdp_calls.specs.Premises.{AreSaid}
+use Rattle.osdp_calls.proofs.Agreeing.{address_same, at_entry, reads_those}
+use Rattle.osdp_calls.proofs.Controllers.{hears_same, ignored_quiet}
+use Rattle.osdp_calls.proofs.Counting.{AllHeard}
+use Rattle.osdp_calls.proofs.Matching.{FoundAt, Nobody, Somebody, found}
+use Rattle.osdp_calls.proofs.Nexts.{place_within}
+use Rattle.osdp_calls.proofs.Noticing.{FirstAt, NoneAt, OneAt, first_at}
+use Rattle.osdp_calls.proofs.Panel.{IsHeard, IsIgnored, IsRead, hears_one, panel_on, reads_here, told_then}
+use Rattle.osdp_calls.proofs.Runs.{NotPast}
+use Rattle.osdp_calls.proofs.Same.{Controls, IsNetOf, IsToOpen}
+use Rattle.osdp_calls.proofs.Stations.{Sites}
+use Rattle.osdp_calls_ledger.specs.Steps.{reported}
+use Rattle.osdp_calls_ledger.proofs.Own.{seen_one}
+use Rattle.osdp_calls_ledger.proofs.Seen.{in_turn, seen, seen_at}
+use Rattle.osdp_calls_ledger.proofs.Shows.{Shown, Shows, both_shown, by_losses, by_made, none_shown, shows_as, then_shows}
+
+-- ---- what is told of one entry
+
+pub reported_own : (k : ℕ) (r : Option Report) (g : Ledger) → reported k (told_at k r) g ≡ told r g
+reported_own k None g = refl
+reported_own k (Some r) g = append-nil (cond (k == k) (told (Some r) g) []) ∙ ap (λ b. cond b (told (Some r) g) []) (is_true k k refl)
+
+pub reported_other : (k j : ℕ) (r : Option Report) (g : Ledger) → j ≢ k → reported k (told_at j r) g ≡ []
+reported_other k j None g other = refl
+reported_other k j (Some r) g other = append-nil (cond (j == k) (told (Some r) g) []) ∙ ap (λ b. cond b (told (Some r) g) []) (is_false j k other)
+
+pub reported_more : (k : ℕ) (xs ys : List (ℕ × Report)) (g : Ledger) → reported k (xs ++ ys) g ≡ in_turn (reported k xs) (reported k ys) g
+reported_more k [] ys g = refl
+reported_more k (x ∷ xs) ys g =
+    let here = cond (x.0 == k) (told (Some x.1) g) [] in
+    ap (λ steps. here ++ steps) (reported_more k xs ys (after_steps here g))
+    ∙ sym (Rattle.osdp_calls_ledger.proofs.Seen.turn_assoc (λ q. cond (x.0 == k) (told (Some x.1) q) []) (reported k xs) (reported k ys) g)
+
+equal_of : (a b : ℕ) → (a == b) ≡ true → a ≡ b
+equal_of a b is = elim (eqb_tells a b) [ inl same ↦ same.1 | inr other ↦ absurd (let e = sym other.0 ∙ is in cc) ]
+
+module _ {H : Type 0} where
+  -- the controller of a site tells of a packet what that of its entry does
+  told_same : (p : Packet) (k : ℕ) (l : InUse H) (d : Device) (t : Station H) (s : Site H) → Sites l k d t s
+      → (hears p l.bus.greatest s.controller.session).report ≡ told_of p l.bus.greatest d
+  told_same p k l d t s is = by_begun t.begun refl
+    where
+      by_begun : (o : Option ℕ) → t.begun ≡ o → (hears p l.bus.greatest s.controller.session).report ≡ told_of p l.bus.greatest d
+      by_begun None begun =
+          ap (λ (h : Heard). h.report) (hears_same p l.bus.greatest d.controller s.controller (subst (λ o. Controls o l.bus.greatest d.controller s.controller) begun is.controller))
+      by_begun (Some began) begun =
+          let control : IsToOpen began l.bus.greatest d.controller s.controller = subst (λ o. Controls o l.bus.greatest d.controller s.controller) begun is.controller in
+          ap (λ (h : Heard). h.report) (closed_hears p l.bus.greatest s.controller.session (ap (λ (m : Machine). m.session.state) control.same))
+          ∙ sym (ap (λ (h : Heard). h.report) (ignored_quiet p l.bus.greatest d.controller.session
+          (clocks.later d.controller.session.config.quiet_wait (clocks.seen began (record d.controller.session { greatest = control.moment }))) control.quiet))
+
+  module _ (answer_of : H → Command → Answer) (after : H → Command → H) where
+    -- ---- a packet in front of the panel
+
+    -- a controller that is closed shows nothing at a moment
+    closed_tick : (now : ℕ) (st : State) (t : Ticked) (g : Ledger) → st ≡ Closed → t.step.report ≡ None → ticked st t g ≡ []
+    closed_tick now st t g closed none =
+        ap (λ o. opens st t.step.frame ++ told o g) none ∙ append-nil (opens st t.step.frame) ∙ ap (λ x. opens x t.step.frame) closed
+
+    in_front : (k e now : ℕ) (p : Packet) (rest : List (ℕ × Packet)) (s : Site H) (g : Ledger)
+        → (k ≢ e → address_of s ≡ p.address → s.controller.session.state ≡ Closed)
+        → all_steps answer_of after (front_to_panel k (address_of s) ((e, p) ∷ rest) Repeated now) (link_of s (own k s.coming) (own k ((e, p) ∷ rest))) g
+        ≡ cond (address_of s == p.address) (told (hears p now s.controller.session).report g) []
+    in_front k e now p rest s g closed = elim (eqb_tells e k) [
+      | inl mine ↦
+          ap (λ b. all_steps answer_of after (cond b (own_reply (address_of s) p Repeated now) (other_reply (address_of s) p Repeated now))
+          (link_of s (own k s.coming) (cond b (p ∷ own k rest) (own k rest))) g) mine.0
+          ∙ own_one (address_of s == p.address)
+      | inr differs ↦
+          ap (λ b. all_steps answer_of after (cond b (own_reply (address_of s) p Repeated now) (other_reply (address_of s) p Repeated now))
+          (link_of s (own k s.coming) (cond b (p ∷ own k rest) (own k rest))) g) differs.0
+          ∙ other_one (λ same. closed (λ e1. differs.1 (sym e1)) same) (address_of s == p.address) refl
+    ]
+      where
+        own_one : (b : Bool) → all_steps answer_of after (cond b (link.ToController Repeated now ∷ []) []) (link_of s (own k s.coming) (p ∷ own k rest)) g
+            ≡ cond b (told (hears p now s.controller.session).report g) []
+        own_one true = append-nil (told (hears p now s.controller.session).report g)
+        own_one false = refl
+
+        other_one : (address_of s ≡ p.address → s.controller.session.state ≡ Closed) → (b : Bool) → (address_of s == p.address) ≡ b
+            → all_steps answer_of after (cond b (link.Tick now ∷ []) []) (link_of s (own k s.coming) (own k rest)) g
+            ≡ cond b (told (hears p now s.controller.session).report g) []
+        other_one shut true is =
+            let st = shut (equal_of (address_of s) p.address is) in
+            append-nil (ticked s.controller.session.state (ticks now s.controller.session s.controller.waiting) g)
+            ∙ closed_tick now s.controller.session.state (ticks now s.controller.session s.controller.waiting) g st
+            (ap (λ x. (ticks_in x (clocks.seen now s.controller.session) s.controller.waiting).step.report) st)
+            ∙ sym (ap (λ (h : Heard). told h.report g) (closed_hears p now s.controller.session st))
+        other_one shut false is = refl
+
+    front_shown : (k e now : ℕ) (p : Packet) (rest : List (ℕ × Packet)) (n : Net H) (s : Site H) (g : Ledger) → n.to_panel ≡ (e, p) ∷ rest → HeardByOwn n
+        → site_at k n.sites ≡ Some s
+        → seen_at answer_of after k (site_at k n.sites) (ToPanel Repeated now) n g
+        ≡ cond (address_of s == p.address) (told (hears p now s.controller.session).report g) []
+    front_shown k e now p rest n s g front whole at =
+        ap (λ o. seen_at answer_of after k o (ToPanel Repeated now) n g) at
+        ∙ ap (λ qs. all_steps answer_of after (front_to_panel k (address_of s) qs Repeated now) (link_of s (own k s.coming) (own k qs)) g) front
+        ∙ in_front k e now p rest s g (λ other same. (each_of Shut ((e, p) ∷ rest) (subst (All Shut) front whole.controllers)).0 k s other at same)
+      where
+        Shut : ℕ × Packet → Type 0
+        Shut q = (j : ℕ) (u : Site H) → j ≢ q.0 → site_at j n.sites ≡ Some u → address_of u ≡ q.1.address → u.controller.session.state ≡ Closed
+
+    -- ---- a packet that is read
+
+    module _ (p : Packet) (b : Burst) (l : InUse H) (n : Net H) (h : IsNetOf l n) (same : b.packet ≡ p) (whole : HeardByOwn n) where
+      told_item : List (ℕ × Report)
+      told_item = told_by_item l.bus.greatest (PacketItem p) l.bus.devices
+
+      shown_front : (rest : List (ℕ × Packet)) → n.to_panel ≡ (b.entry, b.packet) ∷ rest → (k : ℕ) (g : Ledger)
+          → seen_at answer_of after k (site_at k n.sites) (ToPanel Repeated l.bus.greatest) n g
+          ≡ reported k (told_by_item l.bus.greatest (PacketItem p) l.bus.devices) g
+      shown_front rest front k g =
+          by_found (found (Sites l) k l.bus.devices.entries l.stations n.sites h.sites) (first_at 0 p.address l.bus.devices.entries)
+        where
+          now : ℕ
+          now = l.bus.greatest
+
+          none_told : first_from 0 (is_at p.address) l.bus.devices.entries ≡ None → told_by_item l.bus.greatest (PacketItem p) l.bus.devices ≡ []
+          none_told none = ap (λ o. told_by_entry p l.bus.greatest o l.bus.devices) none
+
+          one_told : (j : ℕ) (e : Device) → first_from 0 (is_at p.address) l.bus.devices.entries ≡ Some (0 + j) → slice_get l.bus.devices.entries j ≡ Some e
+              → told_by_item l.bus.greatest (PacketItem p) l.bus.devices ≡ told_at j (told_of p l.bus.greatest e)
+          one_told j e some at =
+              ap (λ o. told_by_entry p l.bus.greatest o l.bus.devices) (some ∙ ap Some (let f : 0 + j ≡ j = omega arith in f))
+              ∙ ap (told_with p l.bus.greatest j) at
+
+          its : (s : Site H) → site_at k n.sites ≡ Some s → seen_at answer_of after k (site_at k n.sites) (ToPanel Repeated l.bus.greatest) n g
+              ≡ cond (address_of s == p.address) (told (hears p l.bus.greatest s.controller.session).report g) []
+          its s at = front_shown k b.entry l.bus.greatest p rest n s g (front ∙ ap (λ q. (b.entry, q) ∷ rest) same) whole at
+
+          by_found : FoundAt (Sites l) k k l.bus.devices.entries l.stations n.sites → FirstAt 0 p.address l.bus.devices.entries
+              → seen_at answer_of after k (site_at k n.sites) (ToPanel Repeated l.bus.greatest) n g
+              ≡ reported k (told_by_item l.bus.greatest (PacketItem p) l.bus.devices) g
+          by_found (Nobody x y z) (NoneAt none all) =
+              ap (λ o. seen_at answer_of after k o (ToPanel Repeated l.bus.greatest) n g) z ∙ sym (ap (λ xs. reported k xs g) (none_told none))
+          by_found (Nobody x y z) (OneAt j e some at here) =
+              ap (λ o. seen_at answer_of after k o (ToPanel Repeated l.bus.greatest) n g) z
+              ∙ sym (ap (λ xs. reported k xs g) (one_told j e some at)
+              ∙ reported_other k j (told_of p l.bus.greatest e) g (λ f. let there = subst (λ i. slice_get l.bus.devices.entries i ≡ Some e) f at in
+              absurd (let q = sym x ∙ there in cc)))
+          by_found (Somebody d t s x y z is) (NoneAt none all) =
+              its s z
+              ∙ ap (λ c. cond c (told (hears p l.bus.greatest s.controller.session).report g) []) (ap (λ a. a == p.address) (address_same k d l t s is) ∙ all k d x)
+              ∙ sym (ap (λ xs. reported k xs g) (none_told none))
+          by_found (Somebody d t s x y z is) (OneAt j e some at here) = elim (eqb_tells j k) [
+            | inl mine ↦
+                let there : slice_get l.bus.devices.entries k ≡ Some e = subst (λ i. slice_get l.bus.devices.entries i ≡ Some e) mine.1 at in
+                let one : e ≡ d = Rattle.osdp_shared_line.proofs.Sites.some_same e d (sym there ∙ x) in
+                its s z
+                ∙ ap (λ c. cond c (told (hears p l.bus.greatest s.controller.session).report g) [])
+                (ap (λ a. a == p.address) (address_same k d l t s is) ∙ subst (λ f. (devices.address_of f == p.address) ≡ true) one here)
+                ∙ ap (λ r. told r g) (told_same p k l d t s is)
+                ∙ sym (reported_own k (told_of p l.bus.greatest d) g)
+                ∙ sym (ap (λ xs. reported k xs g) (one_told j e some at ∙ (λ i. told_at (mine.1 i) (told_of p l.bus.greatest (one i)))))
+            | inr differs ↦
+                let it = at_entry j e l n h at in
+                let other : (address_of s == p.address) ≡ false = is_false (address_of s) p.address (λ f.
+                whole.addresses j k it.site s differs.1 it.at z
+                (address_same j e l it.station it.site it.is ∙ equal_of (devices.address_of e) p.address here ∙ sym f)) in
+                its s z
+                ∙ ap (λ c. cond c (told (hears p l.bus.greatest s.controller.session).report g) []) other
+                ∙ sym (ap (λ xs. reported k xs g) (one_told j e some at) ∙ reported_other k j (told_of p l.bus.greatest e) g differs.1)
+          ]
+
+      pub shown_read : (moves : List (NetMove H)) → IsRead answer_of after b l n (told_by_item l.bus.greatest (PacketItem p) l.bus.devices) moves → (k : ℕ) (g : Ledger)
+          → seen answer_of after k moves n g ≡ reported k (told_by_item l.bus.greatest (PacketItem p) l.bus.devices) g
+      shown_read moves (IsIgnored none are) k g = ap (λ ms. seen answer_of after k ms n g) are ∙ sym (ap (λ xs. reported k xs g) none)
+      shown_read moves (IsHeard rest front are) k g =
+          ap (λ ms. seen answer_of after k ms n g) are ∙ seen_one answer_of after k (ToPanel Repeated l.bus.greatest) n g ∙ shown_front rest front k g
+
+    -- no packet is read of which nobody hears
+    whole_of : (moves : List (NetMove H)) (b : Burst) (l : InUse H) (n : Net H) (told : List (ℕ × Report)) → IsRead answer_of after b l n told moves → (k : ℕ) (g : Ledger)
+        → AllHeard answer_of after moves n → (HeardByOwn n → seen answer_of after k moves n g ≡ reported k told g)
+        → seen answer_of after k moves n g ≡ reported k told g
+    whole_of moves b l n told (IsIgnored none are) k g heard shows = ap (λ ms. seen answer_of after k ms n g) are ∙ sym (ap (λ xs. reported k xs g) none)
+    whole_of moves b l n told (IsHeard rest front are) k g heard shows = shows (subst (λ ms. AllHeard answer_of after ms n) are heard).0
+
+    abbrev pub reads_shown : List Packet → InUse H → Shown
+    reads_shown ps l k = reported k (told_by_all l.bus.greatest ps l.bus.devices)
+
+    pub reads_show : (ps : List Packet) (places : List ℕ) (l : InUse H) (n : Net H) → IsNetOf l n → AreSaid l.said ps places l.place → Each (NotPast l) places
+        → Shows answer_of after (reads_shown ps l) n (reads_those answer_of after ps places l)
+    reads_show [] [] l n h all past = record { net = n; moves = []; fit = tt; run = refl; same = h; shows = λ heard k g. refl }
+    reads_show [] (i ∷ places) l n h all past = absurd all
+    reads_show (p ∷ ps) [] l n h all past = absurd all
+    reads_show (p ∷ ps) (i ∷ places) l n h all past =
+        let inside = place_within i all.0 l.said all.1 in
+        let l1 = record l { place = i } in
+        let l2 = hears_one answer_of after p l1 in
+        let g = l.bus.greatest in
+        let told_here = told_by_item g (PacketItem p) l.bus.devices in
+        let more = told_by_all g ps (hears_packet p g l.bus.devices) in
+        let here : Shown = λ k. reported k told_here in
+        let rest : Shown = λ k. reported k more in
+        let first = by_losses answer_of after n l1 (panel_on answer_of after i l n h all.3 (omega (arith, inside))) in
+        let second = then_shows answer_of after none_shown here n l1 l2 first (λ m h1.
+        by_made answer_of after here (IsRead answer_of after all.0 l1 m told_here) m l2 (λ moves read heard k q.
+        whole_of moves all.0 l1 m told_here read k q heard (λ whole. shown_read p all.0 l1 m h1 all.2 whole moves read k q))
+        (reads_here answer_of after p all.0 l1 m h1 all.1 all.2 (past.0 all.0 all.1))) in
+        let third = then_shows answer_of after (both_shown none_shown here) rest n l2 (reads_those answer_of after ps places l2) second
+        (λ m h2. reads_show ps places l2 m h2 all.4 past.1) in
+        shows_as answer_of after (both_shown (both_shown none_shown here) rest) (reads_shown (p ∷ ps) l) n (reads_those answer_of after (p ∷ ps) (i ∷ places) l)
+        (λ k q. sym (reported_more k told_here more q))
+        (subst (λ ts. Shows answer_of after (both_shown (both_shown none_shown here) rest) n (record l {
+          bus = record l.bus { devices = Rattle.osdp_calls.specs.Handing.hears_all g ps (hears_packet p g l.bus.devices) };
+          stations = ts;
+          place = last_of places i;
+        })) (sym (told_then told_here more l.stations)) third)

@@ -1,0 +1,216 @@
+-- A tick of the bus: what is read before it, and the controller that ticks, with its opening ID.
+use Rattle.std.proofs.Common.{◌≡◌, ◌≢◌, ℕ, Bool, true, false, cond, List, [], ◌∷◌, ◌++◌, Option, Some, None, refl, sym, subst, ap, ◌∙◌, inl, inr, append-nil}
+use Rattle.std.proofs.lemmas.Bool.Decides.{eqb_tells}
+use Rattle.std.specs.Prelude.{◌==◌, nat_le}
+use Rattle.osdp_frame.specs.Packet.{Packet}
+use Rattle.osdp_msg.specs.declared.command.Command.{Command}
+use Rattle.osdp_controller.specs.Machine.{Machine, after_begin, begin_refusal}
+use Rattle.osdp_controller.specs.Sessions as clocks
+use Rattle.osdp_controller.specs.States.{is_closed}
+use Rattle.osdp_controller.specs.Ticking as ticking
+use Rattle.osdp_controller.specs.Ticking.{Ticked, ticks, ticks_in}
+use Rattle.osdp_controller.specs.declared.exchange.Exchange.TheVariants.{Opening as OpeningExchange}
+use Rattle.osdp_controller.specs.declared.session.Session.{Session}
+use Rattle.osdp_controller.specs.declared.state.State.{State}
+use Rattle.osdp_controller.specs.declared.state.State.TheVariants.{Closed, Quiet, Idle, Waiting, Pausing}
+use Rattle.osdp_bus.specs.Buses.{device_of}
+use Rattle.osdp_bus.specs.Devices.{step_of}
+use Rattle.osdp_bus.specs.Ticking.{ticks_at, ticks_with}
+use Rattle.osdp_bus.specs.declared.device.Device.{Device}
+use Rattle.osdp_bus_laws.specs.Reports.{told_by_device, told_by_ticking}
+use Rattle.osdp_reader.specs.declared.handler.Answer.{Answer}
+use Rattle.osdp_ledger.specs.Ledger.{Ledger, Open}
+use Rattle.osdp_link_laws.specs.Link as link
+use Rattle.osdp_link_laws.proofs.Lines.{both, each_map}
+use Rattle.osdp_link_laws.proofs.Numbers.{is_false, is_true}
+use Rattle.osdp_link_ledger.specs.Steps as links
+use Rattle.osdp_link_ledger.specs.Steps.{opens, ticked, told}
+use Rattle.osdp_shared_line.specs.Line as line
+use Rattle.osdp_shared_line.specs.Line.{Net, NetMove, Reopen, Site, Tick, after_net, changed, site_at}
+use Rattle.osdp_shared_line.specs.Views.{view}
+use Rattle.osdp_shared_line.proofs.Sites.{at_changed}
+use Rattle.osdp_calls.specs.Calls.{begun_of}
+use Rattle.osdp_calls.specs.Lines.{InUse}
+use Rattle.osdp_calls.proofs.Agreed.{ticks_to}
+use Rattle.osdp_calls.proofs.Controllers.{ticks_same}
+use Rattle.osdp_calls.proofs.Losing.{IsLoss}
+use Rattle.osdp_calls.proofs.Matching.{FoundAt, Nobody, Somebody, found}
+use Rattle.osdp_calls.proofs.Same.{Controls, IsNetOf, IsSame, IsToOpen}
+use Rattle.osdp_calls.proofs.Stations.{Sites}
+use Rattle.osdp_calls.proofs.Ticking.{GoesOn, IsOpeningOf, IsTicked, Opens, Rests, ticks_entry}
+use Rattle.osdp_calls_ledger.specs.Steps.{opening, reported}
+use Rattle.osdp_calls_ledger.proofs.Own.{one_shown, seen_one}
+use Rattle.osdp_calls_ledger.proofs.Quiet.{ShowsNothing, loss_shows, seen_after_none}
+use Rattle.osdp_calls_ledger.proofs.Reading.{reported_other, reported_own}
+use Rattle.osdp_calls_ledger.proofs.Seen.{seen, seen_at}
+use Rattle.osdp_calls_ledger.proofs.Shows.{Shown, Shows, by_made}
+
+-- ---- what a controller sends and tells at a tick: never both
+
+opens_none : (st : State) → opens st None ≡ []
+opens_none Closed = refl
+opens_none (Quiet until) = refl
+opens_none (Idle due) = refl
+opens_none (Waiting until sends o) = refl
+opens_none (Pausing until o) = refl
+
+either_first : (st : State) (s : Session) (waiting : List Command) (g : Ledger)
+    → opens st (ticks_in st s waiting).step.frame ++ told (ticks_in st s waiting).step.report g
+    ≡ told (ticks_in st s waiting).step.report g ++ opens st (ticks_in st s waiting).step.frame
+either_first (Quiet until) s waiting g =
+    both (λ (t : Ticked). opens (Quiet until) t.step.frame ++ told t.step.report g ≡ told t.step.report g ++ opens (Quiet until) t.step.frame)
+    (nat_le until s.greatest) (ticking.begins OpeningExchange 0 s waiting) (ticking.stays s waiting) refl refl
+either_first Closed s waiting g = refl
+either_first (Idle due) s waiting g = sym (append-nil (told (ticks_in (Idle due) s waiting).step.report g))
+either_first (Waiting until sends o) s waiting g = sym (append-nil (told (ticks_in (Waiting until sends o) s waiting).step.report g))
+either_first (Pausing until o) s waiting g = sym (append-nil (told (ticks_in (Pausing until o) s waiting).step.report g))
+
+nothing_sent : (k : ℕ) (o : Option ℕ) (sent : Option Packet) (q : Option Device) → sent ≡ None → opening k o sent q ≡ []
+nothing_sent k None sent q none = refl
+nothing_sent k (Some e) sent None none = refl
+nothing_sent k (Some e) sent (Some d) none = ap (λ x. cond (e == k) (opens d.controller.session.state x) []) none ∙ by_test (e == k)
+  where
+    by_test : (b : Bool) → cond b (opens d.controller.session.state None) [] ≡ []
+    by_test true = opens_none d.controller.session.state
+    by_test false = refl
+
+other_opens : (k e : ℕ) (sent : Option Packet) (q : Option Device) → e ≢ k → opening k (Some e) sent q ≡ []
+other_opens k e sent None other = refl
+other_opens k e sent (Some d) other = ap (λ b. cond b (opens d.controller.session.state sent) []) (is_false e k other)
+
+other_told : (k e : ℕ) (q : Option Device) (b : Rattle.osdp_bus.specs.Buses.BusState) (g : Ledger) → e ≢ k → reported k (told_by_device e q b) g ≡ []
+other_told k e None b g other = refl
+other_told k e (Some d) b g other = reported_other k e (step_of b.greatest d).report g other
+
+module _ {H : Type 0} (answer_of : H → Command → Answer) (after : H → Command → H) where
+  -- the steps of a tick
+  abbrev pub tick_shown : Option ℕ → InUse H → Shown
+  tick_shown o l k g = reported k (told_by_ticking o l.bus) g ++ opening k o (ticks_at o l.bus).sent (device_of k l.bus)
+
+  other_ticks : (k e now : ℕ) (o : Option (Site H)) (n : Net H) (g : Ledger) → e ≢ k → seen_at answer_of after k o (Tick e now) n g ≡ []
+  other_ticks k e now None n g other = refl
+  other_ticks k e now (Some s) n g other =
+      one_shown answer_of after e k (link.Tick now) (view k s n) g
+      ∙ ap (λ b. cond b (links.steps_of answer_of after (link.Tick now) (view k s n) g) []) (is_false e k other)
+
+  own_ticks : (k now : ℕ) (s : Site H) (n : Net H) (g : Ledger)
+      → seen_at answer_of after k (Some s) (Tick k now) n g ≡ ticked s.controller.session.state (ticks now s.controller.session s.controller.waiting) g
+  own_ticks k now s n g =
+      one_shown answer_of after k k (link.Tick now) (view k s n) g
+      ∙ ap (λ b. cond b (links.steps_of answer_of after (link.Tick now) (view k s n) g) []) (is_true k k refl)
+
+  module _ (e : ℕ) (l : InUse H) (n : Net H) (h : IsNetOf l n) (k : ℕ) (g : Ledger) where
+    -- of another entry
+    of_other : e ≢ k → tick_shown (Some e) l k g ≡ []
+    of_other other =
+        (λ i. other_told k e (device_of e l.bus) l.bus g other i ++ other_opens k e (ticks_at (Some e) l.bus).sent (device_of k l.bus) other i)
+
+    -- of the one that ticks, where no session begins
+    goes_on : begun_of (site_at e l.stations) ≡ None → e ≡ k
+        → seen_at answer_of after k (site_at k n.sites) (Tick e l.bus.greatest) n g ≡ tick_shown (Some e) l k g
+    goes_on none same = by_found (found (Sites l) k l.bus.devices.entries l.stations n.sites h.sites)
+      where
+        now : ℕ
+        now = l.bus.greatest
+
+        its : tick_shown (Some e) l k g ≡ tick_shown (Some k) l k g
+        its = ap (λ i. tick_shown (Some i) l k g) same
+
+        at : seen_at answer_of after k (site_at k n.sites) (Tick e l.bus.greatest) n g ≡ seen_at answer_of after k (site_at k n.sites) (Tick k l.bus.greatest) n g
+        at = ap (λ i. seen_at answer_of after k (site_at k n.sites) (Tick i l.bus.greatest) n g) same
+
+        by_found : FoundAt (Sites l) k k l.bus.devices.entries l.stations n.sites
+            → seen_at answer_of after k (site_at k n.sites) (Tick e l.bus.greatest) n g ≡ tick_shown (Some e) l k g
+        by_found (Nobody a b c) =
+            at ∙ ap (λ o. seen_at answer_of after k o (Tick k l.bus.greatest) n g) c
+            ∙ sym (its ∙ ap (λ o. reported k (told_by_device k o l.bus) g ++ opening k (Some k) (ticks_with k o l.bus).sent o) a)
+        by_found (Somebody d t s a b c is) =
+            let begun : t.begun ≡ None = sym (ap begun_of b) ∙ subst (λ i. begun_of (site_at i l.stations) ≡ None) same none in
+            let control : IsSame l.bus.greatest d.controller s.controller = subst (λ o. Controls o l.bus.greatest d.controller s.controller) begun is.controller in
+            let t1 = ticks l.bus.greatest d.controller.session d.controller.waiting in
+            at ∙ ap (λ o. seen_at answer_of after k o (Tick k l.bus.greatest) n g) c
+            ∙ own_ticks k l.bus.greatest s n g
+            ∙ (λ i. ticked (ap (λ (m : Machine). m.session.state) control.same i) (ticks_same l.bus.greatest d.controller s.controller control i) g)
+            ∙ either_first d.controller.session.state (clocks.seen l.bus.greatest d.controller.session) d.controller.waiting g
+            ∙ (λ i. sym (reported_own k t1.step.report g) i
+            ++ sym (ap (λ x. cond x (opens d.controller.session.state t1.step.frame) []) (is_true k k refl)) i)
+            ∙ sym (its ∙ ap (λ o. reported k (told_by_device k o l.bus) g ++ opening k (Some k) (ticks_with k o l.bus).sent o) a)
+
+    -- .. where one does
+    opens_it : (began : ℕ) (p : Packet) (s : Site H) (mid : Net H) → begun_of (site_at e l.stations) ≡ Some began → (ticks_at (Some e) l.bus).sent ≡ Some p
+        → told_by_ticking (Some e) l.bus ≡ [] → site_at e mid.sites ≡ Some s → is_closed s.controller.session.state ≡ true
+        → IsOpeningOf answer_of after began l.bus.greatest p s.controller → e ≡ k
+        → seen_at answer_of after k (site_at k (after_net answer_of after (Reopen e began) mid).sites) (Tick e l.bus.greatest) (after_net answer_of after (Reopen e began) mid) g
+        ≡ tick_shown (Some e) l k g
+    opens_it began p s mid begun sent none there shut opening_is same =
+        ap (λ i. seen_at answer_of after k (site_at k mid1.sites) (Tick i l.bus.greatest) mid1 g) same
+        ∙ ap (λ o. seen_at answer_of after k o (Tick k l.bus.greatest) mid1 g) here
+        ∙ own_ticks k l.bus.greatest s1 mid1 g
+        ∙ (λ i. opens s1.controller.session.state (opening_is.0 i) ++ told (opening_is.1 i) g)
+        ∙ sym (by_found (found (Sites l) k l.bus.devices.entries l.stations n.sites h.sites))
+      where
+        mid1 : Net H
+        mid1 = after_net answer_of after (Reopen e began) mid
+
+        s1 : Site H
+        s1 = record s {
+          controller = after_begin began s.controller;
+          account = link.new_account s.controller.waiting s.reader.queue.events;
+          earlier = s.account ∷ s.earlier;
+        }
+
+        closed_refuses : (st : State) → is_closed st ≡ true → Rattle.osdp_controller.specs.Machine.refused_unless_closed st ≡ None
+        closed_refuses Closed is = refl
+        closed_refuses (Quiet until) is = absurd (let f = is in cc)
+        closed_refuses (Idle due) is = absurd (let f = is in cc)
+        closed_refuses (Waiting until sends o) is = absurd (let f = is in cc)
+        closed_refuses (Pausing until o) is = absurd (let f = is in cc)
+
+        here : site_at k mid1.sites ≡ Some s1
+        here =
+            ap (λ i. site_at i mid1.sites) (sym same)
+            ∙ ap (λ (m : Net H). site_at e m.sites)
+            (ap (λ o. line.change_at e o (line.calls answer_of after (link.Reopen began)) mid) there
+            ∙ ap (λ f. record mid { sites = changed e (line.left_by s (link.reopens f [] [] began (line.link_of s [] []))) mid.sites })
+            (closed_refuses s.controller.session.state shut))
+            ∙ at_changed e s1 s mid.sites there
+
+        by_found : FoundAt (Sites l) k k l.bus.devices.entries l.stations n.sites → tick_shown (Some e) l k g ≡ Open ∷ []
+        by_found (Nobody a b c) = absurd (let f = sym begun ∙ ap (λ i. begun_of (site_at i l.stations)) same ∙ ap begun_of b in cc)
+        by_found (Somebody d t u a b c is) =
+            let to_begin : t.begun ≡ Some began = sym (ap begun_of b) ∙ ap (λ i. begun_of (site_at i l.stations)) (sym same) ∙ begun in
+            let control : IsToOpen began l.bus.greatest d.controller u.controller = subst (λ o. Controls o l.bus.greatest d.controller u.controller) to_begin is.controller in
+            (λ i. reported k (none i) g ++ opening k (Some (same i)) (sent i) (a i))
+            ∙ ap (λ x. cond x (opens d.controller.session.state (Some p)) []) (is_true k k refl)
+            ∙ ap (λ st. opens st (Some p)) control.quiet
+
+  tick_shows : (o : Option ℕ) (l : InUse H) (n : Net H) → IsNetOf l n → (moves : List (NetMove H)) → IsTicked answer_of after o l n moves → (k : ℕ) (g : Ledger)
+      → seen answer_of after k moves n g ≡ tick_shown o l k g
+  tick_shows o l n h moves (Rests are none sent) k g =
+      ap (λ ms. seen answer_of after k ms n g) are
+      ∙ sym (λ i. reported k (none i) g ++ nothing_sent k o (ticks_at o l.bus).sent (device_of k l.bus) sent i)
+  tick_shows o l n h moves (GoesOn e is begun are) k g =
+      ap (λ ms. seen answer_of after k ms n g) are ∙ seen_one answer_of after k (Tick e l.bus.greatest) n g
+      ∙ elim (eqb_tells e k) [
+        | inl equal ↦ goes_on e l n h k g begun equal.1
+        | inr differs ↦ other_ticks k e l.bus.greatest (site_at k n.sites) n g differs.1 ∙ sym (of_other e l n h k g differs.1)
+      ]
+      ∙ sym (ap (λ q. tick_shown q l k g) is)
+  tick_shows o l n h moves (Opens e began p s mid lost is begun sent none losses runs there shut opening_is are) k g =
+      let mid1 = after_net answer_of after (Reopen e began) mid in
+      let sent_one : (ticks_at (Some e) l.bus).sent ≡ Some p = subst (λ q. (ticks_at q l.bus).sent ≡ Some p) is sent in
+      let none_one : told_by_ticking (Some e) l.bus ≡ [] = subst (λ q. told_by_ticking q l.bus ≡ []) is none in
+      ap (λ ms. seen answer_of after k ms n g) are
+      ∙ seen_after_none answer_of after k lost (Reopen e began ∷ Tick e l.bus.greatest ∷ []) n mid g (each_map IsLoss ShowsNothing loss_shows lost losses) runs
+      ∙ seen_after_none answer_of after k (Reopen e began ∷ []) (Tick e l.bus.greatest ∷ []) mid mid1 g (tt, tt) refl
+      ∙ seen_one answer_of after k (Tick e l.bus.greatest) mid1 g
+      ∙ elim (eqb_tells e k) [
+        | inl equal ↦ opens_it e l n h k g began p s mid begun sent_one none_one there shut opening_is equal.1
+        | inr differs ↦ other_ticks k e l.bus.greatest (site_at k mid1.sites) mid1 g differs.1 ∙ sym (of_other e l n h k g differs.1)
+      ]
+      ∙ sym (ap (λ q. tick_shown q l k g) is)
+
+  pub ticks_show : (o : Option ℕ) (l : InUse H) (n : Net H) → IsNetOf l n → Shows answer_of after (tick_shown o l) n (ticks_to answer_of after o l)
+  ticks_show o l n h =
+      by_made answer_of after (tick_shown o l) (IsTicked answer_of after o l n) n (ticks_to answer_of after o l)
+      (λ moves ticked_so heard k g. tick_shows o l n h moves ticked_so k g) (ticks_entry answer_of after o l n h)
