@@ -1,7 +1,7 @@
 -- An exchange of an entry takes the command that waits at the front.
-use Rattle.std.proofs.Common.{◌≡◌, ◌∙◌, ap, subst, ℕ, ◌+◌, true, false, max, List, ◌∷◌, Option, Some, None, refl}
-use Rattle.std.specs.Prelude.{nat_lt}
-use Rattle.osdp_frame.specs.Packet.{Packet}
+use Rattle.std.proofs.Common.{◌≡◌, ◌∙◌, ap, sym, subst, ℕ, ◌+◌, true, false, max, List, [], ◌∷◌, Option, Some, None, refl}
+use Rattle.std.specs.Prelude.{nat_le, nat_lt}
+use Rattle.osdp_frame.specs.Packet.{Packet, next_sequence}
 use Rattle.osdp_msg.specs.declared.command.Command.{Command}
 use Rattle.osdp_msg.specs.declared.command_fields.Communication.{Communication}
 use Rattle.osdp_msg.specs.declared.reply.Reply.{Reply}
@@ -21,9 +21,10 @@ use Rattle.osdp_controller.specs.Machine.{acts, is_outstanding}
 use Rattle.osdp_controller.specs.Private.{numbered_in}
 use Rattle.osdp_controller.specs.Sessions.{later, seen}
 use Rattle.osdp_controller.specs.States.{is_idle}
-use Rattle.osdp_controller.specs.Ticking.{ticks_in}
+use Rattle.osdp_controller.specs.Ticking.{Ticked, begins, idle_ticks, stays, ticks_in}
 use Rattle.osdp_controller.proofs.Choices.{either_way}
 use Rattle.osdp_controller_laws.specs.Commands.{command_of}
+use Rattle.osdp_controller_laws.specs.Laws.{exchange_in}
 use Rattle.osdp_controller_laws.proofs.Frames.{either_frame}
 use Rattle.osdp_controller_laws.proofs.Ticks.{takes_front}
 use Rattle.osdp_time_laws.specs.Laws.{is_quiet}
@@ -32,12 +33,13 @@ use Rattle.osdp_bus.specs.declared.device.Device.{Device}
 use Rattle.osdp_bus.specs.Buses.{BusState, device_of}
 use Rattle.osdp_bus.specs.Devices.{device_ticks, holds}
 use Rattle.osdp_bus.specs.Ticking.{BusTicked, ticks_with}
-use Rattle.osdp_bus_laws.specs.Calls.{after_call}
+use Rattle.osdp_bus_laws.specs.Calls.{Call, after_call}
+use Rattle.osdp_bus_laws.specs.Fairness.{Begins}
 use Rattle.osdp_bus_laws.specs.Turns.{asking}
 use Rattle.osdp_bus_laws.proofs.Fairness.{begun_ticked}
 use Rattle.osdp_bus_laws.proofs.Places.{is_false}
 use Rattle.osdp_bus_laws.proofs.Turning.{set_here, still_free}
-use Rattle.osdp_bus_time_laws.specs.Laws.{TakesTheFront}
+use Rattle.osdp_bus_time_laws.specs.Laws.{PollsElse, TakesTheFront}
 use Rattle.osdp_bus_time_laws.proofs.Places.{asking_place, one_device}
 
 -- ---- no packet makes a session wait for its opening
@@ -113,10 +115,19 @@ not_quiet (Pausing until o) under = refl
 abbrev OnItsWay : List Command → Device → Type 0
 OnItsWay w d = (is_quiet d.controller.session.state ≡ false) × (d.controller.waiting ≡ w)
 
-pub takes_the_front : (b : BusState) → TakesTheFront b
-takes_the_front b call entry command rest d there under waits begun =
+-- the device that begins, as it is asked, and what it leaves
+record Beginning (call : Call) (b : BusState) (entry : ℕ) (w : List Command) : Type 0 where
+  now : ℕ
+  device : Device
+  after : device_of entry (after_call call b) ≡ Some (device_ticks now device)
+  idle : is_idle device.controller.session.state ≡ true
+  waits : device.controller.waiting ≡ w
+  due : acts (ticks_in device.controller.session.state (seen now device.controller.session) device.controller.waiting).step ≡ true
+
+beginning : (b : BusState) (call : Call) (entry : ℕ) (w : List Command) (d : Device) → device_of entry b ≡ Some d
+    → is_under_way d.controller.session.state ≡ true → d.controller.waiting ≡ w → Begins call entry b → Beginning call b entry w
+beginning b call entry w d there under waits begun =
     let g = max b.greatest begun.now in
-    let w = command ∷ rest in
     let r = asking begun.now b in
     let f = begun.next.due.device in
     let asked = asking_place g (OnItsWay w) (λ p e on. (heard_on p g e.controller.session on.0, on.1)) entry begun.now b refl
@@ -124,12 +135,39 @@ takes_the_front b call entry command rest d there under waits begun =
     let one = one_device (device_of entry r) asked.0 f asked.1 begun.next.due.there in
     let on : OnItsWay w f = subst (OnItsWay w) one asked.2 in
     let free = is_false (holds f) (λ h. still_free begun.now b begun.free entry f begun.next.due.there h) in
-    let idle = begins_at_rest r.greatest f.controller.session.state (seen r.greatest f.controller.session) f.controller.waiting on.0 free begun.next.due.due in
-    let front = (takes_front r.greatest f.controller.session f.controller.waiting).front command rest idle on.1 in
     let after : after_call call b ≡ (ticks_with entry (Some f) r).bus =
-    ap (λ t. after_call t b) begun.tick ∙ ap (λ (t : BusTicked). t.bus) (begun_ticked begun.now entry b begun.free begun.next) in (
-      device_ticks r.greatest f,
-      ap (device_of entry) after ∙ set_here r.devices.entries entry f (device_ticks r.greatest f) begun.next.due.there,
-      ap command_of front.0,
-      front.1,
-    )
+    ap (λ t. after_call t b) begun.tick ∙ ap (λ (t : BusTicked). t.bus) (begun_ticked begun.now entry b begun.free begun.next) in record {
+      now = r.greatest;
+      device = f;
+      after = ap (device_of entry) after ∙ set_here r.devices.entries entry f (device_ticks r.greatest f) begun.next.due.there;
+      idle = begins_at_rest r.greatest f.controller.session.state (seen r.greatest f.controller.session) f.controller.waiting on.0 free begun.next.due.due;
+      waits = on.1;
+      due = begun.next.due.due;
+    }
+
+pub takes_the_front : (b : BusState) → TakesTheFront b
+takes_the_front b call entry command rest d there under waits begun =
+    let own = beginning b call entry (command ∷ rest) d there under waits begun in
+    let f = own.device in
+    let front = (takes_front own.now f.controller.session f.controller.waiting).front command rest own.idle own.waits in
+    (device_ticks own.now f, own.after, ap command_of front.0, front.1)
+
+-- a POLL where none waits
+abbrev Polls : Ticked → Type 0
+Polls t = acts t.step ≡ true → (exchange_in t.session.state ≡ Some Polling) × (t.waiting ≡ [])
+
+poll_tells : (state : State) (s : Session) (w : List Command) → is_idle state ≡ true → w ≡ [] → Polls (ticks_in state s w)
+poll_tells Closed s w idle none = cc
+poll_tells (Quiet until) s w idle none = cc
+poll_tells (Idle at) s w idle none =
+    subst (λ (l : List Command). Polls (idle_ticks l at s)) (sym none)
+    (either_way Polls (nat_le at s.greatest) (begins Polling (next_sequence s.number) s []) (stays s []) (λ b h. (refl, refl)) (λ b h. cc))
+poll_tells (Waiting until sends o) s w idle none = cc
+poll_tells (Pausing until o) s w idle none = cc
+
+pub polls_else : (b : BusState) → PollsElse b
+polls_else b call entry d there under waits begun =
+    let own = beginning b call entry [] d there under waits begun in
+    let f = own.device in
+    let poll = poll_tells f.controller.session.state (seen own.now f.controller.session) f.controller.waiting own.idle own.waits own.due in
+    (device_ticks own.now f, own.after, poll.0, poll.1)

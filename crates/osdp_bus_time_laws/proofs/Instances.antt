@@ -107,7 +107,7 @@ outstanding_reached at so =
 
 -- ---- the whole
 
-short_config : IsBusConfig short_line
+pub short_config : IsBusConfig short_line
 short_config = record {
   controllers = record {
     config_in_range = record {

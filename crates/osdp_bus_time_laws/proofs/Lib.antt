@@ -10,3 +10,4 @@ pub mod Told
 pub mod InTime
 pub mod Instances
 pub mod Asking
+pub mod Acting

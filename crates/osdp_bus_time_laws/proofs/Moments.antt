@@ -88,7 +88,7 @@ no_some : {X : Type 0} (o : Option X) → is_some o ≡ false → o ≡ None
 no_some None h = refl
 no_some (Some x) h = cc
 
-abbrev bare : BusState → List ℕ → BusState
+abbrev pub bare : BusState → List ℕ → BusState
 bare b held = record {
   config = b.config;
   devices = record { entries = b.devices.entries; report = None };
@@ -99,7 +99,7 @@ bare b held = record {
   remembered = b.remembered;
 }
 
-as_bare : (b : BusState) (held : List ℕ) → has_report b ≡ false → b.held ≡ held → b ≡ bare b held
+pub as_bare : (b : BusState) (held : List ℕ) → has_report b ≡ false → b.held ≡ held → b ≡ bare b held
 as_bare b held none is =
     let nothing = no_some b.devices.report none in
     (λ i. record b { devices = record b.devices { report = nothing i }; held = is i })

@@ -52,7 +52,7 @@ waits_withdrawn : (least : ℕ) (d : Device) → Waits least d → is_closed d.c
 waits_withdrawn least d some stands =
     subst (λ t. least ≤ length (if t then drop 1 d.controller.waiting else d.controller.waiting)) (sym stands) some
 
-not_idle : (state : State) → is_outstanding state ≡ true → is_idle state ≡ false
+pub not_idle : (state : State) → is_outstanding state ≡ true → is_idle state ≡ false
 not_idle Closed out = cc
 not_idle (Quiet until) out = cc
 not_idle (Idle due) out = cc

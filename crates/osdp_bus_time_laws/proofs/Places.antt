@@ -149,30 +149,40 @@ module _ (g : ℕ) (Q : Device → Type 0) (heard : (p : Packet) (d : Device) �
       let stands = lives d (ap (λ n. device_of n b) same ∙ there) in
       cc)) place
 
-  module _ (submitted : (command : Command) (d : Device) → Q d → Q (device_submits command d))
-      (withdrawn : (d : Device) → Q d → is_closed d.controller.session.state ≡ false → Q (device_withdraws d)) where
+  -- what an accepted order leaves
+  abbrev pub Submitted : Call → BusState → Type 0
+  Submitted call b = (at : ℕ) (command : Command) → call ≡ Submit at command → entry ≡ at → submit_refusal_at at command b ≡ None → (d : Device)
+      → device_of at b ≡ Some d → Q d → Q (device_submits command d)
+
+  module _ (withdrawn : (d : Device) → Q d → is_closed d.controller.session.state ≡ false → Q (device_withdraws d)) where
     -- a call that ends no duty: no tick, or one while a report waits
-    pub call_place : (call : Call) (b : BusState) → ends_duty call b ≡ false → (after_call call b).greatest ≡ g → Lives b → Placed b → Placed (after_call call b)
-    call_place (Add address) b other moment lives place =
+    pub place_then : (call : Call) (b : BusState) → Submitted call b → ends_duty call b ≡ false → (after_call call b).greatest ≡ g → Lives b → Placed b
+        → Placed (after_call call b)
+    place_then (Add address) b submitted other moment lives place =
         unless_place (add_refusal address b) b (after_add address b) place
         (λ ok. (place.0, in_front b.devices.entries (new_device address b.config) entry place.0 place.1, place.2))
-    call_place (Begin at now) b other moment lives place =
+    place_then (Begin at now) b submitted other moment lives place =
         unless_place (begin_refusal_at at b) b (after_begin_at at now b) place (begin_place at now b lives place)
-    call_place (Submit at command) b other moment lives place =
+    place_then (Submit at command) b submitted other moment lives place =
         unless_place (submit_refusal_at at command b) b (after_submit_at at command b) place
-        (λ ok. changed_place (device_submits command) at b (λ same d there is. submitted command d is) place)
-    call_place (Withdraw at) b other moment lives place =
+        (λ ok. changed_place (device_submits command) at b (λ same d there is. submitted at command refl same ok d there is) place)
+    place_then (Withdraw at) b submitted other moment lives place =
         changed_place device_withdraws at b (λ same d there is. withdrawn d is (lives d (ap (λ n. device_of n b) same ∙ there))) place
-    call_place (Retarget at address) b other moment lives place =
+    place_then (Retarget at address) b submitted other moment lives place =
         unless_place (retarget_refusal_at at address b) b (after_retarget_at at address b) place (retarget_place at address b lives place)
-    call_place (OnBytes bytes now) b other moment lives place =
+    place_then (OnBytes bytes now) b submitted other moment lives place =
         bytes_place bytes now b (sym ((moments_are_seen b).brought (OnBytes bytes now) now refl) ∙ moment) place
-    call_place (OnSilence now) b other moment lives place =
+    place_then (OnSilence now) b submitted other moment lives place =
         run_place (seen now b) (sym ((moments_are_seen b).brought (OnSilence now) now refl) ∙ moment) place
-    call_place (Tick now) b other moment lives place =
+    place_then (Tick now) b submitted other moment lives place =
         subst (λ (t : BusTicked). Placed t.bus)
         (sym (ap (λ t. if t then stays (seen now b) else ticks_on (judged now b)) (is_true (has_report b) other))) place
-    call_place NextReport b other moment lives place = place
+    place_then NextReport b submitted other moment lives place = place
+
+  module _ (submitted : (command : Command) (d : Device) → Q d → Q (device_submits command d))
+      (withdrawn : (d : Device) → Q d → is_closed d.controller.session.state ≡ false → Q (device_withdraws d)) where
+    pub call_place : (call : Call) (b : BusState) → ends_duty call b ≡ false → (after_call call b).greatest ≡ g → Lives b → Placed b → Placed (after_call call b)
+    call_place call b = place_then withdrawn call b (λ at command is same ok d there q. submitted command d q)
 
   -- ---- a tick while no report waits: an exchange begins; or the device doesn't tick, and holds the line only before it is due; or it holds the line, is due
   -- and ticks

@@ -93,7 +93,7 @@ reports_are_taken b well late calls told in_time = taken_from late calls b well 
 
 -- ---- a device that says nothing
 
-standing : (entry : ℕ) (b : BusState) → (IsOutstandingAt entry b) ⊎ (IsOutstandingAt entry b → ⊥)
+pub standing : (entry : ℕ) (b : BusState) → (IsOutstandingAt entry b) ⊎ (IsOutstandingAt entry b → ⊥)
 standing entry b = by_device (device_of entry b) refl
   where
     by_holds : (d : Device) → device_of entry b ≡ Some d → (t : Bool) → holds d ≡ t → (IsOutstandingAt entry b) ⊎ (IsOutstandingAt entry b → ⊥)

@@ -1,5 +1,5 @@
 -- A run of a line that takes as long as a law allows, to the millisecond.
-use Rattle.std.specs.Prelude.{◌≡◌, ◌+◌, ◌-◌, ◌*◌, List, [], ◌∷◌, None}
+use Rattle.std.specs.Prelude.{◌≡◌, ℕ, ◌+◌, ◌-◌, ◌*◌, List, [], ◌∷◌, None}
 use Rattle.osdp_frame.specs.declared.check_kind.CheckKind.TheVariants.{Sum}
 use Rattle.osdp_bus.specs.declared.config.BusConfig.{BusConfig}
 use Rattle.osdp_bus.specs.Buses.{BusState, new_bus}
@@ -49,3 +49,10 @@ pub record OpeningIsReached : Type 0 where
   pub begins : IsOutstandingAt 1 (after_calls opening_calls two_begun)
   pub moment : (after_calls opening_calls two_begun).greatest
       ≡ two_begun.greatest + (short_line.quiet_wait + 1 + (2 - 1) * (exchange_of two_begun 1 + 1))
+
+-- what a device says, by the byte of its address and its check: the PDID with number 0, and ACK with number 1
+abbrev pub pd_id_bytes : ℕ → ℕ → List ℕ
+pd_id_bytes address check = 83 ∷ address ∷ 19 ∷ 0 ∷ 0 ∷ 69 ∷ 1 ∷ 2 ∷ 3 ∷ 4 ∷ 5 ∷ 6 ∷ 0 ∷ 0 ∷ 0 ∷ 7 ∷ 8 ∷ 9 ∷ check ∷ []
+
+abbrev pub ack_bytes : ℕ → ℕ → List ℕ
+ack_bytes address check = 83 ∷ address ∷ 7 ∷ 0 ∷ 1 ∷ 64 ∷ check ∷ []

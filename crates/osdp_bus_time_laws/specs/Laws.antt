@@ -1,6 +1,7 @@
 -- How long a line of several entries takes, whatever it does.
 use Rattle.std.specs.Prelude.{◌≡◌, ℕ, zero, suc, ◌+◌, ◌-◌, ◌*◌, ◌≤◌, true, List, [], ◌∷◌, length, Some, None}
 use Rattle.osdp_msg.specs.declared.command.Command.{Command}
+use Rattle.osdp_controller.specs.declared.exchange.Exchange.TheVariants.{Polling}
 use Rattle.osdp_bus.specs.declared.device.Device.{Device}
 use Rattle.osdp_bus.specs.Buses.{BusState, device_of}
 use Rattle.osdp_bus.specs.Machine.{begin_refusal_at, submit_refusal_at}
@@ -8,6 +9,7 @@ use Rattle.osdp_bus.specs.Settings.{controller_config}
 use Rattle.osdp_bus_laws.specs.Calls.{Call, Begin, Submit, after_call}
 use Rattle.osdp_bus_laws.specs.Fairness.{Begins}
 use Rattle.osdp_controller_laws.specs.Commands.{asked_in}
+use Rattle.osdp_controller_laws.specs.Laws.{exchange_in}
 use Rattle.osdp_time_laws.specs.Bounds.{longest_exchange}
 use Rattle.osdp_time_laws.specs.Lines.{turns_time}
 use Rattle.osdp_time_laws.specs.Orders.{is_under_way}
@@ -45,6 +47,12 @@ abbrev pub TakesTheFront : BusState → Type 0
 TakesTheFront b = (call : Call) (entry : ℕ) (command : Command) (rest : List Command) (d : Device) → device_of entry b ≡ Some d
     → is_under_way d.controller.session.state ≡ true → d.controller.waiting ≡ command ∷ rest → Begins call entry b
     → (e : Device) × (device_of entry (after_call call b) ≡ Some e) × (asked_in e.controller.session.state ≡ Some command) × (e.controller.waiting ≡ rest)
+
+-- and where none waits it is a POLL
+abbrev pub PollsElse : BusState → Type 0
+PollsElse b = (call : Call) (entry : ℕ) (d : Device) → device_of entry b ≡ Some d → is_under_way d.controller.session.state ≡ true
+    → d.controller.waiting ≡ [] → Begins call entry b
+    → (e : Device) × (device_of entry (after_call call b) ≡ Some e) × (exchange_in e.controller.session.state ≡ Some Polling) × (e.controller.waiting ≡ [])
 
 -- a command is accepted while the session of its entry is under way, where so many of the entry wait before it
 pub record IsAccepted (entry before : ℕ) (command : Command) (b : BusState) : Type 0 where

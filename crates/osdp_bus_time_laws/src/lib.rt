@@ -6,7 +6,7 @@ ghost use Rattle.std.specs.Prelude.{ℕ, List};
 ghost use Rattle.osdp_bus.specs.Buses.{BusState};
 ghost use Rattle.osdp_bus_laws.specs.Calls.{Always};
 ghost use Rattle.osdp_bus_time_laws.specs.Instances.{OpeningIsReached};
-ghost use Rattle.osdp_bus_time_laws.specs.Laws.{ExchangesComeRound, ExchangesEnd, LinesAddUp, OpeningsBegin, OpeningsInTime, OrdersGoOut, OrdersInTime, TakesTheFront};
+ghost use Rattle.osdp_bus_time_laws.specs.Laws.{ExchangesComeRound, ExchangesEnd, LinesAddUp, OpeningsBegin, OpeningsInTime, OrdersGoOut, OrdersInTime, PollsElse, TakesTheFront};
 ghost use Rattle.osdp_bus_time_laws.specs.Telling.{OpenAreAsked, ReportsAreTaken, SilenceIsTold};
 
 /// Each exchange of the line ends within the longest that the settings allow, however its answers come. So does the one that is outstanding, from now on.
@@ -24,9 +24,10 @@ pub fn orders_go_out()
 {}
 
 /// While its session goes on an entry is asked again and again: for each of its exchanges the interval between POLLs and a turn of each entry pass at the
-/// most, until its first frame is handed out.
+/// most, until its first frame is handed out. Where no command waits it is a POLL.
 pub fn exchanges_come_round()
-    ensures { Always ExchangesComeRound }
+    ensures turns { Always ExchangesComeRound }
+    ensures poll { (b : BusState) → PollsElse b }
 {}
 
 /// A session that begins has its opening ID handed out within the quiet wait, a late tick, and a turn of each other entry.

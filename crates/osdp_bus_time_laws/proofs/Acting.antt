@@ -1,0 +1,69 @@
+-- A line on which no bytes are held acts once a moment is reached for which one of its controllers waits.
+use Rattle.std.proofs.Common.{◌≡◌, ◌∙◌, ap, sym, ℕ, zero, suc, ◌≤◌, ◌||◌, Bool, true, false, max, List, [], ◌∷◌, Some, None, arith}
+use Rattle.std.specs.List.{list_any}
+use Rattle.osdp_controller.specs.declared.state.State.{State}
+use Rattle.osdp_controller.specs.declared.state.State.TheVariants.{Closed, Quiet, Idle, Waiting, Pausing}
+use Rattle.osdp_controller.specs.Machine.{is_outstanding}
+use Rattle.osdp_controller.specs.Sessions.{seen as seen_by}
+use Rattle.osdp_controller.specs.States.{is_idle}
+use Rattle.osdp_time_laws.proofs.Duties.{until_of}
+use Rattle.osdp_time_laws.proofs.Instances.{reached_in}
+use Rattle.osdp_bus.specs.declared.device.Device.{Device}
+use Rattle.osdp_bus.specs.Buses.{BusState, device_of, has_report, holder}
+use Rattle.osdp_bus.specs.Deadlines.{acts}
+use Rattle.osdp_bus.specs.Devices.{holds, is_device_due}
+use Rattle.osdp_bus.specs.Machine.{new_device}
+use Rattle.osdp_bus.proofs.Waiting.{free_acts, held_acts}
+use Rattle.osdp_bus_laws.specs.Calls.{Call}
+use Rattle.osdp_bus_time_laws.specs.Clock.{IsOwed}
+use Rattle.osdp_bus_time_laws.specs.Instances.{short_line}
+use Rattle.osdp_bus_time_laws.proofs.Moments.{as_bare}
+
+-- a controller with no command that waits while it is idle is due only once the moment is reached
+pub reached_of : (at : ℕ) (b : BusState) (d : Device) → (is_idle d.controller.session.state ≡ true → d.controller.waiting ≡ [])
+    → d.controller.session.greatest ≤ b.greatest → is_device_due (max b.greatest at) d ≡ true → until_of d.controller.session.state ≤ max b.greatest at
+reached_of at b d rests seen due =
+    let until : until_of d.controller.session.state ≤ max d.controller.session.greatest (max b.greatest at) =
+    reached_in d.controller.session.state (seen_by (max b.greatest at) d.controller.session) d.controller.waiting rests due in
+    omega arith
+
+module _ (b : BusState) (none : b.held ≡ []) (untold : has_report b ≡ false) (at : ℕ) (so : acts at b ≡ true) where
+  pub held_due : (entry : ℕ) (d : Device) → holder b ≡ Some entry → device_of entry b ≡ Some d → holds d ≡ true → is_device_due (max b.greatest at) d ≡ true
+  held_due entry d held there stands =
+      sym (ap (acts at) (as_bare b [] untold none)
+      ∙ held_acts b.config b.remembered b.devices.entries b.first b.last b.greatest at entry d held there stands) ∙ so
+
+  pub free_due : holder b ≡ None → list_any (is_device_due (max b.greatest at)) b.devices.entries ≡ true
+  free_due free =
+      sym (ap (acts at) (as_bare b [] untold none) ∙ free_acts b.config b.remembered b.devices.entries b.first b.last b.greatest at free) ∙ so
+
+-- ---- for runs that are written out
+
+pub no_other : {A : Type 0} → true ≡ false → A
+no_other h = cc
+
+pub either_acts : (x y : Bool) → x ≡ false → (x || y) ≡ true → y ≡ true
+either_acts false y none h = h
+either_acts true y none h = cc
+
+never_idle : (state : State) → is_outstanding state ≡ true → is_idle state ≡ true → {A : Type 0} → A
+never_idle Closed out idle = cc
+never_idle (Quiet until) out idle = cc
+never_idle (Idle due) out idle = cc
+never_idle (Waiting until sends o) out idle = cc
+never_idle (Pausing until o) out idle = cc
+
+-- a tick that is owed while an entry holds the line comes once the moment of this one is reached
+pub owed_from : (call : Call) (b : BusState) (entry at : ℕ) (d : Device) → b.held ≡ [] → has_report b ≡ false → holder b ≡ Some entry → device_of entry b ≡ Some d
+    → holds d ≡ true → d.controller.session.greatest ≤ b.greatest → IsOwed at call b → until_of d.controller.session.state ≤ at
+owed_from call b entry at d none untold held there stands seen owed =
+    let due = held_due b none untold at (either_acts (has_report b) (acts at b) untold owed.due) entry d held there stands in
+    let reached = reached_of at b d (λ idle. never_idle d.controller.session.state stands idle) seen due in
+    let on : b.greatest ≤ at = owed.not_before in
+    omega arith
+
+-- the device of an entry of a list
+abbrev pub device_in : List Device → ℕ → Device
+device_in [] entry = new_device 0 short_line
+device_in (d ∷ ds) zero = d
+device_in (d ∷ ds) (suc entry) = device_in ds entry

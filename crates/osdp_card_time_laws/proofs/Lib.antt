@@ -1,0 +1,6 @@
+pub mod Queues
+pub mod Orders
+pub mod Reported
+pub mod Figures
+pub mod Readers
+pub mod Instances

@@ -1,0 +1,4 @@
+pub mod Beside
+pub mod Cards
+pub mod Readers
+pub mod Instances
