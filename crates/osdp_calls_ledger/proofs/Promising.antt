@@ -7,7 +7,8 @@ use Rattle.osdp_ledger.specs.History.{End, new_history, runs}
 use Rattle.osdp_ledger.specs.Laws.{TellsInTurn}
 use Rattle.osdp_ledger.specs.Ledger.{Order}
 use Rattle.osdp_calls_ledger.specs.Laws.{EachKeepsLedger}
-use Rattle.osdp_calls_ledger.specs.Promises.{LedgerHoldsOnce, RestartsCost}
+use Rattle.osdp_calls.specs.Programs.{CallsRuleSuffices}
+use Rattle.osdp_calls_ledger.specs.Promises.{LedgerHoldsOnce, RestartsCost, RuledLedgerHoldsOnce}
 use Rattle.osdp_calls_ledger.specs.Steps.{steps_from}
 
 -- the commands of those that have ended
@@ -43,3 +44,6 @@ module _ {H : Type 0} (answer_of : H → Command → Answer) (after : H → Comm
         withdrawn = kept.events.withdrawn;
         untold = in_turn (steps_from answer_of after k first steps l) kept.allowed;
       }
+
+  pub ruled_holds_once : LedgerHoldsOnce answer_of after → CallsRuleSuffices answer_of after → RuledLedgerHoldsOnce answer_of after
+  ruled_holds_once holds suffices l steps up keep = holds l steps up (suffices l steps up keep)

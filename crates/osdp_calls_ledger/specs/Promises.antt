@@ -15,6 +15,7 @@ use Rattle.osdp_calls.specs.Accepted.{all_accepted, all_queued}
 use Rattle.osdp_calls.specs.Calls.{Step, after_calls}
 use Rattle.osdp_calls.specs.Lines.{InUse, Station}
 use Rattle.osdp_calls.specs.Premises.{AllKeep, IsSetUp}
+use Rattle.osdp_calls.specs.Programs.{AllKeepRule, first_notes}
 use Rattle.osdp_calls_ledger.specs.Steps.{steps_from}
 
 -- of the commands that `submit` accepted for an entry and the events that `submit_event` accepted for its device
@@ -56,10 +57,17 @@ abbrev pub RestartsCost : Type 0
 RestartsCost = (h : History) → ((on_wire : Bool) → PanelCosts on_wire h (steps_on (RestartPanel on_wire) h)) × DeviceCosts h (steps_on RestartDevice h)
 
 module _ {H : Type 0} (answer_of : H → Command → Answer) (after : H → Command → H) where
-  -- for every list of calls that keep the premises, and each entry
-  abbrev pub LedgerHoldsOnce : Type 0
-  LedgerHoldsOnce = (l : InUse H) (steps : List (Step H)) → IsSetUp l → AllKeep answer_of after steps l
-      → (k : ℕ) (first last : Station H) (d : Device) → site_at k l.stations ≡ Some first → site_at k (after_calls answer_of after steps l).stations ≡ Some last
-      → device_of k (after_calls answer_of after steps l).bus ≡ Some d
+  -- of each entry, after these calls
+  abbrev pub EachHoldsOnce : InUse H → List (Step H) → Type 0
+  EachHoldsOnce l steps = (k : ℕ) (first last : Station H) (d : Device) → site_at k l.stations ≡ Some first
+      → site_at k (after_calls answer_of after steps l).stations ≡ Some last → device_of k (after_calls answer_of after steps l).bus ≡ Some d
       → HoldsOnce (all_accepted answer_of after k steps l) (first.reader.queue.events ++ all_queued answer_of after k steps l) d last
       (runs (steps_from answer_of after k first steps l) new_history)
+
+  -- for every list of calls that keep the premises
+  abbrev pub LedgerHoldsOnce : Type 0
+  LedgerHoldsOnce = (l : InUse H) (steps : List (Step H)) → IsSetUp l → AllKeep answer_of after steps l → EachHoldsOnce l steps
+
+  -- .. or whose programs keep to the rule in place of that on addresses
+  abbrev pub RuledLedgerHoldsOnce : Type 0
+  RuledLedgerHoldsOnce = (l : InUse H) (steps : List (Step H)) → IsSetUp l → AllKeepRule answer_of after steps l (first_notes l) → EachHoldsOnce l steps

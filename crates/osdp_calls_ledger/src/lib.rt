@@ -3,7 +3,7 @@
 #![tactic(auto)]
 
 ghost use Rattle.osdp_calls_ledger.specs.Laws.{EachKeepsLedger};
-ghost use Rattle.osdp_calls_ledger.specs.Promises.{LedgerHoldsOnce, RestartsCost};
+ghost use Rattle.osdp_calls_ledger.specs.Promises.{LedgerHoldsOnce, RestartsCost, RuledLedgerHoldsOnce};
 
 use osdp_reader::Handler;
 
@@ -23,10 +23,14 @@ pub fn each_keeps_ledger<H: Handler>()
 /// submission. None is taken twice. What is settled was taken, with that answer. At most one is told in doubt a session. Each accepted event has left
 /// the device's queue once, or waits. Events are reported in their order, in each session once, and at most the last of a session is told again later.
 /// None is skipped but by its device's program, or by a loss of the device's power.
+///
+/// The rule for programs of law `calls_rule_suffices` of `osdp_calls` may stand for the premise on addresses.
 pub fn ledger_holds_once<H: Handler>()
-    ensures { LedgerHoldsOnce H.answer_of H.after }
+    ensures calls { LedgerHoldsOnce H.answer_of H.after }
+    ensures ruled { RuledLedgerHoldsOnce H.answer_of H.after }
 {
     each_keeps_ledger::<H>();
+    osdp_calls::calls_rule_suffices::<H>();
     osdp_ledger::tells_in_turn();
 }
 
