@@ -6,9 +6,9 @@
 - Each path that README names is there, and a law that stands in one row with a path is a law of that file.
 - docs/ARCHITECTURE.md has the picture and the table that tools/map makes of crates.txt. Each definition that it names is there.
   Each file of src/ and specs/, but for tests, says at its head what it holds.
-- docs/HEADLINE.md quotes the law `calls_hold_once` and each definition that it names, as it stands in the file named above it, and quotes no other.
+- docs/ACCOUNTS.md quotes the law `calls_hold_once` and each definition that it names, as it stands in the file named above it, and quotes no other.
   What these name and it doesn't quote stands in its table of words, with the file that has it, and no other word does. The crates of its last table
-  have the laws and definitions that the rows name.
+  have the laws and definitions that the rows name. docs/HEADLINE.md does the same of law `ledger_holds_once` and of the ledger's steps, in at most 300 lines.
 - Each block of code of a page is text of the file that the line above it names. Each link of a page goes to a file, and to a heading of it.
   Where a page begins with its contents they have each of its parts.
 - Each topic that docs/PROFILE.md names is one of docs/PROTOCOL.md, and each topic there that has a choice of our own is named.
@@ -19,7 +19,7 @@
 - Each crate, script and folder that any page names is there; a name with `osdp_` may be one of the header for C too.
 - Each call, law and type that running text of any page names between backticks is a word of the tree's sources, or of the toolchain's.
 - No page, manual page or script says "behind" or "want of memory". No sentence of a page has more than 60 words, but in the list of what is left to do.
-- README has lines of at most 120 characters. docs/DEVELOPING.md has at most 120 lines, docs/ARCHITECTURE.md 300, docs/GUIDE.md 500, and no row of a table has more than
+- README has lines of at most 120 characters. docs/DEVELOPING.md has at most 120 lines, docs/ARCHITECTURE.md 300, docs/GUIDE.md 500, docs/HEADLINE.md 300, and no row of a table has more than
   200 characters."""
 import re
 import runpy
@@ -251,9 +251,9 @@ def named_by(file, part):
     return set(WORD.findall(body)) & (own | taken)
 
 
-def judge_headline():
-    """docs/HEADLINE.md: its quotes are the law's definitions as they stand in the files, and its words are what these name besides."""
-    page = "docs/HEADLINE.md"
+def judge_quotes(page, begun, least, after_words):
+    """A page: its quotes are the definitions that it begins with, and those that they name, as they stand in the files, and its words are what these name besides.
+    Its table of words ends before a heading, if one comes."""
     text = (TOP / page).read_text()
     quoted, names = {}, set()
     for file, block in re.findall(r"^From `([^`]+)`:\n\n```antt\n(.*?)```$", text, re.M | re.S):
@@ -267,11 +267,12 @@ def judge_headline():
                 cases = re.findall(r"^  (\w+) :", part, re.M)
                 quoted.update({each: set() for each in cases})
                 quoted[name].update(cases)
-    reached, found = {"CallsHoldOnce", "TwoLists", "May"}, set()
+    reached, found = set(begun), set()
     while reached - found:
         found |= reached
         reached |= {other for name in reached for other in quoted.get(name, ())}
-    told = list(rows(text[text.index("## Words of the quotes") : text.index("## From the statement")]))[1:]
+    words = text[text.index("## Words of the quotes") :]
+    told = list(rows(words[: words.index(after_words)] if after_words else words))[1:]
     table = {name: cells[1] for cells in told for name in re.findall(r"`(\w+)`", cells[0])}
     for name in sorted(quoted.keys() - reached):
         faults.append(f"{page}: {name} is quoted, and nothing that is quoted names it")
@@ -284,8 +285,13 @@ def judge_headline():
         those = [path if "/" in path else f"{paths[0].rpartition('/')[0]}/{path}" for path in paths]
         if paths and name != "bus" and not any(re.search(rf"\bpub (?:record |data )?{name}\b|^ +{name} :", (TOP / "crates" / path).read_text(), re.M) for path in those):
             faults.append(f"{page}: {name} is not in {files}")
-    if len(quoted) < 30:
+    if len(quoted) < least:
         faults.append(f"{page}: quotes are not there")
+
+
+def judge_carriers(page):
+    """A page: the crates from the statement to the bytes have the laws and definitions that its rows name."""
+    text = (TOP / page).read_text()
     carried = [cells for cells in rows(text[text.index("## From the statement") :]) if len(cells) == 3][1:]
     for crates_cell, _, carriers in carried:
         named = re.findall(r"`(\w+)`", crates_cell)
@@ -419,7 +425,7 @@ def judge_lengths():
     readme = (TOP / "README.md").read_text().splitlines()
     if max(map(len, readme)) > 120:
         faults.append("README.md: a line of more than 120 characters")
-    for page, most in (("docs/DEVELOPING.md", 120), ("docs/ARCHITECTURE.md", 300), ("docs/GUIDE.md", 500)):
+    for page, most in (("docs/DEVELOPING.md", 120), ("docs/ARCHITECTURE.md", 300), ("docs/GUIDE.md", 500), ("docs/HEADLINE.md", 300)):
         if len((TOP / page).read_text().splitlines()) > most:
             faults.append(f"{page}: more than {most} lines")
 
@@ -432,7 +438,9 @@ if __name__ == "__main__":
     judge_heads(every)
     judge_exchanges()
     judge_manual()
-    judge_headline()
+    judge_quotes("docs/ACCOUNTS.md", {"CallsHoldOnce", "TwoLists", "May"}, 30, "## From the statement")
+    judge_carriers("docs/ACCOUNTS.md")
+    judge_quotes("docs/HEADLINE.md", {"LedgerHoldsOnce", "Ledger", "May"}, 5, None)
     judge_profile()
     every_word = words_of_sources()
     for each_page in PAGES:
