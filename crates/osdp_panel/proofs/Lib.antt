@@ -1,1 +1,2 @@
 mod Moments
+pub mod Ordering

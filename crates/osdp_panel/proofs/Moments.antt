@@ -1,13 +1,20 @@
 -- Runs that end by moments alone.
-use Rattle.std.proofs.Common.{◌≡◌, ◌∙◌, ap, ℕ, ◌||◌, not, max, [], Option, Some, None, refl, arith}
-use Rattle.std.specs.Prelude.{if◌then◌else◌}
+use Rattle.std.proofs.Common.{◌≡◌, ◌∙◌, ap, ℕ, Bool, true, false, ◌||◌, not, max, [], Option, Some, None, refl, arith}
+use Rattle.std.specs.Prelude.{if◌then◌else◌, slice_set}
+use Rattle.std.specs.Option.{option_map_or}
+use Rattle.osdp_msg.specs.declared.command.Command.{Command}
+use Rattle.osdp_bus.specs.declared.fault.BusFault.{BusFault}
 use Rattle.osdp_controller.proofs.Choices.{either_way}
 use Rattle.osdp_bus.specs.declared.device.Device.{Device}
 use Rattle.osdp_bus.specs.Buses.{BusState, device_of, has_report, holder, seen}
 use Rattle.osdp_bus.specs.Hearing.{ends_run, ends_silent}
-use Rattle.osdp_bus.specs.Machine.{after_next_report}
+use Rattle.osdp_bus.specs.Machine.{after_next_report, device_submits, order_refusal_at}
 use Rattle.osdp_bus.specs.Ticking.{BusTicked, is_due_at, is_held_and_due, next_due, stays, ticks_at, ticks_by, ticks_held, ticks_on, ticks_with}
+use Rattle.osdp_orders.specs.declared.queue.Queue.{Queue}
+use Rattle.osdp_orders.specs.Orders.{PanelState, both, gone_to, is_empty_in, lets_go_after, lets_go_of, polled_by, queue_of}
+use Rattle.osdp_orders.specs.Queues.{first_held, goes, goes_first, goes_unless}
 use Rattle.osdp_panel.specs.Laws.{EndsByMoments}
+use Rattle.osdp_panel.specs.Turns.{after_panel_turn, ticked_in}
 
 -- the bus before the tick of a turn without bytes
 abbrev before_tick : ℕ → BusState → BusState
@@ -41,17 +48,52 @@ over_by (Some i) b h =
     (λ due. either_way Over (has_report e || not (is_held_and_due i e)) (stays e) (ticks_at (Some i) e) (λ r. refl) (λ r. over_at (Some i) e refl))
     (λ due. h)
 
-pub ends_by_moments : (now : ℕ) (b : BusState) → EndsByMoments now b
-ends_by_moments now b = record {
+-- an order that goes to its controller leaves what is held of the line
+
+orders_held : (o : Option Device) (entry : ℕ) (c : Command) (b : BusState)
+    → (option_map_or (λ d. record b {
+      devices = record b.devices { entries = slice_set b.devices.entries entry (device_submits c d) };
+    }) o b).held ≡ b.held
+orders_held None entry c b = refl
+orders_held (Some d) entry c b = refl
+
+goes_held : (f : Option BusFault) (entry : ℕ) (c : Command) (q : Queue) (b : BusState) → (goes_unless f entry c q b).bus.held ≡ b.held
+goes_held (Some fault) entry c q b = refl
+goes_held None entry c q b = orders_held (device_of entry b) entry c b
+
+first_goes : (o : Option Command) (entry : ℕ) (q : Queue) (b : BusState) → (goes_first entry o q b).bus.held ≡ b.held
+first_goes None entry q b = refl
+first_goes (Some c) entry q b = goes_held (order_refusal_at entry c b) entry c q b
+
+let_go_if : (t : Bool) (entry : ℕ) (q : Queue) (x : PanelState) → (if t then gone_to entry x.orders (goes entry q x.bus) else x).bus.held ≡ x.bus.held
+let_go_if true entry q x = first_goes (first_held q) entry q x.bus
+let_go_if false entry q x = refl
+
+let_go_in : (o : Option Queue) (entry : ℕ) (x : PanelState) → (lets_go_of entry o x).bus.held ≡ x.bus.held
+let_go_in None entry x = refl
+let_go_in (Some q) entry x = let_go_if (is_empty_in (device_of entry x.bus)) entry q x
+
+let_go_held : (o : Option ℕ) (x : PanelState) → (lets_go_after o x).bus.held ≡ x.bus.held
+let_go_held None x = refl
+let_go_held (Some entry) x = let_go_in (queue_of entry x.orders) entry x
+
+-- what is held after a turn without bytes is what its tick leaves
+left_by_tick : (now : ℕ) (p : PanelState) → (after_panel_turn [] now p).bus.held ≡ (ticks_on (ends_silent (before_tick now p.bus))).bus.held
+left_by_tick now p =
+    let t = ticked_in [] now p.bus in
+    let_go_held (polled_by t.sent t.bus) (both p.orders t.bus) ∙ ap (λ s. (ticks_on (ends_silent s)).bus.held) (seen_again now p.bus)
+
+pub ends_by_moments : (now : ℕ) (p : PanelState) → EndsByMoments now p
+ends_by_moments now p = record {
   goes_on = λ entry sounds held not_due.
-      let c = before_tick now b in
-      ap (λ s. (ticks_on (ends_silent s)).bus.held) (seen_again now b)
+      let c = before_tick now p.bus in
+      left_by_tick now p
       ∙ ap (λ t. (ticks_on (if t then ends_run c else c)).bus.held) sounds
       ∙ ap (λ o. (ticks_by o c).bus.held) held
       ∙ ap (λ t. (if t then ticks_held entry (ends_run c) else stays c).bus.held) not_due;
   ends = λ silent.
-      let c = before_tick now b in
-      ap (λ s. (ticks_on (ends_silent s)).bus.held) (seen_again now b)
+      let c = before_tick now p.bus in
+      left_by_tick now p
       ∙ ap (λ t. (ticks_on (if t then ends_run c else c)).bus.held) silent
       ∙ over_by (holder (ends_run c)) (ends_run c) refl;
 }

@@ -1,3 +1,5 @@
 pub mod Turns
 pub mod Laws
 pub mod Sending
+pub mod Panels
+pub mod Ordering

@@ -4,7 +4,7 @@ use Rattle.std.specs.Prelude.{Result, Ok, Err, if◌then◌else◌, is_ok, remov
 use Rattle.std.specs.List.{All}
 use Rattle.std.proofs.lemmas.List.Elements.{All-append, All-drop, All-take}
 use Rattle.osdp_msg.specs.declared.command.Command.{Command}
-use Rattle.osdp_bus.specs.Buses.{BusState}
+use Rattle.osdp_orders.specs.Orders.{PanelState}
 use Rattle.osdp_controller.specs.declared.report.Report.{Report}
 use Rattle.osdp_controller.specs.declared.report.Report.TheVariants as report
 use Rattle.osdp_site.specs.declared.fault.SiteFault.{SiteFault}
@@ -56,7 +56,7 @@ begun_if : (due : Bool) (entry now : ℕ) (x : Acted)
 begun_if true entry now x = refl
 begun_if false entry now x = refl
 
-acts_pure : (entry now : ℕ) (b : BusState) (p : PlaceState) → Pure p.wanted → Pure (acts_at entry now (record { place = p; panel = b })).place.wanted
+acts_pure : (entry now : ℕ) (b : PanelState) (p : PlaceState) → Pure p.wanted → Pure (acts_at entry now (record { place = p; panel = b })).place.wanted
 acts_pure entry now b p all =
     let x : Acted = record { place = p; panel = b } in
     let y = begins_due entry now x in

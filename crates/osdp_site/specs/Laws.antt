@@ -2,8 +2,8 @@
 use Rattle.std.specs.Prelude.{◌≡◌, ◌≢◌, ℕ, ◌+◌, ◌-◌, Bool, true, false, nat_le, min, ◌^◌, if◌then◌else◌, List, [], ◌∷◌, ◌++◌, take, Some, None, is_ok}
 use Rattle.std.specs.List.{All, list_any}
 use Rattle.osdp_msg.specs.declared.command.Command.{Command}
-use Rattle.osdp_bus.specs.Buses.{BusState}
-use Rattle.osdp_bus.specs.Machine.{after_submit_at, order_refusal_at}
+use Rattle.osdp_orders.specs.Orders.{PanelState}
+use Rattle.osdp_orders.specs.Orders.{after_submit, submit_refusal}
 use Rattle.osdp_controller.specs.declared.report.Report.{Report}
 use Rattle.osdp_controller.specs.declared.report.Report.TheVariants as report
 use Rattle.osdp_site.specs.declared.place.Presence.TheVariants.{Online, Offline}
@@ -15,39 +15,39 @@ use Rattle.osdp_site.specs.States.{subject_of}
 -- ---- what is submitted
 
 -- what is submitted where an entry acts over a panel
-abbrev pub sent : ℕ → BusState → PlaceState → List Command
+abbrev pub sent : ℕ → PanelState → PlaceState → List Command
 sent entry b p = if is_online p.presence then take (submits entry (due_of p) b).count (due_of p) else []
 
-abbrev pub refreshed : ℕ → BusState → PlaceState → PlaceState
+abbrev pub refreshed : ℕ → PanelState → PlaceState → PlaceState
 refreshed entry b p = (refreshes entry (record { place = p; panel = b })).place
 
 -- the same again and again, over whatever panel each time
-abbrev pub sent_over : ℕ → List BusState → PlaceState → List Command
+abbrev pub sent_over : ℕ → List PanelState → PlaceState → List Command
 sent_over entry [] p = []
 sent_over entry (b ∷ bs) p = sent entry b p ++ sent_over entry bs (refreshed entry b p)
 
-abbrev pub refreshed_over : ℕ → List BusState → PlaceState → PlaceState
+abbrev pub refreshed_over : ℕ → List PanelState → PlaceState → PlaceState
 refreshed_over entry [] p = p
 refreshed_over entry (b ∷ bs) p = refreshed_over entry bs (refreshed entry b p)
 
 -- once a session has opened, each state that is wanted is submitted once, in the order in which they were wanted; what isn't yet is due. Where the site says
 -- that it is done, all were submitted
-pub record SubmittedOnce (entry now : ℕ) (bs : List BusState) (p : PlaceState) : Type 0 where
+pub record SubmittedOnce (entry now : ℕ) (bs : List PanelState) (p : PlaceState) : Type 0 where
   pub order : sent_over entry bs (opens now p) ++ due_of (refreshed_over entry bs (opens now p)) ≡ p.wanted
   pub done : is_refreshed (refreshed_over entry bs (opens now p)) ≡ true → sent_over entry bs (opens now p) ≡ p.wanted
 
 -- a panel takes some commands, one after the other, and refuses none
-abbrev pub Takes : ℕ → List Command → BusState → BusState → Type 0
+abbrev pub Takes : ℕ → List Command → PanelState → PanelState → Type 0
 Takes entry [] b after = after ≡ b
-Takes entry (c ∷ cs) b after = (order_refusal_at entry c b ≡ None) × Takes entry cs (after_submit_at entry c b) after
+Takes entry (c ∷ cs) b after = (submit_refusal entry c b ≡ None) × Takes entry cs (after_submit entry c b) after
 
 -- nothing is left, or the panel refuses the first of what is
-abbrev pub StopsAt : ℕ → List Command → BusState → Type 0
+abbrev pub StopsAt : ℕ → List Command → PanelState → Type 0
 StopsAt entry [] b = Unit {0}
-StopsAt entry (c ∷ cs) b = order_refusal_at entry c b ≢ None
+StopsAt entry (c ∷ cs) b = submit_refusal entry c b ≢ None
 
 -- where a device is online, the panel takes what is submitted, and nothing else; it stops where the panel refuses something. Where it is offline nothing changes
-pub record IsTaken (entry : ℕ) (b : BusState) (p : PlaceState) : Type 0 where
+pub record IsTaken (entry : ℕ) (b : PanelState) (p : PlaceState) : Type 0 where
   pub takes : Takes entry (sent entry b p) b (refreshes entry (record { place = p; panel = b })).panel
   pub stops : is_online p.presence ≡ true → StopsAt entry (due_of (refreshed entry b p)) (refreshes entry (record { place = p; panel = b })).panel
   pub wanted : (refreshed entry b p).wanted ≡ p.wanted
@@ -58,7 +58,7 @@ pub record IsTaken (entry : ℕ) (b : BusState) (p : PlaceState) : Type 0 where
 pub data Move : Type 0 where
   Wants : Command → Move
   Heeds : Report → ℕ → Move
-  Acts : BusState → ℕ → Move
+  Acts : PanelState → ℕ → Move
 
 -- the entry after it, where the number of the entry and the pause of the site are these
 abbrev pub after_move : ℕ → ℕ → Move → PlaceState → PlaceState

@@ -2,7 +2,7 @@
 
 ghost use Rattle.std.specs.Prelude.{ℕ, List};
 ghost use Rattle.std.specs.List.{All};
-ghost use Rattle.osdp_bus.specs.Buses.{BusState};
+ghost use Rattle.osdp_orders.specs.Orders.{PanelState};
 ghost use Rattle.osdp_controller.specs.declared.report.Report.{Report};
 ghost use Rattle.osdp_site.specs.Laws.{IsFirstBegin, IsState, IsTaken, Move, NoneIsDue, OnlineBetween, SubmittedOnce, WaitsForThePause, after_moves};
 ghost use Rattle.osdp_site.specs.Places.{PlaceState, new_place};
@@ -11,12 +11,12 @@ ghost use Rattle.osdp_site.specs.Sites.{Both, SiteState};
 /// After each opening all that is wanted is submitted once, in the order in which it was wanted, however often the panel refuses some of it; before that
 /// the site doesn't say that it is done.
 pub fn states_are_submitted_once()
-    ensures { (entry now : ℕ) (bs : List BusState) (p : PlaceState) → SubmittedOnce entry now bs p }
+    ensures { (entry now : ℕ) (bs : List PanelState) (p : PlaceState) → SubmittedOnce entry now bs p }
 {}
 
 /// Nothing else is submitted, and nothing to a device that is offline. The panel takes what is; it is stopped by a refusal alone.
 pub fn panels_take_what_is_wanted()
-    ensures { (entry : ℕ) (b : BusState) (p : PlaceState) → IsTaken entry b p }
+    ensures { (entry : ℕ) (b : PanelState) (p : PlaceState) → IsTaken entry b p }
 {}
 
 /// Whatever is called, all that is wanted are states: an order for a time is never given again.

@@ -24,7 +24,6 @@
 #![tactic(auto)]
 
 mod fault;
-mod kept;
 pub mod laws;
 mod place;
 mod site;

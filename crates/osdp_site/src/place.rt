@@ -6,8 +6,8 @@ ghost use Rattle.osdp_site.specs.Acting.{acts_at, begins_anew, submits, submitte
 ghost use Rattle.osdp_site.specs.Places.{after_wants, change_of, changed_unless, due_of, goes_offline, goes_online, heeds, is_due, is_online, is_refreshed, new_place, unless_refused, wants_refusal};
 
 use crate::fault::SiteFault;
-use crate::kept::KeptCommand;
 use crate::subject::Subject;
+use osdp_msg::KeptCommand;
 use osdp_panel::{Command, Entry, Panel, Report};
 use std::alloc::Global;
 use std::marker::Model;
@@ -176,7 +176,7 @@ impl Place {
         ensures panel { panel.new ≡ (submits entry (due_of self.old) panel.old).panel }
     {
         for at in self.done..self.wanted.len() {
-            match panel.submit(entry, &self.wanted[at].lend()) {
+            match panel.submit(entry, &self.wanted[at].command()) {
                 Ok(()) => self.done = at + 1,
                 Err(_) => return,
             }

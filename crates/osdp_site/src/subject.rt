@@ -4,8 +4,7 @@ ghost use Rattle.std.specs.Prelude.{◌≡◌, ◌≤◌, ◌+◌, ◌<◌, ◌^
 ghost use Rattle.osdp_site.specs.States.{buzzer_subject, first_about, is_about, is_same, led_subject, only, output_subject, subject_of, text_subject};
 
 use crate::fault::SiteFault;
-use crate::kept::KeptCommand;
-use osdp_msg::{Record, Records};
+use osdp_msg::{KeptCommand, Record, Records};
 use osdp_panel::{Buzzer, Command, LedRecord, OutputRecord, Text};
 
 /// What a state is of. There is one state of each at a time.
@@ -142,7 +141,7 @@ impl Subject {
         ensures within { IfSome result (λ i. i < length commands.now) }
     {
         for (i, command) in commands.iter().enumerate() {
-            if self.is_of(&command.lend()) {
+            if self.is_of(&command.command()) {
                 return Some(i);
             }
         }
