@@ -4,3 +4,4 @@ pub mod Reported
 pub mod Figures
 pub mod Readers
 pub mod Instances
+pub mod Among

@@ -26,11 +26,11 @@ use Rattle.osdp_card_time_laws.proofs.Queues.{offers, queued_after, released_at}
 -- ---- the exchanges that come before
 
 module _ (last entry : ℕ) (call : Call) (calls : List Call) (b : BusState) (under : IsUnderWay entry b) where
-  near : (before : ℕ) → GoesOutBy last before entry (call ∷ calls) b → (after_call call b).greatest ≤ last
+  pub near : (before : ℕ) → GoesOutBy last before entry (call ∷ calls) b → (after_call call b).greatest ≤ last
   near zero goes = (goes under).0
   near (suc before) goes = (goes under).0
 
-  still_goes : (before : ℕ) → (Begins call entry b → ⊥) → GoesOutBy last before entry (call ∷ calls) b → GoesOutBy last before entry calls (after_call call b)
+  pub still_goes : (before : ℕ) → (Begins call entry b → ⊥) → GoesOutBy last before entry (call ∷ calls) b → GoesOutBy last before entry calls (after_call call b)
   still_goes zero not goes = (goes under).1 not
   still_goes (suc before) not goes = (goes under).2 not
 
@@ -55,16 +55,16 @@ no_poll_left : (place p waits : ℕ) → place ≡ suc p → place + waits ≤ 0
 no_poll_left place p waits is left = omega arith
 
 -- arithmetic on moments alone
-within : (g last answer limit : ℕ) → g ≤ last → last + answer ≤ limit → g ≤ limit
+pub within : (g last answer limit : ℕ) → g ≤ last → last + answer ≤ limit → g ≤ limit
 within g last answer limit near fits = omega arith
 
-answered_within : (g last answer limit : ℕ) → g ≤ last → last + answer ≤ limit → g + answer ≤ limit
+pub answered_within : (g last answer limit : ℕ) → g ≤ last → last + answer ≤ limit → g + answer ≤ limit
 answered_within g last answer limit near fits = omega arith
 
 module _ (time : ℕ → ℕ) (entry limit last : ℕ) (event : Event) (fits : last + time entry ≤ limit) where
   -- ---- it is offered
 
-  told_by : (e : ℕ) (steps : List Step) (b : BusState) (q : Queue) → Well b → e ≤ limit → IsOutstandingAt entry b → EndsBy e (calls_of steps) b
+  pub told_by : (e : ℕ) (steps : List Step) (b : BusState) (q : Queue) → Well b → e ≤ limit → IsOutstandingAt entry b → EndsBy e (calls_of steps) b
       → Serves entry q steps b → q.offered ≡ true → slice_get q.events 0 ≡ Some event → ReportedBy limit event 0 entry q steps b
   told_by e [] b q well soon out ends serves offered front = tt
   told_by e (Queues other ∷ steps) b q well soon out ends serves offered front =
@@ -177,7 +177,7 @@ module _ (time : ℕ → ℕ) (entry limit last : ℕ) (event : Event) (fits : l
 
 -- ---- from any moment on
 
-whole : (g all answer : ℕ) → (g + all) + answer ≤ g + (all + answer)
+pub whole : (g all answer : ℕ) → (g + all) + answer ≤ g + (all + answer)
 whole g all answer = omega arith
 
 pub cards_are_reported : (b : BusState) → Well b → CardsAreReported b

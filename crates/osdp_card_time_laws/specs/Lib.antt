@@ -2,3 +2,4 @@ pub mod Beside
 pub mod Cards
 pub mod Readers
 pub mod Instances
+pub mod Among

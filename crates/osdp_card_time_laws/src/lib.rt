@@ -3,6 +3,7 @@
 #![tactic(auto)]
 
 ghost use Rattle.osdp_bus_laws.specs.Calls.{Always};
+ghost use Rattle.osdp_card_time_laws.specs.Among.{CardsAmongOrders};
 ghost use Rattle.osdp_card_time_laws.specs.Cards.{CardsAreReported, CardsByFigures, CardsInTime};
 ghost use Rattle.osdp_card_time_laws.specs.Instances.{CardIsReached};
 ghost use Rattle.osdp_card_time_laws.specs.Readers.{AnswersTellTheFront, ReadersTakeAsQueues};
@@ -17,6 +18,12 @@ pub fn cards_are_reported()
     ensures turns { Always CardsAreReported }
     ensures answered { Always CardsInTime }
     ensures figures { Always CardsByFigures }
+{}
+
+/// However many orders wait, an event is reported in time where a POLL goes out between any two orders of its entry: for each event to offer before it come a POLL
+/// and an order at the most, and for itself too.
+pub fn cards_come_among_orders()
+    ensures { Always CardsAmongOrders }
 {}
 
 /// The queue of these laws is that of a reader: each packet that its table takes changes it so, and the answer to a POLL is the front, which the controller's
