@@ -291,6 +291,10 @@ def late_readers():
     for loss in LOSSES:
         for delay in range(205, 591, 35):
             yield Case(f"late by 205 to 590 ms, losses {loss:.0%}", Line(f"late {delay}", loss, delay=delay, wait=200, repeats=8, pause=50, **QUIET), noticed=(LATE,))
+        for number in (True, False):
+            for delay in range(240, 391, 35):
+                busy = Line(f"late and busy {delay}", loss, delay=delay, wait=200, repeats=8, pause=50, **QUIET | {"busy": 0.2, "busy_number": number})
+                yield Case(f"late and busy, losses {loss:.0%}", busy, noticed=(LATE,))
         yield Case(f"a hasty panel, losses {loss:.0%}", Line("hasty", loss, delay=100, wait=60, repeats=8, pause=5, **QUIET), noticed=(LATE,))
 
 

@@ -111,6 +111,17 @@ is_doubtful k p r = is_late k p r || is_of_either k p r || is_unheard k p r
 abbrev pub is_owed : Known → Bool
 is_owed k = k.owing || is_some k.earlier
 
+-- a BUSY with number 0, which doesn't say what it answers
+abbrev pub has_no_number : Said → ℕ → Bool
+has_no_number Busy number = number == 0
+has_no_number Damage number = false
+has_no_number Refusal number = false
+has_no_number Answer number = false
+
+-- .. where a reply may still come to another packet or to another copy: nobody can tell which it answers
+abbrev pub is_stray : Known → Packet → Bool
+is_stray k r = has_no_number (said r) r.sequence && is_owed k
+
 -- one more reply to this copy
 abbrev pub is_one_more : Known → Packet → Bool
 is_one_more k r = k.replied && not (is_damage (said r))
@@ -151,9 +162,9 @@ after_reply_of Damage k p r = k
 after_reply_of Refusal k p r = record k { replied = true; taken = None; stored = None }
 after_reply_of Answer k p r = after_answer (is_some (repeat_reply k p)) p.sequence k r
 
--- What comes late changes nothing. Where a packet wasn't heard nothing is known any more.
+-- What comes late changes nothing, nor does a BUSY of which nobody can tell what it answers. Where a packet wasn't heard nothing is known any more.
 abbrev pub after_reply : Known → Packet → Packet → Known
-after_reply k p r = if is_late k p r then k else if is_unheard k p r then nothing_known else after_reply_of (said r) k p r
+after_reply k p r = if is_late k p r || is_stray k r then k else if is_unheard k p r then nothing_known else after_reply_of (said r) k p r
 
 -- a NAK, whatever its reason
 abbrev pub is_nak : Result Reply MsgFault → Bool

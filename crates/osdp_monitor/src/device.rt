@@ -7,7 +7,7 @@ ghost use Rattle.osdp_monitor.specs.Line.{after_reply_if, expected_if, found_in_
 ghost use Rattle.osdp_monitor.specs.Panel.{after_another, after_sent, is_waiting};
 ghost use Rattle.osdp_frame.specs.Packet.{Packet};
 ghost use Rattle.osdp_monitor.specs.Private.{AnswersPoll, IsNext, IsSpelledIf};
-ghost use Rattle.osdp_monitor.specs.Reader.{after_answer, after_own, has_earlier_number, is_doubtful, is_late, is_of_either, is_one_more, is_owed, is_unheard, reader_accused, repeat_reply};
+ghost use Rattle.osdp_monitor.specs.Reader.{after_answer, after_own, has_earlier_number, is_doubtful, is_late, is_of_either, is_one_more, is_owed, is_stray, is_unheard, reader_accused, repeat_reply};
 ghost use Rattle.osdp_monitor.specs.Saying.{reply_told, said};
 
 use crate::accusation::Accusation;
@@ -15,7 +15,9 @@ use crate::found::{Found, NOTHING, Notice};
 use crate::kept::KeptPacket;
 use crate::panel::{is_after, is_number, sent_after};
 use crate::reader::{answer_accused, busy_accused, refusal_accused};
-use crate::said::{ReadReply, Said, is_nak, moved_by, read_command, said_in, tells_number};
+use crate::said::{
+    ReadReply, Said, has_no_number, is_nak, moved_by, read_command, said_in, tells_number,
+};
 use osdp_frame::{Address, Burst, FrameView, Seq};
 use osdp_msg::Reply;
 use std::marker::Model;
@@ -245,6 +247,13 @@ impl Device {
         self.owing || self.earlier.is_some()
     }
 
+    /// Whether nobody can tell what it answers: a BUSY with number 0, where a reply may still come to another packet or to another copy.
+    fn is_stray(&self, reply: &ReadReply<'_, '_>) -> bool
+        ensures { result ≡ is_stray self.now reply.now }
+    {
+        has_no_number(said_in(reply.read), reply.packet.seq().get()) && self.is_owed()
+    }
+
     /// Whether it is one more reply to this copy.
     fn is_one_more(&self, reply: &ReadReply<'_, '_>) -> bool
         ensures { result ≡ is_one_more self.now reply.now }
@@ -343,7 +352,7 @@ impl Device {
         let Some(last) = self.last.view() else {
             return;
         };
-        if self.is_late(&last, reply) {
+        if self.is_late(&last, reply) || self.is_stray(reply) {
             return;
         }
         if self.is_unheard(&last, reply) {

@@ -2,7 +2,7 @@
 
 ghost use Rattle.std.specs.Prelude.{◌≡◌, ◌↔◌, ℕ, Ok, true};
 ghost use Rattle.osdp_controller.specs.Answers.{meaning_by_reading, meaning_by_reason};
-ghost use Rattle.osdp_monitor.specs.Reader.{is_nak, tells_number};
+ghost use Rattle.osdp_monitor.specs.Reader.{has_no_number, is_nak, tells_number};
 ghost use Rattle.osdp_monitor.specs.Saying.{asked, is_foreign, is_unknown, moved_by, reply_told, said_by};
 
 use osdp_frame::{Address, FrameView};
@@ -118,6 +118,16 @@ pub(crate) fn tells_number(said: Said, number: u8) -> bool
         Said::Busy => number != 0,
         Said::Damage => false,
         Said::Refusal | Said::Answer => true,
+    }
+}
+
+/// Whether a reply is a BUSY with number 0, which doesn't say what it answers.
+pub(crate) fn has_no_number(said: Said, number: u8) -> bool
+    ensures { result ≡ has_no_number said number }
+{
+    match said {
+        Said::Busy => number == 0,
+        Said::Damage | Said::Refusal | Said::Answer => false,
     }
 }
 

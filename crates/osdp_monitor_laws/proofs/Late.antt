@@ -1,17 +1,18 @@
 -- What a reply does to what is known, by whether it comes late, whether its packet was heard, and its number.
-use Rattle.std.proofs.Common.{◌≡◌, ◌≢◌, ℕ, Bool, true, false, cond, eqb, not, ◌&&◌, sym, ◌∙◌}
-use Rattle.std.proofs.lemmas.Bool.{and_right, cond-false, cond_both, eq-eqb, eqb-false, eqb-true, ne_eqb, not_from_true}
+use Rattle.std.proofs.Common.{◌≡◌, ◌≢◌, ℕ, Bool, true, false, cond, eqb, not, ◌&&◌, ◌||◌, sym, ap, ◌∙◌}
+use Rattle.std.proofs.lemmas.Bool.{and_left, and_right, cond-false, cond_both, eq-eqb, eqb-false, eqb-true, ne_eqb, not_from_true, or_from}
 use Rattle.osdp_frame.specs.Packet.{Packet, next_sequence}
 use Rattle.osdp_monitor.specs.Known.{Known, nothing_known}
-use Rattle.osdp_monitor.specs.Reader.{after_answer, after_other, after_own, after_reply, after_reply_of, has_earlier_number, is_late, is_unheard}
+use Rattle.osdp_monitor.specs.Reader.{after_answer, after_other, after_own, after_reply, after_reply_of, has_earlier_number, has_no_number, is_late, is_owed, is_stray, is_unheard}
+use Rattle.osdp_monitor.specs.declared.said.Said.TheVariants.{Answer}
 use Rattle.osdp_monitor.specs.Saying.{is_answer, said}
 use Rattle.osdp_monitor_laws.proofs.Numbers.{next_differs}
 
--- nothing is new after a late one, and nothing is known where its packet wasn't heard
-pub by_fate : (P : Known → Type 0) (k : Known) (p q : Packet) → (is_late k p q ≡ true → P k) → (is_unheard k p q ≡ true → P nothing_known)
+-- nothing is new after a late one or a stray BUSY, and nothing is known where its packet wasn't heard
+pub by_fate : (P : Known → Type 0) (k : Known) (p q : Packet) → ((is_late k p q || is_stray k q) ≡ true → P k) → (is_unheard k p q ≡ true → P nothing_known)
     → P (after_reply_of (said q) k p q) → P (after_reply k p q)
 by_fate P k p q late unheard judged =
-    cond_both (is_late k p q) k (cond (is_unheard k p q) nothing_known (after_reply_of (said q) k p q)) P late
+    cond_both (is_late k p q || is_stray k q) k (cond (is_unheard k p q) nothing_known (after_reply_of (said q) k p q)) P late
     (λ _. cond_both (is_unheard k p q) nothing_known (after_reply_of (said q) k p q) P unheard (λ _. judged))
 
 -- one with the packet's number never comes late, and its packet was heard
@@ -24,9 +25,14 @@ own_heard k p q number =
     and_right (is_answer (said q) && k.answered) (eqb q.sequence (next_sequence p.sequence))
     (ne_eqb q.sequence (next_sequence p.sequence) (λ next. next_differs p.sequence (sym next ∙ number)))
 
-pub own_counts : (k : Known) (p q : Packet) → q.sequence ≡ p.sequence → after_reply k p q ≡ after_reply_of (said q) k p q
-own_counts k p q number =
-    cond-false (is_late k p q) k (cond (is_unheard k p q) nothing_known (after_reply_of (said q) k p q)) (own_in_time k p q number)
+-- an answer is no stray BUSY
+pub no_stray : (k : Known) (q : Packet) → said q ≡ Answer → is_stray k q ≡ false
+no_stray k q says = and_left (has_no_number (said q) q.sequence) (is_owed k) (ap (λ s. has_no_number s q.sequence) says)
+
+pub own_counts : (k : Known) (p q : Packet) → said q ≡ Answer → q.sequence ≡ p.sequence → after_reply k p q ≡ after_reply_of (said q) k p q
+own_counts k p q says number =
+    cond-false (is_late k p q || is_stray k q) k (cond (is_unheard k p q) nothing_known (after_reply_of (said q) k p q))
+    (or_from (is_late k p q) (is_stray k q) (own_in_time k p q number) (no_stray k q says))
     ∙ cond-false (is_unheard k p q) nothing_known (after_reply_of (said q) k p q) (own_heard k p q number)
 
 -- an answer with the packet's number, or with another one

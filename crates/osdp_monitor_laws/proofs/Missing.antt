@@ -246,7 +246,7 @@ taken_stored a n line r above known from says own is =
     (λ _ _ last before _.
     let same : known.0.0 ≡ last = same_some known.0.0 last (sym known.0.1 ∙ before) in
     let number : last.sequence ≡ n = sym (ap (λ (y : Packet). y.sequence) same) ∙ known.0.2 in
-    subst (IsStored n r) (sym (own_counts k last r (own ∙ sym number)))
+    subst (IsStored n r) (sym (own_counts k last r says (own ∙ sym number)))
     (subst (λ s. IsStored n r (after_reply_of s k last r)) (sym says)
     (answer_stored n k last r above number before (new_repeat k last n number known.1) (own ∙ sym number))))
 

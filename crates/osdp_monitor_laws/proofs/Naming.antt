@@ -18,7 +18,7 @@ use Rattle.osdp_monitor.specs.declared.said.Said.TheVariants.{Busy, Damage, Refu
 use Rattle.osdp_monitor.specs.Known.{Known, is_number, same_check, same_packet}
 use Rattle.osdp_monitor.specs.Line.{Knowledge, after_items, after_packet, found_in}
 use Rattle.osdp_monitor.specs.Panel.{after_another, after_copy, after_sent, is_waiting, keeps_number, left_waiting, panel_accused, sent_after}
-use Rattle.osdp_monitor.specs.Reader.{after_answer, after_reply, after_reply_of, answer_accused, fit_accused, has_earlier_number, is_doubtful, is_event_at_zero, is_late, is_of_either, is_one_more, is_owed, is_plain, is_unheard, reader_accused, reading_accused, repeat_reply, reply_accused, taken_accused, tells_number, turn_accused}
+use Rattle.osdp_monitor.specs.Reader.{after_answer, after_reply, after_reply_of, answer_accused, fit_accused, has_earlier_number, has_no_number, is_doubtful, is_event_at_zero, is_late, is_of_either, is_one_more, is_owed, is_plain, is_stray, is_unheard, reader_accused, reading_accused, repeat_reply, reply_accused, taken_accused, tells_number, turn_accused}
 use Rattle.osdp_monitor.specs.Saying.{asked, is_answer, is_damage, reply_told, said}
 use Rattle.osdp_monitor_laws.proofs.Agreeing.{none_some, same_some, sent_asked}
 use Rattle.osdp_monitor_laws.proofs.Late.{by_fate, by_number, own_counts}
@@ -127,7 +127,7 @@ done a q line r above from says number known is =
     (λ _ _ last before _.
     let same : q ≡ last = same_some q last (sym known.0 ∙ before) in
     subst (λ x. IsDone q (after_reply k x r)) same
-    (subst (IsDone q) (sym (own_counts k q r number))
+    (subst (IsDone q) (sym (own_counts k q r says number))
     (subst (λ s. IsDone q (after_reply_of s k q r)) (sym says) (done_own k q r above known number))))
 
 -- the packet after it
@@ -252,6 +252,9 @@ module _ (n : ℕ) (q : Packet) (k : Known) (known : IsFresh n q k) (r : Packet)
 
   pub in_time : is_late k q r ≡ false
   in_time = and_left (has_earlier_number k r) (not (eqb r.sequence q.sequence)) none_earlier
+
+  not_stray : is_stray k r ≡ false
+  not_stray = and_right (has_no_number (said r) r.sequence) (is_owed k) (or_from k.owing (is_some k.earlier) known.owing (ap is_some known.earlier))
 
   pub heard : is_unheard k q r ≡ false
   heard =
@@ -451,7 +454,7 @@ replied a n q line r from some known is =
     (λ _ _ last before unheard.
     let same : q ≡ last = same_some q last (sym known.last ∙ before) in
     subst (λ x. IsReplied q (after_reply k x r)) same
-    (by_fate (IsReplied q) k q r (λ late. absurd (false≢true (sym (in_time n q k known r) ∙ late)))
+    (by_fate (IsReplied q) k q r (λ late. absurd (false≢true (sym (or_from (is_late k q r) (is_stray k r) (in_time n q k known r) (not_stray n q k known r)) ∙ late)))
     (λ missed. absurd (false≢true (sym (heard n q k known r) ∙ missed))) (replied_by (said r) n q k r some known)))
 
 second_accused : (q : Packet) (k : Known) (s : Packet) → IsReplied q k → said s ≢ Damage → s.sequence ≢ next_sequence q.sequence

@@ -1,6 +1,6 @@
 -- A panel and a listener on two wires: what the listener knows fits the panel, whatever happens.
 use Rattle.std.proofs.Common.{◌≡◌, inl, inr, ℕ, ◌+◌, Bool, true, false, eqb, ◌&&◌, not, List, [], ◌∷◌, ◌++◌, Option, Some, None, refl, sym, subst, ap, ◌∙◌}
-use Rattle.std.proofs.lemmas.Bool.{cond_both, eqb-true, false≢true}
+use Rattle.std.proofs.lemmas.Bool.{cond_both, eqb-true, false≢true, or_from}
 use Rattle.std.specs.Prelude.{is_some, nat_lt, option_to_list}
 use Rattle.osdp_controller.specs.declared.config.ControllerConfig.{ControllerConfig}
 use Rattle.osdp_controller.specs.declared.exchange.Exchange.{Exchange}
@@ -18,11 +18,11 @@ use Rattle.osdp_monitor.specs.declared.said.Said.{Said}
 use Rattle.osdp_monitor.specs.declared.said.Said.TheVariants.{Busy, Damage, Refusal, Answer}
 use Rattle.osdp_monitor.specs.Known.{Known, nothing_known}
 use Rattle.osdp_monitor.specs.Line.{Knowledge, after_packet, no_knowledge}
-use Rattle.osdp_monitor.specs.Reader.{after_reply, after_reply_of, repeat_reply}
+use Rattle.osdp_monitor.specs.Reader.{after_reply, after_reply_of, is_late, is_stray, repeat_reply}
 use Rattle.osdp_monitor.specs.Saying.{said}
 use Rattle.osdp_monitor_laws.proofs.Agreeing.{none_some, same_some, sent_asked}
 use Rattle.osdp_monitor_laws.proofs.Knowing.{at_address, sent_in_order}
-use Rattle.osdp_monitor_laws.proofs.Late.{by_fate, by_number, own_counts, own_in_time}
+use Rattle.osdp_monitor_laws.proofs.Late.{by_fate, by_number, no_stray, own_counts, own_in_time}
 use Rattle.osdp_monitor_laws.proofs.PanelFits.{Fits, FitsIn, IsOut, IsTaken, MaySend, Sends, TickFits, frame, hear_fits, tick_fits}
 use Rattle.osdp_monitor_laws.specs.PanelLine.{AccusesNoPanel, ADeviceAlone, AreAllowed, Begin, Both, Forget, IsAllowed, ListenerAlone, MaySay, Nobody, PanelAlone, PanelLine, PanelMove, Reaches, Reads, Restart, Retarget, Say, Skip, Submit, TheListener, Tick, Withdraw, accused_of, after_move, after_said, after_sent, new_line, panel_accusations, panel_accused_by, sent_at}
 
@@ -42,7 +42,7 @@ answered_by Answer k p q is = by_number (λ j. j.answered ≡ true) (is_some (re
 
 pub answers : (k : Known) (p q : Packet) → said q ≡ Answer → q.sequence ≡ p.sequence → (after_reply k p q).answered ≡ true
 answers k p q says number =
-    ap (λ j. j.answered) (own_counts k p q number)
+    ap (λ j. j.answered) (own_counts k p q says number)
     ∙ subst (λ s. (after_reply_of s k p q).answered ≡ true) (sym says)
     (by_number (λ j. j.answered ≡ true) (is_some (repeat_reply k p)) p.sequence k q (λ _. refl) (λ other. absurd (other number)))
 
@@ -120,11 +120,11 @@ answers_last known p a reply here =
     let k = known.devices a in
     by_fate (λ j. (q : Packet) → j.last ≡ Some q → p.sequence ≡ q.sequence → said p ≡ Answer → j.answered ≡ true) k last p
     (λ late q is number says.
-    absurd (false≢true (sym (own_in_time k last p (number ∙ ap (λ x. x.sequence) (same_some q last (sym is ∙ before)))) ∙ late)))
+    absurd (false≢true (sym (or_from (is_late k last p) (is_stray k p) (own_in_time k last p (number ∙ ap (λ x. x.sequence) (same_some q last (sym is ∙ before)))) (no_stray k p says)) ∙ late)))
     (λ _ q is. absurd (none_some q is))
     (λ q is number says.
     let own : p.sequence ≡ last.sequence = number ∙ ap (λ x. x.sequence) (same_some q last (sym is ∙ last_by (said p) k last p ∙ before)) in
-    ap (λ j. j.answered) (sym (own_counts k last p own)) ∙ answers k last p says own))
+    ap (λ j. j.answered) (sym (own_counts k last p says own)) ∙ answers k last p says own))
 
 from_parts : (a b c : Bool) → (a && b && c) ≡ true → (a ≡ true) × (b ≡ true)
 from_parts true true c is = (refl, refl)

@@ -1,9 +1,9 @@
 -- A reply that comes late is told so.
-use Rattle.std.proofs.Common.{◌≡◌, ◌≢◌, inl, inr, ℕ, true, false, cond, eqb, ◌&&◌, ◌||◌, not, ◌∷◌, ◌++◌, Option, Some, None, refl, sym, subst, ap, ◌∙◌}
+use Rattle.std.proofs.Common.{◌≡◌, ◌≢◌, inl, inr, ℕ, true, false, cond, eqb, ◌&&◌, ◌||◌, not, List, [], ◌∷◌, ◌++◌, Option, Some, None, refl, sym, subst, ap, ◌∙◌}
 use Rattle.std.proofs.lemmas.Bool.{and_from, cond-false, cond-true, cond_both, eq-eqb, false≢true, ne_eqb, not_from_false, or_from, or_left, or_right}
 use Rattle.std.specs.Prelude.{is_some}
 use Rattle.osdp_frame.specs.Packet.{Packet}
-use Rattle.osdp_frame.specs.Reading.{PacketItem}
+use Rattle.osdp_frame.specs.Reading.{PacketItem, RunItem}
 use Rattle.osdp_monitor.specs.declared.accusation.Accusation.TheVariants.{SecondReply}
 use Rattle.osdp_monitor.specs.declared.found.Found.{Found}
 use Rattle.osdp_monitor.specs.declared.found.Notice.TheVariants.{Late, Unsure}
@@ -12,15 +12,15 @@ use Rattle.osdp_monitor.specs.declared.said.Said.TheVariants.{Busy, Damage, Refu
 use Rattle.osdp_monitor.specs.Known.{Known, is_number, same_packet}
 use Rattle.osdp_monitor.specs.Line.{Knowledge, after_items, after_packet, found_in, found_in_reply, found_in_sent, late_notice, moves_to, nothing_found, reply_notice}
 use Rattle.osdp_monitor.specs.Panel.{after_another, after_copy, after_sent, is_waiting, keeps_number, left_waiting}
-use Rattle.osdp_monitor.specs.Reader.{after_reply_of, has_earlier_number, is_doubtful, is_late, is_of_either, is_one_more, is_owed, is_unheard, reader_accused, repeat_reply, reply_accused, tells_number}
+use Rattle.osdp_monitor.specs.Reader.{after_reply, after_reply_of, has_earlier_number, has_no_number, is_doubtful, is_late, is_of_either, is_one_more, is_owed, is_stray, is_unheard, reader_accused, repeat_reply, reply_accused, tells_number}
 use Rattle.osdp_monitor.specs.Saying.{is_foreign, said}
 use Rattle.osdp_monitor_laws.proofs.Agreeing.{none_some, same_some, sent_asked}
 use Rattle.osdp_monitor_laws.proofs.Late.{by_fate, by_number}
 use Rattle.osdp_monitor_laws.proofs.PanelLines.{last_by}
 use Rattle.osdp_monitor_laws.proofs.Remembering.{after_append, after_one, at_remembered, forgotten_append, items_keep}
 use Rattle.osdp_monitor_laws.proofs.Same.{is_packet, packet_is}
-use Rattle.osdp_monitor_laws.specs.Late.{HasItsNumber, IsCopyOrOther, IsNone, TellsLateAnswers}
-use Rattle.osdp_monitor_laws.specs.Misses.{IsCopyOrReply, IsFrom, IsRemembered, IsTo}
+use Rattle.osdp_monitor_laws.specs.Late.{HasItsNumber, IsCopyOrOther, IsNone, LeavesStrayBusy, TellsLateAnswers}
+use Rattle.osdp_monitor_laws.specs.Misses.{Each, IsCopyOrReply, IsFrom, IsRemembered, IsTo, NothingForgotten}
 
 -- what no reply changes
 owing_by : (s : Said) (k : Known) (p x : Packet) → (after_reply_of s k p x).owing ≡ k.owing
@@ -182,29 +182,81 @@ reply_found P line a q r from device plain last holds =
     (subst (λ b. P (found_in_reply (line.devices b).last (line.devices b) r)) (sym from.1)
     (subst (λ o. P (found_in_reply o (line.devices a) r)) (sym last) holds)))
 
+module _ (line : Knowledge) (a : ℕ) (p : Packet) (between since : List RunItem) (q : Packet) (after : List RunItem) where
+  sent_twice : List RunItem
+  sent_twice = PacketItem p ∷ between ++ PacketItem p ∷ (since ++ PacketItem q ∷ after)
+
+  -- the line then
+  then_known : Knowledge
+  then_known = after_items (after_packet (after_items (after_packet (after_items (after_packet line p) between) p) since) q) after
+
+  whole_line : after_items line sent_twice ≡ then_known
+  unfolding sent_twice then_known
+  whole_line =
+      let line0 = after_packet line p in
+      let line1 = after_items line0 between in
+      let line2 = after_packet line1 p in
+      let line3 = after_items line2 since in
+      after_one line (PacketItem p) (between ++ PacketItem p ∷ (since ++ PacketItem q ∷ after))
+      ∙ after_append line0 between (PacketItem p ∷ (since ++ PacketItem q ∷ after))
+      ∙ after_one line1 (PacketItem p) (since ++ PacketItem q ∷ after)
+      ∙ after_append line2 since (PacketItem q ∷ after) ∙ after_one line3 (PacketItem q) after
+
+  still_left : IsTo a p → Each a IsNone between → Each a (IsCopyOrReply p) since → IsTo a q → q.sequence ≢ p.sequence → Each a (IsCopyOrOther q) after
+      → NothingForgotten a sent_twice line → IsLeft p.sequence q (then_known.devices a)
+  unfolding sent_twice then_known
+  still_left to quiet copies next other others nothing =
+      let line0 = after_packet line p in
+      let line1 = after_items line0 between in
+      let line2 = after_packet line1 p in
+      let line3 = after_items line2 since in
+      let line4 = after_packet line3 q in
+      let rest = forgotten_append a line0 between (PacketItem p ∷ (since ++ PacketItem q ∷ after)) nothing.1 in
+      let last = forgotten_append a line2 since (PacketItem q ∷ after) rest.1.1 in
+      let silent : IsSilent p (line1.devices a) =
+      items_keep a (IsSilent p) IsNone (silent_step a p) between line0 (silent_first a line p to nothing.0) rest.0 quiet in
+      let owing : IsOwing p (line3.devices a) =
+      items_keep a (IsOwing p) (IsCopyOrReply p) (owing_step a p) since line2 (owing_first a line1 p to silent rest.1.0) last.0 copies in
+      items_keep a (IsLeft p.sequence q) (IsCopyOrOther q) (left_step a p.sequence q next.0) after line4 (left_first a p line3 q next other owing last.1.0) last.1.1 others
+
 pub tells_late_answers : TellsLateAnswers
+unfolding sent_twice
 tells_late_answers line a p between since q after r to quiet copies next other others nothing from plain says number stays =
-    let line0 = after_packet line p in
-    let line1 = after_items line0 between in
-    let line2 = after_packet line1 p in
-    let line3 = after_items line2 since in
-    let line4 = after_packet line3 q in
-    let line5 = after_items line4 after in
-    let rest = forgotten_append a line0 between (PacketItem p ∷ (since ++ PacketItem q ∷ after)) nothing.1 in
-    let last = forgotten_append a line2 since (PacketItem q ∷ after) rest.1.1 in
-    let silent : IsSilent p (line1.devices a) =
-    items_keep a (IsSilent p) IsNone (silent_step a p) between line0 (silent_first a line p to nothing.0) rest.0 quiet in
-    let owing : IsOwing p (line3.devices a) =
-    items_keep a (IsOwing p) (IsCopyOrReply p) (owing_step a p) since line2 (owing_first a line1 p to silent rest.1.0) last.0 copies in
-    let left : IsLeft p.sequence q (line5.devices a) =
-    items_keep a (IsLeft p.sequence q) (IsCopyOrOther q) (left_step a p.sequence q next.0) after line4 (left_first a p line3 q next other owing last.1.0) last.1.1 others in
-    let k = line5.devices a in
+    let now = then_known line a p between since q after in
+    let left : IsLeft p.sequence q (now.devices a) = still_left line a p between since q after to quiet copies next other others nothing in
+    let k = now.devices a in
     let late : is_late k q r ≡ true = comes_late k p.sequence q r left.1 other says number in
-    let whole : after_items line (PacketItem p ∷ between ++ PacketItem p ∷ (since ++ PacketItem q ∷ after)) ≡ line5 =
-    after_one line (PacketItem p) (between ++ PacketItem p ∷ (since ++ PacketItem q ∷ after))
-    ∙ after_append line0 between (PacketItem p ∷ (since ++ PacketItem q ∷ after))
-    ∙ after_one line1 (PacketItem p) (since ++ PacketItem q ∷ after)
-    ∙ after_append line2 since (PacketItem q ∷ after) ∙ after_one line3 (PacketItem q) after in
-    subst (λ (known : Knowledge). ((found_in known r).accusation ≡ None) × ((found_in known r).notice ≡ Some Late)) (sym whole)
-    (reply_found (λ (f : Found). (f.accusation ≡ None) × (f.notice ≡ Some Late)) line5 a q r from (λ all. nothing.0.0 (to.1 ∙ all)) plain left.0
+    subst (λ (known : Knowledge). ((found_in known r).accusation ≡ None) × ((found_in known r).notice ≡ Some Late)) (sym (whole_line line a p between since q after))
+    (reply_found (λ (f : Found). (f.accusation ≡ None) × (f.notice ≡ Some Late)) now a q r from (λ all. nothing.0.0 (to.1 ∙ all)) plain left.0
     (late_accused k q r late, late_told k q r (moves_to (Some q) r) stays late left.1.1))
+
+-- ---- a BUSY of which nobody can tell what it answers
+
+stray : (n : ℕ) (q : Packet) (k : Known) (r : Packet) → IsLeft n q k → said r ≡ Busy → r.sequence ≡ 0 → is_stray k r ≡ true
+stray n q k r left busy zero =
+    and_from (has_no_number (said r) r.sequence) (is_owed k) (ap (λ s. has_no_number s r.sequence) busy ∙ eq-eqb r.sequence 0 zero)
+    (or_right k.owing (is_some k.earlier) (ap is_some left.1.0))
+
+left_alone : (k : Known) (q r : Packet) → is_stray k r ≡ true → after_reply k q r ≡ k
+left_alone k q r is = cond-true (is_late k q r || is_stray k r) k _ (or_right (is_late k q r) (is_stray k r) is)
+
+nothing_after : (l : Knowledge) → after_items l [] ≡ l
+unfolding after_items
+nothing_after l = refl
+
+pub leaves_stray_busy : LeavesStrayBusy
+unfolding sent_twice
+leaves_stray_busy line a p between since q after r to quiet copies next other others nothing from busy zero =
+    let items = sent_twice line a p between since q after in
+    let now = then_known line a p between since q after in
+    let k = now.devices a in
+    let parts = forgotten_append a line items (PacketItem r ∷ []) nothing in
+    let left : IsLeft p.sequence q k = still_left line a p between since q after to quiet copies next other others parts.0 in
+    let is : IsRemembered a (PacketItem r) now = subst (λ (l : Knowledge). IsRemembered a (PacketItem r) l) (whole_line line a p between since q after) parts.1.0 in
+    let same : (after_packet now r).devices a ≡ k =
+    at_remembered a (λ j. j ≡ k) now r is (λ _. refl) (λ _ _ _. refl) (λ _ sent. absurd (false≢true (sym sent ∙ from.0)))
+    (λ _ _ last _ _. left_alone k last r (stray p.sequence q k r left busy zero)) in
+    ap (λ (l : Knowledge). l.devices a) (after_append line items (PacketItem r ∷ []))
+    ∙ ap (λ (l : Knowledge). (after_items l (PacketItem r ∷ [])).devices a) (whole_line line a p between since q after)
+    ∙ ap (λ (l : Knowledge). l.devices a) (after_one now (PacketItem r) [] ∙ nothing_after (after_packet now r))
+    ∙ same ∙ ap (λ (l : Knowledge). l.devices a) (sym (whole_line line a p between since q after))

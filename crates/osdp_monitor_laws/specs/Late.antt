@@ -1,5 +1,5 @@
 -- Answers that come later than their panel waits.
-use Rattle.std.specs.Prelude.{◌≡◌, ◌≢◌, ◌⊎◌, ℕ, true, false, List, ◌∷◌, ◌++◌, Some, None}
+use Rattle.std.specs.Prelude.{◌≡◌, ◌≢◌, ◌⊎◌, ℕ, true, false, List, [], ◌∷◌, ◌++◌, Some, None}
 use Rattle.osdp_frame.specs.Packet.{Packet}
 use Rattle.osdp_frame.specs.Reading.{RunItem, PacketItem}
 use Rattle.osdp_monitor.specs.declared.found.Notice.TheVariants.{Late}
@@ -30,3 +30,13 @@ TellsLateAnswers = (line : Knowledge) (address : ℕ) (p : Packet) (between sinc
     → IsFrom address r → is_foreign r ≡ false → HasItsNumber r → r.sequence ≡ p.sequence → moves_to (Some q) r ≡ None
     → let found = found_in (after_items line (PacketItem p ∷ between ++ PacketItem p ∷ (since ++ PacketItem q ∷ after))) r in
     (found.accusation ≡ None) × (found.notice ≡ Some Late)
+
+-- The same line, and a BUSY with number 0 in place of that reply: nobody can tell whether it answers the first packet or the second. All that is known of the
+-- address stays as it is.
+abbrev pub LeavesStrayBusy : Type 0
+LeavesStrayBusy = (line : Knowledge) (address : ℕ) (p : Packet) (between since : List RunItem) (q : Packet) (after : List RunItem) (r : Packet)
+    → IsTo address p → Each address IsNone between → Each address (IsCopyOrReply p) since
+    → IsTo address q → q.sequence ≢ p.sequence → Each address (IsCopyOrOther q) after
+    → let items = PacketItem p ∷ between ++ PacketItem p ∷ (since ++ PacketItem q ∷ after) in
+    NothingForgotten address (items ++ PacketItem r ∷ []) line → IsFrom address r → said r ≡ Busy → r.sequence ≡ 0
+    → (after_items line (items ++ PacketItem r ∷ [])).devices address ≡ (after_items line items).devices address

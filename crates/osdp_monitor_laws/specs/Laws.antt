@@ -2,7 +2,7 @@
 pub use Rattle.osdp_monitor_laws.specs.Misses.{MissesNoOtherPacket, MissesNoOtherReply, MissesNoUnanswered}
 pub use Rattle.osdp_monitor_laws.specs.AnyReader.{AccusesNoReaderByTheRules}
 pub use Rattle.osdp_monitor_laws.specs.AnyPanel.{AccusesNoPanelByTheRules}
-pub use Rattle.osdp_monitor_laws.specs.Late.{TellsLateAnswers}
+pub use Rattle.osdp_monitor_laws.specs.Late.{LeavesStrayBusy, TellsLateAnswers}
 pub use Rattle.osdp_monitor_laws.specs.Names.{MissesNoPacketOutOfTurn, NamesReaders, NamesSecondReplies}
 pub use Rattle.osdp_monitor_laws.specs.Panels.{AccusesTheSender, NamesPanels}
 pub use Rattle.osdp_monitor_laws.specs.PanelLine.{AccusesNoPanel}

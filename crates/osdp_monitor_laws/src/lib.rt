@@ -2,7 +2,7 @@
 //! their contracts are laws.
 #![tactic(auto)]
 
-ghost use Rattle.osdp_monitor_laws.specs.Laws.{AccusesNoPanel, AccusesNoPanelByTheRules, AccusesNoReader, AccusesNoReaderByTheRules, AccusesTheSender, MissesNoOtherPacket, MissesNoOtherReply, MissesNoPacketOutOfTurn, MissesNoUnanswered, NamesAnswersToRepeats, NamesPanels, NamesReaders, NamesSecondReplies, TellsLateAnswers, TellsNoAnswered, TellsReplies, TellsTooLittle, TellsUnanswered, TellsUnansweredOnce, TellsUnheard};
+ghost use Rattle.osdp_monitor_laws.specs.Laws.{AccusesNoPanel, AccusesNoPanelByTheRules, AccusesNoReader, AccusesNoReaderByTheRules, AccusesTheSender, LeavesStrayBusy, MissesNoOtherPacket, MissesNoOtherReply, MissesNoPacketOutOfTurn, MissesNoUnanswered, NamesAnswersToRepeats, NamesPanels, NamesReaders, NamesSecondReplies, TellsLateAnswers, TellsNoAnswered, TellsReplies, TellsTooLittle, TellsUnanswered, TellsUnansweredOnce, TellsUnheard};
 
 use osdp_reader::Handler;
 
@@ -50,6 +50,11 @@ pub fn misses_no_other_reply()
 /// reader is not accused.
 pub fn tells_late_answers()
     ensures { TellsLateAnswers }
+{}
+
+/// Where nothing was forgotten since, a BUSY with number 0 that may answer either of two packets leaves all that is known of the address as it is.
+pub fn leaves_stray_busy()
+    ensures { LeavesStrayBusy }
 {}
 
 /// Where nothing was forgotten since, a packet whose number is neither 0, nor the last, nor the next is accused so.

@@ -102,8 +102,8 @@ const LATE: &str = "\
 5305070003603E none none none
 5305070003603E none unanswered none
 538507000079A8 none none none
-538507000079A8 none late none
-538507000340DE none late none
+538507000079A8 none none none
+538507000340DE none none none
 53050700006041 none none none
 530508000061003F none unanswered none
 538507000040E1 none opened none
