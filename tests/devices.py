@@ -14,7 +14,7 @@ sys.path.insert(0, str(Path(__file__).resolve().parent.parent / "port"))
 from osdp_port.scenarios import SCENARIOS  # noqa: E402
 from osdp_port.testing import Player, crc, packet  # noqa: E402
 
-ALL = {"silence": 0, "out": 1, "led": 0, "buz": 0, "text": 0, "comset": 0}
+ALL = {"silence": 0, "out": 1, "led": 0, "buz": 0, "text": 0, "comset": 0, "beyond": 0}
 PDID = bytes.fromhex("53494D010101000000010203")
 LENGTHS = {0x60: (0,), 0x61: (1,), 0x62: (1,), 0x64: (0,), 0x65: (0,), 0x66: (0,), 0x67: (0,), 0x6A: (5,), 0x6E: (5,)}
 
@@ -23,9 +23,11 @@ class Device:
     """A device at an address that keeps the rules."""
 
     delay = 5
+    caps = bytes.fromhex("010101 020104 040101 060101 080100 0A0001 0D0001")  # an input, 4 outputs, an LED, 16 characters, CRC, 256 bytes, a reader
+    outputs, leds, characters, buffer = 4, 1, 16, 256
 
     def __init__(self, address=5):
-        self.address, self.last, self.stored, self.events, self.asked = address, None, b"", [], 0
+        self.address, self.last, self.stored, self.events, self.asked, self.at = address, None, b"", [], 0, 0
 
     # ---- what the wrong ones do otherwise
 
@@ -73,7 +75,15 @@ class Device:
         return b"\x45" + PDID
 
     def cap(self):
-        return bytes.fromhex("46020104080100")
+        return b"\x46" + self.caps
+
+    def has(self, code, data):
+        """Whether there is what an order names."""
+        if code == 0x68:
+            return all(output < self.outputs or control == 0 for output, control in zip(data[::4], data[1::4]))
+        if code == 0x69:
+            return all(led < self.leds for led in data[1::14])
+        return code != 0x6B or len(data) - 6 <= self.characters
 
     def status(self, code):
         return {0x64: b"\x48\x00\x00", 0x65: b"\x49\x00", 0x66: b"\x4A\x00\x00\x00\x00", 0x67: b"\x4B\x00"}[code]
@@ -126,7 +136,7 @@ class Device:
             return self.status(code)
         if code == 0x6E:
             return b"\x54" + data
-        return self.acts(code)
+        return self.acts(code) if self.has(code, data) else b"\x41\x09"
 
     def takes_packet(self, data):
         """The answer to a packet whose check is right."""
@@ -153,14 +163,18 @@ class Device:
             self.stored = answer
         return answer
 
+    def takes_large(self, data):
+        """What is said to a packet that is larger than the buffer."""
+        return b""
+
     def leaves(self):
         """An event that was told is over at the next number."""
         if self.stored and self.stored[5:6] in (b"\x50", b"\x53") and self.events:
             self.events.pop(0)
 
     def hears(self, data):
-        """The answer to the bytes between two silences."""
-        answer = b""
+        """The answer to the bytes between two silences. `at` counts the packets among them."""
+        answer, self.at = b"", 0
         while data:
             if data[0] != 0x53:
                 answer += self.noise(data[0])
@@ -172,7 +186,8 @@ class Device:
                 answer += self.damaged(data)
                 data = data[1:]
                 continue
-            answer += self.takes_packet(data[:size])
+            answer += self.takes_large(data[:size]) if size > self.buffer else self.takes_packet(data[:size])
+            self.at += 1
             data = data[size:]
         return self.sent(answer)
 
@@ -188,7 +203,7 @@ class Played(Player):
     def moment(self):
         return self.now
 
-    def hears(self, sent, wait):
+    def hears(self, sent, wait, gap=0.03):
         came = b""
         if self.dice.randrange(100) >= self.loses:
             came = self.device.hears(sent)
@@ -277,7 +292,7 @@ class AnswersTwice(Device):
         return answer + answer
 
 
-@wrong(10)
+@wrong(10, 85)
 class IsLate(Device):
     delay = 500
 
@@ -624,6 +639,131 @@ class CountsNoCharacters(Device):
         return b"\x40" if code == 0x6B else b"\x41\x02"
 
 
+@wrong(71)
+class HasMoreInputsThanItTells(Device):
+    def status(self, code):
+        return b"\x49\x00\x00" if code == 0x65 else super().status(code)
+
+
+@wrong(72)
+class HasFewerOutputsThanItTells(Device):
+    def status(self, code):
+        return b"\x4A\x00\x00\x00" if code == 0x66 else super().status(code)
+
+
+@wrong(72, 74)
+class TellsFewerOutputsThanItHas(Device):
+    caps = bytes.fromhex("010101 020103 040101 060101 080100 0A0001 0D0001")
+
+
+@wrong(74)
+class TakesAnyOutput(Device):
+    def has(self, code, data):
+        return code == 0x68 or super().has(code, data)
+
+
+@wrong(75)
+class TakesAnyLed(Device):
+    def has(self, code, data):
+        return code == 0x69 or super().has(code, data)
+
+
+@wrong(76)
+class TakesATextWithoutADisplay(Device):
+    caps = bytes.fromhex("010101 020104 040101 060000 080100 0A0001 0D0001")
+
+
+@wrong(77)
+class NumbersTheSecondAsTheFirst(Device):
+    number = 0
+
+    def number_of(self, number, body):
+        if not self.at:
+            self.number = number
+        return self.number
+
+
+@wrong(78)
+class SaysTheSameToBothAtOnce(Device):
+    said = b""
+
+    def does(self, body, number):
+        said = super().does(body, number)
+        if not self.at:
+            self.said = said
+        return self.said
+
+
+@wrong(79)
+class RefusesACopyAtOnce(Device):
+    def repeats(self, number, check):
+        return packet(self.address, number, b"\x41\x04", check, True) if self.at else self.stored
+
+
+@wrong(79)
+class ActsOnACopyAtOnce(Device):
+    """Each ID has the number of IDs so far in it."""
+    ids = 0
+
+    def id(self):
+        self.ids += 1
+        return b"\x45" + PDID[:-1] + bytes((self.ids & 0xFF,))
+
+    def repeats(self, number, check):
+        return packet(self.address, number, self.id() if self.stored[5] == 0x45 else self.stored[5:-2], check, True) if self.at else self.stored
+
+
+@wrong(80)
+class ForgetsAfterTwoAtOnce(Device):
+    def hears(self, data):
+        answer = super().hears(data)
+        if self.at > 1:
+            self.last = None
+        return answer
+
+
+@wrong(81)
+class AnswersLargePacketsOfOthers(Device):
+    def takes_large(self, data):
+        return packet(self.address, data[4] & 3, b"\x41\x03", "crc", True) if data[1] != self.address else b""
+
+
+@wrong(82)
+class ForgetsAtALargePacket(Device):
+    def takes_large(self, data):
+        self.last = None
+        return b""
+
+
+@wrong(83)
+class TakesUnknownCodesThatFill(Device):
+    def does(self, body, number):
+        return b"\x40" if len(body) > 100 else super().does(body, number)
+
+
+@wrong(84)
+class RefusesZeroAfterALargePacket(Device):
+    is_full = False
+
+    def takes_large(self, data):
+        self.is_full = data[1] == self.address
+        return b""
+
+    def takes(self, number):
+        was_full, self.is_full = self.is_full, False
+        return not was_full and super().takes(number)
+
+
+@wrong(85)
+class IsLateWithItsOwnState(Device):
+    """It answers LSTAT after 300 ms, and all else in time."""
+
+    def hears(self, data):
+        answer = super().hears(data)
+        self.delay = 300 if answer[5:6] == b"\x48" else 5
+        return answer
+
+
 # ---- the standard otherwise
 
 @tolerant
@@ -713,6 +853,52 @@ class HasACard(Device):
     def __init__(self, address=5):
         super().__init__(address)
         self.events = [bytes.fromhex("5000001A0012345640")] * 3
+
+
+@tolerant
+class TellsLittleOfItself(Device):
+    caps = bytes.fromhex("080100")
+
+
+@tolerant
+class CountsItsOwnReaderNot(Device):
+    caps = bytes.fromhex("010101 020104 040101 060101 080100 0A0001 0D0000")
+
+
+@tolerant
+class CutsLongTexts(Device):
+    characters = 255
+
+
+@tolerant
+class HasALargeBuffer(Device):
+    buffer = 1440
+    caps = bytes.fromhex("010101 020104 040101 060201 080100 0AA005 0D0001")
+    characters = 32
+
+
+@tolerant
+class HearsTheFirstOfTwo(Device):
+    def takes_packet(self, data):
+        return super().takes_packet(data) if not self.at else b""
+
+
+@tolerant
+class HearsNeitherOfTwo(Device):
+    """What comes while it reads a packet makes it drop both."""
+
+    def hears(self, data):
+        size = int.from_bytes(data[2:4], "little")
+        return b"" if data[:1] == b"\x53" and 7 <= size < len(data) and data[size:size + 1] == b"\x53" else super().hears(data)
+
+
+@tolerant
+class HearsTheLastOfTwo(HearsNeitherOfTwo):
+    """The second packet overwrites the first."""
+
+    def hears(self, data):
+        size = int.from_bytes(data[2:4], "little")
+        return Device.hears(self, data[size:] if 7 <= size < len(data) and data[size:size + 1] == b"\x53" else data)
 
 
 def lines_of(device, loses=0, may=None):

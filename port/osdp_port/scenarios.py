@@ -2,7 +2,10 @@
 
 A step is `open` or `ask`, a number, what is sent, and how. `open` makes ready, and `ask` is what the rule is judged by. What is sent is a command's
 name, or `x` and the digits of a body. How: `sum` or `crc`, where both may stand the run's own; `other`, to another device; `reply`, as if a device
-had said it; `block`, with a security block; `filled`, after bytes FF. Bytes that are no packet: `badcheck`, `long`, `short`, `start`, `cut`, `noise`."""
+had said it; `block`, with a security block; `filled`, after bytes FF. Bytes that are no packet: `badcheck`, `long`, `short`, `start`, `cut`, `noise`.
+`+` joins the steps of packets that go out without a pause between them. What is made by what the device told by CAP: `BEYOND-OUT`, `BEYOND-LED` and
+`BEYOND-TEXT`, which name what it doesn't have; `FILLS` and `OVER`, an unknown code that fills its receive buffer, or is larger; `LARGEST` is the
+largest packet of all. `times` judges a rule by the times of all answers."""
 
 NAMES = {
     "POLL": "60", "ID": "6100", "CAP": "6200", "LSTAT": "64", "ISTAT": "65", "OSTAT": "66", "RSTAT": "67",
@@ -84,4 +87,19 @@ SCENARIOS = {
     68: ("buz", f"{OPEN}; ask 1 x6A00010000"),
     69: ("text", f"{OPEN}; ask 1 x6B00010001010220"),
     70: ("comset", f"{OPEN}; ask 1 x6E05802500"),
+    71: ("", "open 0 CAP; ask 1 ISTAT"),
+    72: ("", "open 0 CAP; ask 1 OSTAT"),
+    73: ("", "open 0 CAP; ask 1 RSTAT"),
+    74: ("beyond", "open 0 CAP; ask 1 BEYOND-OUT"),
+    75: ("beyond", "open 0 CAP; ask 1 BEYOND-LED"),
+    76: ("beyond", "open 0 CAP; ask 1 BEYOND-TEXT"),
+    77: ("", f"{OPEN}; ask 1 POLL + ask 2 ID"),
+    78: ("", f"{OPEN}; ask 1 ID + ask 2 CAP"),
+    79: ("", f"{OPEN}; ask 1 ID + ask 1 ID; {OPEN}; ask 1 POLL + ask 1 POLL"),
+    80: ("", f"{OPEN}; open 1 POLL + open 2 ID; ask 3 POLL"),
+    81: ("", f"{OPEN}; ask 1 LARGEST other"),
+    82: ("", f"{OPEN}; {TURN}; open 2 LARGEST other; ask 2 POLL"),
+    83: ("", "open 0 CAP; ask 1 FILLS"),
+    84: ("", f"open 0 CAP; {TURN}; open 2 OVER; ask 0 ID"),
+    85: ("", "times"),
 }

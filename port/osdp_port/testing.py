@@ -10,7 +10,10 @@ TRIES = 3  # how often a packet is sent while nothing is heard
 ANSWER = 1.0  # seconds that an answer is waited for
 QUIET = 0.3  # .. where none is expected
 GAP = 0.03  # seconds of silence after which an answer is over
-ALLOWS = ("silence", "out", "led", "buz", "text", "comset")  # what --may may name; out:N is output N
+ROW_GAP = 0.25  # .. where two answers may come
+LARGEST = 1440  # bytes of the largest packet
+TOLD = ("BEYOND-OUT", "BEYOND-LED", "BEYOND-TEXT", "FILLS", "OVER")  # messages that are made by what the device told by CAP
+ALLOWS = ("silence", "out", "led", "buz", "text", "comset", "beyond")  # what --may may name; out:N is output N
 NOISE = bytes.fromhex("00FF5A5300A5")
 
 
@@ -48,17 +51,59 @@ def damaged(how, address, check):
     return NOISE
 
 
+def caps_in(heard):
+    """What a PDCAP tells: level and count of each function, of the first entry. None where it is none."""
+    data = heard.lstrip(b"\xFF")
+    size = int.from_bytes(data[2:4], "little")
+    if data[:1] != b"\x53" or not 7 <= size <= len(data) or data[5] != 0x46:
+        return None
+    items = data[6:size - (2 if data[4] & 4 else 1)]
+    caps = {}
+    for function, level, count in zip(items[::3], items[1::3], items[2::3]):
+        caps.setdefault(function, (level, count))
+    return caps
+
+
+def filled(size, check):
+    """The body of an unknown code that makes a packet of so many bytes."""
+    return b"\x5F" + b"\xA5" * max(0, min(size, LARGEST) - 6 - (2 if check == "crc" else 1))
+
+
+def beyond(name, caps):
+    """The body of an order to what the device doesn't have by its CAP, or why there is none."""
+    if name == "BEYOND-OUT":
+        return bytes((0x68, caps[2][1], 1, 0, 0)) if 2 in caps else "CAP-tells-no-outputs"
+    if name == "BEYOND-LED":
+        return bytes((0x69, 0, caps[4][1], 0, 0, 0, 0, 0, 0, 0, 1, 1, 0, 0, 0)) if 4 in caps else "CAP-tells-no-LEDs"
+    rooms = {0: 0, 1: 16, 2: 32, 3: 64}
+    if 6 not in caps or caps[6][0] not in rooms:
+        return "CAP-tells-no-display"
+    count = rooms[caps[6][0]] + 1
+    return bytes((0x6B, 0, 1, 0, 1, 1, count)) + b" " * count
+
+
+def large(name, caps, check):
+    """The body of a packet by the receive buffer of CAP, or why there is none."""
+    if 10 not in caps:
+        return "CAP-tells-no-buffer"
+    size = caps[10][0] + 256 * caps[10][1]
+    if name == "FILLS":
+        return filled(size, check)
+    return filled(size + 32, check) if size < LARGEST else "no-packet-is-larger"
+
+
 class Player:
     """Plays scenarios on a port. `write` gets each line for `osdp test`."""
 
     def __init__(self, port, console, address, may, write, check="crc"):
         self.port, self.console, self.address, self.may, self.write, self.check = port, console, address, may, write, check
+        self.caps = None
         self.start = time.monotonic()
 
     def moment(self):
         return int((time.monotonic() - self.start) * 1000)
 
-    def hears(self, sent, wait):
+    def hears(self, sent, wait, gap=GAP):
         """Sends bytes. The bytes that came after them, without their echo, and after how many milliseconds."""
         self.port.read()
         self.port.write(sent)
@@ -67,7 +112,7 @@ class Player:
         limit = wait + 12 * len(sent) / self.port.rate
         while self.port.is_there and not self.console.stops:
             now = time.monotonic()
-            if now > begun + limit + (1.0 if came else 0) or (came and now > last + GAP):
+            if now > begun + limit + (1.0 if came else 0) or (came and now > last + gap):
                 break
             wait_for(self.port, self.console, 0.005, lines=False)
             read = self.port.read()
@@ -81,33 +126,74 @@ class Player:
         took = (first or time.monotonic()) - begun - 12 * len(sent) / self.port.rate
         return came[:4000], max(0, int(took * 1000))
 
-    def sends(self, rule, verb, sent, is_answered):
+    def sends(self, rule, verb, sent, is_answered, gap=GAP):
         """One exchange, again while nothing is heard, or the device is busy."""
+        heard = b""
         for _ in range(TRIES if is_answered else 1):
             moment = self.moment()
-            heard, delay = self.hears(sent, ANSWER if is_answered else QUIET)
+            heard, delay = self.hears(sent, ANSWER if is_answered else QUIET, gap)
             self.write(f"{verb}s {rule} {moment} {sent.hex().upper()} {delay} {heard.hex().upper() or 'none'}")
             if heard and heard.lstrip(b"\xFF")[5:6] != b"\x79":
-                return
+                break
+        return heard
 
-    def step(self, rule, words):
-        verb, number, *how = words
-        if verb == "wait":
-            time.sleep(int(number) / 1000)
-            return
+    def told(self, name, check):
+        """The body of a message that is made by what the device told by CAP, or why there is none."""
+        return beyond(name, self.caps) if name.startswith("BEYOND") else large(name, self.caps, check)
+
+    def lacks(self, steps):
+        """Why the device tells too little by CAP for a scenario, if it does."""
+        for name in TOLD:
+            made = self.told(name, self.check) if self.caps is not None and name in steps else b""
+            if isinstance(made, str):
+                return made
+        return ""
+
+    def body(self, name, check):
+        """The body of a message. None where the device tells too little for it."""
+        if name[0] == "x":
+            return bytes.fromhex(name[1:])
+        if name in NAMES:
+            return bytes.fromhex(NAMES[name].format(out=self.may.get("out", 0)))
+        made = filled(LARGEST, check) if name == "LARGEST" else self.told(name, check) if self.caps is not None else ""
+        return made or None
+
+    def made(self, words):
+        """The bytes of a packet that a step asks. None where the device tells too little for it."""
+        _, number, *how = words
         check = "sum" if "sum" in how else "crc" if "crc" in how else self.check
         if number == "-":
-            self.sends(rule, verb, damaged(how[0], self.address, check), False)
-            return
-        body = how[0][1:] if how[0][0] == "x" else NAMES[how[0]].format(out=self.may.get("out", 0))
+            return damaged(how[0], self.address, check)
+        body = self.body(how[0], check)
+        if not isinstance(body, bytes):
+            return None
         address = (self.address + 1) % 127 if "other" in how else self.address
-        made = packet(address, int(number), bytes.fromhex(body), check, "reply" in how, b"\x02\x15" if "block" in how else b"")
-        self.sends(rule, verb, b"\xFF\xFF" * ("filled" in how) + made, "other" not in how and "reply" not in how)
+        sent = packet(address, int(number), body, check, "reply" in how, b"\x02\x15" if "block" in how else b"")
+        return b"\xFF\xFF" * ("filled" in how) + sent
+
+    def step(self, rule, words):
+        if words[0] == "wait":
+            time.sleep(int(words[1]) / 1000)
+            return
+        if words[0] == "times":
+            self.write(f"times {rule}")
+            return
+        packets = [self.made(part.split()) for part in " ".join(words).split(" + ")]
+        if not all(isinstance(each, bytes) for each in packets):
+            return
+        is_answered = words[1] != "-" and "other" not in words and "reply" not in words
+        heard = self.sends(rule, words[0], b"".join(packets), is_answered, ROW_GAP if len(packets) > 1 else GAP)
+        if words[2] == "CAP":
+            self.caps = caps_in(heard) or self.caps
 
     def plays(self, rule):
         needs, steps = SCENARIOS[rule]
         if needs and needs not in self.may:
             self.write(f"skips {rule} --may={needs}{':N' if needs == 'out' else ''}")
+            return
+        why = self.lacks(steps)
+        if why:
+            self.write(f"skips {rule} {why}")
             return
         for step in steps.split("; "):
             if self.console.stops or not self.port.is_there:

@@ -27,7 +27,7 @@ After ADDRESSES or ADDRESS settings of osdp may stand: panel 5 check sum reply-w
   --trace FILE           of panel, reader and test: all that goes over the line too
   --size MB              a trace that is so large is put aside: 10
   --osdpcap              a trace has a JSON object a line, as other tools read it
-  --may WORDS            of test: what it may do: silence,out:N,led,buz,text,comset
+  --may WORDS            of test: what it may do: silence,out:N,led,buz,text,comset,beyond
   --sum                  of test device: packets end with a checksum, and not with a CRC
   --tap                  of test: verdicts by the Test Anything Protocol
   --set-address N        of find: the device gets this address

@@ -39,4 +39,8 @@ pub enum Aspect {
     Single,
     /// Answers begin within 200 ms.
     Prompt,
+    /// A status list has as many entries as CAP tells.
+    Listed,
+    /// What the device doesn't have by CAP is refused.
+    Beyond,
 }

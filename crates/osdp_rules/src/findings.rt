@@ -11,7 +11,7 @@ use osdp_frame::FrameView;
 use osdp_msg::{Command, MsgFault, Reply};
 
 /// Kept, or broken.
-fn kept_if(is_kept: bool) -> Finding
+pub(crate) fn kept_if(is_kept: bool) -> Finding
     ensures { result ≡ kept_if is_kept }
 {
     if is_kept {
@@ -211,7 +211,9 @@ fn taken_finding(aspect: Aspect, packet: &FrameView<'_>, answer: &FrameView<'_>)
         | Aspect::Quiet
         | Aspect::Deaf
         | Aspect::Single
-        | Aspect::Prompt => Finding::Nothing,
+        | Aspect::Prompt
+        | Aspect::Listed
+        | Aspect::Beyond => Finding::Nothing,
     }
 }
 

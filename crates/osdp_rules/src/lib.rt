@@ -3,6 +3,9 @@
 #![tactic(auto)]
 
 mod aspect;
+mod claiming;
+mod claims;
+mod delays;
 mod finding;
 mod findings;
 mod judging;
@@ -11,6 +14,9 @@ mod packets;
 mod verdict;
 
 pub use aspect::Aspect;
+pub use claiming::claim_judged;
+pub use claims::Claims;
+pub use delays::Delays;
 pub use finding::Finding;
 pub use findings::prompt_finding;
 pub use judging::{count_judged, judged, noise_judged};

@@ -111,6 +111,8 @@ fine_said reads aspect p x suits fits =
     by_aspect rule.Deaf busy = tt
     by_aspect rule.Single busy = tt
     by_aspect rule.Prompt busy = tt
+    by_aspect rule.Listed busy = tt
+    by_aspect rule.Beyond busy = tt
 
 pub busy_fits : (read : Result Command MsgFault) → IsFine (fit_read read 0x79)
 busy_fits (Ok command.Poll) = tt

@@ -35,6 +35,8 @@ pub(crate) enum Said<'a> {
     Exchange(Exchange),
     /// A rule was left out, with the word that allows it.
     Skips(usize, Rule, &'a str),
+    /// A rule is judged by the times of all answers so far.
+    Times((usize, Rule)),
     /// Nothing.
     Nothing,
 }
@@ -74,6 +76,7 @@ pub(crate) fn said_in<'a>(words: &[&'a str]) -> Option<Said<'a>> {
         [] => Some(Said::Nothing),
         ["device", address] => Some(Said::Device(number_u8(address)?)),
         ["skips", number, why] => skips(number, why),
+        ["times", number] => Some(Said::Times(numbered(number)?)),
         ["opens", rest @ ..] => Some(Said::Exchange(exchange_in(false, rest)?)),
         ["asks", rest @ ..] => Some(Said::Exchange(exchange_in(true, rest)?)),
         _ => None,

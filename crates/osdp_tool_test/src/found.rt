@@ -1,10 +1,13 @@
 //! What an exchange shows of its rule.
 
 ghost use Rattle.std.specs.Prelude.{◌≡◌};
-ghost use Rattle.osdp_tool_test.specs.Found.{shown};
+ghost use Rattle.osdp_tool_test.specs.Found.{packet_shown, shown};
 
 use osdp_frame::{Address, FrameView};
-use osdp_rules::{Aspect, Finding, Known, count_judged, judged, noise_judged, prompt_finding};
+use osdp_rules::{
+    Aspect, Claims, Finding, Known, claim_judged, count_judged, judged, noise_judged,
+    prompt_finding,
+};
 
 /// What was sent, and what was heard of it.
 #[derive(Drop)]
@@ -19,9 +22,34 @@ pub(crate) struct Heard<'a> {
     pub delay: u64,
 }
 
-/// What an exchange shows of a rule, by what was known before it.
-pub(crate) fn shown(aspect: Aspect, address: Address, known: &Known, heard: &Heard<'_>) -> Finding
-    ensures { result ≡ shown aspect address known.now heard.now.packet heard.now.answer heard.now.count heard.now.delay }
+/// What a packet and its answer show of a rule: by what the device said by CAP, or by what is known of its numbers.
+fn packet_shown(
+    aspect: Aspect,
+    address: Address,
+    known: &Known,
+    claims: &Claims,
+    packet: &FrameView<'_>,
+    answer: &Option<FrameView<'_>>,
+) -> Finding
+    ensures { result ≡ packet_shown aspect address known.now claims.now packet.now answer.now }
+{
+    match aspect {
+        Aspect::Listed | Aspect::Beyond => {
+            claim_judged(aspect, address, known, claims, packet, answer)
+        }
+        _ => judged(aspect, address, known, packet, answer),
+    }
+}
+
+/// What an exchange shows of a rule, by what was known before it, and what the device said by CAP.
+pub(crate) fn shown(
+    aspect: Aspect,
+    address: Address,
+    known: &Known,
+    claims: &Claims,
+    heard: &Heard<'_>,
+) -> Finding
+    ensures { result ≡ shown aspect address known.now claims.now heard.now.packet heard.now.answer heard.now.count heard.now.delay }
 {
     match aspect {
         Aspect::Single => count_judged(aspect, heard.count),
@@ -33,7 +61,7 @@ pub(crate) fn shown(aspect: Aspect, address: Address, known: &Known, heard: &Hea
             }
         }
         _ => match &heard.packet {
-            Some(packet) => judged(aspect, address, known, packet, &heard.answer),
+            Some(packet) => packet_shown(aspect, address, known, claims, packet, &heard.answer),
             None => noise_judged(aspect, &heard.answer),
         },
     }

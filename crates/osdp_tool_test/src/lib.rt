@@ -8,6 +8,7 @@ mod report;
 mod rules;
 mod runs;
 mod tested;
+mod times;
 
 pub use command::{form_of, is_comment, read_all, test};
 pub use report::{Counts, Form, push_counts, push_skipped, push_verdict};

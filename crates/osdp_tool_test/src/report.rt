@@ -84,6 +84,8 @@ fn expected(aspect: Aspect) -> &'static str {
         Aspect::Deaf => "silence, or a NAK",
         Aspect::Single => "one answer",
         Aspect::Prompt => "an answer within 200 ms",
+        Aspect::Listed => "as many entries as CAP tells",
+        Aspect::Beyond => "a NAK",
     }
 }
 
@@ -95,20 +97,26 @@ fn ground_name(ground: Ground) -> &'static str {
     }
 }
 
-/// The lines of an exchange that broke a rule.
+/// What stands before a line that goes on about a rule.
+pub(crate) fn mark(form: Form) -> &'static str {
+    match form {
+        Form::Plain => "  ",
+        Form::Tap => "# ",
+    }
+}
+
+/// The lines of an exchange that broke a rule of this aspect.
 pub(crate) fn push_fault(
     text: &mut String,
     form: Form,
     exchange: &Exchange,
+    aspect: Aspect,
 ) -> Result<(), AllocError> {
-    let mark = match form {
-        Form::Plain => "  ",
-        Form::Tap => "# ",
-    };
+    let mark = mark(form);
     let sent = ByteList(exchange.sent.as_slice());
     let heard = ByteList(exchange.heard.as_slice());
     write!(text, "{mark}at {} ms sent {sent}\n", exchange.moment)?;
-    write!(text, "{mark}expected {}\n", expected(exchange.rule.aspect))?;
+    write!(text, "{mark}expected {}\n", expected(aspect))?;
     write!(text, "{mark}read {heard} after {} ms\n", exchange.delay)
 }
 

@@ -23,7 +23,7 @@ pub struct Rule {
 }
 
 /// The rules; they are numbered from 1.
-pub const RULES: [Rule; 70] = [
+pub const RULES: [Rule; 85] = [
     Rule {
         aspect: Aspect::Address,
         ground: Ground::Asked,
@@ -373,6 +373,81 @@ pub const RULES: [Rule; 70] = [
         aspect: Aspect::Length,
         ground: Ground::Asked,
         says: "a COMSET of four bytes is refused by NAK 2",
+    },
+    Rule {
+        aspect: Aspect::Listed,
+        ground: Ground::Asked,
+        says: "ISTATR has as many inputs as CAP tells",
+    },
+    Rule {
+        aspect: Aspect::Listed,
+        ground: Ground::Asked,
+        says: "OSTATR has as many outputs as CAP tells",
+    },
+    Rule {
+        aspect: Aspect::Listed,
+        ground: Ground::Open,
+        says: "RSTATR has as many readers as CAP tells",
+    },
+    Rule {
+        aspect: Aspect::Beyond,
+        ground: Ground::Asked,
+        says: "an OUT to an output that CAP does not tell is refused",
+    },
+    Rule {
+        aspect: Aspect::Beyond,
+        ground: Ground::Asked,
+        says: "an LED that CAP does not tell is refused",
+    },
+    Rule {
+        aspect: Aspect::Beyond,
+        ground: Ground::Open,
+        says: "a TEXT that is longer than CAP tells is refused",
+    },
+    Rule {
+        aspect: Aspect::Number,
+        ground: Ground::Asked,
+        says: "each of two packets in a row is answered with its own number",
+    },
+    Rule {
+        aspect: Aspect::Fit,
+        ground: Ground::Asked,
+        says: "each of two packets in a row has an answer of its command",
+    },
+    Rule {
+        aspect: Aspect::Repeat,
+        ground: Ground::Asked,
+        says: "a copy right after its packet has the same answer",
+    },
+    Rule {
+        aspect: Aspect::Turn,
+        ground: Ground::Asked,
+        says: "after two packets in a row the next number is taken",
+    },
+    Rule {
+        aspect: Aspect::Quiet,
+        ground: Ground::Asked,
+        says: "the largest packet to another device is not answered",
+    },
+    Rule {
+        aspect: Aspect::Turn,
+        ground: Ground::Asked,
+        says: "after the largest packet to another device the next number is taken",
+    },
+    Rule {
+        aspect: Aspect::Code,
+        ground: Ground::Asked,
+        says: "an unknown code that fills CAP's receive buffer is refused by NAK 3",
+    },
+    Rule {
+        aspect: Aspect::Turn,
+        ground: Ground::Asked,
+        says: "after a packet larger than CAP's receive buffer number 0 is taken",
+    },
+    Rule {
+        aspect: Aspect::Prompt,
+        ground: Ground::Asked,
+        says: "each answer of the run begins within 200 ms",
     },
 ];
 

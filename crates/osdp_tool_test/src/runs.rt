@@ -4,11 +4,21 @@ ghost use Rattle.std.specs.Prelude.{◌<◌};
 
 use osdp_frame::{Frame, FrameView, ReadItem, read_at};
 
-/// The first packet of a run, and how many there are.
+/// A packet, lent.
+fn lent(frame: &Option<Frame>) -> Option<FrameView<'_>> {
+    match frame {
+        Some(frame) => Some(frame.view()),
+        None => None,
+    }
+}
+
+/// The first two packets of a run, and how many there are.
 #[derive(Drop)]
 pub struct Found {
     /// The first, if there is one.
     pub first: Option<Frame>,
+    /// The second.
+    pub second: Option<Frame>,
     /// How many there are.
     pub count: usize,
 }
@@ -16,9 +26,21 @@ pub struct Found {
 impl Found {
     /// The first, lent.
     pub fn view(&self) -> Option<FrameView<'_>> {
-        match &self.first {
-            Some(frame) => Some(frame.view()),
-            None => None,
+        lent(&self.first)
+    }
+
+    /// The second, lent.
+    pub fn second_view(&self) -> Option<FrameView<'_>> {
+        lent(&self.second)
+    }
+
+    /// One more.
+    fn add(&mut self, frame: Frame) {
+        self.count = self.count.saturating_add(1);
+        if self.first.is_none() {
+            self.first = Some(frame);
+        } else if self.second.is_none() {
+            self.second = Some(frame);
         }
     }
 }
@@ -35,6 +57,7 @@ fn size(packet: &FrameView<'_>) -> usize
 pub fn packets(run: &[u8], is_of_devices: bool) -> Found {
     let mut found = Found {
         first: None,
+        second: None,
         count: 0,
     };
     let mut rest = run;
@@ -44,10 +67,7 @@ pub fn packets(run: &[u8], is_of_devices: bool) -> Found {
                 let taken = size(&frame.view()).min(rest.len());
                 rest = &rest[taken..];
                 if frame.view().is_reply() || !is_of_devices {
-                    found.count = found.count.saturating_add(1);
-                    if found.first.is_none() {
-                        found.first = Some(frame);
-                    }
+                    found.add(frame);
                 }
             }
             ReadItem::Skipped(_) | ReadItem::Refused(_) => rest = &rest[1..],

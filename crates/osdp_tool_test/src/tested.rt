@@ -4,9 +4,10 @@ use crate::exchange::{Exchange, Said, said_in};
 use crate::found::{Heard, shown};
 use crate::report::{Counts, Form, push_counts, push_fault, push_skipped, push_verdict};
 use crate::rules::Rule;
-use crate::runs::packets;
+use crate::runs::{Found, packets};
+use crate::times::Times;
 use osdp_frame::Address;
-use osdp_rules::{Finding, Known, Verdict};
+use osdp_rules::{Claims, Finding, Known, Verdict};
 use osdp_words::all_words_in;
 use std::alloc::{AllocError, Global};
 use std::mem::replace;
@@ -28,6 +29,8 @@ pub(crate) struct Tested {
     form: Form,
     address: Address,
     known: Known,
+    claims: Claims,
+    times: Times,
     current: Option<Current>,
     counts: Counts,
 }
@@ -40,6 +43,8 @@ impl Tested {
             form,
             address: Address::new(0).unwrap(),
             known: Known::Unknown,
+            claims: Claims::none(),
+            times: Times::new(alloc),
             current: None,
             counts: Counts::none(),
         }
@@ -97,31 +102,85 @@ impl Tested {
         let is_first = current.verdict != Verdict::Broken;
         current.verdict = current.verdict.after(found);
         if found == Finding::Broken && is_first {
-            push_fault(&mut current.fault, form, exchange)?;
+            push_fault(&mut current.fault, form, exchange, exchange.rule.aspect)?;
         }
         Ok(())
     }
 
-    /// An exchange: it is judged, and what is known of the device follows it.
+    /// A packet, or bytes without one: it is judged, and what is known of the device follows it.
+    fn take_one(&mut self, exchange: &Exchange, heard: &Heard<'_>) -> Result<(), AllocError> {
+        if exchange.is_asked {
+            let aspect = exchange.rule.aspect;
+            let found = shown(aspect, self.address, &self.known, &self.claims, heard);
+            self.judge(exchange, found)?;
+        }
+        if let Some(packet) = &heard.packet {
+            self.claims = self
+                .claims
+                .after(self.address, &self.known, packet, &heard.answer);
+            let known = replace(&mut self.known, Known::Unknown);
+            self.known = known.after(self.address, packet, &heard.answer);
+        }
+        Ok(())
+    }
+
+    /// Two packets without a pause between them. Each has its answer where two came; else it isn't known whose answer was heard.
+    fn take_two(
+        &mut self,
+        exchange: &Exchange,
+        sent: &Found,
+        answers: &Found,
+    ) -> Result<(), AllocError> {
+        let are_both = answers.count == 2;
+        for is_first in [true, false] {
+            let (packet, answer) = if is_first {
+                (sent.view(), answers.view())
+            } else {
+                (sent.second_view(), answers.second_view())
+            };
+            let heard = Heard {
+                packet,
+                answer: if are_both { answer } else { None },
+                count: usize::from(are_both),
+                delay: exchange.delay,
+            };
+            self.take_one(exchange, &heard)?;
+        }
+        Ok(())
+    }
+
+    /// An exchange.
     fn take(&mut self, exchange: &Exchange, text: &mut String) -> Result<(), AllocError> {
         self.begin_rule(exchange.number, exchange.rule, text)?;
         let sent = packets(exchange.sent.as_slice(), false);
         let answers = packets(exchange.heard.as_slice(), true);
+        if sent.count > 0 && answers.count > 0 {
+            self.times.add(self.form, exchange)?;
+        }
+        if sent.count == 2 {
+            return self.take_two(exchange, &sent, &answers);
+        }
         let heard = Heard {
             packet: sent.view(),
             answer: answers.view(),
             count: answers.count,
             delay: exchange.delay,
         };
-        if exchange.is_asked {
-            let found = shown(exchange.rule.aspect, self.address, &self.known, &heard);
-            self.judge(exchange, found)?;
-        }
-        if let Some(packet) = &heard.packet {
-            let known = replace(&mut self.known, Known::Unknown);
-            self.known = known.after(self.address, packet, &heard.answer);
-        }
-        Ok(())
+        self.take_one(exchange, &heard)
+    }
+
+    /// A rule that is judged by the times of all answers so far.
+    fn take_times(
+        &mut self,
+        number: usize,
+        rule: Rule,
+        text: &mut String,
+    ) -> Result<(), AllocError> {
+        self.end_rule(text)?;
+        let verdict = Verdict::Unclear.after(self.times.finding());
+        self.counts.add(verdict);
+        push_verdict(text, self.form, number, (rule.says, rule.ground), verdict)?;
+        self.times.push(self.form, text)
     }
 
     /// The device under test is at this address. Whether a device may be there.
@@ -143,6 +202,7 @@ impl Tested {
             Some(Said::Nothing) => {}
             Some(Said::Device(number)) => return Ok(self.set_device(number)),
             Some(Said::Exchange(exchange)) => self.take(&exchange, text)?,
+            Some(Said::Times((number, rule))) => self.take_times(number, rule, text)?,
             Some(Said::Skips(number, rule, why)) => {
                 self.end_rule(text)?;
                 self.counts.add_skipped();
