@@ -31,14 +31,14 @@ def main():
         tty.setraw(end)
     threading.Thread(target=carry, daemon=True).start()
     panel, reader = (os.ttyname(pair[1]) for pair in ENDS)
-    device = subprocess.Popen([*PORT, reader, "9600", "reader", "5", "--osdp", program], stdin=subprocess.PIPE, stdout=subprocess.DEVNULL, stderr=subprocess.DEVNULL)
+    device = subprocess.Popen([*PORT, reader, "9600", "reader", "5", "cap", "1:1:0", "cap", "2:1:8", "cap", "10:160:5", "cap", "13:0:0", "--osdp", program], stdin=subprocess.PIPE, stdout=subprocess.DEVNULL, stderr=subprocess.DEVNULL)
     try:
         time.sleep(1)
         done = subprocess.run([*PORT, panel, "9600", "test", "device", "5", "--osdp", program], capture_output=True, text=True, timeout=120)
     finally:
         device.kill()
     lines = done.stdout.splitlines()
-    counts = re.fullmatch(r"rules 70 ok (\d+) otherwise (\d+) broken 0 unclear (\d+) skipped 10", lines[-1] if lines else "")
+    counts = re.fullmatch(r"rules 85 ok (\d+) otherwise (\d+) broken 0 unclear (\d+) skipped 14", lines[-1] if lines else "")
     if done.returncode != 0 or counts is None or int(counts[1]) < 50 or "40 ok: POLL is not refused" not in lines:
         print(f"devices_line: status {done.returncode}", *lines, done.stderr, sep="\n")
         return 1

@@ -20,7 +20,7 @@ use Rattle.osdp_rules_laws.proofs.Reading.{ReadsReplies}
 use Rattle.osdp_rules_laws.proofs.Steps.{Knows, heard_knows, lost_knows, sent_fine, silent_fine, still_knows}
 
 module _ {H : Type 0} where
-  knows_still : (address : ℕ) (k : Known) (r s : ReaderState H) → Knows address k r → IsStill r s → Knows address k s
+  pub knows_still : (address : ℕ) (k : Known) (r s : ReaderState H) → Knows address k r → IsStill r s → Knows address k s
   knows_still address Gone r s knows still = tt
   knows_still address Unknown r s knows still = still.address ∙ knows
   knows_still address Opened r s knows still = (still.address ∙ knows.0, still.last ∙ knows.1)
@@ -64,7 +64,7 @@ module _ {H : Type 0} where
     one_fine aspect address Opened x knows fits = fine_at aspect address Opened x knows.0 (refl, knows.1) fits
     one_fine aspect address (Took p a) x knows fits = fine_at aspect address (Took p a) x knows.0 (refl, knows.1, knows.2) fits
 
-    one_known : (address : ℕ) (k : Known) (x : Exchange H) → Knows address k x.reader
+    pub one_known : (address : ℕ) (k : Known) (x : Exchange H) → Knows address k x.reader
         → Knows address (known_after address x.packet (heard_in answer_of after x) k) (reader_after answer_of after x)
     one_known address Gone x knows = tt
     one_known address Unknown x knows = known_at address Unknown x knows refl

@@ -7,3 +7,4 @@ pub mod Steps
 pub mod Along
 pub mod Found
 pub mod Open
+mod Claims

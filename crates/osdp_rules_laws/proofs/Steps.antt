@@ -68,7 +68,7 @@ module _ {H : Type 0} where
   Knows address Opened r = (r.config.address ≡ address) × (r.last ≡ Some 0)
   Knows address (Took p a) r = (r.config.address ≡ address) × (r.last ≡ Some p.sequence) × (r.stored ≡ Some a)
 
-  knows_last : (address : ℕ) (k : Known) (r : ReaderState H) → Knows address k r → (last_number k ≡ None) ⊎ (last_number k ≡ r.last)
+  pub knows_last : (address : ℕ) (k : Known) (r : ReaderState H) → Knows address k r → (last_number k ≡ None) ⊎ (last_number k ≡ r.last)
   knows_last address Gone r knows = inl refl
   knows_last address Unknown r knows = inl refl
   knows_last address Opened r knows = inr (sym knows.1)

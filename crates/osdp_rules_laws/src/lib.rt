@@ -3,6 +3,7 @@
 #![tactic(auto)]
 
 ghost use Rattle.osdp_rules_laws.specs.Laws.{AnyRefusalIsOne, BreaksNoRule, DamageBreaksNothing, FindsAddress, FindsAnotherAnswer, FindsBlock, FindsBusyNumber, FindsCheck, FindsHeardNoise, FindsLate, FindsNumber, FindsSecondAnswer, FindsTakenCode, FindsTakenLength, FindsTakenOutOfTurn, FindsTalk, FindsTurnedAway, FindsUnfit, FindsUnread, FindsUnserved, KeepsInTime, MayBeBusy, SilenceBreaksNothing};
+ghost use Rattle.osdp_rules_laws.specs.Claims.{BreaksNoClaim, FindsDoneLed, FindsDoneOutput, FindsDoneText, FindsInputs, FindsOutputs};
 
 use osdp_reader::Handler;
 
@@ -67,4 +68,22 @@ pub fn finds_talk()
 pub fn finds_late()
     ensures late { FindsLate }
     ensures in_time { KeepsInTime }
+{}
+
+/// Where the handler of a reader of ours does what its CAP says, no rule about CAP is broken: whatever is sent to it, in whatever state it is, and
+/// whatever the line loses. Its lists have as many entries, and what there isn't it doesn't confirm.
+pub fn breaks_no_claim<H: Handler>()
+    ensures { BreaksNoClaim H.answer_of H.after }
+{
+    osdp_msg_laws::reply_of_reads_the_table();
+    osdp_msg_laws::replies_fit_a_packet();
+}
+
+/// A list with more or fewer entries than CAP tells, and ACK to an order to an output, an LED or a display that it doesn't tell, break their rules.
+pub fn finds_lies()
+    ensures inputs { FindsInputs }
+    ensures outputs { FindsOutputs }
+    ensures done_output { FindsDoneOutput }
+    ensures done_led { FindsDoneLed }
+    ensures done_text { FindsDoneText }
 {}

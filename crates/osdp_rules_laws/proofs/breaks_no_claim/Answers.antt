@@ -1,0 +1,7 @@
+use Rattle.osdp_rules_laws.proofs.Claims.{breaks_no_claim}
+use Rattle.osdp_rules_laws.proofs.Reading.{reads_replies}
+use Rattle.osdp_rules_laws.proofs.breaks_no_claim.Goals as goal
+
+pub returns : goal.returns
+returns g c = breaks_no_claim g.H.Handler.answer_of g.H.Handler.after
+    (reads_replies c.reply_of_reads_the_table.ensures.values c.replies_fit_a_packet.ensures)
