@@ -11,3 +11,4 @@ pub mod InTime
 pub mod Instances
 pub mod Asking
 pub mod Acting
+pub mod SlowOrder

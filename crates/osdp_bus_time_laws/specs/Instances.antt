@@ -1,14 +1,18 @@
--- A run of a line that takes as long as a law allows, to the millisecond.
-use Rattle.std.specs.Prelude.{◌≡◌, ℕ, ◌+◌, ◌-◌, ◌*◌, List, [], ◌∷◌, None}
+-- Runs of a line that take as long as a law allows, to the millisecond.
+use Rattle.std.specs.Prelude.{◌≡◌, ℕ, ◌+◌, ◌-◌, ◌*◌, List, [], ◌∷◌, Option, Some, None}
+use Rattle.std.specs.Option.{option_map_or}
 use Rattle.osdp_frame.specs.declared.check_kind.CheckKind.TheVariants.{Sum}
+use Rattle.osdp_msg.specs.declared.command.Command.{Command}
+use Rattle.osdp_msg.specs.declared.command.Command.TheVariants.{Id}
+use Rattle.osdp_controller_laws.specs.Commands.{asked_in}
 use Rattle.osdp_bus.specs.declared.config.BusConfig.{BusConfig}
-use Rattle.osdp_bus.specs.Buses.{BusState, new_bus}
+use Rattle.osdp_bus.specs.Buses.{BusState, device_of, new_bus}
 use Rattle.osdp_bus.specs.Machine.{begin_refusal_at}
 use Rattle.osdp_bus.specs.Settings.{IsBusConfig}
-use Rattle.osdp_bus_laws.specs.Calls.{Call, Add, Begin, Tick, NextReport, after_call, after_calls}
+use Rattle.osdp_bus_laws.specs.Calls.{Call, Add, Begin, NextReport, OnBytes, Submit, Tick, after_call, after_calls}
 use Rattle.osdp_bus_laws.specs.Exchanges.{IsOutstandingAt}
 use Rattle.osdp_bus_time_laws.specs.Clock.{KeepsTime}
-use Rattle.osdp_bus_time_laws.specs.Laws.{exchange_of}
+use Rattle.osdp_bus_time_laws.specs.Laws.{IsAccepted, exchange_of}
 use Rattle.osdp_bus_time_laws.specs.Turns.{HasFew}
 
 -- one send of 3 ms, no BUSY, and 4 ms of quiet
@@ -56,3 +60,38 @@ pd_id_bytes address check = 83 ∷ address ∷ 19 ∷ 0 ∷ 0 ∷ 69 ∷ 1 ∷ 2
 
 abbrev pub ack_bytes : ℕ → ℕ → List ℕ
 ack_bytes address check = 83 ∷ address ∷ 7 ∷ 0 ∷ 1 ∷ 64 ∷ check ∷ []
+
+-- ---- an order
+
+-- both sessions have opened, and the first POLL of the first has just gone out
+abbrev pub both_open : BusState
+both_open =
+    after_calls
+    (Add 0 ∷ Add 1 ∷ Begin 0 0 ∷ Begin 1 0 ∷ Tick 4 ∷ OnBytes (pd_id_bytes 128 168) 4 ∷ NextReport ∷ Tick 4 ∷ OnBytes (pd_id_bytes 129 167) 4 ∷ NextReport
+    ∷ Tick 9 ∷ []) (new_bus short_line)
+
+abbrev pub ordered : BusState
+ordered = after_call (Submit 0 (Id 0)) both_open
+
+-- each of the two devices answers its POLL by ACK at the last moment, and the ticks are on time
+abbrev pub before_order : List Call
+before_order = OnBytes (ack_bytes 128 229) 12 ∷ Tick 12 ∷ OnBytes (ack_bytes 129 228) 15 ∷ []
+
+abbrev pub order_calls : List Call
+order_calls = OnBytes (ack_bytes 128 229) 12 ∷ Tick 12 ∷ OnBytes (ack_bytes 129 228) 15 ∷ Tick 15 ∷ []
+
+abbrev pub waiting_of : ℕ → BusState → List Command
+waiting_of entry b = option_map_or (λ d. d.controller.waiting) (device_of entry b) []
+
+abbrev pub asked_of : ℕ → BusState → Option Command
+asked_of entry b = option_map_or (λ d. asked_in d.controller.session.state) (device_of entry b) None
+
+-- the order of the first goes out exactly when it has to
+pub record OrderIsReached : Type 0 where
+  pub config : IsBusConfig short_line
+  pub accepted : IsAccepted 0 0 (Id 0) both_open
+  pub in_time : KeepsTime 0 order_calls ordered
+  pub few : HasFew 2 order_calls ordered
+  pub not_before : waiting_of 0 (after_calls before_order ordered) ≡ Id 0 ∷ []
+  pub goes_out : asked_of 0 (after_calls order_calls ordered) ≡ Some (Id 0)
+  pub moment : (after_calls order_calls ordered).greatest ≡ both_open.greatest + (0 + 1) * (2 * (exchange_of both_open 0 + 0))

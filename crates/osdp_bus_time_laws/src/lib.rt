@@ -5,7 +5,7 @@
 ghost use Rattle.std.specs.Prelude.{ℕ, List};
 ghost use Rattle.osdp_bus.specs.Buses.{BusState};
 ghost use Rattle.osdp_bus_laws.specs.Calls.{Always};
-ghost use Rattle.osdp_bus_time_laws.specs.Instances.{OpeningIsReached};
+ghost use Rattle.osdp_bus_time_laws.specs.Instances.{OpeningIsReached, OrderIsReached};
 ghost use Rattle.osdp_bus_time_laws.specs.Laws.{ExchangesComeRound, ExchangesEnd, LinesAddUp, OpeningsBegin, OpeningsInTime, OrdersGoOut, OrdersInTime, PollsElse, TakesTheFront};
 ghost use Rattle.osdp_bus_time_laws.specs.Telling.{OpenAreAsked, ReportsAreTaken, SilenceIsTold};
 
@@ -56,8 +56,9 @@ pub fn lines_add_up()
     ensures { (late : ℕ) (exchanges : List ℕ) → LinesAddUp late exchanges }
 {}
 
-/// The bound of an opening is reached: a line of two entries whose devices answer nothing, and whose program is a millisecond late each time, takes exactly so
-/// long.
+/// Two bounds are reached. A line of two entries whose devices answer nothing, and whose program is a millisecond late each time, takes exactly so long for an
+/// opening. One whose devices answer at the last moment, and whose program is on time, takes exactly so long for an order.
 pub fn bounds_are_reached()
-    ensures { OpeningIsReached }
+    ensures opening { OpeningIsReached }
+    ensures order { OrderIsReached }
 {}
