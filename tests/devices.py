@@ -260,13 +260,13 @@ class AnswersZeroByOne(Device):
         return number or 1
 
 
-@wrong(5)
+@wrong(5, 77)
 class AnswersOneByZero(Device):
     def number_of(self, number, body):
         return 0 if number == 1 else number
 
 
-@wrong(6)
+@wrong(6, 77)
 class AnswersTwoByThree(Device):
     def number_of(self, number, body):
         return 3 if number == 2 and body[0] != 0x41 else number
@@ -309,7 +309,7 @@ class IsBusyWithNumberThree(Device):
         return packet(self.address, 0 if number == 3 else 3, b"\x79", check, True)
 
 
-@wrong(12, 18)
+@wrong(12, 18, 84)
 class RefusesZeroInASession(Device):
     def takes(self, number):
         return (number == 0 and self.last != 1) or (number != 0 and super().takes(number))
@@ -355,13 +355,13 @@ class RefusesAfterSilence(Device):
         return not past and super().takes(number)
 
 
-@wrong(19, 22)
+@wrong(19, 22, 79)
 class PollsAnew(Device):
     def repeats(self, number, check):
         return packet(self.address, number, b"\x41\x04", check, True) if self.stored[5] == 0x40 else self.stored
 
 
-@wrong(20)
+@wrong(20, 79)
 class IdIsAnewEachTime(Device):
     def repeats(self, number, check):
         return packet(self.address, number, b"\x40", check, True) if self.stored[5] == 0x45 and number == 1 else self.stored
@@ -398,7 +398,7 @@ class StoresNothingAtThree(Device):
         return packet(self.address, number, b"\x40", check, True) if number == 3 and self.stored[5] == 0x45 else self.stored
 
 
-@wrong(19, 20, 21, 22, 23, 24)
+@wrong(19, 20, 21, 22, 23, 24, 79)
 class StoresNoReply(Device):
     def repeats(self, number, check):
         return packet(self.address, number, b"\x41\x04", check, True)
@@ -537,13 +537,13 @@ class AnswersPollsByPdid(Device):
         return b"\x45" + PDID
 
 
-@wrong(44)
+@wrong(44, 78)
 class AnswersIdsByAck(Device):
     def id(self):
         return b"\x40"
 
 
-@wrong(45)
+@wrong(45, 78)
 class AnswersCapsByAck(Device):
     def cap(self):
         return b"\x40"
@@ -615,7 +615,7 @@ class LstatrIsLong(Device):
         return b"\x48\x00\x00\x00" if code == 0x64 else super().status(code)
 
 
-@wrong(57, 58)
+@wrong(57, 58, 83)
 class TakesUnknownCodes(Device):
     def unknown(self, code):
         return b"\x40"

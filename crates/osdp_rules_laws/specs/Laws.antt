@@ -5,6 +5,7 @@ use Rattle.osdp_msg.specs.declared.command.Command.{Command}
 use Rattle.osdp_msg.specs.declared.fault.MsgFault.TheVariants.{UnknownCode, Length, Count}
 use Rattle.osdp_reader.specs.declared.handler.Answer.{Answer}
 use Rattle.osdp_reader.specs.State.{ReaderState}
+use Rattle.osdp_rules.specs.Delays.{delays_finding}
 use Rattle.osdp_rules.specs.Findings.{is_answer, is_fitting, must_have, prompt_finding}
 use Rattle.osdp_rules.specs.Judging.{count_judged, judged, noise_judged}
 use Rattle.osdp_rules.specs.Known.{last_number, turn_of}
@@ -12,6 +13,7 @@ use Rattle.osdp_rules.specs.Packets.{asked, code_of, has_reason, is_busy, is_nak
 use Rattle.osdp_rules.specs.Verdicts.{verdict_along}
 use Rattle.osdp_rules.specs.declared.aspect.Aspect.{Aspect}
 use Rattle.osdp_rules.specs.declared.aspect.Aspect.TheVariants as rule
+use Rattle.osdp_rules.specs.declared.delays.Delays.{Delays}
 use Rattle.osdp_rules.specs.declared.finding.Finding.TheVariants.{Kept, Broken}
 use Rattle.osdp_rules.specs.declared.known.Known.{Known}
 use Rattle.osdp_rules.specs.declared.known.Known.TheVariants.{Gone, Unknown, Took}
@@ -136,3 +138,7 @@ FindsLate = (delay : ℕ) → (prompt_finding delay ≡ Broken) ↔ (200 < delay
 
 abbrev pub KeepsInTime : Type 0
 KeepsInTime = (delay : ℕ) → (prompt_finding delay ≡ Kept) ↔ (delay ≤ 200)
+
+-- over a run the longest time decides
+abbrev pub FindsLateRun : Type 0
+FindsLateRun = (run : Delays) (longest : ℕ) → run.greatest ≡ Some longest → (delays_finding run ≡ Broken) ↔ (200 < longest)

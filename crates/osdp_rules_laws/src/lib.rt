@@ -2,7 +2,7 @@
 //! functions do nothing: their contracts are laws.
 #![tactic(auto)]
 
-ghost use Rattle.osdp_rules_laws.specs.Laws.{AnyRefusalIsOne, BreaksNoRule, DamageBreaksNothing, FindsAddress, FindsAnotherAnswer, FindsBlock, FindsBusyNumber, FindsCheck, FindsHeardNoise, FindsLate, FindsNumber, FindsSecondAnswer, FindsTakenCode, FindsTakenLength, FindsTakenOutOfTurn, FindsTalk, FindsTurnedAway, FindsUnfit, FindsUnread, FindsUnserved, KeepsInTime, MayBeBusy, SilenceBreaksNothing};
+ghost use Rattle.osdp_rules_laws.specs.Laws.{AnyRefusalIsOne, BreaksNoRule, DamageBreaksNothing, FindsAddress, FindsAnotherAnswer, FindsBlock, FindsBusyNumber, FindsCheck, FindsHeardNoise, FindsLate, FindsLateRun, FindsNumber, FindsSecondAnswer, FindsTakenCode, FindsTakenLength, FindsTakenOutOfTurn, FindsTalk, FindsTurnedAway, FindsUnfit, FindsUnread, FindsUnserved, KeepsInTime, MayBeBusy, SilenceBreaksNothing};
 ghost use Rattle.osdp_rules_laws.specs.Claims.{BreaksNoClaim, FindsDoneLed, FindsDoneOutput, FindsDoneText, FindsInputs, FindsOutputs};
 
 use osdp_reader::Handler;
@@ -64,10 +64,11 @@ pub fn finds_talk()
     ensures second { FindsSecondAnswer }
 {}
 
-/// An answer that begins after more than 200 ms breaks its rule, and each other keeps it.
+/// An answer that begins after more than 200 ms breaks its rule, and each other keeps it. Over a run the longest time decides.
 pub fn finds_late()
     ensures late { FindsLate }
     ensures in_time { KeepsInTime }
+    ensures run { FindsLateRun }
 {}
 
 /// Where the handler of a reader of ours does what its CAP says, no rule about CAP is broken: whatever is sent to it, in whatever state it is, and
