@@ -4,7 +4,7 @@ _osdp_words() {
   case $1 in
     '') echo 'show monitor check make sim panel reader plan test help --help --version -h' ;;
     show) echo '--raw --osdpcap --xxd --stamped --hex --join --times --no-polls --address' ;;
-    monitor) echo '--raw --osdpcap --xxd --stamped --hex --packets --talk --standard --recorded --gap --every' ;;
+    monitor) echo '--raw --osdpcap --xxd --stamped --hex --packets --talk --standard --recorded --times --json --gap --every' ;;
     check) echo '--raw --osdpcap --xxd --stamped --hex --join' ;;
     make) echo 'sum crc' ;;
     panel) echo 'check reply-wait poll-interval sends busy-wait busy-limit quiet-wait gap capacity' ;;
@@ -29,7 +29,7 @@ _osdp_port() {
     --address | --every | --size | --set-address | --set-rate | --may) COMPREPLY=(); return ;;
   esac
   if [[ $word == -* ]]; then
-    COMPREPLY=($(compgen -W '--all --address --every --live --keep --trace --size --osdpcap --set-address --set-rate --may --sum --tap --plain --osdp --help --version' -- "$word"))
+    COMPREPLY=($(compgen -W '--all --address --every --live --json --keep --trace --size --osdpcap --set-address --set-rate --may --sum --tap --plain --osdp --help --version' -- "$word"))
   elif [[ $before == /dev/* || $before == *://* ]]; then
     COMPREPLY=($(compgen -W '9600 19200 38400 57600 115200 230400' -- "$word"))
   elif [[ $before =~ ^[0-9]+$ ]]; then

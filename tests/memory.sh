@@ -91,6 +91,12 @@ capture | sed '/^#/d; s/^/1 RX /' | refuse_each 'show, stamped' 5 show --stamped
 listened() { cat "$(dirname "$0")/../examples/two_readers.hex"; echo 53070700006040; }
 listened | refuse_each 'monitor' 5 monitor
 listened | refuse_each 'monitor, with packets' 5 monitor --packets --hex
+timed() { listened | awk '/^#/ { next } { printf "# %d.%03d %s\n%s\n", NR / 10, NR % 10 * 100, NR % 2 ? "out" : "in", $0 }'; }
+timed | refuse_each 'monitor, with moments' 10 monitor --times
+{ timed; echo 5; } | refuse_each 'monitor, with moments, a bad line' 10 monitor --times
+objects | refuse_each 'monitor, objects with moments' 10 monitor --osdpcap --times
+listened | refuse_each 'monitor, as JSON' 10 monitor --json --hex
+timed | refuse_each 'monitor, as JSON with moments' 15 monitor --times --json
 bytes | refuse_each 'monitor, bytes' 5 monitor --packets --raw
 { listened; echo 5; } | refuse_each 'monitor, a bad line' 5 monitor --hex
 refuse_each 'monitor, bad words' 1 monitor --gap 0 </dev/null

@@ -1,7 +1,8 @@
 """Listening: `monitor`, `show` and `trace`. Nothing is said on the line."""
+import json
 import re
 
-from .console import wait_for
+from .console import stamp, wait_for
 from .live import HEADS, Live, is_other, is_terminal
 from .program import Stream
 from .shown import Shown
@@ -54,8 +55,28 @@ class Monitor(Stream):
             self.console.say(re.sub(r"^\d+:\d+ ", "", line))
 
 
+class Objects(Stream):
+    """`osdp monitor` beside the program: an object of JSON a line, with its moment."""
+
+    def __init__(self, words, console, osdp):
+        self.address = words.get("--address")
+        options = ["--every", str(words.get("--every"))] if words.get("--every") else []
+        super().__init__(osdp, ["monitor", "--raw", "--json", *options, *(["--packets"] if words.get("--all") else [])], console)
+
+    def prints(self, line):
+        """Prints an object; one of another device is left out."""
+        told = json.loads(line)
+        if self.address is not None and told.get("address", self.address) != self.address:
+            return
+        if "stamp" in told:
+            told["stamp"] = stamp()
+        self.console.raw(json.dumps(told))
+
+
 def listener_of(words, port, console, osdp):
-    """What tells of the line: a picture, or lines where the output is no terminal."""
+    """What tells of the line: objects, a picture, or lines where the output is no terminal."""
+    if words.get("--json"):
+        return Objects(words, console, osdp)
     if words.get("--live") and is_terminal():
         return Live(words, console, osdp, f"monitor at {port.path} {port.rate}")
     return Monitor(words, console, osdp)

@@ -122,7 +122,7 @@ def does_command(words, console):
         place = (place.address, place.rate) if place else (named[0], words.rate)
         return reader(words, opened(words, place[1], console), console, osdp, kept, place)
     port = opened(words, words.rate, console)
-    if words.command not in ("find", "test"):
+    if words.command not in ("find", "test") and not words.get("--json"):
         console.say(f"{words.command} at {port.path} {port.rate}: Ctrl-C ends it")
     does = {"monitor": listen.monitor, "show": listen.show, "trace": listen.trace, "find": find.find, "test": TESTS.get("".join(words.rest[:1]), testing.test)}[words.command]
     return does(words, port, console, osdp)

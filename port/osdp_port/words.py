@@ -23,6 +23,7 @@ After ADDRESSES or ADDRESS settings of osdp may stand: panel 5 check sum reply-w
   --address N            of monitor and show: this device alone
   --every N              of monitor: the table each N seconds
   --live                 of monitor: the table in place, on a terminal
+  --json                 of monitor: an object of JSON a line
   --keep FILE            of panel and reader: where the devices are after a COMSET
   --trace FILE           of panel, reader and test: all that goes over the line too
   --size MB              a trace that is so large is put aside: 10
@@ -44,11 +45,11 @@ man osdp-port has more.
 """
 MOST_RATE = 4000000
 COMMANDS = ("monitor", "show", "panel", "reader", "find", "test", "trace")
-FLAGS = ("--all", "--live", "--osdpcap", "--plain", "--sum", "--tap")
+FLAGS = ("--all", "--json", "--live", "--osdpcap", "--plain", "--sum", "--tap")
 VALUES = {"--address": "an address", "--every": "seconds", "--keep": "a file", "--trace": "a file", "--size": "megabytes", "--set-address": "an address",
           "--set-rate": "a rate", "--may": "what is allowed", "--osdp": "a path"}
 NUMBERS = {"--address": (0, 126), "--every": (1, 3600000), "--size": (1, 100000), "--set-address": (0, 126), "--set-rate": (1, MOST_RATE)}
-FITS = {"--all": ("monitor", "show", "panel", "reader"), "--address": ("monitor", "show"), "--every": ("monitor",), "--live": ("monitor",), "--keep": ("panel", "reader"),
+FITS = {"--all": ("monitor", "show", "panel", "reader"), "--address": ("monitor", "show"), "--every": ("monitor",), "--json": ("monitor",), "--live": ("monitor",), "--keep": ("panel", "reader"),
         "--trace": ("panel", "reader", "test"), "--may": ("test",), "--sum": ("test",), "--tap": ("test",), "--size": ("panel", "reader", "trace"), "--osdpcap": ("panel", "reader", "trace"), "--set-address": ("find",), "--set-rate": ("find",)}
 
 

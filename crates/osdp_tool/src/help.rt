@@ -85,7 +85,7 @@ docs/INSTALLING.md, \"A device that doesn't answer\".
 
 const MONITOR: &str = "osdp monitor: tells what happens on a line, and which end breaks its rules
 
-usage: osdp monitor [FORM] [--packets] [--talk] [--standard] [--recorded] [--gap N] [--every N] [FILE]...
+usage: osdp monitor [FORM] [OPTION]... [FILE]...
 
   --raw      the input is bytes, as they come from a port
   --osdpcap  the input is .osdpcap: an object of JSON a line
@@ -95,6 +95,8 @@ usage: osdp monitor [FORM] [--packets] [--talk] [--standard] [--recorded] [--gap
   --talk     the same, but no POLL, and no ACK that answers a POLL
   --standard leave out accusations by the profile alone, where other makers may do otherwise
   --recorded the bytes were recorded before: no silence ends a run, as in a file
+  --times    put its run's moment and way before each line, and tell how long each device takes to answer
+  --json     print an object of JSON in place of each line
   --gap N    a run of bytes is over N milliseconds after its last ones, 1 to 3600000; else 20
   --every N  print the table again N seconds after the last one, 1 to 3600000, as bytes come
 

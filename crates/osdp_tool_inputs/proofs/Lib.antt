@@ -2,3 +2,4 @@ pub mod Cutting
 pub mod Stamps
 pub mod Held
 pub mod Fronts
+pub mod Hearing

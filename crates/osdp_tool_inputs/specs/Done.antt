@@ -1,5 +1,5 @@
 -- What is done with an input.
-use Rattle.std.specs.Prelude.{◌≡◌, ℕ, Bool, true, false, List, [], ◌++◌, codes, Option, None, Some, Result, Ok, Err}
+use Rattle.std.specs.Prelude.{◌≡◌, ◌&&◌, ◌||◌, ℕ, Bool, true, false, List, [], ◌++◌, codes, Option, None, Some, Result, Ok, Err}
 use Rattle.std.specs.Io.KnownBytes.{Keeps}
 use Rattle.osdp_tool_captures.specs.Captures.{capture_fault, capture_text}
 use Rattle.osdp_tool_captures.specs.Whole.{ReadWhole}
@@ -12,7 +12,7 @@ use Rattle.osdp_tool_show.specs.Ending.{Ends, EndsWhole, Stream}
 use Rattle.osdp_tool_streams.specs.ToolFault.{status_of as fault_status}
 use Rattle.osdp_tool_streams.specs.declared.fault.ToolFault.{ToolFault}
 use Rattle.osdp_tool_streams.specs.declared.fault.ToolFault.TheVariants.{NoMemory, WriteFailed}
-use Rattle.osdp_tool_inputs.specs.Asked.{form_of}
+use Rattle.osdp_tool_inputs.specs.Asked.{form_of, has_lines}
 use Rattle.osdp_tool_inputs.specs.Moments.{Tells}
 use Rattle.osdp_tool_inputs.specs.declared.asked.Asked.{Asked}
 use Rattle.osdp_tool_inputs.specs.declared.asked.Task.{Task}
@@ -31,20 +31,31 @@ pub record EndsHeard (mode : MonitorMode) (input output : Stream) (result : Resu
   pub begins : start.last ≡ 0
   pub ends : monitor.Ends Tells mode start end input.before input.after input.failed output.before output.after output.failed result
 
+-- with moments, and of objects, nothing is said here of the lines
+abbrev pub Listens : Bool → MonitorMode → Stream → Stream → Result Bool ToolFault → Type 0
+Listens false mode input output result = EndsHeard mode input output result
+Listens true mode input output result = Unit {0}
+
 -- What is asked is done with a stream of digits or bytes; these are all its bytes, where they were read before. With stamps, nothing is said here of the
 -- lines that stand after them.
 abbrev pub Does : Task → Format → ℕ → List ℕ → Stream → Stream → Result Bool ToolFault → Type 0
 Does (Print detail join) format limit bytes input output result =
     Ends detail (form_of format join) limit input output result × EndsWhole detail (form_of format join) limit input output result
 Does (Time detail join) format limit bytes input output result = Unit {0}
-Does (Listen mode) format limit bytes input output result = EndsHeard mode input output result
+Does (Listen mode) format limit bytes input output result = Listens (mode.json || (mode.times && has_lines format)) mode input output result
 
 -- ---- any form
 
+-- the moments of runs are wanted, of lines of digits or of bytes: the latter have none that the monitor tells
 abbrev pub is_timed : Task → Bool
 is_timed (Print detail join) = false
 is_timed (Time detail join) = true
-is_timed (Listen mode) = false
+is_timed (Listen mode) = mode.times
+
+abbrev pub is_timed_raw : Task → Bool
+is_timed_raw (Print detail join) = false
+is_timed_raw (Time detail join) = true
+is_timed_raw (Listen mode) = false
 
 -- the lines of digits that a capture stands for, and its first bad line
 abbrev pub text_of : Format → List ℕ → List ℕ
@@ -95,7 +106,7 @@ pub data EndsWholly (asked : Asked) (limit : ℕ) (input output : Stream) (resul
 abbrev pub is_whole : Format → Task → Bool
 is_whole (Of tool) task = true
 is_whole Digits task = is_timed task
-is_whole Bytes task = is_timed task
+is_whole Bytes task = is_timed_raw task
 
 -- what is asked is done with an input, as it comes where it isn't read whole
 pub record DoesDirectly (asked : Asked) (limit : ℕ) (input output : Stream) (result : Result Told ToolFault) : Type 0 where

@@ -1,4 +1,5 @@
 pub mod Times
+pub mod Heard
 pub mod Moments
 pub mod Asked
 pub mod Done

@@ -77,7 +77,7 @@ fn check_task(mode: CaptureMode) -> Option<Task>
 }
 
 /// Whether the input is in lines of digits, or is read as such.
-fn has_lines(format: Format) -> bool
+pub(crate) fn has_lines(format: Format) -> bool
     ensures { result ≡ has_lines format }
 {
     match format {

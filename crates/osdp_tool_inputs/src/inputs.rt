@@ -54,7 +54,9 @@ fn is_whole(format: Format, task: Task) -> bool
     match (format, task) {
         (Format::Of(_), _) => true,
         (_, Task::Time(..)) => true,
-        (Format::Digits | Format::Bytes, Task::Print(..) | Task::Listen(_)) => false,
+        (Format::Digits, Task::Listen(mode)) => mode.times,
+        (Format::Bytes, Task::Listen(_)) => false,
+        (Format::Digits | Format::Bytes, Task::Print(..)) => false,
     }
 }
 

@@ -3,6 +3,7 @@
 
 mod asked;
 mod clock;
+mod heard;
 mod hinted;
 mod inputs;
 pub mod laws;

@@ -1,19 +1,22 @@
 //! What is done with a stream of digits or bytes.
 
-ghost use Rattle.std.specs.Prelude.{◌≡◌, ◌<◌, ◌^◌, OnOk, false};
+ghost use Rattle.std.specs.Prelude.{◌≡◌, ◌<◌, ◌^◌, ◌++◌, IfOk, OnOk, false, string_bytes};
 ghost use Rattle.std.specs.Io.KnownBytes.{Appends};
 ghost use Rattle.osdp_tool_inputs.specs.Done.{Does, EndsHeard};
 ghost use Rattle.osdp_tool_inputs.specs.Times.{timed_text};
+ghost use Rattle.osdp_tool_inputs.specs.Heard.{printed_of};
 ghost use Rattle.osdp_tool_show.specs.Ending.{Ends, EndsWhole, watched};
 ghost use Rattle.osdp_tool_streams.specs.Watched.{has_failed, inner_of};
 
-use crate::asked::{Asked, Task, form_of};
+use crate::asked::{Asked, Task, form_of, has_lines};
 use crate::clock::Clock;
+use crate::heard::{answer_objects, answer_times, told_lines, told_objects};
 use crate::times::timed;
 use osdp_tool_monitor::{MonitorMode, monitor};
+use osdp_tool_objects::Objects;
 use osdp_tool_show::{Detail, command};
 use osdp_tool_streams::{Form, ToolFault, Watched, flush_out, write_out};
-use std::alloc::Global;
+use std::alloc::{AllocError, Global};
 use std::io::{Read, Write};
 
 /// The lines of digits that another tool's capture says may be longer than itself, and have so many bytes at most.
@@ -50,6 +53,81 @@ fn listen<R: Read, W: Write>(
     ensures { EndsHeard mode (watched R.remaining input.old input.new) (watched W.contents output.old output.new) result }
 {
     monitor(rt.alloc(), mode, &mut Clock::new(rt), input, output)
+}
+
+/// Listens to a stream, and tells what it finds as objects of JSON. True where an end was accused.
+#[inline(never)]
+fn listen_objects<R: Read, W: Write>(
+    rt: &HostRuntime,
+    mode: MonitorMode,
+    input: &mut Watched<R>,
+    output: &mut Watched<W>,
+) -> Result<bool, ToolFault>
+    requires { has_failed input.old ≡ false }
+{
+    let mut objects = Objects::new(rt.alloc(), output);
+    let answer = listen(rt, mode, input, &mut Watched::new(&mut objects));
+    if objects.lacks_memory() {
+        return Err(ToolFault::NoMemory);
+    }
+    answer
+}
+
+/// What the monitor prints, and then the answer times, with the moments in a text.
+fn heard_of(
+    alloc: Global,
+    json: bool,
+    text: &[u8],
+    shown: &[u8],
+) -> Result<(Vec<u8>, String), AllocError>
+    ensures { IfOk result (λ both. both.0.items ++ string_bytes both.1 ≡ printed_of json text.now shown.now) }
+{
+    if json {
+        return Ok((
+            told_objects(alloc, text, shown)?,
+            answer_objects(alloc, text)?,
+        ));
+    }
+    Ok((told_lines(alloc, text, shown)?, answer_times(alloc, text)?))
+}
+
+/// Prints these lines of `monitor`, those about a run after the moment and the way of it, which stand in the text, and then the answer times of each device;
+/// or the same as objects of JSON.
+fn print_heard<W: Write>(
+    alloc: Global,
+    json: bool,
+    text: &[u8],
+    shown: &[u8],
+    output: &mut Watched<W>,
+) -> Result<(), ToolFault>
+    ensures { OnOk result (Appends (W.contents (inner_of output.old)) (W.contents (inner_of output.new)) (printed_of json text.now shown.now)) }
+{
+    let Ok((lines, times)) = heard_of(alloc, json, text, shown) else {
+        return Err(ToolFault::NoMemory);
+    };
+    write_out(output, lines.as_slice())?;
+    write_out(output, times.as_bytes())?;
+    flush_out(output)
+}
+
+/// Listens to the digits in a text, and tells what it finds with the moments in the text. True where an end was accused.
+#[inline(never)]
+fn listen_timed<W: Write>(
+    rt: &HostRuntime,
+    mode: MonitorMode,
+    text: &[u8],
+    output: &mut Watched<W>,
+) -> Result<bool, ToolFault> {
+    let mut shown = Vec::new(rt.alloc());
+    let mut memory = Watched::new(&mut shown);
+    let mut input = Watched::new(text);
+    let answer = listen(rt, mode, &mut input, &mut memory);
+    // what was heard before memory ran out is no beginning of the whole: the times would stand before the table
+    if answer == Err(ToolFault::WriteFailed) || answer == Err(ToolFault::NoMemory) {
+        return Err(ToolFault::NoMemory);
+    }
+    print_heard(rt.alloc(), mode.json, text, shown.as_slice(), output)?;
+    answer
 }
 
 /// Prints these lines of `show`, each after the moment and the way of its run, which stand in the text.
@@ -116,6 +194,14 @@ pub fn do_task<R: Read, W: Write>(
         Task::Time(detail, join) => {
             print_timed(rt, detail, form_of(asked.format, join), text, output)
         }
-        Task::Listen(mode) => listen(rt, mode, input, output),
+        Task::Listen(mode) => {
+            if mode.times && has_lines(asked.format) {
+                return listen_timed(rt, mode, text, output);
+            }
+            if mode.json {
+                return listen_objects(rt, mode, input, output);
+            }
+            listen(rt, mode, input, output)
+        }
     }
 }

@@ -50,7 +50,7 @@ fn find_stamp<'a>(
 }
 
 /// The stamp of each line of digits, in their order.
-fn stamps<'a>(alloc: Global, lines: &[&'a [u8]]) -> Result<Vec<&'a [u8]>, AllocError>
+pub(crate) fn stamps<'a>(alloc: Global, lines: &[&'a [u8]]) -> Result<Vec<&'a [u8]>, AllocError>
     ensures { IfOk result (λ found. parts found.items ≡ stamps_below no_stamp (parts lines.now)) }
 {
     let mut found = Vec::new(alloc);
@@ -72,15 +72,14 @@ fn stamp_at<'a>(stamps: &[&'a [u8]], run: usize) -> &'a [u8]
 }
 
 /// Whether a character is a decimal digit.
-fn is_decimal(byte: u8) -> bool
+pub(crate) fn is_decimal(byte: u8) -> bool
     ensures { result ≡ is_decimal byte }
 {
     byte >= b'0' && byte <= b'9'
 }
 
 /// The stamp of the run that a line of `show` begins with the number of.
-
-fn stamp_for<'a>(stamps: &[&'a [u8]], line: &[u8]) -> &'a [u8]
+pub(crate) fn stamp_for<'a>(stamps: &[&'a [u8]], line: &[u8]) -> &'a [u8]
     ensures { result.now ≡ stamp_at (run_of line.now) (parts stamps.now) }
 {
     let mut run = 0usize;
@@ -109,7 +108,7 @@ fn next_number(number: usize, digit: u8, most: usize) -> Option<usize>
 }
 
 /// Adds a line after its stamp.
-fn push_line(lines: &mut Vec<u8>, stamp: &[u8], line: &[u8]) -> Result<(), AllocError>
+pub(crate) fn push_line(lines: &mut Vec<u8>, stamp: &[u8], line: &[u8]) -> Result<(), AllocError>
     ensures { OnOk result (lines.new.items ≡ lines.old.items ++ (stamp.now ++ (codes " " ++ (line.now ++ 10 ∷ [])))) }
 {
     lines.extend_from_slice(stamp)?;

@@ -5,7 +5,7 @@ use Rattle.osdp_frame.specs.Times.{IsTime}
 use Rattle.osdp_tool_show.specs.declared.detail.Detail.TheVariants.{Filtered, Full, Refusals}
 use Rattle.osdp_tool_monitor.specs.declared.mode.MonitorMode.{MonitorMode}
 use Rattle.osdp_tool_monitor.specs.declared.mode.MonitorOption.{MonitorOption}
-use Rattle.osdp_tool_monitor.specs.declared.mode.MonitorOption.TheVariants.{Packets, Talk, Gap, Every, Standard, Recorded}
+use Rattle.osdp_tool_monitor.specs.declared.mode.MonitorOption.TheVariants.{Packets, Talk, Gap, Every, Standard, Recorded, Times, Json}
 use Rattle.osdp_tool_monitor.specs.declared.mode.OptionName.{OptionName}
 use Rattle.osdp_tool_monitor.specs.declared.mode.OptionName.TheVariants as name
 
@@ -16,6 +16,8 @@ name_text name.Gap = codes "--gap"
 name_text name.Every = codes "--every"
 name_text name.Standard = codes "--standard"
 name_text name.Recorded = codes "--recorded"
+name_text name.Times = codes "--times"
+name_text name.Json = codes "--json"
 
 abbrev pub name_of : MonitorOption → OptionName
 name_of Packets = name.Packets
@@ -24,6 +26,8 @@ name_of (Gap n) = name.Gap
 name_of (Every n) = name.Every
 name_of Standard = name.Standard
 name_of Recorded = name.Recorded
+name_of Times = name.Times
+name_of Json = name.Json
 
 -- the number of an option that has one
 abbrev pub numbers_of : MonitorOption → List ℕ
@@ -33,6 +37,8 @@ numbers_of (Gap n) = n ∷ []
 numbers_of (Every n) = n ∷ []
 numbers_of Standard = []
 numbers_of Recorded = []
+numbers_of Times = []
+numbers_of Json = []
 
 -- milliseconds of a gap, or seconds between two tables: both have the range of a time of the link
 abbrev pub OptionFits : MonitorOption → Type 0
@@ -42,6 +48,8 @@ OptionFits (Gap n) = IsTime n
 OptionFits (Every n) = IsTime n
 OptionFits Standard = Unit {0}
 OptionFits Recorded = Unit {0}
+OptionFits Times = Unit {0}
+OptionFits Json = Unit {0}
 
 abbrev pub with_option : MonitorOption → MonitorMode → MonitorMode
 with_option Packets mode = record mode { detail = Full }
@@ -50,10 +58,13 @@ with_option (Gap n) mode = record mode { gap = n }
 with_option (Every n) mode = record mode { every = Some n }
 with_option Standard mode = record mode { standard = true }
 with_option Recorded mode = record mode { recorded = true }
+with_option Times mode = record mode { times = true }
+with_option Json mode = record mode { json = true }
 
--- without options the input is lines of digits, findings alone are printed, a run is over after 20 milliseconds, and no accusation is left out
+-- without options the input is lines of digits, findings alone are printed, in lines of text, a run is over after 20 milliseconds, no accusation is left
+-- out, and no moment is told
 abbrev pub default_mode : MonitorMode
-default_mode = record { hex = true; detail = Refusals; gap = 20; every = None; standard = false; recorded = false }
+default_mode = record { hex = true; detail = Refusals; gap = 20; every = None; standard = false; recorded = false; times = false; json = false }
 
 -- what the words ask for of an input of lines of digits, or of one of bytes
 abbrev pub ReadsMode : Bool → Words → Option MonitorMode → Type 0
@@ -70,3 +81,5 @@ TakesOption name.Gap old new result = (n : Option ℕ) × TakesNumber IsTime old
 TakesOption name.Every old new result = (n : Option ℕ) × TakesNumber IsTime old new n × (result ≡ numbered Every n)
 TakesOption name.Standard old new result = (result ≡ Some Standard) × (new ≡ old)
 TakesOption name.Recorded old new result = (result ≡ Some Recorded) × (new ≡ old)
+TakesOption name.Times old new result = (result ≡ Some Times) × (new ≡ old)
+TakesOption name.Json old new result = (result ≡ Some Json) × (new ≡ old)

@@ -30,6 +30,10 @@ pub struct MonitorMode {
     pub standard: bool,
     /// Whether bytes were recorded before, so that no moment at which they come ends a run.
     pub recorded: bool,
+    /// Whether the moments of a capture are told too.
+    pub times: bool,
+    /// Whether an object of JSON is printed for each line.
+    pub json: bool,
 }
 
 /// A word of the command `monitor`, with its number.
@@ -47,6 +51,10 @@ pub enum MonitorOption {
     Standard,
     /// `--recorded`
     Recorded,
+    /// `--times`
+    Times,
+    /// `--json`
+    Json,
 }
 
 /// Which option a word names.
@@ -58,6 +66,8 @@ pub(crate) enum OptionName {
     Every,
     Standard,
     Recorded,
+    Times,
+    Json,
 }
 
 /// The option of this name.
@@ -71,6 +81,8 @@ fn option_name(word: &str) -> Option<OptionName>
         "--every" => Some(OptionName::Every),
         "--standard" => Some(OptionName::Standard),
         "--recorded" => Some(OptionName::Recorded),
+        "--times" => Some(OptionName::Times),
+        "--json" => Some(OptionName::Json),
         _ => None,
     }
 }
@@ -105,6 +117,8 @@ impl MonitorOption {
             OptionName::Every => Some(MonitorOption::Every(take_wait(words)?)),
             OptionName::Standard => Some(MonitorOption::Standard),
             OptionName::Recorded => Some(MonitorOption::Recorded),
+            OptionName::Times => Some(MonitorOption::Times),
+            OptionName::Json => Some(MonitorOption::Json),
         }
     }
 }
@@ -139,12 +153,15 @@ impl CommandOption for MonitorOption {
             MonitorOption::Every(seconds) => mode.every = Some(seconds),
             MonitorOption::Standard => mode.standard = true,
             MonitorOption::Recorded => mode.recorded = true,
+            MonitorOption::Times => mode.times = true,
+            MonitorOption::Json => mode.json = true,
         }
     }
 }
 
 /// How the words after `monitor` ask to listen to an input of lines of digits, or to one of bytes: options in any order, of which a later one of a kind holds.
-/// Without options only what is found is printed, a run is over after 20 milliseconds, the table comes at the end alone, and no accusation is left out.
+/// Without options only what is found is printed, in lines of text, a run is over after 20 milliseconds, the table comes at the end alone, no accusation is
+/// left out, and no moment is told.
 /// None where the words are no options.
 pub fn monitor_mode(hex: bool, words: &[&str]) -> Option<MonitorMode>
     ensures { ReadsMode hex (texts words.now) result }
@@ -156,6 +173,8 @@ pub fn monitor_mode(hex: bool, words: &[&str]) -> Option<MonitorMode>
         every: None,
         standard: false,
         recorded: false,
+        times: false,
+        json: false,
     };
     read_options::<MonitorOption>(mode, words)
 }

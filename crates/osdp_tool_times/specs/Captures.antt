@@ -1,5 +1,6 @@
 -- A capture of lines of digits, some of which stand below a comment with their moment.
-use Rattle.std.specs.Prelude.{ℕ, ◌==◌, if◌then◌else◌, false, List, [], ◌∷◌, replicate, Option, None, Some}
+use Rattle.std.specs.Prelude.{ℕ, ◌==◌, if◌then◌else◌, false, List, [], ◌∷◌, drop, replicate, Option, None, Some}
+use Rattle.memchr.specs.Find.{first_of, is_byte, places}
 use Rattle.osdp_frame.specs.Held.{by_itself, decided}
 use Rattle.osdp_frame.specs.Reading.{RunItem, PacketItem, SkippedItem, RefusedItem}
 use Rattle.osdp_tool_streams.specs.Line.{kept, line_bytes}
@@ -26,7 +27,15 @@ abbrev pub moment_after : List ℕ → Option ℕ → Option ℕ
 moment_after [] moment = moment
 moment_after (first ∷ rest) moment = if first == 35 then moment_or (moment_in rest) moment else None
 
--- a moment is that of the packet that stands first in the line
+-- what begins where a packet may: a mark or noise before it is left out
+abbrev pub start_in : List ℕ → Option ℕ
+start_in run = first_of (places (is_byte 83) run)
+
+abbrev pub from_start : Option ℕ → List ℕ → List ℕ
+from_start None run = []
+from_start (Some place) run = drop place run
+
+-- a moment is that of the packet that begins there
 abbrev pub item_after : Option RunItem → Option ℕ → List Times → List Times
 item_after None moment times = times
 item_after (Some (PacketItem p)) moment times = all_after p moment times
@@ -34,7 +43,7 @@ item_after (Some (SkippedItem b)) moment times = times
 item_after (Some (RefusedItem fault)) moment times = times
 
 abbrev pub run_after : List ℕ → Option ℕ → List Times → List Times
-run_after run moment times = item_after (by_itself (decided false run)) moment times
+run_after run moment times = item_after (by_itself (decided false (from_start (start_in run) run))) moment times
 
 -- a bad line says nothing
 abbrev pub bytes_after : Option (List ℕ) → Option ℕ → List Times → List Times

@@ -36,9 +36,9 @@ late_from (Some before) (Some last) answer = late before.moment last.moment answ
 late_from _ _ answer = Nothing
 
 -- it has the number of a packet before, and the last packet has another
-abbrev pub is_behind : Option Sent → Option Sent → ℕ → Bool
-is_behind (Some before) (Some last) number = number == before.number && not (before.number == last.number)
-is_behind _ _ number = false
+abbrev pub is_of_older : Option Sent → Option Sent → ℕ → Bool
+is_of_older (Some before) (Some last) number = number == before.number && not (before.number == last.number)
+is_of_older _ _ number = false
 
 -- the last packet is the one before once more
 abbrev pub is_copied : Option Sent → Option Sent → Bool
@@ -58,8 +58,8 @@ told_first w (Some first) moment = if is_copied w.before w.last then late_from w
 -- what a reply with this number tells at this moment: it answers the oldest packet of its number
 abbrev pub told_reply : Waits → ℕ → ℕ → Told
 told_reply w number moment =
-    if is_behind w.earlier w.last number then late_from w.earlier w.last moment
-    else (if is_behind w.before w.last number then late_from w.before w.last moment
+    if is_of_older w.earlier w.last number then late_from w.earlier w.last moment
+    else (if is_of_older w.before w.last number then late_from w.before w.last moment
     else (if is_of_last w.last number then told_first w w.first moment else Nothing))
 
 abbrev pub first_or : Option ℕ → ℕ → Option ℕ
@@ -69,8 +69,8 @@ first_or (Some first) moment = Some first
 -- After a reply. It closes the packet that it answers and all before, but the first of two to two copies leaves one open.
 abbrev pub after_reply : ℕ → ℕ → Waits → Waits
 after_reply number moment w =
-    if is_behind w.earlier w.last number then record w { earlier = None }
-    else (if is_behind w.before w.last number then record w { earlier = None; before = None }
+    if is_of_older w.earlier w.last number then record w { earlier = None }
+    else (if is_of_older w.before w.last number then record w { earlier = None; before = None }
     else (if is_of_last w.last number
     then record {
       earlier = None;

@@ -3,6 +3,8 @@
 ghost use Rattle.std.specs.Prelude.{◌≡◌, ◌++◌, IfOk, OnOk, length, string_bytes};
 
 use crate::moment::moment_after;
+use crate::object::push_objects;
+use crate::run::from_start;
 use crate::table::Times;
 use crate::text::push_times;
 use osdp_frame::{Item, whole_item};
@@ -26,7 +28,7 @@ pub struct Timed {
 
 impl Timed {
     ghost use Rattle.osdp_tool_times.specs.Captures.{after_line, heard_of, nothing_heard, run_after};
-    ghost use Rattle.osdp_tool_times.specs.Text.{times_text};
+    ghost use Rattle.osdp_tool_times.specs.Text.{times_objects, times_text};
 
     /// Nothing was heard.
     pub fn new(alloc: Global) -> Result<Timed, AllocError>
@@ -46,7 +48,7 @@ impl Timed {
         ensures times { self.new.times.items ≡ run_after self.old.bytes.items moment self.old.times.items }
         ensures moment { self.new.moment ≡ self.old.moment }
     {
-        let bytes = &self.bytes;
+        let bytes = from_start(&self.bytes);
         if let Some(Item::Packet(packet)) = whole_item(bytes) {
             let times = &mut self.times[usize::from(packet.address().get())];
             times.take(&packet, moment);
@@ -72,5 +74,12 @@ impl Timed {
         ensures { OnOk result (string_bytes text.new ≡ string_bytes text.old ++ times_text (heard_of self.now).times) }
     {
         push_times(text, &self.times)
+    }
+
+    /// Writes what was heard as objects of JSON, a line each.
+    pub fn push_objects(&self, text: &mut String) -> Result<(), AllocError>
+        ensures { OnOk result (string_bytes text.new ≡ string_bytes text.old ++ times_objects (heard_of self.now).times) }
+    {
+        push_objects(text, &self.times)
     }
 }

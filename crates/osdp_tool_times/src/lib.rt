@@ -4,7 +4,11 @@
 mod capture;
 pub mod laws;
 mod moment;
+mod object;
+mod run;
 mod table;
+#[cfg(test)]
+mod tests;
 mod text;
 mod waits;
 

@@ -62,7 +62,7 @@ fn push_device(text: &mut String, address: u64, times: &Times) -> Result<(), All
 }
 
 /// What was counted of an address.
-fn times_at(times: &[Times], address: usize) -> Times
+pub(crate) fn times_at(times: &[Times], address: usize) -> Times
     requires { address < length times.now }
     ensures { slice_get times.now address ≡ Option.Some result }
 {

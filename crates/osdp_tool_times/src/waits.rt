@@ -1,7 +1,7 @@
 //! When the packets to a device were sent and answered.
 
 ghost use Rattle.std.specs.Prelude.{◌≡◌};
-ghost use Rattle.osdp_tool_times.specs.Waits.{after_reply, after_sent, first_or, in_time, in_time_from, is_behind, is_copied, is_of_last, is_settled, late, late_from, no_waits, told_first, told_reply};
+ghost use Rattle.osdp_tool_times.specs.Waits.{after_reply, after_sent, first_or, in_time, in_time_from, is_copied, is_of_last, is_of_older, is_settled, late, late_from, no_waits, told_first, told_reply};
 
 /// A packet to a device.
 #[derive(Clone, Copy, Debug, PartialEq, Eq)]
@@ -79,8 +79,8 @@ fn late_from(before: Option<Sent>, last: Option<Sent>, answer: u64) -> Told
 }
 
 /// Whether a reply has the number of a packet before, and the last packet has another.
-fn is_behind(before: Option<Sent>, last: Option<Sent>, number: u8) -> bool
-    ensures { result ≡ is_behind before last number }
+fn is_of_older(before: Option<Sent>, last: Option<Sent>, number: u8) -> bool
+    ensures { result ≡ is_of_older before last number }
 {
     match (before, last) {
         (Some(before), Some(last)) => { number == before.number && before.number != last.number }
@@ -174,9 +174,9 @@ impl Waits {
     pub fn told_reply(self, number: u8, moment: u64) -> Told
         ensures { result ≡ told_reply self number moment }
     {
-        if is_behind(self.earlier, self.last, number) {
+        if is_of_older(self.earlier, self.last, number) {
             late_from(self.earlier, self.last, moment)
-        } else if is_behind(self.before, self.last, number) {
+        } else if is_of_older(self.before, self.last, number) {
             late_from(self.before, self.last, moment)
         } else if is_of_last(self.last, number) {
             self.told_first(self.first, moment)
@@ -189,13 +189,13 @@ impl Waits {
     pub fn after_reply(self, number: u8, moment: u64) -> Waits
         ensures { result ≡ after_reply number moment self }
     {
-        if is_behind(self.earlier, self.last, number) {
+        if is_of_older(self.earlier, self.last, number) {
             return Waits {
                 earlier: None,
                 ..self
             };
         }
-        if is_behind(self.before, self.last, number) {
+        if is_of_older(self.before, self.last, number) {
             return Waits {
                 earlier: None,
                 before: None,

@@ -1,13 +1,14 @@
 use Rattle.std.proofs.Common.{sym}
 use Rattle.std.proofs.lemmas.Option.{get_or_from_slice_get}
-use Rattle.osdp_tool_times.proofs.Rows.{texts_end, texts_step}
+use Rattle.osdp_tool_times.specs.Text.{device_text}
+use Rattle.osdp_tool_times.proofs.Rows.{all_end, all_step}
 use Rattle.osdp_tool_times.proofs.text.push_times.Goals as goal
 
 pub devices-preserved : goal.devices-preserved
 devices-preserved c =
-    texts_step _ _ _ c.args.times.now c.devices.address c.times_at-device.result c.devices-test.true
+    all_step device_text _ _ _ c.args.times.now c.devices.address c.times_at-device.result c.devices-test.true
     (sym (get_or_from_slice_get c.args.times.now c.devices.address c.times_at-device.result c.times_at-device.result c.times_at-device.ensures))
     c.in_ok-push_device.ensures c.devices.invariant
 
 pub returns : goal.returns
-returns c = texts_end _ _ c.args.times.now c.devices.address c.devices-test.false c.devices.invariant
+returns c = all_end device_text _ _ c.args.times.now c.devices.address c.devices-test.false c.devices.invariant

@@ -1,7 +1,7 @@
 use Rattle.std.proofs.Common.{◌≡◌, ◌++◌, drop, string_bytes}
-use Rattle.osdp_tool_times.specs.Text.{texts_from}
+use Rattle.osdp_tool_times.specs.Text.{all_from, device_text}
 use Rattle.osdp_tool_times.proofs.text.push_times.Given as goal
 
 abbrev pub invariant-devices : goal.invariant-devices
 invariant-devices l =
-    string_bytes l.text ++ texts_from l.address (drop l.address l.times) ≡ string_bytes l.initial.text ++ texts_from 0 l.times
+    string_bytes l.text ++ all_from device_text l.address (drop l.address l.times) ≡ string_bytes l.initial.text ++ all_from device_text 0 l.times

@@ -1,0 +1,5 @@
+pub mod Cuts
+pub mod Members
+pub mod Objects
+pub mod Streams
+pub mod Laws

@@ -1,0 +1,13 @@
+//! What holds of the objects. A law has no code: it holds for all values, and its proof is the law's.
+
+ghost use Rattle.osdp_tool_objects.specs.Laws.{PiecesGiveTheSame, PiecesHoldTheSame};
+
+/// Bytes that come in two pieces, and so in any, give the objects that they give in one.
+pub fn pieces_give_the_same()
+    ensures { PiecesGiveTheSame }
+{}
+
+/// They hold what one piece holds.
+pub fn pieces_hold_the_same()
+    ensures { PiecesHoldTheSame }
+{}

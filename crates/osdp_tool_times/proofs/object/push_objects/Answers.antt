@@ -1,0 +1,14 @@
+use Rattle.std.proofs.Common.{sym}
+use Rattle.std.proofs.lemmas.Option.{get_or_from_slice_get}
+use Rattle.osdp_tool_times.specs.Text.{device_objects}
+use Rattle.osdp_tool_times.proofs.Rows.{all_end, all_step}
+use Rattle.osdp_tool_times.proofs.object.push_objects.Goals as goal
+
+pub devices-preserved : goal.devices-preserved
+devices-preserved c =
+    all_step device_objects _ _ _ c.args.times.now c.devices.address c.times_at-device.result c.devices-test.true
+    (sym (get_or_from_slice_get c.args.times.now c.devices.address c.times_at-device.result c.times_at-device.result c.times_at-device.ensures))
+    c.in_ok-push_device.ensures c.devices.invariant
+
+pub returns : goal.returns
+returns c = all_end device_objects _ _ c.args.times.now c.devices.address c.devices-test.false c.devices.invariant

@@ -1,0 +1,7 @@
+use Rattle.std.proofs.Common.{◌≡◌, ◌++◌, drop, string_bytes}
+use Rattle.osdp_tool_times.specs.Text.{all_from, device_objects}
+use Rattle.osdp_tool_times.proofs.object.push_objects.Given as goal
+
+abbrev pub invariant-devices : goal.invariant-devices
+invariant-devices l =
+    string_bytes l.text ++ all_from device_objects l.address (drop l.address l.times) ≡ string_bytes l.initial.text ++ all_from device_objects 0 l.times
