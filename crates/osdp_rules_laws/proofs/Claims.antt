@@ -1,5 +1,5 @@
 -- A reader of ours whose handler does what its CAP says breaks no rule about CAP.
-use Rattle.std.proofs.Common.{◌≡◌, ℕ, Bool, true, false, cond, eqb, not, ◌&&◌, nat_lt, List, [], ◌∷◌, length, Option, Some, None, Result, Ok, Err, refl, sym, subst, inl, inr, ap, ◌∙◌}
+use Rattle.std.proofs.Common.{◌≡◌, ◌≢◌, ℕ, Bool, true, false, cond, eqb, not, ◌&&◌, nat_lt, List, [], ◌∷◌, length, Option, Some, None, Result, Ok, Err, refl, sym, subst, inl, inr, ap, ◌∙◌}
 use Rattle.std.proofs.lemmas.Bool.{cond_both, eq-eqb, eqb-true, false≢true}
 use Rattle.std.specs.Prelude.{IfSome}
 use Rattle.osdp_frame.specs.Packet.{Packet}
@@ -35,10 +35,10 @@ use Rattle.osdp_rules.specs.declared.claims.Claims.{Claims}
 use Rattle.osdp_rules.specs.declared.finding.Finding.TheVariants.{Nothing, Kept, Either, Broken}
 use Rattle.osdp_rules.specs.declared.known.Known.{Known}
 use Rattle.osdp_rules.specs.declared.known.Known.TheVariants.{Gone, Unknown, Opened, Took}
-use Rattle.osdp_rules_laws.specs.Claims.{BreaksNoClaim, KeepsClaims, SaysStill, claim_findings}
+use Rattle.osdp_rules_laws.specs.Claims.{BreaksNoClaim, KeepsClaims, ReadersAreOpen, RefusalIsNoLie, SaysStill, claim_findings}
 use Rattle.osdp_rules_laws.specs.Runs.{AnswerIsLost, Comes, Exchange, Follows, PacketIsLost, Way, heard_by, heard_in, reader_after}
 use Rattle.osdp_rules_laws.proofs.Along.{knows_still, one_known}
-use Rattle.osdp_rules_laws.proofs.Fine.{AreFine, IsFine, fine_both, fine_kept, never_broken}
+use Rattle.osdp_rules_laws.proofs.Fine.{AreFine, IsFine, fine_both, fine_kept, fine_unbroken, never_broken}
 use Rattle.osdp_rules_laws.proofs.Meeting.{Met, MetNumber, again_last, met, unknown_above}
 use Rattle.osdp_rules_laws.proofs.Reading.{ReadsReplies}
 use Rattle.osdp_rules_laws.proofs.Steps.{Knows, knows_last}
@@ -335,3 +335,31 @@ module _ {H : Type 0} (answer_of : H → Command → Answer) (after : H → Comm
   breaks_no_claim aspect r xs follows still truth =
       never_broken (claim_findings answer_of after aspect r.config.address Unknown no_claims xs)
       (all_claims r.config.caps.items truth aspect r.config.address Unknown no_claims nothing_said r xs refl follows still)
+
+-- ---- what the rules about CAP leave open
+
+claim_open : (aspect : Aspect) (address : ℕ) (k : Known) (claims : Claims) (p a : Packet) → IsFine (claim_finding aspect claims (asked p) (told a))
+    → claim_judged aspect address k claims p (Some a) ≢ Broken
+claim_open aspect address k claims p a fine =
+    let heard = claim_heard aspect claims (asked p) (Some a) in
+    fine_unbroken (claim_judged aspect address k claims p (Some a))
+    (fine_both (is_anew address k p) heard Nothing
+    (fine_both (takes_nothing a) Nothing (claim_finding aspect claims (asked p) (told a)) tt fine) tt)
+
+pub refusal_is_no_lie : RefusalIsNoLie
+refusal_is_no_lie aspect address k claims p a n is =
+    claim_open aspect address k claims p a
+    (subst (λ (t : Result Reply MsgFault). IsFine (claim_finding aspect claims (asked p) t)) (sym is) (nak_read aspect claims (asked p) n))
+
+any_readers : (aspect : Aspect) (claims : Claims) (t : Result Reply MsgFault) → IsFine (claim_finding aspect claims (Ok command.ReaderStatus) t)
+any_readers rule.Listed claims (Ok (reply.Readers states)) = readers_agree claims.readers (length states.items)
+any_readers rule.Listed claims (Ok (reply.Nak n)) = tt
+any_readers rule.Listed claims (Ok x) = tt
+any_readers rule.Listed claims (Err fault) = tt
+any_readers rule.Beyond claims t = tt
+any_readers aspect claims t = tt
+
+pub readers_are_open : ReadersAreOpen
+readers_are_open aspect address k claims p a is =
+    claim_open aspect address k claims p a
+    (subst (λ (c : Result Command MsgFault). IsFine (claim_finding aspect claims c (told a))) (sym is) (any_readers aspect claims (told a)))

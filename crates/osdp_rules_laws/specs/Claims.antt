@@ -1,13 +1,13 @@
 -- What the rules about CAP come to: whom they never accuse, and what they find.
 use Rattle.std.specs.Prelude.{◌≡◌, ◌≢◌, ℕ, false, List, [], ◌∷◌, length, Some, Ok}
 use Rattle.osdp_frame.specs.Packet.{Packet}
-use Rattle.osdp_msg.specs.Values.{Held, TextValue}
+use Rattle.osdp_msg.specs.Values.{Held, NakValue, TextValue}
 use Rattle.osdp_msg.specs.declared.capability.Capability.{Capability}
 use Rattle.osdp_msg.specs.declared.command.Command.{Command}
-use Rattle.osdp_msg.specs.declared.command.Command.TheVariants.{InputStatus, OutputStatus, Output, Led, Text}
+use Rattle.osdp_msg.specs.declared.command.Command.TheVariants.{InputStatus, OutputStatus, ReaderStatus, Output, Led, Text}
 use Rattle.osdp_msg.specs.declared.leds.LedRecord.{LedRecord}
 use Rattle.osdp_msg.specs.declared.outputs.OutputRecord.{OutputRecord}
-use Rattle.osdp_msg.specs.declared.reply.Reply.TheVariants.{Ack, Inputs, Outputs}
+use Rattle.osdp_msg.specs.declared.reply.Reply.TheVariants.{Ack, Nak, Inputs, Outputs}
 use Rattle.osdp_reader.specs.declared.handler.Answer.{Answer}
 use Rattle.osdp_reader.specs.declared.handler.Answer.TheVariants as answer
 use Rattle.osdp_reader.specs.State.{ReaderState}
@@ -91,3 +91,13 @@ FindsDoneLed = FindsClaim rule.Beyond
 abbrev pub FindsDoneText : Type 0
 FindsDoneText = FindsClaim rule.Beyond
     (λ claims p a. (text : TextValue) × (claims.text ≡ Some 0) × (asked p ≡ Ok (Text text)) × (told a ≡ Ok Ack))
+
+-- ---- what they leave open: to refuse is never a lie, and a device may count itself among its readers or not
+
+abbrev pub RefusalIsNoLie : Type 0
+RefusalIsNoLie = (aspect : Aspect) (address : ℕ) (k : Known) (claims : Claims) (p a : Packet) (n : NakValue) → told a ≡ Ok (Nak n)
+    → claim_judged aspect address k claims p (Some a) ≢ Broken
+
+abbrev pub ReadersAreOpen : Type 0
+ReadersAreOpen = (aspect : Aspect) (address : ℕ) (k : Known) (claims : Claims) (p a : Packet) → asked p ≡ Ok ReaderStatus
+    → claim_judged aspect address k claims p (Some a) ≢ Broken

@@ -3,7 +3,7 @@
 #![tactic(auto)]
 
 ghost use Rattle.osdp_rules_laws.specs.Laws.{AnyRefusalIsOne, BreaksNoRule, DamageBreaksNothing, FindsAddress, FindsAnotherAnswer, FindsBlock, FindsBusyNumber, FindsCheck, FindsHeardNoise, FindsLate, FindsLateRun, FindsNumber, FindsSecondAnswer, FindsTakenCode, FindsTakenLength, FindsTakenOutOfTurn, FindsTalk, FindsTurnedAway, FindsUnfit, FindsUnread, FindsUnserved, KeepsInTime, MayBeBusy, SilenceBreaksNothing};
-ghost use Rattle.osdp_rules_laws.specs.Claims.{BreaksNoClaim, FindsDoneLed, FindsDoneOutput, FindsDoneText, FindsInputs, FindsOutputs};
+ghost use Rattle.osdp_rules_laws.specs.Claims.{BreaksNoClaim, FindsDoneLed, FindsDoneOutput, FindsDoneText, FindsInputs, FindsOutputs, ReadersAreOpen, RefusalIsNoLie};
 
 use osdp_reader::Handler;
 
@@ -87,4 +87,10 @@ pub fn finds_lies()
     ensures done_output { FindsDoneOutput }
     ensures done_led { FindsDoneLed }
     ensures done_text { FindsDoneText }
+{}
+
+/// What the rules about CAP leave open: to refuse is no lie, and neither is any number of readers.
+pub fn leaves_claims_open()
+    ensures refusals { RefusalIsNoLie }
+    ensures readers { ReadersAreOpen }
 {}
