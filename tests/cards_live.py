@@ -1,0 +1,172 @@
+#!/usr/bin/env python3
+"""`osdp-port panel` on a pseudo terminal with slow readers, which this test plays: how long orders and cards wait at worst, beside what `osdp plan` says.
+
+    cards_live.py PROGRAM
+
+Three readers answer 40 ms after each packet. Each has four orders that have no end yet, all the time, and a card that waits. An order's wait is from the line that
+orders it to its packet, and a card's from the moment from which the reader has it to the panel's line. Each is judged by the figure for so many orders before it.
+
+Something is due all the time, so from an answer to the next packet the panel is late: its worst of the run is the `late` of the figures, and this test's own lateness
+is part of `answer`. SLACK is left for the pipes at both ends. A machine that does other things makes both late by MOST_LATE at the most: of three runs one has to be
+so, and to stay below the figures. Without POLLs between orders a card waits longer than that."""
+import math
+import os
+import select
+import subprocess
+import sys
+import time
+
+import port_line
+from port_line import PORT
+from terminals import Script, Terminal, packet
+
+READERS, ANSWER, WAITING, SECONDS, SLACK, MOST_LATE = 3, 40, 4, 8.0, 50, 60
+RATE, INTERVAL = 230400, 20
+ID, POLL, OUT, ACK, KEYPAD, PDID = 0x61, 0x60, 0x68, 0x40, 0x53, 0x45
+IDENTITY = bytes.fromhex("53494D010101000000010000")
+program = sys.argv[1]
+
+
+def planned(what, orders, run):
+    """The milliseconds that `osdp plan` says for all readers that answer, and for a panel and readers that are as late as in this run."""
+    words = (f"readers {READERS} rate {RATE} check sum longest 20 answer {ANSWER + math.ceil(1000 * run.answers_late)} late {math.ceil(1000 * run.late)} "
+             f"reply-wait 400 poll-interval {INTERVAL} poll-between-orders on orders {orders}")
+    told = subprocess.run([program, "plan", *words.split()], capture_output=True, text=True, check=True, timeout=60).stdout
+    return next(int(line.split()[len(what.split())]) for line in told.splitlines() if line.startswith(what))
+
+
+class Reader:
+    """A reader at an address: it answers late, and tells a card at a POLL until the next command comes."""
+
+    def __init__(self, address):
+        self.address, self.number, self.last, self.cards, self.is_told = address, None, b"", [], False
+
+    def answer(self, burst):
+        number, code = burst[4] & 3, burst[5]
+        if number != self.number or number == 0:
+            self.number = number
+            if self.is_told:
+                self.is_told = self.cards.pop(0) is None
+            reply, data = {ID: (PDID, IDENTITY)}.get(code, (ACK, b""))
+            if code == POLL and self.cards:
+                reply, data, self.is_told = KEYPAD, b"\0\1" + self.cards[0], True
+            self.last = packet(self.address | 0x80, number, reply, data)
+        return self.last
+
+
+class Run:
+    """A panel and its readers for so many seconds. The worst waits, by how many orders stood before."""
+
+    def __init__(self, switch):
+        self.terminal = Terminal()
+        words = f"check sum reply-wait 400 quiet-wait 60 capacity 16 poll-interval {INTERVAL} poll-between-orders {switch}".split()
+        addresses = ",".join(str(at) for at in range(READERS))
+        self.panel = Script(PORT, "--plain", "--osdp", program, self.terminal.path, RATE, "panel", addresses, *words, stderr=subprocess.DEVNULL)
+        self.readers = [Reader(at) for at in range(READERS)]
+        self.answers = []                               # with their moments
+        self.given = [[] for _ in self.readers]         # orders that haven't gone out: their number, their moment and how many were before them
+        self.unsettled = [0] * READERS
+        self.has_card = [None] * READERS                # since when
+        self.orders, self.cards = {}, []
+        self.count, self.seen, self.is_open = 0, 0, set()
+        self.answers_late = self.late = 0.0             # how late this test was with an answer, and the panel with its next packet
+        self.answered = None                            # when the last answer was written
+
+    def hears(self):
+        for burst in self.terminal.bursts():
+            at, now = burst[1] & 0x7F, time.monotonic()
+            if self.answered and self.is_busy():
+                self.late = max(self.late, now - self.answered)
+            self.answered = None
+            if burst[5] == OUT and self.given[at] and int.from_bytes(burst[8:10], "little") == self.given[at][0][0]:
+                _, moment, before = self.given[at].pop(0)
+                self.orders[before] = max(self.orders.get(before, 0), now - moment)
+            self.answers.append((now + ANSWER / 1000, self.readers[at].answer(burst)))
+
+    def reads(self):
+        self.panel.read()
+        for line in self.panel.lines[self.seen:]:
+            name, which, *_ = [*line.split(), "", ""]
+            if name == "opened":
+                self.is_open.add(int(which))
+            elif name == "settled":
+                self.unsettled[int(which)] -= 1
+            elif name in ("event", "maybe-again") and self.has_card[int(which)]:
+                self.cards.append(time.monotonic() - self.has_card[int(which)])
+                self.has_card[int(which)] = None
+            elif name in ("lost", "not"):
+                sys.exit(f"cards: {line}")
+        self.seen = len(self.panel.lines)
+
+    def is_busy(self):
+        """Whether all sessions are open, and each reader has orders."""
+        return len(self.is_open) == READERS and self.count > READERS * WAITING
+
+    def goes_on(self):
+        """Four orders without an end and a card of each reader, once all sessions are open."""
+        for at in self.is_open if len(self.is_open) == READERS else ():
+            while self.unsettled[at] < WAITING:
+                self.count += 1
+                self.given[at].append((self.count, time.monotonic(), len(self.given[at])))
+                self.unsettled[at] += 1
+                self.panel.say(f"{at} OUT 0:5:{self.count}")
+            if self.has_card[at] is None:
+                self.readers[at].cards.append(b"%d" % (self.count % 10))
+                self.has_card[at] = time.monotonic()
+
+    def go(self):
+        end = time.monotonic() + SECONDS
+        while time.monotonic() < end:
+            wait = min([0.01, *(max(0.0, moment - time.monotonic()) for moment, _ in self.answers)])
+            ready = select.select([self.terminal.end, self.panel.process.stdout.fileno()], [], [], wait)[0]
+            if self.terminal.end in ready:
+                self.hears()
+            if len(ready) > 1 or self.terminal.end not in ready:
+                self.reads()
+            for moment, whole in [each for each in self.answers if each[0] <= time.monotonic()]:
+                self.answers.remove((moment, whole))
+                self.answered = time.monotonic()
+                self.answers_late = max(self.answers_late, self.answered - moment)
+                os.write(self.terminal.end, whole)
+            self.goes_on()
+        self.panel.process.kill()
+        self.panel.process.wait()
+        self.terminal.close()
+        # cards that were told, and those that wait still
+        self.cards += [time.monotonic() - since for since in self.has_card if since]
+        return self
+
+
+def judged(run):
+    """What was measured beside what is planned, and what lies above it and the slack."""
+    rows = [(f"an order after {before} others", 1000 * took, planned("order", before, run)) for before, took in sorted(run.orders.items())]
+    rows.append((f"a card, of {len(run.cards)}, after one order at most", 1000 * max(run.cards), planned("card", 1, run)))
+    return rows, [what for what, took, bound in rows if took > bound + SLACK]
+
+
+def tries():
+    """Up to three runs. Whether one of them stays below."""
+    for attempt in range(3):
+        run = Run("on").go()
+        if run.count < 30 or len(run.cards) < 10:
+            print(f"cards: run {attempt + 1} had {run.count} orders and {len(run.cards)} cards, which are too few: the machine is too busy")
+            continue
+        rows, above = judged(run)
+        print(f"cards: run {attempt + 1}: {run.count} orders; the panel was late by {1000 * run.late:.1f} ms at worst, and an answer by {1000 * run.answers_late:.1f} ms")
+        for what, took, bound in rows:
+            print(f"cards: {what}: {took:.0f} ms at worst, {bound} planned")
+        if not above and max(run.late, run.answers_late) <= MOST_LATE / 1000:
+            return True
+        print(f"cards: more than {SLACK} ms above: {', '.join(above) or 'none'}")
+    return False
+
+
+port_line.osdp = program
+is_below = tries()
+starved = Run("off").go()
+worst, bound = 1000 * max(starved.cards, default=0), planned("card", 1, starved)
+print(f"cards: without POLLs between orders a card waits {worst:.0f} ms in a run of {1000 * SECONDS:.0f}; {bound} planned with them")
+if worst < bound + SLACK + 1000:
+    print("cards: it was to wait longer, so nothing was tried")
+    is_below = False
+sys.exit(not is_below)
