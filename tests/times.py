@@ -407,7 +407,8 @@ class Run:
                 continue
             if len(entry.events) < 3 and self.pick.random() < 0.15:
                 card = object()
-                self.cards.append([card, at, now, len(entry.events), 0 if "orders are counted" in self.off else self.orders_of(at)])
+                # an offered front leaves with the next packet, so it costs no POLL
+                self.cards.append([card, at, now, len(entry.events) - entry.offered, 0 if "orders are counted" in self.off else self.orders_of(at)])
                 entry.events.append(card)
 
     def line_answers(self, now):
