@@ -1,7 +1,8 @@
 """`osdp-port --live`: the monitor's table as a picture on a terminal, redrawn in place. Takes the path of the program.
 
 The port is a pseudo terminal, and so is the output, of 100 columns and 30 lines, whose picture is kept as text: it is what a person sees. A panel asks three
-devices: 5 answers, 6 loses every second answer, and 7 has a reply that answers no command. Then the output is a pipe, which gets plain lines."""
+devices: 5 answers, 6 loses every second answer, and 7 has a reply that answers no command. Then the output is a pipe, which gets plain lines, or objects of JSON."""
+import json
 import os
 import pty
 import re
@@ -119,7 +120,9 @@ def seen(options, seconds):
             time.sleep(0.01)
         number += 1
         read(0)
-    read(0.5)
+    rests = time.monotonic() + 1  # until whole pictures of a line that rests have come
+    while time.monotonic() < rests:
+        read(0.05)
     live, scrolled = picture.text(), picture.scrolled
     script.send_signal(signal.SIGINT)
     limit = time.monotonic() + 20
@@ -138,11 +141,14 @@ def is_drawn():
     print(live)
     asks(scrolled == 0, f"the picture scrolled by {scrolled} lines")
     asks(live.count("device  asked  polls") == 1, "not one table")
-    asks(re.search(r"^monitor at \S+ 9600: \d\d:\d\d:\d\d, last byte 0 s ago; Ctrl-C ends it$", live, re.M), "no heading")
+    asks(re.search(r"^monitor at \S+ 9600: \d\d:\d\d:\d\d, last byte [0-9] s ago; Ctrl-C ends it$", live, re.M), "no heading")
     asks(re.search(r"^last \d+ s: \d+% of the time in use; a second \d+\.\d packets, 0\.0 damaged, \d+\.\d turns of the panel$", live, re.M), "no line of the window")
-    lost = re.search(r"^6 +\d+ +0\.0% +(\d+\.\d)%  online$", live, re.M)
-    asks(lost and 35 <= float(lost[1]) <= 65, f"6 loses half: {lost and lost[0]}")
-    asks(re.search(r"^5 +\d+ +0\.0% +\d\.\d%  online$", live, re.M), "5 loses nothing")
+    rows = {int(row[1]): (int(row[2]), float(row[3])) for row in re.finditer(r"^(\d+) +(\d+) +0\.0% +(\d+\.\d)%  online$", live, re.M)}
+    lost = {address: asked * share / 100 for address, (asked, share) in rows.items()}
+    asks(set(lost) == {5, 6, 7}, f"the devices of the window are {rows}")
+    if 5 in lost and 6 in lost:  # an answer may be on its way when a table is due
+        asks(lost[5] <= 1.1, f"5 loses {lost[5]:.1f} answers")
+        asks(abs(lost[6] - rows[6][0] / 2) <= 2, f"6 loses {lost[6]:.1f} of {rows[6][0]} answers")
     asks("reader 7: a reply that doesn't fit the command" in live, "no accusation stands under the table")
     asks(all(len(line) <= WIDTH for line in live.split("\n")), "a line is too long")
     asks(re.search(r"^runs \d+ packets \d+ skipped 0 refused 0 judged \d+ accused \d+$", last, re.M), f"no table at the end: {last}")
@@ -165,9 +171,29 @@ def is_plain():
     asks("\x1b" not in output and "device  asked" in output and "reader 7:" in output, f"no plain lines: {output}")
 
 
+def is_objects():
+    """With --json each line is an object, and what is told has the moment of the day."""
+    port = Terminal()
+    script = started(port, ["--json", "--address", "7"], subprocess.PIPE)
+    time.sleep(1)
+    for number in range(3):
+        for burst in turn(number):
+            os.write(port.end, burst)
+            time.sleep(0.02)
+    time.sleep(1)
+    script.send_signal(signal.SIGINT)
+    objects = [json.loads(line) for line in script.communicate(timeout=20)[0].decode().splitlines()]
+    port.close()
+    told = [each for each in objects if each["kind"] == "told"]
+    asks(told and all(re.fullmatch(r"\d\d:\d\d:\d\d\.\d\d\d", each["stamp"]) for each in told), f"no moments: {told}")
+    asks({each["address"] for each in objects if "address" in each} == {7}, f"another device: {objects}")
+    asks(any(each["kind"] == "line" for each in objects), f"no line of counts: {objects}")
+
+
 is_drawn()
 is_plain()
+is_objects()
 for fault in faults:
     print(f"live: {fault}")
-print(f"live: a picture and plain lines, {len(faults)} faults")
+print(f"live: a picture, plain lines and objects, {len(faults)} faults")
 sys.exit(1 if faults else 0)

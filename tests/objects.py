@@ -90,7 +90,7 @@ for capture in sorted((TOP / "examples").glob("*.hex")):
         inputs += 1
 # words that JSON writes otherwise: quotes, backslashes, and a stamp that is no text
 said = b'"a" \\ b'
-quoted = bytes([0x53, 5, 13 + len(said), 0, 1, 0x74, 0, 1, 0, 1, 1, len(said)]) + said
+quoted = bytes([0x53, 5, 13 + len(said), 0, 1, 0x6B, 0, 1, 0, 1, 1, len(said)]) + said
 quoted += bytes([-sum(quoted) & 255])
 compare("quotes", ["monitor", "--packets"], quoted.hex().encode() + b"\n")
 for stamp in (b'1.5 "x" in', b"1.5 \\ in", b"1.5 \xff\xfe in", "1.5 \u00e4\u20ac in".encode(), b"1.5 \x01\x1f\x7f in"):

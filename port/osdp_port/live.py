@@ -61,7 +61,7 @@ def since(old, new, rate):
     for address, row in sorted(new.devices.items()):
         before = old.devices.get(address, {})
         asked, repeats = row["asked"] - before.get("asked", 0), row["repeats"] - before.get("repeats", 0)
-        lost = new.lost(address) - old.lost(address)
+        lost = max(0, new.lost(address) - old.lost(address))  # the answer to a packet of the table before may come now
         if asked:
             turns.append(asked - repeats)
         heard = row["answered"] + row["busy"] + row["nak"] > sum(before.get(name, 0) for name in ("answered", "busy", "nak"))
