@@ -1,0 +1,7 @@
+pub mod Along
+pub mod Finding
+pub mod Taking
+pub mod Telling
+pub mod Judged
+pub mod Device
+pub mod Rows

@@ -1,1 +1,12 @@
 pub mod Found
+pub mod Runs
+pub mod Rules
+pub mod Lines
+pub mod Entries
+pub mod Report
+pub mod Faults
+pub mod Saying
+pub mod Tests
+pub mod Judging
+pub mod Ending
+pub mod Running

@@ -1,0 +1,4 @@
+pub mod Rules
+pub mod Lines
+pub mod Faults
+pub mod Tests
