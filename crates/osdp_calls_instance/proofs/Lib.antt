@@ -27,3 +27,5 @@ mod SimulatedStepping
 mod SimulatedHearing
 mod SimulatedOrder
 mod SimulatedHolding
+mod Fitting
+mod SimulatedDay

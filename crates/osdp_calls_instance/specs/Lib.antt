@@ -8,3 +8,5 @@ pub mod SimulatedBus
 pub mod SimulatedReports
 pub mod SimulatedPremises
 pub mod SimulatedOrder
+pub mod Fitting
+pub mod SimulatedDay

@@ -4,11 +4,13 @@
 #![tactic(auto)]
 
 ghost use Rattle.osdp_calls_instance.specs.CPrograms.{MakesAnew, PanelCallsAreCalls, c_device, c_panel};
+ghost use Rattle.osdp_calls_instance.specs.Fitting.{CallsForCFit, LinesFit};
 ghost use Rattle.osdp_calls_instance.specs.Instance.{SomeCallsKeep};
 ghost use Rattle.osdp_calls_instance.specs.LinePrograms.{LinesAreThese, PanelLinesAreCalls, line_device, line_panel};
 ghost use Rattle.osdp_calls_instance.specs.OwnCalls.{CallTheLine, ProgramsHoldOnce, StandsOnCalls};
 ghost use Rattle.osdp_calls_instance.specs.Rule.{TwoCallsKeepRule};
 ghost use Rattle.osdp_calls_instance.specs.SimulatedBus.{RunIsCalls, RunsFromASetUp};
+ghost use Rattle.osdp_calls_instance.specs.SimulatedDay.{SomeScheduleIsTaken};
 ghost use Rattle.osdp_calls_instance.specs.SimulatedOrder.{RunKeepsOrder, RunsHoldOnce};
 ghost use Rattle.osdp_calls_instance.specs.SimulatedPremises.{RunIsInRange, RunKeepsAddresses};
 ghost use Rattle.osdp_calls_instance.specs.SimulatedReports.{RunTakesTheSame, RunTellsTheSame};
@@ -70,6 +72,15 @@ pub fn lines_are_calls()
     osdp_line_laws::a_panels_run_is_its_calls();
     osdp_line_laws::a_devices_run_is_its_calls();
 }
+
+/// The laws of programs leave nearly nothing out. Of calls for C they speak of each, but of one that makes a device anew as another model. Of lines to a
+/// panel they speak of each, but of a run anew with entries that can't be added; two at different addresses can. Of lines to a device they leave out
+/// those by which an event leaves that is in doubt. And some schedule is taken.
+pub fn laws_speak_of_programs<H: Handler>()
+    ensures c { CallsForCFit H }
+    ensures lines { LinesFit H }
+    ensures schedule { SomeScheduleIsTaken H.answer_of H.after }
+{}
 
 /// A panel in C or by lines may stand on a line with any devices: what it calls are calls of the panel, which do to its bus what they do.
 pub fn panels_stand_beside_any_devices<H: Handler>()
