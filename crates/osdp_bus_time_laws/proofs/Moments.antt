@@ -1,6 +1,6 @@
 -- Moments from one call of a bus to the next, and the duties that begin at them.
 use Rattle.std.proofs.Common.{◌≡◌, ◌∙◌, ap, inl, inr, ℕ, ◌≤◌, ◌||◌, Bool, true, false, max, List, [], ◌∷◌, Option, Some, None, refl, arith}
-use Rattle.std.specs.Prelude.{◌⊎◌, is_some}
+use Rattle.std.specs.Prelude.{◌⊎◌, is_some, not}
 use Rattle.osdp_frame.specs.Silence.{is_silent_for}
 use Rattle.osdp_controller_laws.specs.Runs.{Call as CallOf, Begin as BeginOf, Tick as TickOf}
 use Rattle.osdp_time_laws.specs.Clock.{IsBy as IsByOf, TicksBy}
@@ -131,3 +131,20 @@ acts_free b entry d at none nobody there due = by_held b.held refl
     by_held (byte ∷ bytes) is =
         ap (acts at) (as_bare b (byte ∷ bytes) none is)
         ∙ free_ends b.config b.remembered b.devices.entries b.first b.last b.greatest at byte bytes nobody
+
+-- ---- what ends a duty
+
+pub tick_of : (call : Call) (b : BusState) → ends_duty call b ≡ true → (now : ℕ) × (call ≡ Tick now) × (has_report b ≡ false)
+tick_of (Tick now) b ends = (now, refl, untold (has_report b) ends)
+  where
+    untold : (t : Bool) → not t ≡ true → t ≡ false
+    untold true h = cc
+    untold false h = refl
+tick_of (Add address) b ends = cc
+tick_of (Begin at now) b ends = cc
+tick_of (Submit at command) b ends = cc
+tick_of (Withdraw at) b ends = cc
+tick_of (Retarget at address) b ends = cc
+tick_of (OnBytes bytes now) b ends = cc
+tick_of (OnSilence now) b ends = cc
+tick_of NextReport b ends = cc

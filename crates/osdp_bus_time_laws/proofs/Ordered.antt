@@ -38,7 +38,8 @@ use Rattle.osdp_bus_time_laws.specs.Turns.{BeginsBy, EndsBy, HasFew, KeepsTurns,
 use Rattle.osdp_bus_time_laws.proofs.Devices.{Kept, Well, same_config, well_call}
 use Rattle.osdp_bus_time_laws.proofs.Places.{AtPlace, Outcome, asking_place, call_place, one_device, tick_place}
 use Rattle.osdp_bus_time_laws.proofs.Sums.{all_turns}
-use Rattle.osdp_bus_time_laws.proofs.Turning.{Ready, decide, ends_later, has_its_turn, held_before, is_there, tick_of}
+use Rattle.osdp_bus_time_laws.proofs.Moments.{tick_of}
+use Rattle.osdp_bus_time_laws.proofs.Turning.{Ready, decide, ends_later, has_its_turn, held_before, is_there}
 
 -- ---- how many commands wait
 

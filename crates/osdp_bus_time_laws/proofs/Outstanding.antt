@@ -24,7 +24,7 @@ use Rattle.osdp_time_laws.specs.Clock.{TicksBy, is_tick}
 use Rattle.osdp_time_laws.specs.Instances.{busy}
 use Rattle.osdp_time_laws.specs.Laws.{IsNotBusy}
 use Rattle.osdp_time_laws.proofs.Accepted.{phase_now}
-use Rattle.osdp_time_laws.proofs.Beginnings.{Begins as BeginsOne, begun_tick, one_less, whole, whole_is}
+use Rattle.osdp_time_laws.proofs.Beginnings.{Begins as BeginsOne, Few, begun_tick, one_less, whole, whole_is}
 use Rattle.osdp_time_laws.proofs.Duties.{Due, due_ahead, due_at, due_kept, due_seen, until_of}
 use Rattle.osdp_time_laws.proofs.Ends.{tick_at_moment}
 use Rattle.osdp_time_laws.proofs.Phases.{Holds, Phase, frame_holds, phase_near, phase_passed, phase_seen, still, tick_holds}
@@ -35,7 +35,7 @@ use Rattle.osdp_bus.specs.Deadlines.{acts}
 use Rattle.osdp_bus.specs.Devices.{device_hears, device_ticks, holds, is_device_due}
 use Rattle.osdp_bus.specs.Settings.{controller_config}
 use Rattle.osdp_bus.specs.Ticking.{BusTicked, bus_ticks, ticks_with}
-use Rattle.osdp_bus_laws.specs.Calls.{Call, Add, Begin, Submit, Withdraw, Retarget, OnBytes, OnSilence, Tick, NextReport, after_call}
+use Rattle.osdp_bus_laws.specs.Calls.{Call, Tick, after_call}
 use Rattle.osdp_bus_laws.specs.Exchanges.{IsOutstandingAt}
 use Rattle.osdp_bus_laws.specs.Fairness.{Begins}
 use Rattle.osdp_bus_laws.specs.Turns.{asking, judged}
@@ -50,8 +50,9 @@ use Rattle.osdp_bus_time_laws.specs.Clock.{DoneBy, IsOwed, KeepsTime, ends_duty}
 use Rattle.osdp_bus_time_laws.specs.Laws.{ExchangesEnd, exchange_of}
 use Rattle.osdp_bus_time_laws.specs.Turns.{EndsBy, NoneBegins, OutstandingTakes, TurnsTake}
 use Rattle.osdp_bus_time_laws.proofs.Devices.{Well, kept_asking, same_config, well_call}
-use Rattle.osdp_bus_time_laws.proofs.Moments.{acts_held, as_tick, by_tick, done_ticks, grows, ticks_of}
-use Rattle.osdp_bus_time_laws.proofs.Places.{AtPlace, Outcome, call_place, one_device, tick_place}
+use Rattle.osdp_bus_time_laws.proofs.Moments.{acts_held, as_tick, by_tick, done_ticks, grows, tick_of, ticks_of}
+use Rattle.osdp_bus_time_laws.specs.Silent.{MayRead, ReadsOnly}
+use Rattle.osdp_bus_time_laws.proofs.Places.{Any, AtPlace, OutcomeOf, one_device, place_where, reads_any, tick_where}
 
 -- ---- the moments of the calls, and a BUSY after them all: so one may always come
 
@@ -197,113 +198,120 @@ module _ (late e : ℕ) (c : ControllerConfig) (more : ℕ) (many : c.sends ≡ 
         λ so. ((h.1 so).0, subst (λ (n : ℕ). Ph l (ticks_in s.state (seen_by g s) d.controller.waiting).session.state n) (is ∙ at) (h.1 so).1),
       )
 
-  -- ---- one call, while an entry holds the line
+  -- ---- one call, while an entry holds the line: what it reads leaves it on its way
 
-  module _ (call : Call) (calls : List Call) (b : BusState) (entry : ℕ) (d : Device) (well : Well b) (there : device_of entry b ≡ Some d) (stands : holds d ≡ true)
-      (owed : (at : ℕ) → IsOwed at call b → DoneBy (at + late) (call ∷ calls) b) (config : d.controller.session.config ≡ c)
-      (phase : Ph (moments (call ∷ calls) b) d.controller.session.state b.greatest) where
-    abbrev g : ℕ
-    g = (after_call call b).greatest
+  module _ (end : List CallOf) (ended : (limit : ℕ) → TicksBy limit end) (Reads : Packet → Type 0)
+      (hears_on : (call : Call) (calls : List Call) (b : BusState) → (after_call call b).greatest ≤ e → (p : Packet) (f : Device) → Reads p
+      → On (ticks_of end ended (call ∷ calls) b) (after_call call b).greatest f
+      → On (ticks_of end ended (call ∷ calls) b) (after_call call b).greatest (device_hears p (after_call call b).greatest f)) where
+    module _ (call : Call) (calls : List Call) (b : BusState) (entry : ℕ) (d : Device) (well : Well b) (there : device_of entry b ≡ Some d) (stands : holds d ≡ true)
+        (owed : (at : ℕ) → IsOwed at call b → DoneBy (at + late) (call ∷ calls) b) (may : MayRead Reads call b) (config : d.controller.session.config ≡ c)
+        (phase : Ph (ticks_of end ended (call ∷ calls) b) d.controller.session.state b.greatest) where
+      abbrev g : ℕ
+      g = (after_call call b).greatest
 
-    abbrev l : List CallOf
-    l = moments calls (after_call call b)
+      abbrev l : List CallOf
+      l = ticks_of end ended calls (after_call call b)
 
-    abbrev x : CallOf
-    x = as_tick (ends_duty call b) g
+      abbrev x : CallOf
+      x = as_tick (ends_duty call b) g
 
-    unreported : has_report b ≡ false
-    unreported = is_false (has_report b) (λ told. let free = well.sound.devices.waits told entry d there in cc)
+      unreported : has_report b ≡ false
+      unreported = is_false (has_report b) (λ told. let free = well.sound.devices.waits told entry d there in cc)
 
-    owed_at : (at : ℕ) → b.greatest ≤ at → at ≤ g → until_of d.controller.session.state ≤ at → TicksBy (at + late) (x ∷ l)
-    owed_at at not_before not_after reached =
-        let held = (has_one_exchange b well.sound).belongs entry (record { device = d; there = there; outstanding = stands }) in
-        done_ticks endless endless_ended (at + late) (call ∷ calls) b (omega arith)
-        (owed at (record {
-          not_before = not_before;
-          not_after = not_after;
-          due = or_second (has_report b) (acts at b)
-              (acts_held b entry d at unreported held there stands (due_then d (max b.greatest at) (stands_not_closed d stands) (omega arith)));
-        }))
+      owed_at : (at : ℕ) → b.greatest ≤ at → at ≤ g → until_of d.controller.session.state ≤ at → TicksBy (at + late) (x ∷ l)
+      owed_at at not_before not_after reached =
+          let held = (has_one_exchange b well.sound).belongs entry (record { device = d; there = there; outstanding = stands }) in
+          done_ticks end ended (at + late) (call ∷ calls) b (omega arith)
+          (owed at (record {
+            not_before = not_before;
+            not_after = not_after;
+            due = or_second (has_report b) (acts at b)
+                (acts_held b entry d at unreported held there stands (due_then d (max b.greatest at) (stands_not_closed d stands) (omega arith)));
+          }))
 
-    phase_then : Ph (x ∷ l) d.controller.session.state g
-    phase_then =
-        phase_seen late e c more (Unit {0}) is_outstanding refl (x ∷ l) d.controller.session.state b.greatest g
-        (λ n due. due_seen late n (until_of d.controller.session.state) b.greatest g x l (grows call b)
-        (λ limit within by. by_tick (ends_duty call b) g limit by) owed_at due)
-        phase
+      phase_then : Ph (x ∷ l) d.controller.session.state g
+      phase_then =
+          phase_seen late e c more (Unit {0}) is_outstanding refl (x ∷ l) d.controller.session.state b.greatest g
+          (λ n due. due_seen late n (until_of d.controller.session.state) b.greatest g x l (grows call b)
+          (λ limit within by. by_tick (ends_duty call b) g limit by) owed_at due)
+          phase
 
-    pub near_end : g ≤ e
-    near_end = phase_near late e c more (Unit {0}) is_outstanding refl (x ∷ l) d.controller.session.state g (stands_not_closed d stands) phase_then
+      pub near_end : g ≤ e
+      near_end = phase_near late e c more (Unit {0}) is_outstanding refl (x ∷ l) d.controller.session.state g (stands_not_closed d stands) phase_then
 
-    on_then : On (x ∷ l) g d
-    on_then = (
-      (let reached : d.controller.session.greatest ≤ b.greatest = (well.devices entry d there).reached in let on = grows call b in omega arith),
-      λ so. (config, phase_then),
-    )
+      on_then : On (x ∷ l) g d
+      on_then = (
+        (let reached : d.controller.session.greatest ≤ b.greatest = (well.devices entry d there).reached in let on = grows call b in omega arith),
+        λ so. (config, phase_then),
+      )
 
-    hears_on : (p : Packet) (f : Device) → On (x ∷ l) g f → On (x ∷ l) g (device_hears p g f)
-    hears_on p f on = heard_on (x ∷ l) g (may_be_busy (call ∷ calls) b) near_end p f on
+      heard_then : (p : Packet) (f : Device) → Reads p → On (x ∷ l) g f → On (x ∷ l) g (device_hears p g f)
+      heard_then p f reads on = hears_on call calls b near_end p f reads on
 
-    abbrev After : Type 0
-    After = NoneBegins call b → AtPlace entry (On l g) (after_call call b).devices
+      abbrev After : Type 0
+      After = NoneBegins call b → AtPlace entry (On l g) (after_call call b).devices
 
-    place_other : ends_duty call b ≡ false → After
-    place_other other none =
-        let place =
-        call_place g (On (x ∷ l) g) hears_on entry (λ command f on. on) (λ f on lives. on) call b other refl
-        (λ f here. let one = one_device (device_of entry b) d f there here in
-        subst (λ (k : Device). is_closed k.controller.session.state ≡ false) one (stands_not_closed d stands))
-        (d, there, on_then) in
-        (place.0, place.1, kept_on (ends_duty call b) g l other place.0 place.2)
+      place_other : ends_duty call b ≡ false → After
+      place_other other none =
+          let place =
+          place_where Reads g (On (x ∷ l) g) heard_then entry (λ f on lives. on) call b may (λ at command is same ok f here on. on) other refl
+          (λ f here. let one = one_device (device_of entry b) d f there here in
+          subst (λ (k : Device). is_closed k.controller.session.state ≡ false) one (stands_not_closed d stands))
+          (d, there, on_then) in
+          (place.0, place.1, kept_on (ends_duty call b) g l other place.0 place.2)
 
-    by_outcome : (now : ℕ) → call ≡ Tick now → Outcome g (On (x ∷ l) g) hears_on entry now b (bus_ticks now b) → After
-    by_outcome now is (inl (k, begun, others)) none = absurd (none k (subst (λ t. Begins t k b) (sym is) begun))
-    by_outcome now is (inr (inl (f, at, (on, never)))) none =
-        (f, ap (λ t. device_of entry (after_call t b)) is ∙ at, ahead_on x g l f never on)
-    by_outcome now is (inr (inr (f, on, so, due, at))) none =
-        (device_ticks g f, ap (λ t. device_of entry (after_call t b)) is ∙ at, ticked_out x g l f near_end so on)
+      by_outcome : (now : ℕ) → call ≡ Tick now → OutcomeOf g (On (x ∷ l) g) entry now b (bus_ticks now b) → After
+      by_outcome now is (inl (k, begun, others)) none = absurd (none k (subst (λ t. Begins t k b) (sym is) begun))
+      by_outcome now is (inr (inl (f, at, (on, never)))) none =
+          (f, ap (λ t. device_of entry (after_call t b)) is ∙ at, ahead_on x g l f never on)
+      by_outcome now is (inr (inr (f, on, so, due, at))) none =
+          (device_ticks g f, ap (λ t. device_of entry (after_call t b)) is ∙ at, ticked_out x g l f near_end so on)
 
-    place_tick : (now : ℕ) → call ≡ Tick now → After
-    place_tick now is =
-        by_outcome now is
-        (tick_place g (On (x ∷ l) g) hears_on entry now b well.sound unreported
-        (sym ((moments_are_seen b).brought (Tick now) now refl) ∙ ap (λ t. (after_call t b).greatest) (sym is)) (d, there, on_then))
+      place_tick : (now : ℕ) → call ≡ Tick now → After
+      place_tick now is =
+          by_outcome now is
+          (tick_where Reads g (On (x ∷ l) g) heard_then entry now b well.sound unreported
+          (sym ((moments_are_seen b).brought (Tick now) now refl) ∙ ap (λ t. (after_call t b).greatest) (sym is)) may.held (d, there, on_then))
 
-  place_by : (call : Call) (calls : List Call) (b : BusState) (entry : ℕ) (d : Device) (well : Well b) (there : device_of entry b ≡ Some d) (stands : holds d ≡ true)
-      (owed : (at : ℕ) → IsOwed at call b → DoneBy (at + late) (call ∷ calls) b) (config : d.controller.session.config ≡ c)
-      (phase : Ph (moments (call ∷ calls) b) d.controller.session.state b.greatest) → After call calls b entry d well there stands owed config phase
-  place_by (Tick now) calls b entry d well there stands owed config phase = place_tick (Tick now) calls b entry d well there stands owed config phase now refl
-  place_by (Add address) calls b entry d well there stands owed config phase = place_other (Add address) calls b entry d well there stands owed config phase refl
-  place_by (Begin at now) calls b entry d well there stands owed config phase = place_other (Begin at now) calls b entry d well there stands owed config phase refl
-  place_by (Submit at command) calls b entry d well there stands owed config phase = place_other (Submit at command) calls b entry d well there stands owed config phase refl
-  place_by (Withdraw at) calls b entry d well there stands owed config phase = place_other (Withdraw at) calls b entry d well there stands owed config phase refl
-  place_by (Retarget at address) calls b entry d well there stands owed config phase = place_other (Retarget at address) calls b entry d well there stands owed config phase refl
-  place_by (OnBytes bytes now) calls b entry d well there stands owed config phase = place_other (OnBytes bytes now) calls b entry d well there stands owed config phase refl
-  place_by (OnSilence now) calls b entry d well there stands owed config phase = place_other (OnSilence now) calls b entry d well there stands owed config phase refl
-  place_by NextReport calls b entry d well there stands owed config phase = place_other NextReport calls b entry d well there stands owed config phase refl
+      place_then : After
+      place_then = by_duty (ends_duty call b) refl
+        where
+          by_duty : (t : Bool) → ends_duty call b ≡ t → After
+          by_duty false other = place_other other
+          by_duty true ticks = let tick = tick_of call b ticks in place_tick tick.0 tick.1
 
-  -- ---- all calls
+    -- ---- all calls
 
-  only_then : (call : Call) (b : BusState) (entry : ℕ) → NoneBegins call b → ((j : ℕ) → IsOutstandingAt j b → j ≡ entry) → Who call b
-      → (j : ℕ) → IsOutstandingAt j (after_call call b) → j ≡ entry
-  only_then call b entry none only (inl (k, begun)) j out = absurd (none k begun)
-  only_then call b entry none only (inr quiet) j out =
-      let before = quiet.1 j out.device out.there out.outstanding in
-      only j (record { device = before.0; there = before.1; outstanding = before.2 })
+    only_then : (call : Call) (b : BusState) (entry : ℕ) → NoneBegins call b → ((j : ℕ) → IsOutstandingAt j b → j ≡ entry) → Who call b
+        → (j : ℕ) → IsOutstandingAt j (after_call call b) → j ≡ entry
+    only_then call b entry none only (inl (k, begun)) j out = absurd (none k begun)
+    only_then call b entry none only (inr quiet) j out =
+        let before = quiet.1 j out.device out.there out.outstanding in
+        only j (record { device = before.0; there = before.1; outstanding = before.2 })
+
+    pub ends_where : (calls : List Call) (b : BusState) (entry : ℕ) → Well b → KeepsTime late calls b → ReadsOnly Reads calls b
+        → ((j : ℕ) → IsOutstandingAt j b → j ≡ entry) → AtPlace entry (On (ticks_of end ended calls b) b.greatest) b.devices → EndsBy e calls b
+    ends_where [] b entry well in_time reads only place = tt
+    ends_where (call ∷ calls) b entry well in_time reads only (d, there, on) = λ holding out.
+        let same = only holding out in
+        let one = one_device (device_of entry b) out.device d (ap (λ n. device_of n b) (sym same) ∙ out.there) there in
+        let stands : holds d ≡ true = ap holds (sym one) ∙ out.outstanding in
+        let now = on.1 stands in (
+          near_end call calls b entry d well there stands in_time.0 reads.0 now.0 now.1,
+          λ none.
+              ends_where calls (after_call call b) entry (well_call call b well) in_time.1 reads.1 (only_then call b entry none only (who call b well.first))
+              (place_then call calls b entry d well there stands in_time.0 reads.0 now.0 now.1 none),
+        )
+
+  -- ---- whatever is read
 
   pub ends_by : (calls : List Call) (b : BusState) (entry : ℕ) → Well b → KeepsTime late calls b → ((j : ℕ) → IsOutstandingAt j b → j ≡ entry)
       → AtPlace entry (On (moments calls b) b.greatest) b.devices → EndsBy e calls b
-  ends_by [] b entry well in_time only place = tt
-  ends_by (call ∷ calls) b entry well in_time only (d, there, on) = λ holding out.
-      let same = only holding out in
-      let one = one_device (device_of entry b) out.device d (ap (λ n. device_of n b) (sym same) ∙ out.there) there in
-      let stands : holds d ≡ true = ap holds (sym one) ∙ out.outstanding in
-      let now = on.1 stands in (
-        near_end call calls b entry d well there stands in_time.0 now.0 now.1,
-        λ none.
-            ends_by calls (after_call call b) entry (well_call call b well) in_time.1 (only_then call b entry none only (who call b well.first))
-            (place_by call calls b entry d well there stands in_time.0 now.0 now.1 none),
-      )
+  ends_by calls b entry well in_time only place =
+      ends_where endless endless_ended Any
+      (λ call calls b near p f any on. heard_on (moments (call ∷ calls) b) (after_call call b).greatest (may_be_busy (call ∷ calls) b) near p f on) calls b entry well
+      in_time (reads_any calls b) only place
 
 -- ---- from the beginning of an exchange on
 
@@ -322,45 +330,74 @@ began (Pausing until o) s w out = cc
 sound_asking : (now : ℕ) (b : BusState) → SoundBus b → SoundBus (asking now b)
 sound_asking now b sound = sound_run (judged now b) (sound_silent (seen now b) (sound_seen now b sound))
 
+-- how an exchange stands as it begins, where so many BUSY answers are allowed, or none is read
+module _ (late q : ℕ) (end : List CallOf) (ended : (limit : ℕ) → TicksBy limit end) (call : Call) (calls : List Call) (b : BusState) (entry : ℕ) (well : Well b)
+    (begun : Begins call entry b) where
+  abbrev began_as : Device
+  began_as = begun.next.due.device
+
+  abbrev began_moments : List CallOf
+  began_moments = ticks_of end ended calls (after_call call b)
+
+  pub sends_of : (more : ℕ) × (began_as.controller.session.config.sends ≡ more + 1)
+  sends_of =
+      one_less began_as.controller.session.config.sends
+      ((sound_asking begun.now b well.sound).devices.devices entry began_as begun.next.due.there).machine.session.config.sends.0
+
+  pub stands_begun : Few began_as.controller.session.config q began_moments
+      → (device_of entry (after_call call b) ≡ Some (device_ticks (asking begun.now b).greatest began_as))
+      × On late ((after_call call b).greatest + whole late sends_of.0 q began_as.controller.session.config) began_as.controller.session.config sends_of.0 sends_of.1
+      began_moments (after_call call b).greatest (device_ticks (asking begun.now b).greatest began_as)
+  stands_begun few =
+      let r = asking begun.now b in
+      let d = began_as in
+      let s = d.controller.session in
+      let k = after_call call b in
+      let kept = kept_asking begun.now b well entry d begun.next.due.there in
+      let device = (sound_asking begun.now b well.sound).devices.devices entry d begun.next.due.there in
+      let free = is_false (holds d) (λ h. still_free begun.now b begun.free entry d begun.next.due.there h) in
+      let ticked = begun_ticked begun.now entry b begun.free begun.next in
+      let after : k ≡ (ticks_with entry (Some d) r).bus = ap (λ t. after_call t b) begun.tick ∙ ap (λ (t : BusTicked). t.bus) ticked in
+      let there : device_of entry k ≡ Some (device_ticks r.greatest d) =
+      ap (device_of entry) after ∙ set_here r.devices.entries entry d (device_ticks r.greatest d) begun.next.due.there in
+      let moment : k.greatest ≡ r.greatest = ap (λ (x : BusState). x.greatest) after in
+      let seen_now : k.greatest ≡ max b.greatest begun.now =
+      ap (λ t. (after_call t b).greatest) begun.tick ∙ (moments_are_seen b).brought (Tick begun.now) begun.now refl in
+      let reached : s.greatest ≤ max b.greatest begun.now = kept.reached in
+      let at : (seen_by r.greatest s).greatest ≡ k.greatest = omega arith in
+      let first = begun_tick late sends_of.0 q began_moments s.state (seen_by r.greatest s) d.controller.waiting few device.machine.session.state
+      (began s.state (seen_by r.greatest s) d.controller.waiting free (begins_frame r.greatest d free begun.next.due.due)) in
+      let e = k.greatest + whole late sends_of.0 q s.config in
+      let is : (after_call_of (TickOf r.greatest) d.controller).session.greatest ≡ max s.greatest r.greatest = tick_at_moment r.greatest d.controller in
+      let holds_then : Holds late e s.config sends_of.0 (Unit {0}) is_outstanding refl began_moments (device_ticks r.greatest d).controller.session =
+      subst (λ (n : ℕ). Holds late (n + whole late sends_of.0 q s.config) s.config sends_of.0 (Unit {0}) is_outstanding refl began_moments
+      (device_ticks r.greatest d).controller.session) at first in (
+        there,
+        (
+          omega arith,
+          λ so. (
+            (holds_then.1 so).0,
+            subst (λ (n : ℕ). Phase late e s.config sends_of.0 (Unit {0}) began_moments (device_ticks r.greatest d).controller.session.state n) (is ∙ at)
+                (holds_then.1 so).1,
+          ),
+        ),
+      )
+
 begun_ends : (late : ℕ) (call : Call) (calls : List Call) (b : BusState) (entry : ℕ) → Well b → KeepsTime late calls (after_call call b) → Begins call entry b
     → EndsBy ((after_call call b).greatest + exchange_of b late) calls (after_call call b)
 begun_ends late call calls b entry well in_time begun =
-    let r = asking begun.now b in
-    let d = begun.next.due.device in
-    let s = d.controller.session in
     let k = after_call call b in
-    let kept = kept_asking begun.now b well entry d begun.next.due.there in
-    let device = (sound_asking begun.now b well.sound).devices.devices entry d begun.next.due.there in
-    let sends = one_less s.config.sends device.machine.session.config.sends.0 in
-    let free = is_false (holds d) (λ h. still_free begun.now b begun.free entry d begun.next.due.there h) in
-    let ticked = begun_ticked begun.now entry b begun.free begun.next in
-    let after : k ≡ (ticks_with entry (Some d) r).bus = ap (λ t. after_call t b) begun.tick ∙ ap (λ (t : BusTicked). t.bus) ticked in
-    let there : device_of entry k ≡ Some (device_ticks r.greatest d) =
-    ap (device_of entry) after ∙ set_here r.devices.entries entry d (device_ticks r.greatest d) begun.next.due.there in
-    let moment : k.greatest ≡ r.greatest = ap (λ (x : BusState). x.greatest) after in
-    let seen_now : k.greatest ≡ max b.greatest begun.now =
-    ap (λ t. (after_call t b).greatest) begun.tick ∙ (moments_are_seen b).brought (Tick begun.now) begun.now refl in
-    let reached : s.greatest ≤ max b.greatest begun.now = kept.reached in
-    let at : (seen_by r.greatest s).greatest ≡ k.greatest = omega arith in
-    let first = begun_tick late sends.0 s.config.busy_limit (moments calls k) s.state (seen_by r.greatest s) d.controller.waiting (inl (omega arith)) device.machine.session.state
-    (began s.state (seen_by r.greatest s) d.controller.waiting free (begins_frame r.greatest d free begun.next.due.due)) in
-    let e = k.greatest + whole late sends.0 s.config.busy_limit s.config in
-    let length_is : whole late sends.0 s.config.busy_limit s.config ≡ exchange_of b late =
-    whole_is late sends.0 s.config.busy_limit s.config sends.1 ∙ ap (λ x. longest_exchange x late) kept.config in
-    let is : (after_call_of (TickOf r.greatest) d.controller).session.greatest ≡ max s.greatest r.greatest = tick_at_moment r.greatest d.controller in
-    let holds_then : Holds late e s.config sends.0 (Unit {0}) is_outstanding refl (moments calls k) (device_ticks r.greatest d).controller.session =
-    subst (λ (n : ℕ). Holds late (n + whole late sends.0 s.config.busy_limit s.config) s.config sends.0 (Unit {0}) is_outstanding refl (moments calls k) (device_ticks r.greatest d).controller.session) at first in
+    let c = begun.next.due.device.controller.session.config in
+    let kept = kept_asking begun.now b well entry begun.next.due.device begun.next.due.there in
+    let sends = sends_of late c.busy_limit endless endless_ended call calls b entry well begun in
+    let length_is : whole late sends.0 c.busy_limit c ≡ exchange_of b late =
+    whole_is late sends.0 c.busy_limit c sends.1 ∙ ap (λ x. longest_exchange x late) kept.config in
+    let stands = stands_begun late c.busy_limit endless endless_ended call calls b entry well begun (inl (omega arith)) in
     let out = stands_after call entry b begun in
     subst (λ (n : ℕ). EndsBy (k.greatest + n) calls k) length_is
-    (ends_by late e s.config sends.0 sends.1 calls k entry (well_call call b well) in_time
-    (λ j other. (has_one_exchange k (well_call call b well).sound).one j entry other out) (
-      device_ticks r.greatest d,
-      there,
-      (
-        omega arith,
-        λ so. ((holds_then.1 so).0, subst (λ (n : ℕ). Phase late e s.config sends.0 (Unit {0}) (moments calls k) (device_ticks r.greatest d).controller.session.state n) (is ∙ at) (holds_then.1 so).1),
-      ),
-    ))
+    (ends_by late (k.greatest + whole late sends.0 c.busy_limit c) c sends.0 sends.1 calls k entry (well_call call b well) in_time
+    (λ j other. (has_one_exchange k (well_call call b well).sound).one j entry other out)
+    (device_ticks (asking begun.now b).greatest begun.next.due.device, stands.0, stands.1))
 
 turns_take : (late : ℕ) (cost : ℕ) (calls : List Call) (b : BusState) → Well b → KeepsTime late calls b → exchange_of b late ≡ cost → TurnsTake (λ entry. cost) calls b
 turns_take late cost [] b well in_time same = tt

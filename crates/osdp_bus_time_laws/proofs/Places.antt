@@ -5,6 +5,7 @@ use Rattle.std.specs.Option.{option_map_or}
 use Rattle.std.proofs.lemmas.Bool.{eqb-true, eqb-false}
 use Rattle.osdp_frame.specs.Items.{items}
 use Rattle.osdp_frame.specs.Packet.{Packet}
+use Rattle.osdp_frame.specs.Reading.{RunItem, PacketItem, SkippedItem, RefusedItem}
 use Rattle.osdp_msg.specs.declared.command.Command.{Command}
 use Rattle.osdp_controller.specs.Machine.{begin_refusal, refused_unless_closed, retarget_refusal}
 use Rattle.osdp_controller.specs.Comsets.{has_comset}
@@ -14,8 +15,8 @@ use Rattle.osdp_controller_laws.proofs.Closed.{was_closed}
 use Rattle.osdp_bus.specs.declared.device.Device.{Device}
 use Rattle.osdp_bus.specs.declared.fault.BusFault.{BusFault}
 use Rattle.osdp_bus.specs.Buses.{BusState, Devices, device_of, has_report, holder, is_silent, seen}
-use Rattle.osdp_bus.specs.Devices.{device_hears, device_ticks, holds, is_device_due, is_taken_beside}
-use Rattle.osdp_bus.specs.Hearing.{after_bytes, ends_run, ends_silent, hears_items, hears_with}
+use Rattle.osdp_bus.specs.Devices.{device_hears, device_ticks, first_from, holds, is_at, is_device_due, is_taken_beside}
+use Rattle.osdp_bus.specs.Hearing.{after_bytes, ends_run, ends_silent, hears_at, hears_item, hears_items, hears_with}
 use Rattle.osdp_bus.specs.Machine.{add_refusal, after_add, after_begin_at, after_retarget_at, after_submit_at, begin_refusal_at, begin_refusal_of, bus_fault, changed_unless, changes_device, device_begins, device_retargets, device_submits, device_withdraws, new_device, retarget_refusal_at, retarget_refusal_of, submit_refusal_at}
 use Rattle.osdp_bus.specs.Ticking.{BusTicked, bus_ticks, is_due_at, is_held_and_due, next_due, stays, ticks_at, ticks_by, ticks_held, ticks_on, ticks_with}
 use Rattle.osdp_bus_laws.specs.Calls.{Call, Add, Begin, Submit, Withdraw, Retarget, OnBytes, OnSilence, Tick, NextReport, after_call}
@@ -23,12 +24,12 @@ use Rattle.osdp_bus_laws.specs.Fairness.{Begins}
 use Rattle.osdp_bus_laws.specs.Turns.{asking, judged}
 use Rattle.osdp_bus_laws.proofs.Calling.{map_none, no_device, or_none}
 use Rattle.osdp_bus_laws.proofs.Exchanging.{has_one_exchange}
-use Rattle.osdp_bus_laws.proofs.Hearing.{items_keep}
 use Rattle.osdp_bus_laws.proofs.Moments.{moments_are_seen}
 use Rattle.osdp_bus_laws.proofs.Sound.{IsNobody, SoundBus, held_items, held_there, nobody, sound_run, sound_seen, sound_silent, still_nobody}
 use Rattle.osdp_bus_laws.proofs.Staying.{stays_silent}
 use Rattle.osdp_bus_laws.proofs.Turning.{due_is_next, set_here, set_other}
 use Rattle.osdp_bus_time_laws.specs.Clock.{ends_duty}
+use Rattle.osdp_bus_time_laws.specs.Silent.{AllRead, MayRead, ReadsOnly}
 
 -- what holds of the device of an entry
 abbrev pub AtPlace : ℕ → (Device → Type 0) → Devices → Type 0
@@ -46,54 +47,88 @@ is_true : (b : Bool) → not b ≡ false → b ≡ true
 is_true true h = refl
 is_true false h = cc
 
-module _ (g : ℕ) (Q : Device → Type 0) (heard : (p : Packet) (d : Device) → Q d → Q (device_hears p g d)) (entry : ℕ) where
+-- ---- what is read
+
+pub none_read : (Reads : Packet → Type 0) → AllRead Reads (items true [])
+unfolding items
+none_read Reads = tt
+
+-- what is held where a run after which the line was silent long enough is over
+judged_read : (Reads : Packet → Type 0) (now : ℕ) (b : BusState) → AllRead Reads (items true b.held) → AllRead Reads (items true (judged now b).held)
+judged_read Reads now b read =
+    either_way (λ (c : BusState). AllRead Reads (items true c.held)) (is_silent (seen now b)) (ends_run (seen now b)) (seen now b)
+    (λ h. none_read Reads) (λ h. read)
+
+-- ---- a tick while no report waits: an exchange begins; or the device doesn't tick, and holds the line only before it is due; or it holds the line, is due
+-- and ticks
+module _ (g : ℕ) (Q : Device → Type 0) (entry : ℕ) where
+  abbrev pub OutcomeOf : ℕ → BusState → BusTicked → Type 0
+  OutcomeOf now b t =
+      ((k : ℕ) × Begins (Tick now) k b × (k ≢ entry → AtPlace entry Q t.bus.devices))
+      ⊎ ((AtPlace entry (λ d. Q d × (holds d ≡ true → is_device_due g d ≡ true → ⊥)) t.bus.devices)
+      ⊎ ((d : Device) × Q d × (holds d ≡ true) × (is_device_due g d ≡ true) × (slice_get t.bus.devices.entries entry ≡ Some (device_ticks g d))))
+
+module _ (Reads : Packet → Type 0) (g : ℕ) (Q : Device → Type 0) (heard : (p : Packet) (d : Device) → Reads p → Q d → Q (device_hears p g d)) (entry : ℕ) where
   -- ---- what comes in
 
-  packet_by : (t : Bool) (p : Packet) (i : ℕ) (d : Device) (ds : Devices) → nat_eq entry i ≡ t → slice_get ds.entries i ≡ Some d → (e : Device)
+  packet_by : (t : Bool) (p : Packet) (i : ℕ) (d : Device) (ds : Devices) → Reads p → nat_eq entry i ≡ t → slice_get ds.entries i ≡ Some d → (e : Device)
       → slice_get ds.entries entry ≡ Some e → Q e → AtPlace entry Q (hears_with p g i (Some d) ds)
-  packet_by true p i d ds same at e there is =
+  packet_by true p i d ds reads same at e there is =
       let here : entry ≡ i = eqb-true entry i same in
       let one : e ≡ d = one_device (slice_get ds.entries i) e d (sym (ap (slice_get ds.entries) here) ∙ there) at in (
         device_hears p g d,
         ap (slice_get (slice_set ds.entries i (device_hears p g d))) here ∙ set_here ds.entries i d (device_hears p g d) at,
-        heard p d (subst Q one is),
+        heard p d reads (subst Q one is),
       )
-  packet_by false p i d ds other at e there is =
+  packet_by false p i d ds reads other at e there is =
       (e, set_other ds.entries i entry (device_hears p g d) (eqb-false entry i other) ∙ there, is)
 
-  packet_place : (p : Packet) (i : ℕ) (d : Device) (ds : Devices) → slice_get ds.entries i ≡ Some d → AtPlace entry Q ds
-      → AtPlace entry Q (hears_with p g i (Some d) ds)
-  packet_place p i d ds at place = packet_by (nat_eq entry i) p i d ds refl at place.0 place.1 place.2
+  with_place : (p : Packet) (i : ℕ) (o : Option Device) (ds : Devices) → Reads p → slice_get ds.entries i ≡ o → AtPlace entry Q ds
+      → AtPlace entry Q (hears_with p g i o ds)
+  with_place p i None ds reads at place = place
+  with_place p i (Some d) ds reads at place = packet_by (nat_eq entry i) p i d ds reads refl at place.0 place.1 place.2
 
-  items_place : (moment : ℕ) (ended : Bool) (held : List ℕ) (ds : Devices) → moment ≡ g → AtPlace entry Q ds
-      → AtPlace entry Q (hears_items moment (items ended held) ds)
-  items_place moment ended held ds is place =
-      subst (λ (n : ℕ). AtPlace entry Q (hears_items n (items ended held) ds)) (sym is)
-      (items_keep g (AtPlace entry Q) packet_place (items ended held) ds place)
+  at_place : (p : Packet) (o : Option ℕ) (ds : Devices) → Reads p → AtPlace entry Q ds → AtPlace entry Q (hears_at p g o ds)
+  at_place p None ds reads place = place
+  at_place p (Some i) ds reads place = with_place p i (slice_get ds.entries i) ds reads refl place
 
-  run_place : (b : BusState) → b.greatest ≡ g → AtPlace entry Q b.devices → AtPlace entry Q (ends_run b).devices
-  run_place b is place = items_place b.greatest true b.held b.devices is place
+  parts_place : (parts : List RunItem) (ds : Devices) → AllRead Reads parts → AtPlace entry Q ds → AtPlace entry Q (hears_items g parts ds)
+  parts_place [] ds read place = place
+  parts_place (PacketItem p ∷ parts) ds read place =
+      parts_place parts (hears_item g (PacketItem p) ds) read.1 (at_place p (first_from 0 (is_at p.address) ds.entries) ds read.0 place)
+  parts_place (SkippedItem byte ∷ parts) ds read place = parts_place parts ds read place
+  parts_place (RefusedItem fault ∷ parts) ds read place = parts_place parts ds read place
+
+  items_place : (moment : ℕ) (parts : List RunItem) (ds : Devices) → moment ≡ g → AllRead Reads parts → AtPlace entry Q ds
+      → AtPlace entry Q (hears_items moment parts ds)
+  items_place moment parts ds is read place =
+      subst (λ (n : ℕ). AtPlace entry Q (hears_items n parts ds)) (sym is) (parts_place parts ds read place)
+
+  run_place : (b : BusState) → b.greatest ≡ g → AllRead Reads (items true b.held) → AtPlace entry Q b.devices → AtPlace entry Q (ends_run b).devices
+  run_place b is read place = items_place b.greatest (items true b.held) b.devices is read place
 
   abbrev Placed : BusState → Type 0
   Placed b = AtPlace entry Q b.devices
 
-  silent_place : (b : BusState) → b.greatest ≡ g → Placed b → Placed (ends_silent b)
-  silent_place b is place = either_way Placed (is_silent b) (ends_run b) b (λ h. run_place b is place) (λ h. place)
+  silent_place : (b : BusState) → b.greatest ≡ g → AllRead Reads (items true b.held) → Placed b → Placed (ends_silent b)
+  silent_place b is read place = either_way Placed (is_silent b) (ends_run b) b (λ h. run_place b is read place) (λ h. place)
 
   judged_moment : (now : ℕ) (b : BusState) → max b.greatest now ≡ g → (judged now b).greatest ≡ g
   judged_moment now b is = (stays_silent (seen now b)).greatest ∙ is
 
-  judged_place : (now : ℕ) (b : BusState) → max b.greatest now ≡ g → Placed b → Placed (judged now b)
-  judged_place now b is place = silent_place (seen now b) is place
+  judged_place : (now : ℕ) (b : BusState) → max b.greatest now ≡ g → AllRead Reads (items true b.held) → Placed b → Placed (judged now b)
+  judged_place now b is read place = silent_place (seen now b) is read place
 
-  pub asking_place : (now : ℕ) (b : BusState) → max b.greatest now ≡ g → Placed b → Placed (asking now b)
-  asking_place now b is place = run_place (judged now b) (judged_moment now b is) (judged_place now b is place)
+  pub asking_where : (now : ℕ) (b : BusState) → max b.greatest now ≡ g → AllRead Reads (items true b.held) → Placed b → Placed (asking now b)
+  asking_where now b is read place = run_place (judged now b) (judged_moment now b is) (judged_read Reads now b read) (judged_place now b is read place)
 
-  bytes_place : (bytes : List ℕ) (now : ℕ) (b : BusState) → max b.greatest now ≡ g → Placed b → Placed (after_bytes bytes now b)
-  bytes_place [] now b is place = place
-  bytes_place (byte ∷ bytes) now b is place =
+  bytes_place : (bytes : List ℕ) (now : ℕ) (b : BusState) → max b.greatest now ≡ g → MayRead Reads (OnBytes bytes now) b → Placed b
+      → Placed (after_bytes bytes now b)
+  bytes_place [] now b is may place = place
+  bytes_place (byte ∷ bytes) now b is may place =
       let e = judged now b in
-      items_place e.greatest false (e.held ++ (byte ∷ bytes)) e.devices (judged_moment now b is) (judged_place now b is place)
+      items_place e.greatest (items false (e.held ++ (byte ∷ bytes))) e.devices (judged_moment now b is) (may.come (byte ∷ bytes) now refl)
+      (judged_place now b is may.held place)
 
   -- ---- calls of the user
 
@@ -156,47 +191,40 @@ module _ (g : ℕ) (Q : Device → Type 0) (heard : (p : Packet) (d : Device) �
 
   module _ (withdrawn : (d : Device) → Q d → is_closed d.controller.session.state ≡ false → Q (device_withdraws d)) where
     -- a call that ends no duty: no tick, or one while a report waits
-    pub place_then : (call : Call) (b : BusState) → Submitted call b → ends_duty call b ≡ false → (after_call call b).greatest ≡ g → Lives b → Placed b
+    pub place_where : (call : Call) (b : BusState) → MayRead Reads call b → Submitted call b → ends_duty call b ≡ false → (after_call call b).greatest ≡ g → Lives b → Placed b
         → Placed (after_call call b)
-    place_then (Add address) b submitted other moment lives place =
+    place_where (Add address) b may submitted other moment lives place =
         unless_place (add_refusal address b) b (after_add address b) place
         (λ ok. (place.0, in_front b.devices.entries (new_device address b.config) entry place.0 place.1, place.2))
-    place_then (Begin at now) b submitted other moment lives place =
+    place_where (Begin at now) b may submitted other moment lives place =
         unless_place (begin_refusal_at at b) b (after_begin_at at now b) place (begin_place at now b lives place)
-    place_then (Submit at command) b submitted other moment lives place =
+    place_where (Submit at command) b may submitted other moment lives place =
         unless_place (submit_refusal_at at command b) b (after_submit_at at command b) place
         (λ ok. changed_place (device_submits command) at b (λ same d there is. submitted at command refl same ok d there is) place)
-    place_then (Withdraw at) b submitted other moment lives place =
+    place_where (Withdraw at) b may submitted other moment lives place =
         changed_place device_withdraws at b (λ same d there is. withdrawn d is (lives d (ap (λ n. device_of n b) same ∙ there))) place
-    place_then (Retarget at address) b submitted other moment lives place =
+    place_where (Retarget at address) b may submitted other moment lives place =
         unless_place (retarget_refusal_at at address b) b (after_retarget_at at address b) place (retarget_place at address b lives place)
-    place_then (OnBytes bytes now) b submitted other moment lives place =
-        bytes_place bytes now b (sym ((moments_are_seen b).brought (OnBytes bytes now) now refl) ∙ moment) place
-    place_then (OnSilence now) b submitted other moment lives place =
-        run_place (seen now b) (sym ((moments_are_seen b).brought (OnSilence now) now refl) ∙ moment) place
-    place_then (Tick now) b submitted other moment lives place =
+    place_where (OnBytes bytes now) b may submitted other moment lives place =
+        bytes_place bytes now b (sym ((moments_are_seen b).brought (OnBytes bytes now) now refl) ∙ moment) may place
+    place_where (OnSilence now) b may submitted other moment lives place =
+        run_place (seen now b) (sym ((moments_are_seen b).brought (OnSilence now) now refl) ∙ moment) may.held place
+    place_where (Tick now) b may submitted other moment lives place =
         subst (λ (t : BusTicked). Placed t.bus)
         (sym (ap (λ t. if t then stays (seen now b) else ticks_on (judged now b)) (is_true (has_report b) other))) place
-    place_then NextReport b submitted other moment lives place = place
+    place_where NextReport b may submitted other moment lives place = place
 
-  module _ (submitted : (command : Command) (d : Device) → Q d → Q (device_submits command d))
-      (withdrawn : (d : Device) → Q d → is_closed d.controller.session.state ≡ false → Q (device_withdraws d)) where
-    pub call_place : (call : Call) (b : BusState) → ends_duty call b ≡ false → (after_call call b).greatest ≡ g → Lives b → Placed b → Placed (after_call call b)
-    call_place call b = place_then withdrawn call b (λ at command is same ok d there q. submitted command d q)
+  -- ---- a tick while no report waits
 
-  -- ---- a tick while no report waits: an exchange begins; or the device doesn't tick, and holds the line only before it is due; or it holds the line, is due
-  -- and ticks
-  abbrev pub Outcome : ℕ → BusState → BusTicked → Type 0
-  Outcome now b t =
-      ((k : ℕ) × Begins (Tick now) k b × (k ≢ entry → Placed t.bus))
-      ⊎ ((AtPlace entry (λ d. Q d × (holds d ≡ true → is_device_due g d ≡ true → ⊥)) t.bus.devices)
-      ⊎ ((d : Device) × Q d × (holds d ≡ true) × (is_device_due g d ≡ true) × (slice_get t.bus.devices.entries entry ≡ Some (device_ticks g d))))
+  abbrev Outcome : ℕ → BusState → BusTicked → Type 0
+  Outcome now b t = OutcomeOf g Q entry now b t
 
   rests : (now : ℕ) (b c : BusState) → Placed c → ((d : Device) → device_of entry c ≡ Some d → holds d ≡ true → is_device_due g d ≡ true → ⊥)
       → Outcome now b (stays c)
   rests now b c place never = inr (inl (place.0, place.1, (place.2, λ stands due. never place.0 place.1 stands due)))
 
-  module _ (now : ℕ) (b : BusState) (sound : SoundBus b) (none : has_report b ≡ false) (moment : max b.greatest now ≡ g) (placed : Placed b) where
+  module _ (now : ℕ) (b : BusState) (sound : SoundBus b) (none : has_report b ≡ false) (moment : max b.greatest now ≡ g)
+      (read : AllRead Reads (items true b.held)) (placed : Placed b) where
     abbrev j : BusState
     j = judged now b
 
@@ -213,7 +241,7 @@ module _ (g : ℕ) (Q : Device → Type 0) (heard : (p : Packet) (d : Device) �
     at_r = judged_moment now b moment
 
     placed_r : Placed r
-    placed_r = asking_place now b moment placed
+    placed_r = asking_where now b moment read placed
 
     -- nobody holds the line
     free_rests : IsNobody r.devices → Outcome now b (stays r)
@@ -253,7 +281,7 @@ module _ (g : ℕ) (Q : Device → Type 0) (heard : (p : Packet) (d : Device) �
 
       not_due : is_due_at m j ≡ false → Outcome now b (stays j)
       not_due never =
-          rests now b j (judged_place now b moment placed)
+          rests now b j (judged_place now b moment read placed)
           (λ d there stands due.
           let same = is_holder d there stands in
           let is : is_due_at m j ≡ is_device_due g d =
@@ -322,6 +350,55 @@ module _ (g : ℕ) (Q : Device → Type 0) (heard : (p : Packet) (d : Device) �
     outcome_by None free = free_outcome free
     outcome_by (Some m) held = held_outcome m held
 
-    pub tick_place : Outcome now b (bus_ticks now b)
-    tick_place =
+    pub tick_where : Outcome now b (bus_ticks now b)
+    tick_where =
         subst (Outcome now b) (sym (ap (λ t. if t then stays (seen now b) else ticks_on (judged now b)) none)) (outcome_by (holder j) refl)
+
+-- ---- whatever is read
+
+abbrev pub Any : Packet → Type 0
+Any p = Unit {0}
+
+all_read : (parts : List RunItem) → AllRead Any parts
+all_read [] = tt
+all_read (PacketItem p ∷ parts) = (tt, all_read parts)
+all_read (SkippedItem byte ∷ parts) = all_read parts
+all_read (RefusedItem fault ∷ parts) = all_read parts
+
+may_read : (call : Call) (b : BusState) → MayRead Any call b
+may_read call b = record { held = all_read (items true b.held); come = λ bytes now is. all_read (items false ((judged now b).held ++ bytes)) }
+
+pub reads_any : (calls : List Call) (b : BusState) → ReadsOnly Any calls b
+reads_any [] b = tt
+reads_any (call ∷ calls) b = (may_read call b, reads_any calls (after_call call b))
+
+module _ (g : ℕ) (Q : Device → Type 0) (heard : (p : Packet) (d : Device) → Q d → Q (device_hears p g d)) (entry : ℕ) where
+  abbrev hears_any : (p : Packet) (d : Device) → Any p → Q d → Q (device_hears p g d)
+  hears_any p d any is = heard p d is
+
+  pub asking_place : (now : ℕ) (b : BusState) → max b.greatest now ≡ g → AtPlace entry Q b.devices → AtPlace entry Q (asking now b).devices
+  asking_place now b is place = asking_where Any g Q hears_any entry now b is (all_read (items true b.held)) place
+
+  abbrev pub Outcome : ℕ → BusState → BusTicked → Type 0
+  Outcome now b t = OutcomeOf g Q entry now b t
+
+  pub tick_place : (now : ℕ) (b : BusState) → SoundBus b → has_report b ≡ false → max b.greatest now ≡ g → AtPlace entry Q b.devices
+      → Outcome now b (bus_ticks now b)
+  tick_place now b sound none moment placed = tick_where Any g Q hears_any entry now b sound none moment (all_read (items true b.held)) placed
+
+  -- the device of the entry is in a session
+  abbrev pub LivesAt : BusState → Type 0
+  LivesAt b = (d : Device) → device_of entry b ≡ Some d → is_closed d.controller.session.state ≡ false
+
+  module _ (withdrawn : (d : Device) → Q d → is_closed d.controller.session.state ≡ false → Q (device_withdraws d)) where
+    pub place_then : (call : Call) (b : BusState)
+        → ((at : ℕ) (command : Command) → call ≡ Submit at command → entry ≡ at → submit_refusal_at at command b ≡ None → (d : Device) → device_of at b ≡ Some d → Q d
+        → Q (device_submits command d))
+        → ends_duty call b ≡ false → (after_call call b).greatest ≡ g → LivesAt b → AtPlace entry Q b.devices → AtPlace entry Q (after_call call b).devices
+    place_then call b submitted = place_where Any g Q hears_any entry withdrawn call b (may_read call b) submitted
+
+  module _ (submitted : (command : Command) (d : Device) → Q d → Q (device_submits command d))
+      (withdrawn : (d : Device) → Q d → is_closed d.controller.session.state ≡ false → Q (device_withdraws d)) where
+    pub call_place : (call : Call) (b : BusState) → ends_duty call b ≡ false → (after_call call b).greatest ≡ g → LivesAt b → AtPlace entry Q b.devices
+        → AtPlace entry Q (after_call call b).devices
+    call_place call b = place_then withdrawn call b (λ at command is same ok d there q. submitted command d q)

@@ -41,7 +41,7 @@ use Rattle.osdp_bus_laws.proofs.Turning.{due_is_next, none_is_due, takes_turns}
 use Rattle.osdp_bus_time_laws.specs.Clock.{DoneBy, IsOwed, KeepsTime, ends_duty}
 use Rattle.osdp_bus_time_laws.specs.Turns.{BeginsBy, EndsBy, HasFew, NoneBegins, TurnsTake, others_of}
 use Rattle.osdp_bus_time_laws.proofs.Devices.{Well, well_call}
-use Rattle.osdp_bus_time_laws.proofs.Moments.{acts_free, as_tick, by_tick, done_ticks, grows}
+use Rattle.osdp_bus_time_laws.proofs.Moments.{acts_free, as_tick, by_tick, done_ticks, grows, tick_of}
 use Rattle.osdp_bus_time_laws.proofs.Outstanding.{due_then, endless, endless_ended, moments}
 use Rattle.osdp_bus_time_laws.proofs.Places.{AtPlace, Outcome, asking_place, call_place, one_device, tick_place}
 use Rattle.osdp_bus_time_laws.proofs.Sums.{ahead_of, all_ahead, one_nearer, others_have}
@@ -211,21 +211,6 @@ module _ (from least own : ℕ) (call : Call) (b : BusState) (well : Well b) (pl
       (stays_outcome now is
       (tick_place g_then (Ready from least) (ready_heard from least g_then) own now b well.sound none
       (sym ((moments_are_seen b).brought (Tick now) now refl) ∙ ap (λ t. (after_call t b).greatest) (sym is)) place))
-
-pub tick_of : (call : Call) (b : BusState) → ends_duty call b ≡ true → (now : ℕ) × (call ≡ Tick now) × (has_report b ≡ false)
-tick_of (Tick now) b ends = (now, refl, untold (has_report b) ends)
-  where
-    untold : (t : Bool) → not t ≡ true → t ≡ false
-    untold true h = cc
-    untold false h = refl
-tick_of (Add address) b ends = cc
-tick_of (Begin at now) b ends = cc
-tick_of (Submit at command) b ends = cc
-tick_of (Withdraw at) b ends = cc
-tick_of (Retarget at address) b ends = cc
-tick_of (OnBytes bytes now) b ends = cc
-tick_of (OnSilence now) b ends = cc
-tick_of NextReport b ends = cc
 
 pub stays_ready : (from least own : ℕ) (call : Call) (b : BusState) → Well b → AtPlace own (Ready from least) b.devices → (Begins call own b → ⊥)
     → AtPlace own (Ready from least) (after_call call b).devices

@@ -3,3 +3,4 @@ pub mod Turns
 pub mod Laws
 pub mod Telling
 pub mod Instances
+pub mod Silent
