@@ -1,5 +1,5 @@
 -- The schedule is taken: step by step.
-use Rattle.std.proofs.Common.{◌≡◌, ◌<◌, ℕ, zero, suc, true, All, IfSome, List, [], ◌∷◌, Option, Some, None, get_or, refl, arith}
+use Rattle.std.proofs.Common.{◌≡◌, ◌<◌, ℕ, zero, suc, true, false, All, IfSome, List, [], ◌∷◌, Option, Some, None, get_or, refl, arith}
 use Rattle.std.specs.Prelude.{slice_index, take}
 use Rattle.osdp_frame.specs.Bytes.{AreBytes}
 use Rattle.osdp_frame.specs.Held.{decided}

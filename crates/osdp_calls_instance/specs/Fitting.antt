@@ -13,9 +13,9 @@ use Rattle.osdp_c_values.specs.Settings.{id_of}
 use Rattle.osdp_c_values.specs.declared.machine.PanelMachine.{PanelMachine}
 use Rattle.osdp_c_values.specs.declared.machine.ReaderMachine.{ReaderMachine}
 use Rattle.osdp_c_values.specs.declared.settings.ReaderSettings.{ReaderSettings}
-use Rattle.osdp_line_calls.specs.PanelSessions as panel
+use Rattle.osdp_line_calls.specs.PanelSessions as panel_sessions
 use Rattle.osdp_line_calls.specs.ReaderCalls.{CallFits}
-use Rattle.osdp_line_calls.specs.ReaderSessions as device
+use Rattle.osdp_line_calls.specs.ReaderSessions as device_sessions
 use Rattle.osdp_line_calls.specs.declared.panel_call.PanelCall.{PanelCall}
 use Rattle.osdp_line_calls.specs.declared.reader_call.ReaderCall.{ReaderCall}
 use Rattle.osdp_calls.specs.Sayings.{NoneRefused}
@@ -59,11 +59,11 @@ two_addresses = 5 ∷ 6 ∷ []
 -- device that says nothing is one; one that says a call, exactly where its words are in their ranges and all events that leave by it were never
 -- offered; and a device that is run anew, exactly where its gap is at least a millisecond.
 pub record LinesFit (H : Type 0) : Type 0 where
-  pub panel : (said : Option PanelCall) (s : panel.Session) → (lines.line_panel {H = H}).Fits (lines.SaysToPanel said) s
-  pub anew : (config : BusConfig) (addresses : List ℕ) (s : panel.Session)
+  pub panel : (said : Option PanelCall) (s : panel_sessions.Session) → (lines.line_panel {H = H}).Fits (lines.SaysToPanel said) s
+  pub anew : (config : BusConfig) (addresses : List ℕ) (s : panel_sessions.Session)
       → (lines.line_panel {H = H}).Fits (lines.PanelAnew config addresses) s ↔ NoneRefused addresses (new_bus config)
-  pub two : (room : Room) (s : panel.Session) → (lines.line_panel {H = H}).Fits (lines.PanelAnew (default_config Crc room) two_addresses) s
-  pub nothing : (s : device.Session) → lines.line_device.Fits (lines.SaysToDevice None) s
-  pub device : (call : ReaderCall) (s : device.Session) → lines.line_device.Fits (lines.SaysToDevice (Some call)) s
+  pub two : (room : Room) (s : panel_sessions.Session) → (lines.line_panel {H = H}).Fits (lines.PanelAnew (default_config Crc room) two_addresses) s
+  pub nothing : (s : device_sessions.Session) → lines.line_device.Fits (lines.SaysToDevice None) s
+  pub device : (call : ReaderCall) (s : device_sessions.Session) → lines.line_device.Fits (lines.SaysToDevice (Some call)) s
       ↔ (CallFits call × AllByRecursion lines.IsWithdrawn (lines.leaving_by call s))
-  pub device_anew : (address room gap : ℕ) (s : device.Session) → lines.line_device.Fits (lines.DeviceAnew address room gap) s ↔ (1 ≤ gap)
+  pub device_anew : (address room gap : ℕ) (s : device_sessions.Session) → lines.line_device.Fits (lines.DeviceAnew address room gap) s ↔ (1 ≤ gap)
