@@ -70,7 +70,7 @@ def compare(what, words, data):
         fault = next(FORM.iter_errors(told), None)
         if fault:
             tell(f"{what}: the form of a line", fault.message, line)
-        lines.append(line_of(told, "--times" in words))
+        lines.append(line_of(told, "--times" in words and "--raw" not in words))  # raw bytes have no stamps
         objects += 1
     wanted = [line for line in plain.split("\n")[:-1] if line != HEAD]
     if lines != wanted:

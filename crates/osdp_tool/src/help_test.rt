@@ -17,6 +17,7 @@ Input: lines as osdp-port PORT RATE test device ADDRESS makes them. A line that 
   asks RULE MOMENT SENT DELAY READ      these bytes were sent, and these were read so many milliseconds later
   opens RULE MOMENT SENT DELAY READ     the same, and nothing is judged by it
   skips RULE WORD                       the scenario of the rule was left out
+  times RULE                            the rule is judged by the times of all answers so far
 
 The lines of a rule stand together. Each rule has one line, with ok, broken, unclear or skipped, and the last
 line counts them. Silence breaks no rule. The status is 1 where a rule is broken.
