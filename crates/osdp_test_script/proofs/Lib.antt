@@ -1,3 +1,4 @@
 mod Chained
 mod Passing
 mod Rows
+mod OneAnswer

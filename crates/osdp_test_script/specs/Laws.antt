@@ -1,8 +1,9 @@
 -- What verdicts come to, in the words of those who read a report.
-use Rattle.std.specs.Prelude.{◌≡◌, ◌≢◌, ◌⊎◌, ◌↔◌, ℕ, ◌≤◌, Option, Some, None, true, false}
+use Rattle.std.specs.Prelude.{◌≡◌, ◌≢◌, ◌⊎◌, ◌↔◌, ℕ, ◌≤◌, List, Option, Some, None, true, false}
 use Rattle.osdp_frame.specs.Packet.{Packet}
 use Rattle.osdp_msg.specs.declared.command.Command.{Command}
 use Rattle.osdp_rules.specs.Packets.{code_of, has_reason, is_busy, same_packet}
+use Rattle.osdp_test_script.specs.Answers.{IsAnswerIn}
 use Rattle.osdp_test_script.specs.Awaited.{awaited_code}
 use Rattle.osdp_test_script.specs.Permits.{is_allowed}
 use Rattle.osdp_test_script.specs.Runs.{refuses, sends_to}
@@ -38,3 +39,7 @@ SeesTheSame = (t : Term) (first a : Packet) (delay : ℕ) → same_packet first 
 abbrev pub MovesNothingUnsaid : Type 0
 MovesNothingUnsaid = (command : Command) (address : ℕ) (s : ScriptRun) → is_allowed s.permits command ≡ false
     → sends_to command address s ≡ refuses NotAllowed s
+
+-- of what was heard one answer alone fits, or none
+abbrev pub OneAnswer : Type 0
+OneAnswer = (heard : List ℕ) (a b : Option Packet) → IsAnswerIn heard a → IsAnswerIn heard b → a ≡ b

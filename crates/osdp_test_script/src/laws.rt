@@ -1,6 +1,6 @@
 //! What verdicts come to, said apart from how they are given. The functions do nothing: their contracts are laws.
 
-ghost use Rattle.osdp_test_script.specs.Laws.{MovesNothingUnsaid, PutsOff, SeesItsReply, SeesTheSame, SilenceBreaksNothing};
+ghost use Rattle.osdp_test_script.specs.Laws.{MovesNothingUnsaid, OneAnswer, PutsOff, SeesItsReply, SeesTheSame, SilenceBreaksNothing};
 
 /// Silence breaks no expectation, and neither do BUSY and NAK 1 where a reply is expected.
 pub fn breaks_nothing_unheard()
@@ -21,4 +21,9 @@ pub fn sees_the_same()
 /// A command that changes something of the device is refused where no line allows it, and nothing is sent.
 pub fn moves_nothing_unsaid()
     ensures { MovesNothingUnsaid }
+{}
+
+/// Of what was heard one answer alone fits, or none.
+pub fn one_answer()
+    ensures { OneAnswer }
 {}
