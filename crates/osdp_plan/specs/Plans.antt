@@ -1,5 +1,5 @@
 -- What is planned, and the settings of a controller that it gives.
-use Rattle.std.specs.Prelude.{ℕ, ◌+◌, ◌≤◌}
+use Rattle.std.specs.Prelude.{◌+◌, ◌≤◌, false}
 use Rattle.osdp_frame.specs.Check.{check_size}
 use Rattle.osdp_frame.specs.declared.check_kind.CheckKind.TheVariants.{Crc}
 use Rattle.osdp_frame.specs.Times.{IsTime, longest_time}
@@ -32,6 +32,7 @@ default_plan = record {
   hold = 0;
   late = 1;
   orders = 0;
+  between = false;
   reply_wait = 200;
   poll_interval = 50;
   sends = 3;

@@ -1,7 +1,7 @@
 //! The figures of a plan.
 
 ghost use Rattle.std.specs.Prelude.{◌≡◌, ℕ, ◌+◌, ◌*◌, ◌≤◌, ◌<◌, ◌^◌};
-ghost use Rattle.osdp_plan.specs.Figures.{answered_time, card_wait, exchanges, lost_wait, order_wait, poll_round, wire_time};
+ghost use Rattle.osdp_plan.specs.Figures.{answered_time, card_wait, exchanges, lost_wait, order_wait, orders_before, poll_round, wire_time};
 ghost use Rattle.osdp_plan.specs.Plans.{IsPlan, config_of};
 ghost use Rattle.osdp_time_laws.specs.Bounds.{longest_exchange, round_time};
 ghost use Rattle.osdp_time_laws.specs.Lines.{turns_time};
@@ -22,7 +22,7 @@ pub enum Others {
 /// A time so often.
 fn times(count: u64, time: u64) -> u64
     requires count { count ≤ 2 ^ 11 }
-    requires time { time ≤ 2 ^ 46 }
+    requires time { time ≤ 2 ^ 47 }
     ensures product { result ≡ count * time }
     ensures bound { (most longest : ℕ) → count ≤ most → time ≤ longest → result ≤ most * longest }
 {
@@ -108,7 +108,22 @@ impl Plan {
         ensures { result ≡ order_wait others self.now }
     {
         let turns = self.turns(others, u64::from(self.readers));
-        times(u64::from(self.orders) + 1, turns)
+        let each = if self.between {
+            u64::from(self.poll_interval) + (turns + turns)
+        } else {
+            turns
+        };
+        times(u64::from(self.orders) + 1, each)
+    }
+
+    /// How many orders come before a card.
+    fn orders_before(&self) -> u64
+        requires { IsPlan self.now }
+        ensures count { result ≡ orders_before self.now }
+        ensures bound { result ≤ 1024 }
+    {
+        let orders = u64::from(self.orders);
+        if self.between { orders.min(1) } else { orders }
     }
 
     /// From a card at a reader to its report.
@@ -117,7 +132,7 @@ impl Plan {
         ensures { result ≡ card_wait others self.now }
     {
         let round = self.poll_round(others);
-        times(u64::from(self.orders) + 1, round) + self.answered()
+        times(self.orders_before() + 1, round) + self.answered()
     }
 
     /// From the last answer of a reader that falls silent until it is told lost.

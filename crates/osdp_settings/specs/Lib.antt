@@ -1,2 +1,3 @@
 pub mod Settings
 pub mod Wrong
+pub mod Values

@@ -7,5 +7,5 @@ mod values;
 mod wrong;
 
 pub use settings::{Configured, read_settings};
-pub use values::number_within;
+pub use values::{number_within, read_switch};
 pub use wrong::WrongSetting;

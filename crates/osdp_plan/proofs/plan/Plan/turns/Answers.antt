@@ -1,4 +1,4 @@
-use Rattle.std.proofs.Common.{◌≡◌, ◌∙◌, ap, sym, ℕ, ◌+◌, ◌*◌, ◌-◌}
+use Rattle.std.proofs.Common.{ap, sym, ℕ, ◌+◌, ◌-◌}
 use Rattle.osdp_plan.specs.Plans.{config_of}
 use Rattle.osdp_time_laws.specs.Bounds.{round_time}
 use Rattle.osdp_plan.proofs.Turns.{turns_alike}
