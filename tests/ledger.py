@@ -97,6 +97,7 @@ class Ledger:
         self.cards = []
 
     def restart_panel(self, on_wire):
+        self.ask((self.is_open and self.ahead) if on_wire else self.acted is None, f"restart of the panel, with an order on the wire: {on_wire}")
         if self.is_open:
             self.in_doubt = self.ahead[0] if on_wire and self.acted is None else None
         self.ahead, self.is_open, self.acted = [], False, None

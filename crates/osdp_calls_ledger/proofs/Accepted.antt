@@ -82,11 +82,12 @@ runs_queued (ledger.Queue card ∷ steps) h =
     ∙ append_assoc (events h.queued) (card.event ∷ []) (events_in steps)
 runs_queued (step ∷ steps) h = runs_queued steps (steps_on step h)
 
--- ---- steps that accept nothing
+-- ---- steps that accept nothing, and by which no event lapses
 
-abbrev AcceptsNone : ledger.Step → Type 0
+abbrev pub AcceptsNone : ledger.Step → Type 0
 AcceptsNone (ledger.Submit order) = ⊥
 AcceptsNone (ledger.Queue card) = ⊥
+AcceptsNone (ledger.Lapse card) = ⊥
 AcceptsNone _ = Unit {0}
 
 no_commands : (steps : List ledger.Step) → Each AcceptsNone steps → commands_in steps ≡ []
@@ -110,7 +111,7 @@ told_none (Some (report.Unread command code)) g = (tt, tt)
 told_none (Some (report.Lost cause (Some command))) g = (tt, tt)
 told_none (Some (report.Lost cause None)) g = (tt, tt)
 
-reported_none : (k : ℕ) (told_all : List (ℕ × Report)) (g : Ledger) → Each AcceptsNone (reported k told_all g)
+pub reported_none : (k : ℕ) (told_all : List (ℕ × Report)) (g : Ledger) → Each AcceptsNone (reported k told_all g)
 reported_none k [] g = tt
 reported_none k (x ∷ xs) g =
     let here = cond (x.0 == k) (told (Some x.1) g) [] in
@@ -125,17 +126,17 @@ opens_accept (Idle due) sent = tt
 opens_accept (Waiting until sends o) sent = tt
 opens_accept (Pausing until o) sent = tt
 
-opening_none : (k : ℕ) (o : Option ℕ) (sent : Option Packet) (q : Option Device) → Each AcceptsNone (opening k o sent q)
+pub opening_none : (k : ℕ) (o : Option ℕ) (sent : Option Packet) (q : Option Device) → Each AcceptsNone (opening k o sent q)
 opening_none k None sent q = tt
 opening_none k (Some e) sent None = tt
 opening_none k (Some e) sent (Some d) =
     both (Each AcceptsNone) (e == k) (opens d.controller.session.state sent) [] (opens_accept d.controller.session.state sent) tt
 
-withdraws_none : (o : Option Command) (g : Ledger) → Each AcceptsNone (withdraws o g)
+pub withdraws_none : (o : Option Command) (g : Ledger) → Each AcceptsNone (withdraws o g)
 withdraws_none None g = tt
 withdraws_none (Some command) g = (tt, tt)
 
-withdraws_event_none : (o : Option Event) (ever : Bool) (g : Ledger) → Each AcceptsNone (withdraws_event o ever g)
+pub withdraws_event_none : (o : Option Event) (ever : Bool) (g : Ledger) → Each AcceptsNone (withdraws_event o ever g)
 withdraws_event_none None ever g = tt
 withdraws_event_none (Some event) ever g = (tt, tt)
 
@@ -168,7 +169,7 @@ acts_none kind.Repeat command said g = tt
 acts_none kind.Busy command said g = tt
 acts_none kind.Wrong command said g = tt
 
-restarts_none : (o : Option Device) → Each AcceptsNone (panel_restarts o)
+pub restarts_none : (o : Option Device) → Each AcceptsNone (panel_restarts o)
 restarts_none None = tt
 restarts_none (Some d) = (tt, tt)
 
@@ -220,7 +221,7 @@ panel_events k (bus.Retarget i address) b g = refl
 panel_events k bus.NextReport b g = refl
 
 module _ {H : Type 0} (answer_of : H → Command → Answer) (after : H → Command → H) where
-  gets_accept : (o : Option Packet) (r : ReaderState H) (g : Ledger) → Each AcceptsNone (answered answer_of after o r g)
+  pub gets_accept : (o : Option Packet) (r : ReaderState H) (g : Ledger) → Each AcceptsNone (answered answer_of after o r g)
   gets_accept None r g = tt
   gets_accept (Some p) r g =
       let out = hears answer_of after r p in

@@ -7,5 +7,6 @@ pub mod Ticks
 pub mod Nexting
 pub mod Calling
 pub mod Accepted
+pub mod Exits
 pub mod Keeping
 pub mod Promising

@@ -1,5 +1,5 @@
 -- What the programs of each entry are promised, a sentence each: what the ledger of its steps says.
-use Rattle.std.specs.Prelude.{◌≡◌, ◌<◌, ◌+◌, ℕ, Bool, List, ◌++◌, All, AllPairs, Contains, map, option_to_list, Some}
+use Rattle.std.specs.Prelude.{◌≡◌, ◌<◌, ◌+◌, ◌⊎◌, ℕ, Bool, List, ◌++◌, All, AllPairs, Contains, map, option_to_list, Some}
 use Rattle.osdp_msg.specs.declared.command.Command.{Command}
 use Rattle.osdp_msg.specs.declared.event.Event.{Event}
 use Rattle.osdp_msg.specs.declared.reply.Reply.{Reply}
@@ -7,7 +7,7 @@ use Rattle.osdp_bus.specs.Buses.{device_of}
 use Rattle.osdp_bus.specs.declared.device.Device.{Device}
 use Rattle.osdp_reader.specs.declared.handler.Answer.{Answer}
 use Rattle.osdp_ledger.specs.History.{AfterReport, End, History, Left, Settled, TakenBack, ThrownAway, ends_at_restart, new_history, runs, steps_on}
-use Rattle.osdp_ledger.specs.Laws.{Follows, HasOutcome, IsOneUntold, times}
+use Rattle.osdp_ledger.specs.Laws.{CountsFrom, Follows, HasOutcome, IsOneUntold, times}
 use Rattle.osdp_ledger.specs.Ledger.{Card, Order, RestartDevice, RestartPanel}
 use Rattle.osdp_link_laws.specs.Link.{outstanding_command}
 use Rattle.osdp_shared_line.specs.Line.{site_at}
@@ -18,10 +18,15 @@ use Rattle.osdp_calls.specs.Premises.{AllKeep, IsSetUp}
 use Rattle.osdp_calls.specs.Programs.{AllKeepRule, first_notes}
 use Rattle.osdp_calls_ledger.specs.Steps.{steps_from}
 
+-- why an event has left: it was reported, or its device's program took it back, or the device lost power
+abbrev pub LeftSo : Left → Type 0
+LeftSo w = (w.why ≡ AfterReport) ⊎ ((w.why ≡ TakenBack) ⊎ (w.why ≡ ThrownAway))
+
 -- of the commands that `submit` accepted for an entry and the events that `submit_event` accepted for its device
 pub record HoldsOnce {H : Type 0} (accepted : List Command) (queued : List Event) (d : Device) (t : Station H) (h : History) : Type 0 where
   -- Each accepted command has one place, in the order of submission: it has ended, or it is outstanding or waits in the bus.
   pub commands : accepted ≡ map (λ (e : Order × End). e.0.command) h.ended ++ (option_to_list (outstanding_command d.controller.session.state) ++ d.controller.waiting)
+  pub places : CountsFrom 0 (map (λ (e : Order × End). e.0.place) h.ended ++ map (λ (o : Order). o.place) h.ledger.ahead)
   -- None is taken twice, and they are taken in the order of submission.
   pub taken : AllPairs (λ (a b : Order × Reply). a.0.place < b.0.place) h.acted
   -- What is settled was taken, and has the answer that the device gave to it.
@@ -34,9 +39,13 @@ pub record HoldsOnce {H : Type 0} (accepted : List Command) (queued : List Event
   pub events : queued ≡ map (λ (c : Card). c.event) h.queued
   pub waiting : map (λ (c : Card). c.event) h.ledger.cards ≡ t.reader.queue.events
   pub each : (place : ℕ) → times place (map (λ w. w.card.place) h.left) + times place (map (λ c. c.place) h.ledger.cards) ≡ times place (map (λ c. c.place) h.queued)
+  pub event_places : CountsFrom 0 (map (λ (c : Card). c.place) h.queued)
+  -- What is reported was accepted.
+  pub told : All (λ (r : ℕ × Card). Contains h.queued r.1) h.reports
   -- Events are reported in the order in which they were accepted, in each session once; at most the last of a session is told again in a later one.
   pub in_turn : AllPairs Follows h.reports
   -- None is skipped: what has left was reported, or its device's program took it back, or the device lost power.
+  pub exits : All LeftSo h.left
   pub reported : All (λ (w : Left). w.why ≡ AfterReport → (session : ℕ) × Contains h.reports (session, w.card)) h.left
   -- None that was taken back is reported.
   pub withdrawn : All (λ (w : Left). w.why ≡ TakenBack → All (λ (told : ℕ × Card). told.1.place ≡ w.card.place → ⊥) h.reports) h.left

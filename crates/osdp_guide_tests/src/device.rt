@@ -154,7 +154,7 @@ fn let_go(device: &mut Device<ProgramAnswers>, now: u64) {
     }
 }
 
-/// The device's loop, once: it reads, answers, and acts. What it sends is told as unsent.
+/// The device's loop, once: it reads, answers, and acts. Its caller writes what it answers to the port.
 pub fn device_turn(
     device: &mut Device<ProgramAnswers>,
     relays: &mut Relays,

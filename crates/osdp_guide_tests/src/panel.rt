@@ -56,7 +56,7 @@ pub fn decide(panel: &mut Panel, door: Entry, report: &Report<'_>, maybe_again: 
     }
 }
 
-/// The panel's loop, once: it reads, takes its turn, and decides. What it sends is told as unsent.
+/// The panel's loop, once: it reads, takes its turn, and decides. Its caller writes what it answers to the port.
 pub fn panel_turn(
     panel: &mut Panel,
     door: Entry,

@@ -8,6 +8,7 @@ use Rattle.std.proofs.lemmas.List.Quantifiers.{all_pairs_push}
 use Rattle.osdp_ledger.specs.Ledger.{Card, May, MayFollow, NoOffer, Offer, Reported, Unreported, Step, Submit, Withdraw, Open, Act, Settle, Doubt, Close, Queue, Offers, Report, Leave, WithdrawEvent, Lapse, RestartDevice, RestartPanel, acted_on, panel_restarted}
 use Rattle.osdp_ledger.specs.History.{AfterReport, AreAllowed, Exit, History, Lapsed, Left, TakenBack, ThrownAway, new_history, runs, steps_on}
 use Rattle.osdp_ledger.specs.Laws.{CountsFrom, EventsHold, Follows, KeepsEvents, times}
+use Rattle.osdp_ledger.proofs.Known.{Known, keeps_known, none_known}
 use Rattle.osdp_ledger.proofs.Waiting.{EventsAre, Beyond, Events, IsAtMost, IsUpTo, LeftNow, NeverReported, NoLater, OfferIs, Rising, Told, WasReported, beyond_all, beyond_filter, beyond_push, contains_times, left_all, left_places, none_left, none_of_it, offer_fewer, offer_left, one_time, others_stay, places, rising_above, rising_filter, rising_less, rising_push, times_all, times_left, times_queued, without}
 
 -- ---- each step
@@ -424,16 +425,17 @@ keeps (RestartPanel on_wire) h may i = by_state h.ledger.is_open i
     by_state true i = i
     by_state false i = i
 
-hold : (steps : List Step) (h : History) → AreAllowed steps h → Events h → EventsHold (runs steps h)
-hold [] h allowed i = record {
+hold : (steps : List Step) (h : History) → AreAllowed steps h → Events h → Known h → EventsHold (runs steps h)
+hold [] h allowed i known = record {
   each = i.each;
   places = i.whole;
+  told = known.told;
   in_turn = i.in_turn;
   reported = i.reported;
   withdrawn = i.withdrawn;
   no_later = i.no_later;
 }
-hold (step ∷ steps) h allowed i = hold steps (steps_on step h) allowed.1 (keeps step h allowed.0 i)
+hold (step ∷ steps) h allowed i known = hold steps (steps_on step h) allowed.1 (keeps step h allowed.0 i) (keeps_known step h allowed.0 known)
 
 -- .. from the beginning
 pub at_first : Events new_history
@@ -457,4 +459,4 @@ at_first = record {
     none_below j below = omega (arith, below)
 
 pub keeps_events : KeepsEvents
-keeps_events steps allowed = hold steps new_history allowed at_first
+keeps_events steps allowed = hold steps new_history allowed at_first none_known

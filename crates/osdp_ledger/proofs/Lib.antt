@@ -1,4 +1,5 @@
 pub mod Waiting
+pub mod Known
 pub mod Acted
 pub mod Orders
 pub mod Events

@@ -44,6 +44,8 @@ pub record EventsHold (h : History) : Type 0 where
   -- each accepted one has left once, or waits
   pub each : (place : ℕ) → times place (map (λ w. w.card.place) h.left) + times place (map (λ c. c.place) h.ledger.cards) ≡ times place (map (λ c. c.place) h.queued)
   pub places : CountsFrom 0 (map (λ c. c.place) h.queued)
+  -- what is reported was queued
+  pub told : All (λ (r : ℕ × Card). Contains h.queued r.1) h.reports
   -- they are reported in the order in which they were queued, in each session once. One is told again at most as the first of a session, where it was the
   -- last one reported before.
   pub in_turn : AllPairs Follows h.reports

@@ -92,7 +92,7 @@ May (Leave card) l = is_in_front card l.cards × (l.offer ≡ Reported card)
 May (WithdrawEvent card) l = Contains l.cards card × (l.shown ≤ card.place)
 May (Lapse card) l = is_in_front card l.cards × (card.place < l.shown)
 May RestartDevice l = Unit {0}
-May (RestartPanel true) l = Unit {0}
+May (RestartPanel true) l = (l.is_open ≡ true) × (order : Order) × is_in_front order l.ahead
 May (RestartPanel false) l = l.acted ≡ None
 
 -- an order whose session ends is late where the device has not acted on it

@@ -401,12 +401,19 @@ all_thrown waiting = sym (append-nil (map removed_command (map ThrownAway waitin
 abbrev PanelIs : State → List Command → EventQueue → List Packet → List Packet → Account → Ledger → Type 0
 PanelIs state waiting q ps qs t g = Ties Closed [] q ps qs (without_power state waiting t) g
 
-idle_panel : (state : State) (waiting : List Command) (q : EventQueue) (ps qs : List Packet) (t : Account) (g : Ledger) (on_wire : Bool) → g.is_open ≡ false → g.acted ≡ None
+none_outstanding : (state : State) → is_under_way state ≡ false → outstanding_command state ≡ None
+none_outstanding Closed over = refl
+none_outstanding (Quiet until) over = refl
+none_outstanding (Idle due) over = refl
+none_outstanding (Waiting until sends out) over = cc
+none_outstanding (Pausing until out) over = cc
+
+idle_panel : (state : State) (waiting : List Command) (q : EventQueue) (ps qs : List Packet) (t : Account) (g : Ledger) → is_under_way state ≡ false → g.is_open ≡ false → g.acted ≡ None
     → Ties state waiting q ps qs t g → SessionIs Closed [] q ps qs (without_power state waiting t) (record g { ahead = [] })
-    → Leads (RestartPanel on_wire ∷ []) g (PanelIs state waiting q ps qs t)
-idle_panel state waiting q ps qs t g on_wire closed none h session = (
-  (may on_wire, tt),
-  subst (λ b. PanelIs state waiting q ps qs t (panel_restarted on_wire b g)) (sym closed) (record {
+    → Leads (RestartPanel (is_some (outstanding_command state)) ∷ []) g (PanelIs state waiting q ps qs t)
+idle_panel state waiting q ps qs t g over closed none h session = (
+  (subst (λ o. May (RestartPanel (is_some o)) g) (sym (none_outstanding state over)) none, tt),
+  subst (λ b. PanelIs state waiting q ps qs t (panel_restarted (is_some (outstanding_command state)) b g)) (sym closed) (record {
     ahead = refl;
     is_open = closed;
     cards = h.cards;
@@ -414,10 +421,6 @@ idle_panel state waiting q ps qs t g on_wire closed none h session = (
     session = session;
   }),
 )
-  where
-    may : (b : Bool) → May (RestartPanel b) g
-    may true = tt
-    may false = none
 
 -- in a session
 busy_panel : {H : Type 0} → (l : Link H) (g : Ledger) (out : Option Command) → outstanding_command l.controller.session.state ≡ out → Facts l
@@ -426,7 +429,7 @@ busy_panel : {H : Type 0} → (l : Link H) (g : Ledger) (out : Option Command) �
     (PanelIs l.controller.session.state l.controller.waiting l.reader.queue l.to_reader l.to_controller l.account)
 busy_panel {H} l g out is f h s =
     let under_way : g.is_open ≡ true = h.is_open ∙ s.way in (
-      (may out is, tt),
+      (may out is g.ahead refl, tt),
       subst (λ b. PanelIs l.controller.session.state l.controller.waiting l.reader.queue l.to_reader l.to_controller l.account (panel_restarted (is_some out) b g)) (sym under_way) (record {
         ahead = refl;
         is_open = refl;
@@ -444,9 +447,11 @@ busy_panel {H} l g out is f h s =
       }),
     )
   where
-    may : (out : Option Command) → outstanding_command l.controller.session.state ≡ out → May (RestartPanel (is_some out)) g
-    may (Some c) is = tt
-    may None is =
+    may : (out : Option Command) → outstanding_command l.controller.session.state ≡ out → (ahead : List Order) → g.ahead ≡ ahead → May (RestartPanel (is_some out)) g
+    may (Some c) is [] same =
+        let e : commands [] ≡ option_to_list (Some c) ++ l.controller.waiting = ap commands (sym same) ∙ h.ahead ∙ ap (λ o. option_to_list o ++ l.controller.waiting) is in absurd cc
+    may (Some c) is (o ∷ rest) same = (h.is_open ∙ s.way, o, (rest, same))
+    may None is ahead same =
         (nothing_out g.ahead g.acted l.account.given l.account.settled f.owing f.pend s.acted f.given (ap option_to_list (sym is) ∙ f.out s.way)).0
 
     late : (out : Option Command) → outstanding_command l.controller.session.state ≡ out → (ahead : List Order) → g.ahead ≡ ahead
@@ -472,7 +477,7 @@ restarting_panel {H} l g f h = by_session h.session
         → Leads (RestartPanel (is_some (outstanding_command l.controller.session.state)) ∷ []) g
         (PanelIs l.controller.session.state l.controller.waiting l.reader.queue l.to_reader l.to_controller l.account)
     by_session (inl s) =
-        idle_panel state l.controller.waiting l.reader.queue l.to_reader l.to_controller l.account g (is_some (outstanding_command state)) (h.is_open ∙ s.way) s.acted h
+        idle_panel state l.controller.waiting l.reader.queue l.to_reader l.to_controller l.account g s.way (h.is_open ∙ s.way) s.acted h
         (inl (record {
           way = refl;
           to_reader = s.to_reader;
@@ -486,7 +491,7 @@ restarting_panel {H} l g f h = by_session h.session
         }))
     by_session (inr (inl s)) = busy_panel l g (outstanding_command state) refl f h s
     by_session (inr (inr s)) =
-        idle_panel state l.controller.waiting l.reader.queue l.to_reader l.to_controller l.account g (is_some (outstanding_command state)) (h.is_open ∙ ap is_under_way s.closed) s.acted h
+        idle_panel state l.controller.waiting l.reader.queue l.to_reader l.to_controller l.account g (ap is_under_way s.closed) (h.is_open ∙ ap is_under_way s.closed) s.acted h
         (inr (inr (record {
           closed = refl;
           acted = s.acted;
