@@ -1,13 +1,12 @@
 -- What the programs of each entry are promised, a sentence each: what the ledger of its steps says.
-use Rattle.std.specs.Prelude.{◌≡◌, ◌<◌, ◌+◌, ◌⊎◌, ℕ, Bool, List, ◌++◌, All, AllPairs, Contains, map, option_to_list, Some}
+use Rattle.std.specs.Prelude.{◌≡◌, ◌⊎◌, ℕ, Bool, List, ◌++◌, All, map, option_to_list, Some}
 use Rattle.osdp_msg.specs.declared.command.Command.{Command}
 use Rattle.osdp_msg.specs.declared.event.Event.{Event}
-use Rattle.osdp_msg.specs.declared.reply.Reply.{Reply}
 use Rattle.osdp_bus.specs.Buses.{device_of}
 use Rattle.osdp_bus.specs.declared.device.Device.{Device}
 use Rattle.osdp_reader.specs.declared.handler.Answer.{Answer}
-use Rattle.osdp_ledger.specs.History.{AfterReport, End, History, Left, Settled, TakenBack, ThrownAway, ends_at_restart, new_history, runs, steps_on}
-use Rattle.osdp_ledger.specs.Laws.{CountsFrom, Follows, HasOutcome, IsOneUntold, times}
+use Rattle.osdp_ledger.specs.History.{AfterReport, AreAllowed, History, Left, TakenBack, ThrownAway, ends_at_restart, new_history, runs, steps_on}
+use Rattle.osdp_ledger.specs.Laws.{EventsHold, IsOneUntold, OrdersHold}
 use Rattle.osdp_ledger.specs.Ledger.{Card, Order, RestartDevice, RestartPanel}
 use Rattle.osdp_link_laws.specs.Link.{outstanding_command}
 use Rattle.osdp_shared_line.specs.Line.{site_at}
@@ -22,34 +21,20 @@ use Rattle.osdp_calls_ledger.specs.Steps.{steps_from}
 abbrev pub LeftSo : Left → Type 0
 LeftSo w = (w.why ≡ AfterReport) ⊎ ((w.why ≡ TakenBack) ⊎ (w.why ≡ ThrownAway))
 
--- of the commands that `submit` accepted for an entry and the events that `submit_event` accepted for its device
-pub record HoldsOnce {H : Type 0} (accepted : List Command) (queued : List Event) (d : Device) (t : Station H) (h : History) : Type 0 where
-  -- Each accepted command has one place, in the order of submission: it has ended, or it is outstanding or waits in the bus.
-  pub commands : accepted ≡ map (λ (e : Order × End). e.0.command) h.ended ++ (option_to_list (outstanding_command d.controller.session.state) ++ d.controller.waiting)
-  pub places : CountsFrom 0 (map (λ (e : Order × End). e.0.place) h.ended ++ map (λ (o : Order). o.place) h.ledger.ahead)
-  -- None is taken twice, and they are taken in the order of submission.
-  pub taken : AllPairs (λ (a b : Order × Reply). a.0.place < b.0.place) h.acted
-  -- What is settled was taken, and has the answer that the device gave to it.
-  pub settled : All (λ (e : Order × End). (answer : Reply) → e.1 ≡ Settled answer → Contains h.acted (e.0, answer)) h.ended
-  -- What was taken is settled with that answer, is told in doubt, was on the wire when the panel lost power, or its answer is still to come.
-  pub outcomes : All (HasOutcome h) h.acted
-  -- At most one is told in doubt a session.
-  pub doubts : AllPairs (λ (m n : ℕ). m < n) h.doubts
-  -- Each accepted event has left the device's queue once, or waits in it.
-  pub events : queued ≡ map (λ (c : Card). c.event) h.queued
+-- of the commands that `submit` accepted for an entry, and of the events that `submit_event` accepted for its device
+pub record HoldsOnce {H : Type 0} (commands : List Command) (events : List Event) (d : Device) (t : Station H) (h : History) : Type 0 where
+  -- The ledger's orders and cards are these commands and events, in this order.
+  pub accepted : commands ≡ map (λ (o : Order). o.command) h.accepted
+  pub queued : events ≡ map (λ (c : Card). c.event) h.queued
+  -- The orders that have no end are outstanding, or wait in the bus. The cards that have not left wait in the device's queue.
+  pub ahead : map (λ (o : Order). o.command) h.ledger.ahead ≡ option_to_list (outstanding_command d.controller.session.state) ++ d.controller.waiting
   pub waiting : map (λ (c : Card). c.event) h.ledger.cards ≡ t.reader.queue.events
-  pub each : (place : ℕ) → times place (map (λ w. w.card.place) h.left) + times place (map (λ c. c.place) h.ledger.cards) ≡ times place (map (λ c. c.place) h.queued)
-  pub event_places : CountsFrom 0 (map (λ (c : Card). c.place) h.queued)
-  -- What is reported was accepted.
-  pub told : All (λ (r : ℕ × Card). Contains h.queued r.1) h.reports
-  -- Events are reported in the order in which they were accepted, in each session once; at most the last of a session is told again in a later one.
-  pub in_turn : AllPairs Follows h.reports
+  -- What the ledger promises of orders and cards holds of them.
+  pub orders : OrdersHold h
+  pub cards : EventsHold h
   -- None is skipped: what has left was reported, or its device's program took it back, or the device lost power.
   pub exits : All LeftSo h.left
-  pub reported : All (λ (w : Left). w.why ≡ AfterReport → (session : ℕ) × Contains h.reports (session, w.card)) h.left
-  -- None that was taken back is reported.
-  pub withdrawn : All (λ (w : Left). w.why ≡ TakenBack → All (λ (told : ℕ × Card). told.1.place ≡ w.card.place → ⊥) h.reports) h.left
-  -- Of the last command taken and the last event offered, at most one isn't told yet.
+  -- Of the last command acted on and the last event offered, at most one isn't told yet.
   pub untold : IsOneUntold h.ledger
 
 -- A restart of the panel costs the commands that are ahead: the one on the wire is cut off, and those that wait are forgotten. It costs no event.
@@ -66,11 +51,12 @@ abbrev pub RestartsCost : Type 0
 RestartsCost = (h : History) → ((on_wire : Bool) → PanelCosts on_wire h (steps_on (RestartPanel on_wire) h)) × DeviceCosts h (steps_on RestartDevice h)
 
 module _ {H : Type 0} (answer_of : H → Command → Answer) (after : H → Command → H) where
-  -- of each entry, after these calls
+  -- of each entry, after these calls: each step of its ledger may happen where it does, and so they hold
   abbrev pub EachHoldsOnce : InUse H → List (Step H) → Type 0
   EachHoldsOnce l steps = (k : ℕ) (first last : Station H) (d : Device) → site_at k l.stations ≡ Some first
       → site_at k (after_calls answer_of after steps l).stations ≡ Some last → device_of k (after_calls answer_of after steps l).bus ≡ Some d
-      → HoldsOnce (all_accepted answer_of after k steps l) (first.reader.queue.events ++ all_queued answer_of after k steps l) d last
+      → AreAllowed (steps_from answer_of after k first steps l) new_history
+      × HoldsOnce (all_accepted answer_of after k steps l) (first.reader.queue.events ++ all_queued answer_of after k steps l) d last
       (runs (steps_from answer_of after k first steps l) new_history)
 
   -- for every list of calls that keep the premises

@@ -429,6 +429,8 @@ hold : (steps : List Step) (h : History) → AreAllowed steps h → Events h →
 hold [] h allowed i known = record {
   each = i.each;
   places = i.whole;
+  waiting = known.waiting;
+  gone = known.gone;
   told = known.told;
   in_turn = i.in_turn;
   reported = i.reported;

@@ -8,6 +8,7 @@ use Rattle.osdp_msg.specs.declared.reply.Reply.{Reply}
 use Rattle.osdp_ledger.specs.Ledger.{May, MayActOn, Order, Step, Submit, Withdraw, Open, Act, Settle, Doubt, Close, Queue, Offers, Report, Leave, WithdrawEvent, Lapse, RestartDevice, RestartPanel, acted_on, is_in_front, late_after, late_at_restart, panel_restarted}
 use Rattle.osdp_ledger.specs.History.{AreAllowed, CutOff, End, Forgotten, GivenBack, History, InDoubt, Settled, ends_at_restart, new_history, runs, steps_on}
 use Rattle.osdp_ledger.specs.Laws.{CountsFrom, KeepsOrders, OrdersHold}
+use Rattle.osdp_ledger.proofs.Submitted.{were_submitted}
 use Rattle.osdp_ledger.proofs.Acted.{OrdersAre, OffFront, Answered, Below, Comes, FrontIs, HasEnd, LateIs, Orders, Outcome, answered_more, below_more, bound, closed_comes, counts_push, front_pushed, late_more, move_over, none_acted, off_front, order_of, outcome_kept, outcome_more, places, same_front, same_reply}
 
 -- ---- each step
@@ -451,6 +452,7 @@ hold : (steps : List Step) (h : History) → AreAllowed steps h → Orders h →
 hold [] h allowed i d = record {
   each = i.each;
   places = i.whole;
+  submitted = were_submitted h i.each i.outcomes;
   once = i.once;
   answered = i.answered;
   outcomes = i.outcomes;

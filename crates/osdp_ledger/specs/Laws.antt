@@ -21,6 +21,8 @@ pub record OrdersHold (h : History) : Type 0 where
   -- each accepted one has one end, in the order of submission, or is ahead
   pub each : h.accepted ≡ map (λ e. e.0) h.ended ++ h.ledger.ahead
   pub places : CountsFrom 0 (map (λ o. o.place) h.accepted)
+  -- what is acted on was submitted
+  pub submitted : All (λ (done : Order × Reply). Contains h.accepted done.0) h.acted
   -- none is acted on twice, and each in the order of submission
   pub once : AllPairs (λ (a b : Order × Reply). a.0.place < b.0.place) h.acted
   -- what is settled was acted on, with that answer
@@ -44,7 +46,9 @@ pub record EventsHold (h : History) : Type 0 where
   -- each accepted one has left once, or waits
   pub each : (place : ℕ) → times place (map (λ w. w.card.place) h.left) + times place (map (λ c. c.place) h.ledger.cards) ≡ times place (map (λ c. c.place) h.queued)
   pub places : CountsFrom 0 (map (λ c. c.place) h.queued)
-  -- what is reported was queued
+  -- what waits, what has left and what is reported was queued
+  pub waiting : All (Contains h.queued) h.ledger.cards
+  pub gone : All (λ (w : Left). Contains h.queued w.card) h.left
   pub told : All (λ (r : ℕ × Card). Contains h.queued r.1) h.reports
   -- they are reported in the order in which they were queued, in each session once. One is told again at most as the first of a session, where it was the
   -- last one reported before.
