@@ -1,5 +1,5 @@
 -- No event lapses by these calls: each that has left the queue was reported, or taken back, or thrown away.
-use Rattle.std.proofs.Common.{◌≡◌, ◌⊎◌, ℕ, Bool, true, false, cond, List, [], ◌∷◌, ◌++◌, map, Option, Some, None, refl, inl, inr}
+use Rattle.std.proofs.Common.{◌+◌, ℕ, Bool, true, false, cond, List, [], ◌∷◌, map, Option, Some, None, refl, inl, inr}
 use Rattle.std.specs.Prelude.{All, ◌==◌}
 use Rattle.std.proofs.lemmas.List.Elements.{All-append, All-cons, All-nil, All-push}
 use Rattle.osdp_msg.specs.declared.command.Command.{Command}
@@ -15,7 +15,7 @@ use Rattle.osdp_reader.specs.Queue.{lacks_room, never_offered}
 use Rattle.osdp_reader.specs.declared.handler.Answer.{Answer}
 use Rattle.osdp_ledger.specs.Ledger as ledger
 use Rattle.osdp_ledger.specs.Ledger.{Card, Ledger, new_ledger}
-use Rattle.osdp_ledger.specs.History.{History, Left, ThrownAway, new_history, runs, steps_on}
+use Rattle.osdp_ledger.specs.History.{History, ThrownAway, new_history, runs, steps_on}
 use Rattle.osdp_link_laws.proofs.Lines.{both, each_append}
 use Rattle.osdp_link_laws.proofs.Stages.{Each}
 use Rattle.osdp_link_ledger.specs.Steps as links

@@ -1,5 +1,5 @@
 -- What waits in the device's queue, what it offers, what has left and what is reported was queued.
-use Rattle.std.proofs.Common.{◌≡◌, ℕ, Bool, true, false, not, ◌==◌, List, [], ◌∷◌, ◌++◌, refl, subst}
+use Rattle.std.proofs.Common.{Bool, true, false, not, ◌==◌, List, [], ◌∷◌, ◌++◌, subst}
 use Rattle.std.specs.Prelude.{All, Contains, drop, map}
 use Rattle.std.proofs.lemmas.List.Elements.{All-append, All-cons, All-contains, All-filter, All-head, All-nil, All-push, All-tail, All-weaker, Contains-push, Contains-append_left}
 use Rattle.osdp_ledger.specs.Ledger.{Card, May, NoOffer, Offer, Reported, Unreported, Step, Submit, Withdraw, Open, Act, Settle, Doubt, Close, Queue, Offers, Report, Leave, WithdrawEvent, Lapse, RestartDevice, RestartPanel, acted_on, is_in_front, panel_restarted}
