@@ -1,5 +1,5 @@
 -- A packet after one that was answered, and an ACK that answers a POLL in turn: nothing is found in them.
-use Rattle.std.proofs.Common.{◌≡◌, ◌≢◌, ◌==◌, ◌&&◌, ◌||◌, not, ◌<◌, ℕ, Bool, true, false, List, Option, Some, None, Result, Ok, Err, refl, ap, subst, arith}
+use Rattle.std.proofs.Common.{◌≡◌, ◌≢◌, ◌==◌, ◌-◌, ◌&&◌, ◌||◌, not, ◌<◌, ℕ, Bool, true, false, List, Option, Some, None, Result, Ok, Err, refl, ap, subst, arith}
 use Rattle.std.proofs.lemmas.Bool.{ne_eqb}
 use Rattle.osdp_frame.specs.Packet.{Packet, next_sequence}
 use Rattle.osdp_msg.specs.declared.command.Command.{Command}
@@ -118,14 +118,14 @@ pub none_found_in_next : (k : Known) (p : Packet) → IsNext k p → found_in_se
 none_found_in_next k p n = next_found k.last k p refl n.next n.replied n.answered
 
 next_sent : (last : Option Packet) (k : Known) (p : Packet) → k.last ≡ last → is_next (number_of last) p.sequence ≡ true → k.replied ≡ true → k.owing ≡ false
-    → after_sent last k p ≡ record k { last = Some p; replied = false; answered = false; missed = false; earlier = None; settled = true }
-next_sent None k p is next replied settled = absurd cc
-next_sent (Some last) k p is next replied settled =
-    simp (other_packet last p (other_number last.sequence p.sequence next), replied, settled, not_zero p.sequence (begun last.sequence p.sequence next)) refl
+    → k.answered ≡ true → after_sent last k p ≡ record k { last = Some p; replied = false; answered = false; missed = false; earlier = None; settled = true; suspected = k.suspected - 1 }
+next_sent None k p is next replied settled answered = absurd cc
+next_sent (Some last) k p is next replied settled answered =
+    simp (is, answered, and_false (p.sequence == next_sequence last.sequence), other_packet last p (other_number last.sequence p.sequence next), replied, settled, not_zero p.sequence (begun last.sequence p.sequence next)) refl
 
 pub is_sent : (k : Known) (p : Packet) → IsNext k p
-    → after_sent k.last k p ≡ record k { last = Some p; replied = false; answered = false; missed = false; earlier = None; settled = true }
-is_sent k p n = next_sent k.last k p refl n.next n.replied n.settled
+    → after_sent k.last k p ≡ record k { last = Some p; replied = false; answered = false; missed = false; earlier = None; settled = true; suspected = k.suspected - 1 }
+is_sent k p n = next_sent k.last k p refl n.next n.replied n.settled n.answered
 
 -- ---- where nothing is known anew
 

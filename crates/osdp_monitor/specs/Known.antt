@@ -25,6 +25,8 @@ pub record Known : Type 0 where
   pub owing : Bool
   -- whether another packet has been sent since the first one that is known: what is owed to packets before the first nobody knows
   pub settled : Bool
+  -- of so many more packets to it a doubt is no first one: the panel is accused of it
+  pub suspected : ℕ
 
 abbrev pub nothing_known : Known
 nothing_known = record {
@@ -37,6 +39,7 @@ nothing_known = record {
   earlier = None;
   owing = false;
   settled = false;
+  suspected = 0;
 }
 
 -- the same kind of check: each has a size of its own

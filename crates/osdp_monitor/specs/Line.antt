@@ -9,7 +9,7 @@ use Rattle.osdp_monitor.specs.declared.found.Found.{Found}
 use Rattle.osdp_monitor.specs.declared.found.Notice.{Notice}
 use Rattle.osdp_monitor.specs.declared.found.Notice.TheVariants.{Opened, Moved, Restarted, Unanswered, Late, Unsure}
 use Rattle.osdp_monitor.specs.Known.{Known, nothing_known, same_packet}
-use Rattle.osdp_monitor.specs.Panel.{after_sent, is_missed, panel_accused}
+use Rattle.osdp_monitor.specs.Panel.{after_sent, is_first_doubt, is_missed, panel_accused}
 use Rattle.osdp_monitor.specs.Reader.{after_reply, is_doubtful, is_late, is_one_more, is_opening, is_owed, is_unheard, reader_accused}
 use Rattle.osdp_monitor.specs.Saying.{asked, is_damage, is_foreign, is_refusal, moved_by, reply_told, said}
 
@@ -93,9 +93,17 @@ nothing_wrong = record { accusation = None; notice = None; judged = true }
 abbrev pub notice_if : Bool → Notice → Option Notice
 notice_if test notice = if test then Some notice else None
 
+-- where a first doubt comes, too little was heard
+abbrev pub notice_in_sent : Option Packet → Known → Packet → Option Notice
+notice_in_sent last k p = if is_first_doubt last k p then Some Unsure else notice_if (is_missed last k) Unanswered
+
+-- .. and the packet isn't judged
+abbrev pub is_sent_judged : Option Packet → Known → Packet → Bool
+is_sent_judged last k p = is_some last && not (is_first_doubt last k p)
+
 abbrev pub found_in_sent : Known → Packet → Found
 found_in_sent k p =
-    record { accusation = panel_accused k.last k p; notice = notice_if (is_missed k.last k) Unanswered; judged = is_some k.last }
+    record { accusation = panel_accused k.last k p; notice = notice_in_sent k.last k p; judged = is_sent_judged k.last k p }
 
 -- a reply comes late; but of what came before the first packet nothing is known
 abbrev pub late_notice : Known → Notice

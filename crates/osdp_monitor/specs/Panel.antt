@@ -1,5 +1,5 @@
 -- The rules of the panel: what may be sent to an address after what is known of it.
-use Rattle.std.specs.Prelude.{ℕ, ◌==◌, Bool, true, false, ◌&&◌, ◌||◌, not, if◌then◌else◌, Option, None, Some}
+use Rattle.std.specs.Prelude.{ℕ, ◌==◌, ◌-◌, Bool, true, false, ◌&&◌, ◌||◌, not, if◌then◌else◌, Option, None, Some}
 use Rattle.osdp_frame.specs.Packet.{Packet, next_sequence}
 use Rattle.osdp_monitor.specs.declared.accusation.Accusation.{Accusation}
 use Rattle.osdp_monitor.specs.declared.accusation.Accusation.TheVariants.{AnotherPacket, NotAnswered, SentOutOfTurn}
@@ -14,10 +14,27 @@ sent_after last answered p =
     else if p.sequence == next_sequence last.sequence then (if answered then None else Some NotAnswered)
     else Some SentOutOfTurn
 
+-- the next number, though no answer to the last packet was heard: the panel gave that one up, or this listener alone missed the answer
+abbrev pub is_doubt : Packet → Bool → Packet → Bool
+is_doubt last answered p = p.sequence == next_sequence last.sequence && not answered
+
+-- one packet that the listener missed explains the first doubt, where none came shortly before
+abbrev pub is_first_doubt : Option Packet → Known → Packet → Bool
+is_first_doubt None k p = false
+is_first_doubt (Some last) k p = is_doubt last k.answered p && k.suspected == 0
+
+-- after a doubt, for so many packets to the device
+abbrev pub suspected_for : ℕ
+suspected_for = 8
+
+abbrev pub still_suspected : Option Packet → Known → Packet → ℕ
+still_suspected None k p = 0
+still_suspected (Some last) k p = if is_doubt last k.answered p then suspected_for else k.suspected - 1
+
 -- where the last packet is known
 abbrev pub panel_accused : Option Packet → Known → Packet → Option Accusation
 panel_accused None k p = None
-panel_accused (Some last) k p = sent_after last k.answered p
+panel_accused (Some last) k p = if is_first_doubt (Some last) k p then None else sent_after last k.answered p
 
 -- The number that the reader took last is known no more after another packet than the last, where that one had no reply: it may have been
 -- taken. One that has the number taken last is not taken again. And number 0 begins anew.
@@ -43,11 +60,12 @@ after_another keeps earlier k p = record {
   earlier = earlier;
   owing = is_number earlier p.sequence;
   settled = true;
+  suspected = still_suspected k.last k p;
 }
 
 -- the last packet once more, at number 0 too
 abbrev pub after_copy : Known → Known
-after_copy k = record k { replied = false; missed = not k.replied; owing = is_waiting k }
+after_copy k = record k { replied = false; missed = not k.replied; owing = is_waiting k; suspected = k.suspected - 1 }
 
 -- the first one that is known may be a copy
 abbrev pub after_sent : Option Packet → Known → Packet → Known

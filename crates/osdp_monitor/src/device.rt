@@ -1,19 +1,19 @@
 //! What is known of one address.
 
-ghost use Rattle.std.specs.Prelude.{◌≡◌, ◌↔◌, [], is_some, None, Ok, true, false};
+ghost use Rattle.std.specs.Prelude.{◌≡◌, ◌↔◌, [], is_some, None, Ok, Some, true, false};
 ghost use Rattle.osdp_msg.specs.declared.reply.Reply.TheVariants.{Ack};
 ghost use Rattle.osdp_monitor.specs.Known.{nothing_known};
 ghost use Rattle.osdp_monitor.specs.Line.{after_reply_if, expected_if, found_in_reply, found_in_sent, is_last, is_reply_judged, late_notice, moves_to, nothing_wrong, reply_notice};
-ghost use Rattle.osdp_monitor.specs.Panel.{after_another, after_sent, is_waiting};
+ghost use Rattle.osdp_monitor.specs.Panel.{after_another, after_sent, is_first_doubt, is_waiting, still_suspected};
 ghost use Rattle.osdp_frame.specs.Packet.{Packet};
 ghost use Rattle.osdp_monitor.specs.Private.{AnswersPoll, IsNext, IsSpelledIf};
 ghost use Rattle.osdp_monitor.specs.Reader.{after_answer, after_own, has_earlier_number, is_doubtful, is_late, is_of_either, is_one_more, is_owed, is_stray, is_unheard, reader_accused, repeat_reply};
 ghost use Rattle.osdp_monitor.specs.Saying.{reply_told, said};
 
 use crate::accusation::Accusation;
-use crate::found::{Found, NOTHING, Notice};
+use crate::found::{DOUBT, Found, NOTHING, Notice};
 use crate::kept::KeptPacket;
-use crate::panel::{is_after, is_number, sent_after};
+use crate::panel::{SUSPECTED_FOR, is_after, is_doubt, is_number, sent_after};
 use crate::reader::{answer_accused, busy_accused, refusal_accused};
 use crate::said::{
     ReadReply, Said, has_no_number, is_nak, moved_by, read_command, said_in, tells_number,
@@ -34,6 +34,7 @@ pub(crate) struct Device {
     earlier: Option<Seq>,
     owing: bool,
     settled: bool,
+    suspected: u8,
 }
 
 impl Model for Device {
@@ -41,7 +42,7 @@ impl Model for Device {
 
     ghost Value = { Known };
 
-    ghost view = { λ d. record { last = d.last; replied = d.replied; answered = d.answered; missed = d.missed; taken = d.taken; stored = d.stored; earlier = d.earlier; owing = d.owing; settled = d.settled } };
+    ghost view = { λ d. record { last = d.last; replied = d.replied; answered = d.answered; missed = d.missed; taken = d.taken; stored = d.stored; earlier = d.earlier; owing = d.owing; settled = d.settled; suspected = d.suspected } };
 }
 
 impl Device {
@@ -59,6 +60,7 @@ impl Device {
             earlier: None,
             owing: false,
             settled: false,
+            suspected: 0,
         }
     }
 
@@ -75,6 +77,28 @@ impl Device {
         self.earlier = None;
         self.owing = false;
         self.settled = false;
+        self.suspected = 0;
+    }
+
+    /// Whether a packet after the last one, which has this number, is a first doubt: one packet that was missed explains it.
+    fn is_first_doubt(&self, number: Seq, packet: &FrameView<'_>) -> bool
+        ensures { (last : Packet) → last.sequence ≡ number → result ≡ is_first_doubt (Some last) self.now packet.now }
+    {
+        is_doubt(number, self.answered, packet) && self.suspected == 0
+    }
+
+    /// Of how many packets more to it a doubt is no first one, after this packet.
+    fn still_suspected(&self, packet: &FrameView<'_>) -> u8
+        ensures { result ≡ still_suspected self.now.last self.now packet.now }
+    {
+        let Some(number) = self.last.number() else {
+            return 0;
+        };
+        if is_doubt(number, self.answered, packet) {
+            SUSPECTED_FOR
+        } else {
+            self.suspected.saturating_sub(1)
+        }
     }
 
     /// What is found in a packet to it.
@@ -84,6 +108,9 @@ impl Device {
         let Some(number) = self.last.number() else {
             return NOTHING;
         };
+        if self.is_first_doubt(number, packet) {
+            return DOUBT;
+        }
         let is_missed = !self.replied && !self.missed;
         Found {
             accusation: sent_after(&self.last, number, self.answered, packet),
@@ -127,6 +154,7 @@ impl Device {
         self.missed = false;
         self.earlier = None;
         self.settled = true;
+        self.suspected = self.suspected.saturating_sub(1);
         true
     }
 
@@ -152,6 +180,7 @@ impl Device {
             self.owing = waits;
             self.missed = !self.replied;
             self.replied = false;
+            self.suspected = self.suspected.saturating_sub(1);
             return;
         }
         let keeps = packet.seq().get() != 0 && (self.replied || is_number(self.taken, number));
@@ -163,6 +192,7 @@ impl Device {
     fn send_another(&mut self, keeps: bool, earlier: Option<Seq>, packet: &FrameView<'_>)
         ensures { self.new ≡ after_another keeps earlier self.old packet.now }
     {
+        self.suspected = self.still_suspected(packet);
         self.last.keep(packet);
         self.earlier = earlier;
         self.owing = is_number(self.earlier, packet.seq());

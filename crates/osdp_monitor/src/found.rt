@@ -15,7 +15,7 @@ pub enum Notice {
     Unanswered,
     /// A reply that answers an earlier packet, or an earlier copy: it comes later than the panel waits.
     Late,
-    /// A reply that may answer a packet which wasn't heard.
+    /// A reply that may answer a packet which wasn't heard, or the next number where an answer may not have been heard.
     Unsure,
 }
 
@@ -34,6 +34,13 @@ pub struct Found {
 pub(crate) const NOTHING: Found = Found {
     accusation: None,
     notice: None,
+    judged: false,
+};
+
+/// One packet that was missed explains it.
+pub(crate) const DOUBT: Found = Found {
+    accusation: None,
+    notice: Some(Notice::Unsure),
     judged: false,
 };
 

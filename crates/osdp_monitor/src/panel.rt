@@ -3,7 +3,7 @@
 ghost use Rattle.std.specs.Prelude.{◌≡◌, Some};
 ghost use Rattle.osdp_frame.specs.Packet.{Packet};
 ghost use Rattle.osdp_monitor.specs.Known.{is_number};
-ghost use Rattle.osdp_monitor.specs.Panel.{sent_after};
+ghost use Rattle.osdp_monitor.specs.Panel.{is_doubt, sent_after};
 ghost use Rattle.osdp_monitor.specs.Private.{is_next, number_of};
 
 use crate::accusation::Accusation;
@@ -38,6 +38,16 @@ pub(crate) fn sent_after(
     } else {
         Some(Accusation::SentOutOfTurn)
     }
+}
+
+/// After a doubt, for so many packets to the device, a doubt is no first one.
+pub(crate) const SUSPECTED_FOR: u8 = 8;
+
+/// Whether a packet has the next number, though no answer to the last one was heard, which has this number.
+pub(crate) fn is_doubt(last_number: Seq, answered: bool, packet: &FrameView<'_>) -> bool
+    ensures { (last : Packet) → last.sequence ≡ last_number → result ≡ is_doubt last answered packet.now }
+{
+    packet.seq().get() == last_number.next().get() && !answered
 }
 
 /// Whether the number is known, and it is this one.

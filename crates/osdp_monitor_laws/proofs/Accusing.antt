@@ -1,6 +1,6 @@
 -- Who is accused of what: panels by name, and whoever sent the packet.
-use Rattle.std.proofs.Common.{◌≡◌, inl, inr, ℕ, Bool, true, false, cond, eqb, ◌&&◌, ◌||◌, not, List, [], ◌∷◌, Option, Some, None, Result, Ok, Err, refl, sym, subst, ap, ◌∙◌}
-use Rattle.std.proofs.lemmas.Bool.{and_from, and_parts, cases_Bool, cond_both, eqb-false, eqb-true, false≢true, not_from_false}
+use Rattle.std.proofs.Common.{◌≡◌, ◌≢◌, inl, inr, ℕ, Bool, true, false, cond, eqb, ◌&&◌, ◌||◌, not, List, [], ◌∷◌, Option, Some, None, Result, Ok, Err, refl, sym, subst, ap, ◌∙◌}
+use Rattle.std.proofs.lemmas.Bool.{and_from, and_parts, cases_Bool, cond_both, eqb-false, eqb-true, false≢true, not-true, not_from_false}
 use Rattle.std.proofs.lemmas.List.Elements.{All-cons, All-head, All-nil, All-tail}
 use Rattle.std.specs.Prelude.{is_some}
 use Rattle.osdp_frame.specs.Packet.{Packet, next_sequence}
@@ -12,22 +12,23 @@ use Rattle.osdp_msg.specs.declared.reply.Reply.{Reply}
 use Rattle.osdp_monitor.specs.declared.accusation.Accusation.{Accusation}
 use Rattle.osdp_monitor.specs.declared.accusation.Accusation.TheVariants.{AnotherPacket, NotAnswered, SentOutOfTurn, SecondReply, AnotherNumber, AnotherCheck, BusyToRepeat, RefusedZero, AnotherReply, TakenOutOfTurn, UnreadReply, UnfitReply, EventAtZero}
 use Rattle.osdp_monitor.specs.declared.found.Found.{Found}
+use Rattle.osdp_monitor.specs.declared.found.Notice.TheVariants.{Unanswered, Unsure}
 use Rattle.osdp_monitor.specs.declared.said.Said.{Said}
 use Rattle.osdp_monitor.specs.declared.said.Said.TheVariants.{Busy, Damage, Refusal, Answer}
 use Rattle.osdp_monitor.specs.Known.{Known, same_check, same_packet}
-use Rattle.osdp_monitor.specs.Line.{Knowledge, after_item, after_items, after_packet, found_in, found_in_reply, found_in_sent, is_reply_judged, nothing_found}
-use Rattle.osdp_monitor.specs.Panel.{after_another, after_copy, after_sent, keeps_number, left_waiting, panel_accused, sent_after}
+use Rattle.osdp_monitor.specs.Line.{Knowledge, after_item, after_items, after_packet, found_in, found_in_reply, found_in_sent, is_reply_judged, is_sent_judged, nothing_found, notice_if, notice_in_sent}
+use Rattle.osdp_monitor.specs.Panel.{after_another, after_copy, after_sent, is_doubt, is_first_doubt, is_missed, keeps_number, left_waiting, panel_accused, sent_after}
 use Rattle.osdp_monitor.specs.Reader.{answer_accused, fit_accused, is_doubtful, is_event_at_zero, is_one_more, is_owed, reading_accused, repeat_reply, reply_accused, taken_accused, turn_accused}
 use Rattle.osdp_monitor.specs.Saying.{asked, is_damage, is_foreign, reply_told, said}
 use Rattle.osdp_monitor_laws.proofs.Agreeing.{none_some, same_some, sent_asked}
 use Rattle.osdp_monitor_laws.proofs.Late.{by_fate}
-use Rattle.osdp_monitor_laws.proofs.Missing.{IsLast, device_of, first_last, last_step, misses_no_other_packet, misses_no_unanswered, sent_found}
+use Rattle.osdp_monitor_laws.proofs.Missing.{IsLast, device_of, first_last, in_doubt, is_first, last_step, misses_no_other_packet, misses_no_unanswered, sent_found, sent_told}
 use Rattle.osdp_monitor_laws.proofs.Naming.{misses_no_packet_out_of_turn}
 use Rattle.osdp_monitor_laws.proofs.PanelLines.{answered_by, answers, last_by}
 use Rattle.osdp_monitor_laws.proofs.Remembering.{after_one, at_remembered, item_keeps, items_keep}
 use Rattle.osdp_monitor_laws.proofs.Same.{is_packet}
-use Rattle.osdp_monitor_laws.specs.Misses.{Each, IsCopyOrReply, IsRemembered, LeavesUnanswered, NothingForgotten, OfAddress}
-use Rattle.osdp_monitor_laws.specs.Panels.{AccusesTheSender, NamesPanels, PanelBreaks, is_readers}
+use Rattle.osdp_monitor_laws.specs.Misses.{Each, IsCopyOrReply, IsRemembered, LeavesUnanswered, NothingForgotten, OfAddress, suspicion}
+use Rattle.osdp_monitor_laws.specs.Panels.{AccusesTheSender, IsDoubt, NamesPanels, PanelBreaks, TellsFirstDoubts, is_readers}
 
 -- ---- once answered, a packet stays answered
 
@@ -95,15 +96,16 @@ none_answers a p (RefusedItem fault ∷ items) line known nothing each none = ab
 
 -- ---- a panel by name
 
-module _ (address : ℕ) (p : Packet) (items : List RunItem) (q : Packet) where
-  by_name : (x accusation : Accusation) → PanelBreaks x address p items q → Some x ≡ Some accusation → PanelBreaks accusation address p items q
-  by_name x accusation breaks is = subst (λ y. PanelBreaks y address p items q) (same_some x accusation is) breaks
+module _ (line : Knowledge) (address : ℕ) (p : Packet) (items : List RunItem) (q : Packet) where
+  by_name : (x accusation : Accusation) → PanelBreaks x line address p items q → Some x ≡ Some accusation → PanelBreaks accusation line address p items q
+  by_name x accusation breaks is = subst (λ y. PanelBreaks y line address p items q) (same_some x accusation is) breaks
 
   only_so : (answered : Bool) (accusation : Accusation) → (answered ≡ false → Each address (LeavesUnanswered p) items)
-      → sent_after p answered q ≡ Some accusation → PanelBreaks accusation address p items q
-  only_so answered accusation leaves =
+      → (is_doubt p answered q ≡ true → suspicion line (PacketItem p ∷ items) address ≢ 0)
+      → sent_after p answered q ≡ Some accusation → PanelBreaks accusation line address p items q
+  only_so answered accusation leaves suspected =
       let turn = cond (eqb q.sequence (next_sequence p.sequence)) (cond answered None (Some NotAnswered)) (Some SentOutOfTurn) in
-      let Only = λ (o : Option Accusation). o ≡ Some accusation → PanelBreaks accusation address p items q in
+      let Only = λ (o : Option Accusation). o ≡ Some accusation → PanelBreaks accusation line address p items q in
       cond_both (eqb q.sequence 0) None (cond (eqb q.sequence p.sequence) (cond (same_packet p q) None (Some AnotherPacket)) turn) Only
       (λ _ is. absurd (none_some accusation is))
       (λ above. cond_both (eqb q.sequence p.sequence) (cond (same_packet p q) None (Some AnotherPacket)) turn Only
@@ -115,7 +117,9 @@ module _ (address : ℕ) (p : Packet) (items : List RunItem) (q : Packet) where
       )))
       (λ differs. cond_both (eqb q.sequence (next_sequence p.sequence)) (cond answered None (Some NotAnswered)) (Some SentOutOfTurn) Only
       (λ next. cond_both answered None (Some NotAnswered) Only (λ _ is. absurd (none_some accusation is))
-      (λ none. by_name NotAnswered accusation (eqb-true q.sequence (next_sequence p.sequence) next, leaves none)))
+      (λ none.
+      let number = eqb-true q.sequence (next_sequence p.sequence) next in
+      by_name NotAnswered accusation ((number, leaves none), suspected (in_doubt p q answered number none))))
       (λ third. by_name SentOutOfTurn accusation
       (eqb-false q.sequence 0 above, eqb-false q.sequence p.sequence differs, eqb-false q.sequence (next_sequence p.sequence) third))))
 
@@ -125,18 +129,51 @@ names_panels line a p items q accusation to first nothing each next plain =
     let k = (after_items line0 items).devices a in
     let begun = first_last a line p to nothing.0 in
     let last = items_keep a (IsLast p) (IsCopyOrReply p) (last_step a p) items line0 begun nothing.1 each in
-    let found : (found_in (after_items line0 items) q).accusation ≡ sent_after p k.answered q =
-    sent_found (after_items line0 items) a q (sent_after p k.answered q) next (device_of line a p to.1 nothing.0) plain
+    let found : (found_in (after_items line0 items) q).accusation ≡ panel_accused (Some p) k q =
+    sent_found (after_items line0 items) a q (panel_accused (Some p) k q) next (device_of line a p to.1 nothing.0) plain
     (ap (λ o. panel_accused o k q) last) in
     let all = ap (λ (known : Knowledge). (found_in known q).accusation) (after_one line (PacketItem p) items) ∙ found in
-    (λ accused. only_so a p items q k.answered accusation (none_answers a p items line0 begun nothing.1 each) (sym all ∙ accused), named accusation)
+    let same : suspicion line (PacketItem p ∷ items) a ≡ k.suspected = ap (λ (known : Knowledge). (known.devices a).suspected) (after_one line (PacketItem p) items) in (
+      λ accused. cond_both (is_first_doubt (Some p) k q) None (sent_after p k.answered q) (λ o. o ≡ Some accusation → PanelBreaks accusation line a p items q)
+          (λ _ none. absurd (none_some accusation none))
+          (λ certain. only_so line a p items q k.answered accusation (none_answers a p items line0 begun nothing.1 each)
+          (λ doubt none. false≢true (sym certain ∙ is_first k p q doubt (sym same ∙ none)))) (sym all ∙ accused),
+      named accusation,
+    )
   where
-    named : (x : Accusation) → PanelBreaks x a p items q → (found_in (after_items line (PacketItem p ∷ items)) q).accusation ≡ Some x
+    named : (x : Accusation) → PanelBreaks x line a p items q → (found_in (after_items line (PacketItem p ∷ items)) q).accusation ≡ Some x
     named AnotherPacket (above, number, other) =
         misses_no_other_packet line a p items q to (λ zero. above (number ∙ zero)) nothing each next plain number other
-    named NotAnswered (number, leaves) = misses_no_unanswered line a p items q to first nothing leaves next plain number
+    named NotAnswered ((number, leaves), suspected) = (misses_no_unanswered line a p items q to first nothing leaves next plain number).0 suspected
     named SentOutOfTurn (above, other, third) = misses_no_packet_out_of_turn line a p items q to nothing each next plain above other third
     named x never = absurd never
+
+pub tells_first_doubts : TellsFirstDoubts
+tells_first_doubts line a p items q to first nothing each next plain =
+    let line0 = after_packet line p in
+    let now = after_items line0 items in
+    let k = now.devices a in
+    let begun = first_last a line p to nothing.0 in
+    let last = items_keep a (IsLast p) (IsCopyOrReply p) (last_step a p) items line0 begun nothing.1 each in
+    let all : (found_in (after_items line (PacketItem p ∷ items)) q).notice ≡ notice_in_sent (Some p) k q =
+    ap (λ (known : Knowledge). (found_in known q).notice) (after_one line (PacketItem p) items)
+    ∙ sent_told now a q next (device_of line a p to.1 nothing.0) plain ∙ ap (λ o. notice_in_sent o k q) last in
+    let same : suspicion line (PacketItem p ∷ items) a ≡ k.suspected = ap (λ (known : Knowledge). (known.devices a).suspected) (after_one line (PacketItem p) items) in (
+      λ told. cond_both (is_first_doubt (Some p) k q) (Some Unsure) (notice_if (is_missed (Some p) k) Unanswered)
+          (λ o. o ≡ Some Unsure → IsDoubt a p items q × (suspicion line (PacketItem p ∷ items) a ≡ 0))
+          (λ doubt _.
+          let both = and_parts (is_doubt p k.answered q) (eqb k.suspected 0) doubt in
+          let parts = and_parts (eqb q.sequence (next_sequence p.sequence)) (not k.answered) both.0 in (
+            (eqb-true q.sequence (next_sequence p.sequence) parts.0, none_answers a p items line0 begun nothing.1 each (not-true k.answered parts.1)),
+            same ∙ eqb-true k.suspected 0 both.1,
+          ))
+          (λ _ unsure. absurd (other_notice (is_missed (Some p) k) unsure)) (sym all ∙ told),
+      λ it. ((misses_no_unanswered line a p items q to first nothing it.0.1 next plain it.0.0).1 it.1).1,
+    )
+  where
+    other_notice : (missed : Bool) → notice_if missed Unanswered ≢ Some Unsure
+    other_notice true is = cc
+    other_notice false is = cc
 
 -- ---- whose rule it is
 
@@ -243,9 +280,12 @@ sent_of p answered q =
     (λ _. cond_both answered None (Some NotAnswered) OfPanels (λ _. no_panel) (λ _. panels NotAnswered refl))
     (λ _. panels SentOutOfTurn refl)))
 
-by_sent : (o : Option Packet) (k : Known) (q : Packet) (x : Accusation) → panel_accused o k q ≡ Some x → (is_readers x ≡ false) × (is_some o ≡ true)
-by_sent None k q x is = absurd (none_some x is)
-by_sent (Some p) k q x is = (sent_of p k.answered q x is, refl)
+by_sent : (o : Option Packet) (k : Known) (q : Packet) (x : Accusation) → panel_accused o k q ≡ Some x → (is_readers x ≡ false) × (is_sent_judged o k q ≡ true)
+by_sent None k q x = λ is. absurd (none_some x is)
+by_sent (Some p) k q x =
+    cond_both (is_first_doubt (Some p) k q) None (sent_after p k.answered q)
+    (λ o. o ≡ Some x → (is_readers x ≡ false) × (is_sent_judged (Some p) k q ≡ true)) (λ _ none. absurd (none_some x none))
+    (λ certain is. (sent_of p k.answered q x is, not_from_false (is_first_doubt (Some p) k q) certain))
 
 pub accuses_the_sender : AccusesTheSender
 accuses_the_sender line p =

@@ -8,7 +8,7 @@ use Rattle.osdp_frame.specs.Reading.{smallest}
 use Rattle.osdp_monitor.specs.declared.accusation.Accusation.TheVariants.{AnotherPacket, NotAnswered, SentOutOfTurn}
 use Rattle.osdp_monitor.specs.Known.{Known, nothing_known, same_packet}
 use Rattle.osdp_monitor.specs.Line.{Knowledge, after_packet, no_knowledge}
-use Rattle.osdp_monitor.specs.Panel.{panel_accused, sent_after}
+use Rattle.osdp_monitor.specs.Panel.{is_first_doubt, panel_accused, sent_after}
 use Rattle.osdp_monitor.specs.Reader.{after_reply}
 use Rattle.osdp_monitor.specs.Saying.{said}
 use Rattle.osdp_monitor_laws.proofs.Agreeing.{none_some, same_some, sent_asked}
@@ -87,7 +87,8 @@ repeats_fine r reached k p q fits last is = by reached (fits q p is last)
 
 by_last : (o : Option Packet) (k : Known) (p : Packet) → ((q : Packet) → o ≡ Some q → sent_after q k.answered p ≡ None) → panel_accused o k p ≡ None
 by_last None k p fine = refl
-by_last (Some q) k p fine = fine q refl
+by_last (Some q) k p fine =
+    cond_both (is_first_doubt (Some q) k p) None (sent_after q k.answered p) (λ o. o ≡ None) (λ _. refl) (λ _. fine q refl)
 
 innocent : (reaches : Reaches) (r : AnyPanel) (known : Knowledge) (p : Packet) → IsToIts r p
     → ((q : Packet) → (known.devices r.address).last ≡ Some q → sent_after q (known.devices r.address).answered p ≡ None)

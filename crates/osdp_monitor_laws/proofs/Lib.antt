@@ -20,3 +20,4 @@ pub mod Repeating
 pub mod Accusing
 pub mod Noticing
 pub mod FittingReplies
+pub mod Suspecting

@@ -6,11 +6,12 @@ use Rattle.osdp_frame.specs.Packet.{Packet, next_sequence}
 use Rattle.osdp_frame.specs.Reading.{PacketItem}
 use Rattle.osdp_monitor.specs.declared.accusation.Accusation.{Accusation}
 use Rattle.osdp_monitor.specs.declared.accusation.Accusation.TheVariants.{AnotherCheck, AnotherNumber, AnotherPacket, AnotherReply, BusyToRepeat, NotAnswered, SecondReply, SentOutOfTurn}
+use Rattle.osdp_monitor.specs.declared.found.Notice.TheVariants.{Unanswered, Unsure}
 use Rattle.osdp_monitor.specs.declared.said.Said.{Said}
 use Rattle.osdp_monitor.specs.declared.said.Said.TheVariants.{Busy, Damage, Refusal, Answer}
 use Rattle.osdp_monitor.specs.Known.{Known, is_number, same_check, same_packet}
-use Rattle.osdp_monitor.specs.Line.{Knowledge, after_items, after_packet, found_in, found_in_reply, found_in_sent, nothing_found}
-use Rattle.osdp_monitor.specs.Panel.{after_another, after_copy, after_sent, keeps_number, left_waiting, panel_accused, sent_after}
+use Rattle.osdp_monitor.specs.Line.{Knowledge, after_items, after_packet, found_in, found_in_reply, found_in_sent, nothing_found, notice_if, notice_in_sent}
+use Rattle.osdp_monitor.specs.Panel.{after_another, after_copy, after_sent, is_doubt, is_first_doubt, is_missed, keeps_number, left_waiting, panel_accused, sent_after}
 use Rattle.osdp_monitor.specs.Reader.{after_answer, after_reply_of, answer_accused, has_earlier_number, is_doubtful, is_late, is_of_either, is_one_more, is_owed, is_unheard, reader_accused, repeat_reply, reply_accused, tells_number}
 use Rattle.osdp_monitor.specs.Saying.{is_answer, is_foreign, said}
 use Rattle.osdp_monitor_laws.proofs.Agreeing.{none_some, same_some, sent_asked}
@@ -41,6 +42,38 @@ reply_found line a s p accusation from device plain last accused =
     ∙ ap (λ f. f.accusation) (cond-true s.reply (found_in_reply k.last k s) (found_in_sent k s) from.0)
     ∙ subst (λ b. (found_in_reply (line.devices b).last (line.devices b) s).accusation ≡ Some accusation) (sym from.1)
     (ap (λ o. (found_in_reply o (line.devices a) s).accusation) last ∙ accused)
+
+pub sent_told : (line : Knowledge) (a : ℕ) (q : Packet) → IsTo a q → a ≢ 127 → is_foreign q ≡ false → (found_in line q).notice ≡ notice_in_sent (line.devices a).last (line.devices a) q
+sent_told line a q to device plain =
+    let k = line.devices q.address in
+    ap (λ f. f.notice) (cond-false (eqb q.address 127 || is_foreign q) nothing_found (cond q.reply (found_in_reply k.last k q) (found_in_sent k q))
+    (or_from (eqb q.address 127) (is_foreign q) (ne_eqb q.address 127 (λ all. device (sym to.1 ∙ all))) plain))
+    ∙ ap (λ f. f.notice) (cond-false q.reply (found_in_reply k.last k q) (found_in_sent k q) to.0)
+    ∙ ap (λ b. notice_in_sent (line.devices b).last (line.devices b) q) to.1
+
+-- ---- doubts
+
+-- a packet without the next number is none
+pub no_doubt : (p q : Packet) (answered : Bool) → q.sequence ≢ next_sequence p.sequence → is_doubt p answered q ≡ false
+no_doubt p q answered other = and_left (eqb q.sequence (next_sequence p.sequence)) (not answered) (ne_eqb q.sequence (next_sequence p.sequence) other)
+
+pub in_doubt : (p q : Packet) (answered : Bool) → q.sequence ≡ next_sequence p.sequence → answered ≡ false → is_doubt p answered q ≡ true
+in_doubt p q answered next none =
+    and_from (eqb q.sequence (next_sequence p.sequence)) (not answered) (eq-eqb q.sequence (next_sequence p.sequence) next) (not_from_false answered none)
+
+module _ (k : Known) (p q : Packet) where
+  -- what is no doubt, and what comes while the panel is suspected, goes by its rules
+  pub by_rules : is_doubt p k.answered q ≡ false → panel_accused (Some p) k q ≡ sent_after p k.answered q
+  by_rules none =
+      cond-false (is_first_doubt (Some p) k q) None (sent_after p k.answered q) (and_left (is_doubt p k.answered q) (eqb k.suspected 0) none)
+
+  pub by_suspicion : k.suspected ≢ 0 → panel_accused (Some p) k q ≡ sent_after p k.answered q
+  by_suspicion some =
+      cond-false (is_first_doubt (Some p) k q) None (sent_after p k.answered q)
+      (and_right (is_doubt p k.answered q) (eqb k.suspected 0) (ne_eqb k.suspected 0 some))
+
+  pub is_first : is_doubt p k.answered q ≡ true → k.suspected ≡ 0 → is_first_doubt (Some p) k q ≡ true
+  is_first doubt none = and_from (is_doubt p k.answered q) (eqb k.suspected 0) doubt (eq-eqb k.suspected 0 none)
 
 -- the address is that of a device
 pub device_of : (line : Knowledge) (a : ℕ) (p : Packet) → p.address ≡ a → IsRemembered a (PacketItem p) line → a ≢ 127
@@ -81,11 +114,13 @@ misses_no_other_packet line a p items q to above nothing each next plain number 
     ap (λ (known : Knowledge). (found_in known q).accusation) (after_one line (PacketItem p) items)
     ∙ sent_found (after_items (after_packet line p) items) a q (Some AnotherPacket) next (device_of line a p to.1 nothing.0) plain
     (ap (λ o. panel_accused o ((after_items (after_packet line p) items).devices a) q) last
+    ∙ by_rules ((after_items (after_packet line p) items).devices a) p q
+    (no_doubt p q ((after_items (after_packet line p) items).devices a).answered (λ turn. next_differs p.sequence (sym turn ∙ number)))
     ∙ another_accused p q ((after_items (after_packet line p) items).devices a).answered above number other)
 
 -- ---- the next number, but the last packet was not answered
 
-abbrev IsUnanswered : Packet → Known → Type 0
+abbrev pub IsUnanswered : Packet → Known → Type 0
 IsUnanswered p k = (k.last ≡ Some p) × (k.answered ≡ false)
 
 copy_unanswered : (k : Known) (p : Packet) (o : Option Packet) → k.last ≡ o → o ≡ Some p → k.answered ≡ false → (after_sent o k p).answered ≡ false
@@ -108,7 +143,7 @@ reply_unanswered Answer k p x none (inl other) =
     by_number (λ j. j.answered ≡ false) (is_some (repeat_reply k p)) p.sequence k x (λ own. absurd (other own)) (λ _. none)
 reply_unanswered Answer k p x none (inr other) = absurd (other refl)
 
-unanswered_step : (a : ℕ) (p : Packet) → p.reply ≡ false → (line : Knowledge) (x : Packet) → IsUnanswered p (line.devices a)
+pub unanswered_step : (a : ℕ) (p : Packet) → p.reply ≡ false → (line : Knowledge) (x : Packet) → IsUnanswered p (line.devices a)
     → (x.address ≡ a → LeavesUnanswered p x) → IsRemembered a (PacketItem x) line → IsUnanswered p ((after_packet line x).devices a)
 unanswered_step a p command line x known each is =
     let k = line.devices a in
@@ -126,14 +161,14 @@ unanswered_step a p command line x known each is =
       )
     ])
 
-first_is_unanswered : (a : ℕ) (line : Knowledge) (p : Packet) → IsTo a p → (line.devices a).last ≢ Some p → IsRemembered a (PacketItem p) line
+pub first_is_unanswered : (a : ℕ) (line : Knowledge) (p : Packet) → IsTo a p → (line.devices a).last ≢ Some p → IsRemembered a (PacketItem p) line
     → IsUnanswered p ((after_packet line p).devices a)
 first_is_unanswered a line p to first is =
     let k = line.devices a in
     at_remembered a (IsUnanswered p) line p is (λ other. absurd (other to.1)) (λ _ reply. absurd (false≢true (sym to.0 ∙ reply)))
     (λ _ _. ((sent_asked k p).last, first_unanswered k p k.last first)) (λ _ reply. absurd (false≢true (sym to.0 ∙ reply)))
 
-next_accused : (p q : Packet) (answered : Bool) → answered ≡ false → q.sequence ≡ next_sequence p.sequence → sent_after p answered q ≡ Some NotAnswered
+pub next_accused : (p q : Packet) (answered : Bool) → answered ≡ false → q.sequence ≡ next_sequence p.sequence → sent_after p answered q ≡ Some NotAnswered
 next_accused p q answered none next =
     let turn = cond (eqb q.sequence (next_sequence p.sequence)) (cond answered None (Some NotAnswered)) (Some SentOutOfTurn) in
     cond-false (eqb q.sequence 0) None (cond (eqb q.sequence p.sequence) (cond (same_packet p q) None (Some AnotherPacket)) turn)
@@ -148,10 +183,22 @@ pub misses_no_unanswered : MissesNoUnanswered
 misses_no_unanswered line a p items q to first nothing each next plain number =
     let known = items_keep a (IsUnanswered p) (LeavesUnanswered p) (unanswered_step a p to.0) items (after_packet line p)
     (first_is_unanswered a line p to first nothing.0) nothing.1 each in
-    let k = (after_items (after_packet line p) items).devices a in
-    ap (λ (known : Knowledge). (found_in known q).accusation) (after_one line (PacketItem p) items)
-    ∙ sent_found (after_items (after_packet line p) items) a q (Some NotAnswered) next (device_of line a p to.1 nothing.0) plain
-    (ap (λ o. panel_accused o k q) known.0 ∙ next_accused p q k.answered known.1 number)
+    let now = after_items (after_packet line p) items in
+    let k = now.devices a in
+    let device = device_of line a p to.1 nothing.0 in
+    let doubt = in_doubt p q k.answered number known.1 in
+    subst (λ (l : Knowledge). ((l.devices a).suspected ≢ 0 → (found_in l q).accusation ≡ Some NotAnswered)
+    × ((l.devices a).suspected ≡ 0 → ((found_in l q).accusation ≡ None) × ((found_in l q).notice ≡ Some Unsure)))
+    (sym (after_one line (PacketItem p) items)) (
+      λ some. sent_found now a q (Some NotAnswered) next device plain
+          (ap (λ o. panel_accused o k q) known.0 ∙ by_suspicion k p q some ∙ next_accused p q k.answered known.1 number),
+      λ none. (
+        sent_found now a q None next device plain
+            (ap (λ o. panel_accused o k q) known.0 ∙ cond-true (is_first_doubt (Some p) k q) None (sent_after p k.answered q) (is_first k p q doubt none)),
+        sent_told now a q next device plain ∙ ap (λ o. notice_in_sent o k q) known.0
+            ∙ cond-true (is_first_doubt (Some p) k q) (Some Unsure) (notice_if (is_missed (Some p) k) Unanswered) (is_first k p q doubt none),
+      ),
+    )
 
 -- ---- a repeat that is answered by something else
 

@@ -22,7 +22,7 @@ use Rattle.osdp_monitor.specs.Reader.{after_answer, after_reply, after_reply_of,
 use Rattle.osdp_monitor.specs.Saying.{asked, is_answer, is_damage, reply_told, said}
 use Rattle.osdp_monitor_laws.proofs.Agreeing.{none_some, same_some, sent_asked}
 use Rattle.osdp_monitor_laws.proofs.Late.{by_fate, by_number, own_counts}
-use Rattle.osdp_monitor_laws.proofs.Missing.{IsLast, device_of, first_last, last_step, reply_found, sent_found}
+use Rattle.osdp_monitor_laws.proofs.Missing.{IsLast, by_rules, device_of, first_last, last_step, no_doubt, reply_found, sent_found}
 use Rattle.osdp_monitor_laws.proofs.Remembering.{after_append, after_one, at_remembered, forgotten_append, items_keep}
 use Rattle.osdp_monitor_laws.proofs.Same.{packet_is}
 use Rattle.osdp_monitor_laws.specs.Late.{IsNone}
@@ -45,6 +45,8 @@ misses_no_packet_out_of_turn line a p items q to nothing each next plain above o
     ap (λ (known : Knowledge). (found_in known q).accusation) (after_one line (PacketItem p) items)
     ∙ sent_found (after_items (after_packet line p) items) a q (Some SentOutOfTurn) next (device_of line a p to.1 nothing.0) plain
     (ap (λ o. panel_accused o ((after_items (after_packet line p) items).devices a) q) last
+    ∙ by_rules ((after_items (after_packet line p) items).devices a) p q
+    (no_doubt p q ((after_items (after_packet line p) items).devices a).answered turn)
     ∙ out_of_turn p q ((after_items (after_packet line p) items).devices a).answered above other turn)
 
 -- ---- an exchange, step by step

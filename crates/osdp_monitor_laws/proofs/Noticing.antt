@@ -15,18 +15,18 @@ use Rattle.osdp_monitor.specs.declared.said.Said.{Said}
 use Rattle.osdp_monitor.specs.declared.said.Said.TheVariants.{Busy, Damage, Refusal, Answer}
 use Rattle.osdp_monitor.specs.Known.{Known, is_number, same_packet}
 use Rattle.osdp_monitor.specs.Line.{Knowledge, after_items, after_packet, found_in, found_in_reply, found_in_sent, late_notice, moves_to, nothing_found, notice_if, reply_notice}
-use Rattle.osdp_monitor.specs.Panel.{after_another, after_copy, after_sent, is_missed, keeps_number, left_waiting}
+use Rattle.osdp_monitor.specs.Panel.{after_another, after_copy, after_sent, is_first_doubt, is_missed, keeps_number, left_waiting}
 use Rattle.osdp_monitor.specs.Reader.{has_earlier_number, is_doubtful, is_late, is_nak, is_of_either, is_one_more, is_opening, is_owed, is_unheard, reader_accused}
 use Rattle.osdp_monitor.specs.Saying.{is_answer, is_foreign, is_refusal, reply_told, said}
 use Rattle.osdp_monitor_laws.proofs.Accusing.{IsAnswered, now_answered}
 use Rattle.osdp_monitor_laws.proofs.Agreeing.{none_some, same_some, sent_asked}
-use Rattle.osdp_monitor_laws.proofs.Missing.{device_of}
+use Rattle.osdp_monitor_laws.proofs.Missing.{device_of, sent_told}
 use Rattle.osdp_monitor_laws.proofs.Naming.{IsFresh, heard, in_time, is_fresh, line7, nothing_more, quiet_items, replied, whole}
 use Rattle.osdp_monitor_laws.proofs.Remembering.{after_append, after_one, at_remembered, forgotten_append}
 use Rattle.osdp_monitor_laws.proofs.Telling.{late_accused, reply_found, tells}
 use Rattle.osdp_monitor_laws.specs.Misses.{IsRemembered, IsTo, NothingForgotten}
 use Rattle.osdp_monitor_laws.specs.Names.{Exchange, Happens, items_of}
-use Rattle.osdp_monitor_laws.specs.Notices.{IsWorth, TellsNoAnswered, TellsReplies, TellsTooLittle, TellsUnanswered, TellsUnansweredOnce, TellsUnheard}
+use Rattle.osdp_monitor_laws.specs.Notices.{or_doubt, IsWorth, TellsNoAnswered, TellsReplies, TellsTooLittle, TellsUnanswered, TellsUnansweredOnce, TellsUnheard}
 
 -- ---- a reply
 
@@ -116,23 +116,16 @@ tells_replies line a e r notice is from plain =
 
 -- ---- a packet without a reply
 
-sent_notice : (line : Knowledge) (a : ℕ) (q : Packet) → IsTo a q → a ≢ 127 → is_foreign q ≡ false → (found_in line q).notice ≡ (found_in_sent (line.devices a) q).notice
-sent_notice line a q to device plain =
-    let k = line.devices q.address in
-    ap (λ f. f.notice) (cond-false (eqb q.address 127 || is_foreign q) nothing_found (cond q.reply (found_in_reply k.last k q) (found_in_sent k q))
-    (or_from (eqb q.address 127) (is_foreign q) (ne_eqb q.address 127 (λ all. device (sym to.1 ∙ all))) plain))
-    ∙ ap (λ f. f.notice) (cond-false q.reply (found_in_reply k.last k q) (found_in_sent k q) to.0)
-    ∙ ap (λ b. (found_in_sent (line.devices b) q).notice) to.1
-
 pub tells_unanswered : TellsUnanswered
 tells_unanswered line a e q is to plain =
     let known = is_fresh line a e is in
     let k = (line7 line a e is).devices a in
-    ap (λ (l : Knowledge). (found_in l q).notice) (whole line a e is)
-    ∙ sent_notice (line7 line a e is) a q to (device_of line a e.first is.first_to.1 is.nothing.0) plain
-    ∙ ap (λ o. notice_if (is_missed o k) Unanswered) known.last
+    subst (λ (l : Knowledge). (found_in l q).notice ≡ or_doubt l a q (Some Unanswered)) (sym (whole line a e is))
+    (sent_told (line7 line a e is) a q to (device_of line a e.first is.first_to.1 is.nothing.0) plain
+    ∙ ap (cond (is_first_doubt k.last k q) (Some Unsure))
+    (ap (λ o. notice_if (is_missed o k) Unanswered) known.last
     ∙ cond-true (not k.replied && not k.missed) (Some Unanswered) None
-    (and_from (not k.replied) (not k.missed) (not_from_false k.replied known.replied) (not_from_false k.missed known.missed))
+    (and_from (not k.replied) (not k.missed) (not_from_false k.replied known.replied) (not_from_false k.missed known.missed))))
 
 -- the line after one more packet
 more : (line : Knowledge) (a : ℕ) (e : Exchange) (is : Happens a line e) (x : Packet)
@@ -163,12 +156,14 @@ missed a last line p to known none is =
     at_remembered a (IsMissed p) line p is (λ away. absurd (away to.1)) (λ _ reply. absurd (false≢true (sym to.0 ∙ reply)))
     (λ _ _. ((sent_asked k p).last, missed_sent k p k.last last known none)) (λ _ reply. absurd (false≢true (sym to.0 ∙ reply)))
 
--- nothing is told at the next packet to the device
+-- nothing is told at the next packet to the device, but a first doubt
 none_told : (line : Knowledge) (a : ℕ) (p q : Packet) → IsTo a q → a ≢ 127 → is_foreign q ≡ false → (line.devices a).last ≡ Some p
-    → (not (line.devices a).replied && not (line.devices a).missed) ≡ false → (found_in line q).notice ≡ None
+    → (not (line.devices a).replied && not (line.devices a).missed) ≡ false → (found_in line q).notice ≡ or_doubt line a q None
 none_told line a p q to device plain last none =
     let k = line.devices a in
-    sent_notice line a q to device plain ∙ ap (λ o. notice_if (is_missed o k) Unanswered) last ∙ cond-false (not k.replied && not k.missed) (Some Unanswered) None none
+    sent_told line a q to device plain
+    ∙ ap (cond (is_first_doubt k.last k q) (Some Unsure))
+    (ap (λ o. notice_if (is_missed o k) Unanswered) last ∙ cond-false (not k.replied && not k.missed) (Some Unanswered) None none)
 
 pub tells_unanswered_once : TellsUnansweredOnce
 tells_unanswered_once line a e p q is to nothing next plain =
@@ -176,18 +171,18 @@ tells_unanswered_once line a e p q is to nothing next plain =
     let before = line7 line a e is in
     let now = after_packet before p in
     let twice = missed a e.last before p to known.last known.replied (remembered line a e is p nothing) in
-    ap (λ (l : Knowledge). (found_in l q).notice) (more line a e is p)
-    ∙ none_told now a p q next (device_of line a e.first is.first_to.1 is.nothing.0) plain twice.0
-    (and_right (not (now.devices a).replied) (not (now.devices a).missed) (not_from_true (now.devices a).missed twice.1))
+    subst (λ (l : Knowledge). (found_in l q).notice ≡ or_doubt l a q None) (sym (more line a e is p))
+    (none_told now a p q next (device_of line a e.first is.first_to.1 is.nothing.0) plain twice.0
+    (and_right (not (now.devices a).replied) (not (now.devices a).missed) (not_from_true (now.devices a).missed twice.1)))
 
 pub tells_no_answered : TellsNoAnswered
 tells_no_answered line a e r q is from some nothing next plain =
     let before = line7 line a e is in
     let now = after_packet before r in
     let known = replied a e.second.sequence e.last before r from some (is_fresh line a e is) (remembered line a e is r nothing) in
-    ap (λ (l : Knowledge). (found_in l q).notice) (more line a e is r)
-    ∙ none_told now a e.last q next (device_of line a e.first is.first_to.1 is.nothing.0) plain known.last
-    (and_left (not (now.devices a).replied) (not (now.devices a).missed) (not_from_true (now.devices a).replied known.replied))
+    subst (λ (l : Knowledge). (found_in l q).notice ≡ or_doubt l a q None) (sym (more line a e is r))
+    (none_told now a e.last q next (device_of line a e.first is.first_to.1 is.nothing.0) plain known.last
+    (and_left (not (now.devices a).replied) (not (now.devices a).missed) (not_from_true (now.devices a).replied known.replied)))
 
 -- ---- too little was heard
 

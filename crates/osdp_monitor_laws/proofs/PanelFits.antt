@@ -26,7 +26,7 @@ use Rattle.osdp_msg.specs.declared.reply_fields.PdId.{PdId}
 use Rattle.osdp_monitor.specs.declared.accusation.Accusation.TheVariants.{AnotherPacket, NotAnswered, SentOutOfTurn}
 use Rattle.osdp_monitor.specs.declared.said.Said.TheVariants.{Answer}
 use Rattle.osdp_monitor.specs.Known.{Known, same_packet}
-use Rattle.osdp_monitor.specs.Panel.{panel_accused, sent_after}
+use Rattle.osdp_monitor.specs.Panel.{is_first_doubt, panel_accused, sent_after}
 use Rattle.osdp_monitor.specs.Saying.{said, said_by}
 use Rattle.osdp_monitor_laws.proofs.Numbers.{next_above_zero, next_differs}
 use Rattle.osdp_monitor_laws.proofs.Same.{is_packet}
@@ -80,12 +80,17 @@ abbrev pub Ticks : Session → Ticked → Bool → Known → Type 0
 Ticks s t reached k = TickFits t.step.frame s t.session reached k
 
 -- number 0 may be sent always
+-- a first doubt is accused of nothing, so the rules alone are to say so
+by_rules : (k : Known) (q f : Packet) → sent_after q k.answered f ≡ None → panel_accused (Some q) k f ≡ None
+by_rules k q f fine = cond_both (is_first_doubt (Some q) k f) None (sent_after q k.answered f) (λ o. o ≡ None) (λ _. refl) (λ _. fine)
+
 zero_may : (k : Known) (f : Packet) (o : Option Packet) → f.sequence ≡ 0 → panel_accused o k f ≡ None
 zero_may k f None zero = refl
 zero_may k f (Some q) zero =
-    cond-true (eqb f.sequence 0) None
+    by_rules k q f
+    (cond-true (eqb f.sequence 0) None
     (cond (eqb f.sequence q.sequence) (cond (same_packet q f) None (Some AnotherPacket)) (cond (eqb f.sequence (next_sequence q.sequence)) (cond k.answered None (Some NotAnswered)) (Some SentOutOfTurn)))
-    (eq-eqb f.sequence 0 zero)
+    (eq-eqb f.sequence 0 zero))
 
 -- the last packet once more
 again_after : (f : Packet) (answered : Bool) → sent_after f answered f ≡ None
@@ -98,7 +103,7 @@ again_after f answered =
 
 again_may : (k : Known) (f : Packet) (o : Option Packet) → ((q : Packet) → o ≡ Some q → q ≡ f) → panel_accused o k f ≡ None
 again_may k f None same = refl
-again_may k f (Some q) same = subst (λ x. sent_after x k.answered f ≡ None) (sym (same q refl)) (again_after f k.answered)
+again_may k f (Some q) same = by_rules k q f (subst (λ x. sent_after x k.answered f ≡ None) (sym (same q refl)) (again_after f k.answered))
 
 out_may : (reached : Bool) (k : Known) (f : Packet) → IsOut reached k f → MaySend k f
 out_may reached k f (inl same) = again_may k f k.last same
@@ -111,13 +116,14 @@ next_may k f number None is next rest = refl
 next_may k f number (Some q) is next rest =
     let last = rest q is in
     let turn = cond (eqb f.sequence (next_sequence q.sequence)) (cond k.answered None (Some NotAnswered)) (Some SentOutOfTurn) in
-    cond-false (eqb f.sequence 0) None (cond (eqb f.sequence q.sequence) (cond (same_packet q f) None (Some AnotherPacket)) turn)
+    by_rules k q f
+    (cond-false (eqb f.sequence 0) None (cond (eqb f.sequence q.sequence) (cond (same_packet q f) None (Some AnotherPacket)) turn)
     (ne_eqb f.sequence 0 (λ zero. next_above_zero number (sym next ∙ zero)))
     ∙ cond-false (eqb f.sequence q.sequence) (cond (same_packet q f) None (Some AnotherPacket)) turn
     (ne_eqb f.sequence q.sequence (λ same. next_differs number (sym next ∙ same ∙ last.0)))
     ∙ cond-true (eqb f.sequence (next_sequence q.sequence)) (cond k.answered None (Some NotAnswered)) (Some SentOutOfTurn)
     (eq-eqb f.sequence (next_sequence q.sequence) (next ∙ ap next_sequence (sym last.0)))
-    ∙ cond-true k.answered None (Some NotAnswered) last.1
+    ∙ cond-true k.answered None (Some NotAnswered) last.1)
 
 module _ (reached : Bool) (k : Known) where
   begin_fits : (x : Exchange) (number : ℕ) (s : Session) (waiting : List Command) → MaySend k (frame number s.config x)

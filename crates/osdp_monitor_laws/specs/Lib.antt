@@ -8,4 +8,5 @@ pub mod Names
 pub mod Repeats
 pub mod Panels
 pub mod Notices
+pub mod Suspicion
 pub mod Laws

@@ -1,10 +1,12 @@
 -- What the rules never miss, over the items that were read before.
-use Rattle.std.specs.Prelude.{◌≡◌, ◌≢◌, ◌⊎◌, ◌<◌, ◌+◌, ℕ, true, false, All, List, [], ◌∷◌, ◌++◌, Option, Some}
+use Rattle.std.specs.Prelude.{◌≡◌, ◌≢◌, ◌⊎◌, ◌<◌, ◌+◌, ℕ, true, false, All, List, [], ◌∷◌, ◌++◌, Option, Some, None}
 use Rattle.osdp_frame.specs.declared.check_kind.CheckKind.TheVariants.{Sum}
 use Rattle.osdp_frame.specs.Packet.{Packet, next_sequence}
 use Rattle.osdp_frame.specs.Reading.{RunItem, PacketItem, SkippedItem, RefusedItem, smallest}
 use Rattle.osdp_monitor.specs.declared.accusation.Accusation.{Accusation}
 use Rattle.osdp_monitor.specs.declared.accusation.Accusation.TheVariants.{AnotherPacket, NotAnswered}
+use Rattle.osdp_monitor.specs.declared.found.Notice.{Notice}
+use Rattle.osdp_monitor.specs.declared.found.Notice.TheVariants.{Unsure}
 use Rattle.osdp_monitor.specs.declared.said.Said.TheVariants.{Busy, Refusal, Answer}
 use Rattle.osdp_monitor.specs.Line.{Knowledge, after_item, after_items, found_in, moves_to}
 use Rattle.osdp_monitor.specs.Reader.{is_unheard}
@@ -45,6 +47,13 @@ Each address P items = All (OfAddress address P) items
 abbrev pub accused_after : Knowledge → List RunItem → Packet → Option Accusation
 accused_after line items p = (found_in (after_items line items) p).accusation
 
+abbrev pub told_after : Knowledge → List RunItem → Packet → Option Notice
+told_after line items p = (found_in (after_items line items) p).notice
+
+-- for how many more packets to the device its panel is suspected: specs/Suspicion says since when
+abbrev pub suspicion : Knowledge → List RunItem → ℕ → ℕ
+suspicion line items address = ((after_items line items).devices address).suspected
+
 -- ---- another packet with the number of the last
 
 -- the packet once more, or a reply
@@ -65,13 +74,16 @@ MissesNoOtherPacket = (line : Knowledge) (address : ℕ) (p : Packet) (items : L
 abbrev pub LeavesUnanswered : Packet → Packet → Type 0
 LeavesUnanswered p x = (x ≡ p) ⊎ ((x.reply ≡ true) × ((x.sequence ≢ p.sequence) ⊎ (said x ≢ Answer)))
 
--- after the first copy of a packet, with no reply since that answers it, the next number is accused
+-- After the first copy of a packet, with no reply since that answers it, the next number is accused, where the panel is suspected. Else the listener may have
+-- missed the answer: it tells that it has heard too little, and accuses nobody.
 abbrev pub MissesNoUnanswered : Type 0
 MissesNoUnanswered = (line : Knowledge) (address : ℕ) (p : Packet) (items : List RunItem) (q : Packet)
     → IsTo address p → (line.devices address).last ≢ Some p
     → NothingForgotten address (PacketItem p ∷ items) line → Each address (LeavesUnanswered p) items
     → IsTo address q → is_foreign q ≡ false → q.sequence ≡ next_sequence p.sequence
-    → accused_after line (PacketItem p ∷ items) q ≡ Some NotAnswered
+    → let all = PacketItem p ∷ items in
+    (suspicion line all address ≢ 0 → accused_after line all q ≡ Some NotAnswered)
+    × (suspicion line all address ≡ 0 → (accused_after line all q ≡ None) × (told_after line all q ≡ Some Unsure))
 
 -- ---- a repeat that is answered by something else
 

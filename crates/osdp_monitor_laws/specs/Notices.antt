@@ -1,5 +1,5 @@
 -- Each notice by its name: what a line holds of which it is told.
-use Rattle.std.specs.Prelude.{◌≡◌, ◌≢◌, ◌↔◌, ℕ, false, List, [], ◌∷◌, ◌++◌, Option, Some, None, Ok}
+use Rattle.std.specs.Prelude.{◌≡◌, ◌≢◌, ◌↔◌, if◌then◌else◌, ℕ, false, List, [], ◌∷◌, ◌++◌, Option, Some, None, Ok}
 use Rattle.osdp_frame.specs.Packet.{Packet, next_sequence}
 use Rattle.osdp_frame.specs.Reading.{RunItem, PacketItem}
 use Rattle.osdp_msg.specs.declared.reply.Reply.TheVariants.{Nak}
@@ -8,13 +8,11 @@ use Rattle.osdp_monitor.specs.declared.found.Notice.{Notice}
 use Rattle.osdp_monitor.specs.declared.found.Notice.TheVariants.{Opened, Moved, Restarted, Unanswered, Unsure}
 use Rattle.osdp_monitor.specs.declared.said.Said.TheVariants.{Damage, Refusal, Answer}
 use Rattle.osdp_monitor.specs.Line.{Knowledge, after_items, found_in, moves_to}
+use Rattle.osdp_monitor.specs.Panel.{is_first_doubt}
 use Rattle.osdp_monitor.specs.Saying.{is_foreign, reply_told, said}
 use Rattle.osdp_monitor_laws.specs.Late.{HasItsNumber, IsNone}
-use Rattle.osdp_monitor_laws.specs.Misses.{Each, IsFrom, IsTo, NothingForgotten}
+use Rattle.osdp_monitor_laws.specs.Misses.{Each, IsFrom, IsTo, NothingForgotten, told_after}
 use Rattle.osdp_monitor_laws.specs.Names.{Exchange, Happens, items_of}
-
-abbrev pub told_after : Knowledge → List RunItem → Packet → Option Notice
-told_after line items p = (found_in (after_items line items) p).notice
 
 -- ---- a reply
 
@@ -33,22 +31,26 @@ TellsReplies = (line : Knowledge) (address : ℕ) (e : Exchange) (r : Packet) (n
 
 -- ---- a packet without a reply
 
+-- A first doubt is told as one, in place of anything else. Law TellsFirstDoubts says when it is one.
+abbrev pub or_doubt : Knowledge → ℕ → Packet → Option Notice → Option Notice
+or_doubt line address q notice = if is_first_doubt (line.devices address).last (line.devices address) q then Some Unsure else notice
+
 -- Where the last packet has no reply, that is told at the next packet to the device.
 abbrev pub TellsUnanswered : Type 0
 TellsUnanswered = (line : Knowledge) (address : ℕ) (e : Exchange) (q : Packet) → Happens address line e → IsTo address q → is_foreign q ≡ false
-    → told_after line (items_of e) q ≡ Some Unanswered
+    → told_after line (items_of e) q ≡ or_doubt (after_items line (items_of e)) address q (Some Unanswered)
 
 -- It is told once: where that packet has no reply either, the packet after it is told nothing of.
 abbrev pub TellsUnansweredOnce : Type 0
 TellsUnansweredOnce = (line : Knowledge) (address : ℕ) (e : Exchange) (p q : Packet) → Happens address line e → IsTo address p
     → NothingForgotten address (items_of e ++ PacketItem p ∷ []) line → IsTo address q → is_foreign q ≡ false
-    → told_after line (items_of e ++ PacketItem p ∷ []) q ≡ None
+    → let all = items_of e ++ PacketItem p ∷ [] in told_after line all q ≡ or_doubt (after_items line all) address q None
 
 -- And a packet that has had a reply but NAK 1 isn't told as unanswered.
 abbrev pub TellsNoAnswered : Type 0
 TellsNoAnswered = (line : Knowledge) (address : ℕ) (e : Exchange) (r q : Packet) → Happens address line e → IsFrom address r → said r ≢ Damage
     → NothingForgotten address (items_of e ++ PacketItem r ∷ []) line → IsTo address q → is_foreign q ≡ false
-    → told_after line (items_of e ++ PacketItem r ∷ []) q ≡ None
+    → let all = items_of e ++ PacketItem r ∷ [] in told_after line all q ≡ or_doubt (after_items line all) address q None
 
 -- ---- too little was heard
 

@@ -4,16 +4,21 @@ use Rattle.osdp_frame.specs.Packet.{Packet, next_sequence}
 use Rattle.osdp_frame.specs.Reading.{RunItem, PacketItem}
 use Rattle.osdp_monitor.specs.declared.accusation.Accusation.{Accusation}
 use Rattle.osdp_monitor.specs.declared.accusation.Accusation.TheVariants.{AnotherPacket, NotAnswered, SentOutOfTurn}
+use Rattle.osdp_monitor.specs.declared.found.Notice.TheVariants.{Unsure}
 use Rattle.osdp_monitor.specs.Line.{Knowledge, found_in}
 use Rattle.osdp_monitor.specs.Saying.{is_foreign}
-use Rattle.osdp_monitor_laws.specs.Misses.{Each, IsCopyOrReply, IsTo, LeavesUnanswered, NothingForgotten, accused_after}
+use Rattle.osdp_monitor_laws.specs.Misses.{Each, IsCopyOrReply, IsTo, LeavesUnanswered, NothingForgotten, accused_after, suspicion, told_after}
+
+-- the next number, and nothing has answered the packet
+abbrev pub IsDoubt : ℕ → Packet → List RunItem → Packet → Type 0
+IsDoubt address p items q = (q.sequence ≡ next_sequence p.sequence) × Each address (LeavesUnanswered p) items
 
 -- after a packet and what followed it, how the next packet to the address breaks the rule
-abbrev pub PanelBreaks : Accusation → ℕ → Packet → List RunItem → Packet → Type 0
-PanelBreaks AnotherPacket address p items q = (q.sequence ≢ 0) × (q.sequence ≡ p.sequence) × (q ≢ p)
-PanelBreaks NotAnswered address p items q = (q.sequence ≡ next_sequence p.sequence) × Each address (LeavesUnanswered p) items
-PanelBreaks SentOutOfTurn address p items q = (q.sequence ≢ 0) × (q.sequence ≢ p.sequence) × (q.sequence ≢ next_sequence p.sequence)
-PanelBreaks _ address p items q = ⊥
+abbrev pub PanelBreaks : Accusation → Knowledge → ℕ → Packet → List RunItem → Packet → Type 0
+PanelBreaks AnotherPacket line address p items q = (q.sequence ≢ 0) × (q.sequence ≡ p.sequence) × (q ≢ p)
+PanelBreaks NotAnswered line address p items q = IsDoubt address p items q × (suspicion line (PacketItem p ∷ items) address ≢ 0)
+PanelBreaks SentOutOfTurn line address p items q = (q.sequence ≢ 0) × (q.sequence ≢ p.sequence) × (q.sequence ≢ next_sequence p.sequence)
+PanelBreaks _ line address p items q = ⊥
 
 -- after the first copy of a packet, and then copies and whatever replies, the next packet is accused by the name of the rule that it breaks, and of nothing else
 abbrev pub NamesPanels : Type 0
@@ -21,7 +26,15 @@ NamesPanels = (line : Knowledge) (address : ℕ) (p : Packet) (items : List RunI
     → IsTo address p → (line.devices address).last ≢ Some p
     → NothingForgotten address (PacketItem p ∷ items) line → Each address (IsCopyOrReply p) items
     → IsTo address q → is_foreign q ≡ false
-    → (accused_after line (PacketItem p ∷ items) q ≡ Some accusation) ↔ PanelBreaks accusation address p items q
+    → (accused_after line (PacketItem p ∷ items) q ≡ Some accusation) ↔ PanelBreaks accusation line address p items q
+
+-- And it is told that too little was heard exactly where it is the first doubt.
+abbrev pub TellsFirstDoubts : Type 0
+TellsFirstDoubts = (line : Knowledge) (address : ℕ) (p : Packet) (items : List RunItem) (q : Packet)
+    → IsTo address p → (line.devices address).last ≢ Some p
+    → NothingForgotten address (PacketItem p ∷ items) line → Each address (IsCopyOrReply p) items
+    → IsTo address q → is_foreign q ≡ false
+    → (told_after line (PacketItem p ∷ items) q ≡ Some Unsure) ↔ (IsDoubt address p items q × (suspicion line (PacketItem p ∷ items) address ≡ 0))
 
 -- a rule of the panel, or one of the reader
 abbrev pub is_readers : Accusation → Bool

@@ -2,7 +2,7 @@
 //! their contracts are laws.
 #![tactic(auto)]
 
-ghost use Rattle.osdp_monitor_laws.specs.Laws.{AccusesNoPanel, AccusesNoPanelByTheRules, AccusesNoReader, AccusesNoReaderByTheRules, AccusesTheSender, LeavesStrayBusy, MissesNoOtherPacket, MissesNoOtherReply, MissesNoPacketOutOfTurn, MissesNoUnanswered, NamesAnswersToRepeats, NamesPanels, NamesReaders, NamesSecondReplies, TellsLateAnswers, TellsNoAnswered, TellsReplies, TellsTooLittle, TellsUnanswered, TellsUnansweredOnce, TellsUnheard};
+ghost use Rattle.osdp_monitor_laws.specs.Laws.{AccusesNoPanel, AccusesNoPanelByTheRules, AccusesNoReader, AccusesNoReaderByTheRules, AccusesTheSender, LeavesStrayBusy, MissesNoOtherPacket, MissesNoOtherReply, MissesNoPacketOutOfTurn, MissesNoUnanswered, NamesAnswersToRepeats, NamesPanels, NamesReaders, NamesSecondReplies, SuspectsAfterDoubts, SuspectsForAWhile, TellsFirstDoubts, TellsLateAnswers, TellsNoAnswered, TellsReplies, TellsTooLittle, TellsUnanswered, TellsUnansweredOnce, TellsUnheard};
 
 use osdp_reader::Handler;
 
@@ -36,7 +36,8 @@ pub fn misses_no_other_packet()
     ensures { MissesNoOtherPacket }
 {}
 
-/// Where nothing was forgotten since, the next number is accused while no reply has answered the last packet since its first copy.
+/// Where nothing was forgotten since, the next number is accused while no reply has answered the last packet since its first copy, and the panel is suspected.
+/// Where it isn't, too little was heard is told, and nobody accused.
 pub fn misses_no_unanswered()
     ensures { MissesNoUnanswered }
 {}
@@ -72,6 +73,22 @@ pub fn names_panels()
     ensures { NamesPanels }
 {}
 
+/// Where nothing was forgotten since, a packet is told as too little heard exactly where it has the next number, the last one was not answered, and the panel is not
+/// suspected.
+pub fn tells_first_doubts()
+    ensures { TellsFirstDoubts }
+{}
+
+/// Where nothing was forgotten since, a panel is suspected for eight packets after the next number to a packet that was not answered.
+pub fn suspects_after_doubts()
+    ensures { SuspectsAfterDoubts }
+{}
+
+/// Where nothing was forgotten since, each packet to the device that is no such packet takes one of these away, and nothing else does.
+pub fn suspects_for_a_while()
+    ensures { SuspectsForAWhile }
+{}
+
 /// Where nothing was forgotten since, the first reply to a packet that was answered before is accused by the name of the rule that it breaks, and of nothing else.
 pub fn names_answers_to_repeats()
     ensures { NamesAnswersToRepeats }
@@ -94,12 +111,13 @@ pub fn tells_replies()
     ensures { TellsReplies }
 {}
 
-/// Where nothing was forgotten since, a packet without a reply after one that was answered is told as unanswered, at the next packet to the device.
+/// Where nothing was forgotten since, a packet without a reply after one that was answered is told as unanswered, at the next packet to the device, but where that is
+/// told as too little heard.
 pub fn tells_unanswered()
     ensures { TellsUnanswered }
 {}
 
-/// Where nothing was forgotten since, of two packets in a row without a reply the first alone is told as unanswered.
+/// Where nothing was forgotten since, of two packets in a row without a reply the first alone is told as unanswered. The second may be told as too little heard.
 pub fn tells_unanswered_once()
     ensures { TellsUnansweredOnce }
 {}

@@ -31,7 +31,7 @@ pub struct Counts {
     pub moved: u64,
     /// Packets to the device and replies that were held to the rules.
     pub judged: u64,
-    /// Packets to the device that could not be judged, but the first: what was known of it had been forgotten.
+    /// Packets to the device that could not be judged, but the first: what was known of it had been forgotten, or too little was heard.
     pub forgot: u64,
     /// Accusations of either end.
     pub accused: u64,

@@ -24,11 +24,10 @@ const REPORT: &str = "\
 6:0 reader 5: a repeat is answered by something else (standard)
      expected 53850A00015300013198
      seen     538507000140E0
-8:0 device 5: unanswered
-8:0 panel to 5: the next number, but the last one was not answered (standard)
+8:0 device 5: heard too little to judge
 device  asked  polls repeats  answered  busy  nak  events  opened  moved  judged  forgot  accused
-5           5      5       1         3     0    0       1       1      0       6       0        2
-runs 9 packets 8 skipped 1 refused 0 judged 6 accused 2
+5           5      5       1         3     0    0       1       1      0       5       1        1
+runs 9 packets 8 skipped 1 refused 0 judged 5 accused 1
 ";
 
 /// A run comes.

@@ -21,7 +21,7 @@ const PANEL: &str = "\
 5305070002603F none none none
 538507000240DF none none none
 5305070003603E none none none
-53050700016040 not-answered unanswered none
+53050700016040 none unsure none
 538507000140E0 none none none
 53050B0001680002000032 another-packet none 53050700016040
 538507000140E0 none none none
@@ -42,7 +42,7 @@ const READER: &str = "\
 53850A00015300013198 second-reply none none
 5305070002603F none none none
 538507000140E0 another-number none none
-5305070003603E not-answered none none
+5305070003603E none unsure none
 538507000340DE none none none
 53050700016040 none none none
 5385080005403FBC another-check none none
@@ -128,7 +128,7 @@ const UNSURE: &str = "\
 538507000240DF another-number none none
 53060700006040 none none none
 538607000140DF none unsure none
-5306070001603F not-answered unanswered none
+5306070001603F none unsure none
 5306070002603E not-answered none none
 ";
 
