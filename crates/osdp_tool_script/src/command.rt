@@ -1,41 +1,26 @@
 //! The command.
 
-use crate::lines::Line;
-use osdp_test_script::ScriptRun;
-use osdp_tool_streams::{ToolFault, Watched, finish, read_some, write_out};
+ghost use Rattle.osdp_tool_script.specs.Ending.{Counts, Ends, Runs};
+ghost use Rattle.osdp_tool_streams.specs.Watched.{inner_of, has_failed};
+ghost use Rattle.osdp_words.specs.Word.{texts};
+
+use crate::telling::Script;
+use osdp_line_answers::answer_lines;
+use osdp_tool_streams::{ToolFault, Watched, flush_out, write_out};
 use std::alloc::Global;
 use std::io::{Read, Write};
 
-/// Answers each line of the input, to its end.
-fn read_lines<R: Read, W: Write>(
-    alloc: Global,
-    run: &mut ScriptRun,
-    input: &mut Watched<R>,
-    output: &mut Watched<W>,
-) -> Result<(), ToolFault> {
-    let mut line = Line::new(alloc);
-    let mut piece = [0u8; 4096];
-    'reads: for _ in 0..u64::MAX {
-        let count = read_some(input, &mut piece)?;
-        if count == 0 {
-            return line.finish(run, output);
-        }
-        line.take_all(run, piece.get(..count).unwrap_or(&[]), output)?;
-    }
-    Err(ToolFault::TooLong)
-}
-
 /// The script is over: the verdicts are counted. The status.
-fn end<W: Write>(
-    alloc: Global,
-    run: &mut ScriptRun,
-    output: &mut Watched<W>,
-) -> Result<u8, ToolFault> {
+fn end<W: Write>(alloc: Global, script: Script, output: &mut Watched<W>) -> Result<u8, ToolFault>
+    ensures { Counts script (W.contents (inner_of output.old)) (W.contents (inner_of output.new)) (has_failed output.old) (has_failed output.new) result }
+{
+    let mut run = script.run;
     let mut text = String::new(alloc);
     if run.end(alloc, &mut text).is_err() {
         return Err(ToolFault::NoMemory);
     }
     write_out(output, text.as_bytes())?;
+    flush_out(output)?;
     match run.refused {
         Some(line) => Err(ToolFault::BadStep(line)),
         None => Ok(if run.is_accepted() { 0 } else { 1 }),
@@ -47,23 +32,29 @@ fn work<R: Read, W: Write>(
     alloc: Global,
     input: &mut Watched<R>,
     output: &mut Watched<W>,
-) -> Result<u8, ToolFault> {
-    let mut run = ScriptRun::new();
-    read_lines(alloc, &mut run, input, output)?;
-    end(alloc, &mut run, output)
+) -> Result<u8, ToolFault>
+    ensures { Ends (R.remaining (inner_of input.old)) (R.remaining (inner_of input.new)) (W.contents (inner_of output.old)) (W.contents (inner_of output.new))
+        (has_failed input.new) (has_failed output.new) result }
+{
+    let mut script = Script::new();
+    answer_lines(alloc, &mut script, input, output)?;
+    end(alloc, script, output)
 }
 
-/// Runs a script: what its lines send is printed, what was heard of that is read, and each expectation has its verdict. The status: 0 where each was
-/// seen, and 1 where one was not. BadStep with the first line that was refused.
+/// Runs a script: what its lines send is printed, what was heard of that is read, and each expectation has its verdict. Each line is answered before more
+/// is read. The status: 0 where each was seen, and 1 where one was not. `BadStep` with the first line that was refused. `words` stand after `test script`:
+/// where there are any, they are `BadWords`, and nothing is read.
 pub fn script<R: Read, W: Write>(
     alloc: Global,
     words: &[&str],
     input: &mut Watched<R>,
     output: &mut Watched<W>,
-) -> Result<u8, ToolFault> {
+) -> Result<u8, ToolFault>
+    ensures { Runs (R.remaining (inner_of input.old)) (R.remaining (inner_of input.new)) (W.contents (inner_of output.old)) (W.contents (inner_of output.new))
+        (texts words.now) (has_failed input.new) (has_failed output.new) result }
+{
     if !words.is_empty() {
         return Err(ToolFault::BadWords);
     }
-    let answer = work(alloc, input, output);
-    finish(input.failed(), output, answer)
+    work(alloc, input, output)
 }

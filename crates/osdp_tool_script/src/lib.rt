@@ -2,6 +2,6 @@
 #![tactic(auto)]
 
 mod command;
-mod lines;
+mod telling;
 
 pub use command::script;

@@ -1,0 +1,8 @@
+pub mod Along
+pub mod Finding
+pub mod Taking
+pub mod Telling
+pub mod Judged
+pub mod Device
+pub mod Rows
+pub mod Parts

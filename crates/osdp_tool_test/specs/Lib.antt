@@ -1,1 +1,15 @@
 pub mod Found
+pub mod Runs
+pub mod Rules
+pub mod Table
+pub mod Lines
+pub mod Entries
+pub mod Report
+pub mod Faults
+pub mod Saying
+pub mod Times
+pub mod Seen
+pub mod Tests
+pub mod Judging
+pub mod Ending
+pub mod Running

@@ -1,75 +1,53 @@
 //! The command.
 
+ghost use Rattle.std.specs.Prelude.{◌≡◌, List, MatchOption};
+ghost use Rattle.osdp_tool_streams.specs.Watched.{inner_of, has_failed};
+ghost use Rattle.osdp_words.specs.Word.{texts};
+ghost use Rattle.osdp_tool_test.specs.Ending.{Ends};
+ghost use Rattle.osdp_tool_test.specs.Running.{AsksNone, IsRefused, RunsBy, asking_words};
+ghost use Rattle.osdp_tool_test.specs.Table.{AreDeviceRules};
+ghost use Rattle.osdp_tool_test.specs.declared.rules.Rule.{Rule as RuleOf};
+ghost use Rattle.osdp_tool_test.specs.Tests.{DeviceFinds, DeviceStops, Refuses, Takes, all_entries, model};
+
+use crate::entry::Entry;
+use crate::exchange::said_in;
+use crate::judging::{LineTest, judge_lines};
 use crate::report::Form;
+use crate::rules::{RULES, Rule};
 use crate::tested::Tested;
-use osdp_tool_streams::{LIMIT, Piece, ToolFault, Watched, finish, read_piece, write_out};
-use std::alloc::Global;
+use osdp_tool_streams::{LIMIT, ToolFault, Watched};
+use std::alloc::{AllocError, Global};
 use std::io::{Read, Write};
 
-/// All bytes of the input, where they are within the limit.
-pub fn read_all<R: Read>(alloc: Global, input: &mut Watched<R>) -> Result<Vec<u8>, ToolFault> {
-    let mut bytes = Vec::new(alloc);
-    let mut piece = [0u8; 4096];
-    let mut left = LIMIT;
-    'reads: loop {
-        let count = match read_piece(input, &mut piece, left) {
-            Ok(Piece::Bytes(count)) => count,
-            Ok(Piece::AtEnd) => return Ok(bytes),
-            Ok(Piece::PastLimit) => return Err(ToolFault::TooLong),
-            Err(_) => return Err(ToolFault::ReadFailed),
-        };
-        left -= count;
-        if bytes.extend_from_slice(&piece[..count]).is_err() {
-            return Err(ToolFault::NoMemory);
+impl LineTest for Tested {
+    ghost takes = { Takes };
+
+    ghost refuses = { Refuses };
+
+    ghost found = { λ test. all_entries (model test) };
+
+    fn take_words(&mut self, words: &[&str]) -> Result<bool, AllocError> {
+        if words.is_empty() {
+            return Ok(true);
+        }
+        match said_in(words) {
+            Some(said) => {
+                self.take_said(&said)?;
+                Ok(true)
+            }
+            None => Ok(false),
         }
     }
-}
 
-/// Whether a line is a comment.
-pub fn is_comment(line: &str) -> bool {
-    line.starts_with("#")
-}
-
-/// Takes each line of a text, and writes the report of it. Whether a rule was broken.
-fn report(alloc: Global, form: Form, lines: &str, text: &mut String) -> Result<bool, ToolFault> {
-    let mut tested = Tested::new(alloc, form);
-    let mut number: u64 = 0;
-    'lines: for line in lines.split('\n') {
-        number = number.saturating_add(1);
-        if is_comment(line) {
-            continue;
-        }
-        match tested.take_line(line, text) {
-            Ok(true) => {}
-            Ok(false) => return Err(ToolFault::BadStep(number)),
-            Err(_) => return Err(ToolFault::NoMemory),
-        }
+    fn into_entries(self) -> Result<Vec<Entry>, AllocError> {
+        self.end()
     }
-    match tested.end(text) {
-        Ok(()) => Ok(tested.has_broken()),
-        Err(_) => Err(ToolFault::NoMemory),
-    }
-}
-
-/// Reads the lines of a test, and prints the verdict on each rule. Whether a rule was broken.
-fn work<R: Read, W: Write>(
-    alloc: Global,
-    form: Form,
-    input: &mut Watched<R>,
-    output: &mut Watched<W>,
-) -> Result<bool, ToolFault> {
-    let bytes = read_all(alloc, input)?;
-    let Ok(lines) = str::from_utf8(bytes.as_slice()) else {
-        return Err(ToolFault::BadStep(1));
-    };
-    let mut text = String::new(alloc);
-    let answer = report(alloc, form, lines, &mut text);
-    write_out(output, text.as_bytes())?;
-    answer
 }
 
 /// The form that the words after the command's name ask for.
-pub fn form_of(words: &[&str]) -> Option<Form> {
+pub fn form_of(words: &[&str]) -> Option<Form>
+    ensures { MatchOption result (AsksNone (texts words.now)) (λ form. texts words.now ≡ asking_words form) }
+{
     match words {
         [] => Some(Form::Plain),
         ["--tap"] => Some(Form::Tap),
@@ -77,21 +55,37 @@ pub fn form_of(words: &[&str]) -> Option<Form> {
     }
 }
 
+/// Reads the lines of a test, and judges by these rules.
+fn test_by<R: Read, W: Write>(
+    alloc: Global,
+    rules: &'static [Rule],
+    words: &[&str],
+    input: &mut Watched<R>,
+    output: &mut Watched<W>,
+) -> Result<u8, ToolFault>
+    ensures { RunsBy (texts words.now)
+        (λ form. Ends (DeviceFinds form rules.now) DeviceStops LIMIT (R.remaining (inner_of input.old)) (R.remaining (inner_of input.new)) form
+        (W.contents (inner_of output.old)) (W.contents (inner_of output.new)) (has_failed output.new) result)
+        (IsRefused (R.remaining (inner_of input.old)) (R.remaining (inner_of input.new)) (W.contents (inner_of output.old)) (W.contents (inner_of output.new)) result) }
+{
+    match form_of(words) {
+        Some(form) => judge_lines(alloc, form, Tested::new(alloc, form, rules), input, output),
+        None => Err(ToolFault::BadWords),
+    }
+}
+
 /// Reads the lines of a test, which `osdp-port` writes, and prints the verdict on each rule, and then the counts. The status: 1 where a rule was
-/// broken.
+/// broken. Other words are `BadWords`: nothing is read then.
 pub fn test<R: Read, W: Write>(
     alloc: Global,
     words: &[&str],
     input: &mut Watched<R>,
     output: &mut Watched<W>,
-) -> Result<u8, ToolFault> {
-    let Some(form) = form_of(words) else {
-        return Err(ToolFault::BadWords);
-    };
-    let answer = match work(alloc, form, input, output) {
-        Ok(true) => Ok(1),
-        Ok(false) => Ok(0),
-        Err(fault) => Err(fault),
-    };
-    finish(input.failed(), output, answer)
+) -> Result<u8, ToolFault>
+    ensures { (rules : List RuleOf) × AreDeviceRules rules × RunsBy (texts words.now)
+        (λ form. Ends (DeviceFinds form rules) DeviceStops LIMIT (R.remaining (inner_of input.old)) (R.remaining (inner_of input.new)) form
+        (W.contents (inner_of output.old)) (W.contents (inner_of output.new)) (has_failed output.new) result)
+        (IsRefused (R.remaining (inner_of input.old)) (R.remaining (inner_of input.new)) (W.contents (inner_of output.old)) (W.contents (inner_of output.new)) result) }
+{
+    test_by(alloc, &RULES, words, input, output)
 }

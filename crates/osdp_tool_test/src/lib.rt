@@ -2,15 +2,22 @@
 #![tactic(auto)]
 
 mod command;
+mod entry;
 mod exchange;
+mod fault;
 mod found;
+mod judging;
 mod report;
 mod rules;
 mod runs;
 mod tested;
 mod times;
 
-pub use command::{form_of, is_comment, read_all, test};
-pub use report::{Counts, Form, push_counts, push_skipped, push_verdict};
+pub use command::{form_of, test};
+pub use entry::{Entry, Outcome};
+pub use exchange::{Bytes, heard_in, sent_in};
+pub use fault::mark;
+pub use judging::{LineTest, judge_lines};
+pub use report::{Counts, Form, report_text};
 pub use rules::{Ground, RULES, Rule};
 pub use runs::{Found, packets};

@@ -1,10 +1,12 @@
 //! The lines of the report.
 
-use crate::exchange::Exchange;
+ghost use Rattle.std.specs.Prelude.{◌≡◌, ◌++◌, IfOk, OnOk, length, map, string_bytes};
+ghost use Rattle.osdp_tool_test.specs.Entries.{told};
+ghost use Rattle.osdp_tool_test.specs.Report.{all_counts, counts_line, entries_text, entry_text, ground_name, has_outcome, kept_words, number_of, plain_line, report_text, tap_line, unkept_words};
+
+use crate::entry::{Entry, Outcome};
 use crate::rules::Ground;
-use osdp_rules::{Aspect, Verdict};
-use osdp_words::ByteList;
-use std::alloc::AllocError;
+use std::alloc::{AllocError, Global};
 
 /// How the report is printed.
 #[derive(Clone, Copy)]
@@ -15,7 +17,7 @@ pub enum Form {
     Tap,
 }
 
-/// How many rules have each verdict.
+/// How many rules came out in each way.
 #[derive(Clone, Copy)]
 pub struct Counts {
     /// The rule is kept.
@@ -30,172 +32,167 @@ pub struct Counts {
     pub skipped: usize,
 }
 
-/// One more.
-fn add(count: &mut usize) {
-    *count = count.saturating_add(1);
+/// Whether a rule came out so.
+fn has_outcome(wanted: Outcome, entry: &Entry) -> bool
+    ensures { result ≡ has_outcome wanted (told entry.now) }
+{
+    match (wanted, entry.outcome()) {
+        (Outcome::Unclear, Outcome::Unclear)
+        | (Outcome::Ok, Outcome::Ok)
+        | (Outcome::Either, Outcome::Either)
+        | (Outcome::Broken, Outcome::Broken)
+        | (Outcome::Skipped, Outcome::Skipped) => true,
+        _ => false,
+    }
+}
+
+/// How many rules came out so.
+pub(crate) fn number_of(wanted: Outcome, entries: &[Entry]) -> usize
+    ensures { result ≡ number_of wanted (map told entries.now) }
+{
+    let mut count = 0;
+    'entries: for entry in entries {
+        if has_outcome(wanted, entry) {
+            count += 1;
+        }
+    }
+    count
 }
 
 impl Counts {
-    /// None yet.
-    pub fn none() -> Counts {
+    /// How many of these rules came out in each way.
+    pub fn of(entries: &[Entry]) -> Counts
+        ensures { result ≡ all_counts (map told entries.now) }
+    {
         Counts {
-            ok: 0,
-            either: 0,
-            broken: 0,
-            unclear: 0,
-            skipped: 0,
+            ok: number_of(Outcome::Ok, entries),
+            either: number_of(Outcome::Either, entries),
+            broken: number_of(Outcome::Broken, entries),
+            unclear: number_of(Outcome::Unclear, entries),
+            skipped: number_of(Outcome::Skipped, entries),
         }
-    }
-
-    /// One more rule with this verdict.
-    pub fn add(&mut self, verdict: Verdict) {
-        match verdict {
-            Verdict::Unclear => add(&mut self.unclear),
-            Verdict::Ok => add(&mut self.ok),
-            Verdict::Either => add(&mut self.either),
-            Verdict::Broken => add(&mut self.broken),
-        }
-    }
-
-    /// One more that was left out.
-    pub fn add_skipped(&mut self) {
-        add(&mut self.skipped);
-    }
-}
-
-/// What is expected where a rule is broken.
-fn expected(aspect: Aspect) -> &'static str {
-    match aspect {
-        Aspect::Address => "an answer with the address of the packet",
-        Aspect::Check => "an answer with the check of the packet",
-        Aspect::Number => "an answer with the number of the packet",
-        Aspect::Plain => "an answer without a security block",
-        Aspect::Turn => "the answer to the command, and not NAK 4",
-        Aspect::Fit => "a reply that answers this command, BUSY or a NAK",
-        Aspect::Served => "the reply to the command, and no NAK",
-        Aspect::Code => "NAK 3",
-        Aspect::Length => "NAK 2",
-        Aspect::Read => "a reply with as many bytes as its code asks",
-        Aspect::Busy => "BUSY with number 0",
-        Aspect::Repeat => "the answer that this packet had before, byte for byte",
-        Aspect::Wrong => "NAK 4",
-        Aspect::Block => "NAK 5",
-        Aspect::Quiet => "silence",
-        Aspect::Deaf => "silence, or a NAK",
-        Aspect::Single => "one answer",
-        Aspect::Prompt => "an answer within 200 ms",
-        Aspect::Listed => "as many entries as CAP tells",
-        Aspect::Beyond => "a NAK",
     }
 }
 
 /// What asks for a rule.
-fn ground_name(ground: Ground) -> &'static str {
+fn ground_name(ground: Ground) -> &'static str
+    ensures { result.now ≡ ground_name ground }
+{
     match ground {
         Ground::Asked => "the standard asks it",
         Ground::Open => "the standard leaves it open in part",
     }
 }
 
-/// What stands before a line that goes on about a rule.
-pub(crate) fn mark(form: Form) -> &'static str {
-    match form {
-        Form::Plain => "  ",
-        Form::Tap => "# ",
-    }
-}
-
-/// The lines of an exchange that broke a rule of this aspect.
-pub(crate) fn push_fault(
-    text: &mut String,
-    form: Form,
-    exchange: &Exchange,
-    aspect: Aspect,
-) -> Result<(), AllocError> {
-    let mark = mark(form);
-    let sent = ByteList(exchange.sent.as_slice());
-    let heard = ByteList(exchange.heard.as_slice());
-    write!(text, "{mark}at {} ms sent {sent}\n", exchange.moment)?;
-    write!(text, "{mark}expected {}\n", expected(aspect))?;
-    write!(text, "{mark}read {heard} after {} ms\n", exchange.delay)
-}
-
-/// The word of a verdict.
-fn verdict_name(verdict: Verdict) -> &'static str {
-    match verdict {
-        Verdict::Unclear => "unclear",
-        Verdict::Ok => "ok",
-        Verdict::Either => "ok, in another way",
-        Verdict::Broken => "broken",
-    }
-}
-
-/// The line of a rule with its verdict. `says` is what the rule says.
-pub fn push_verdict(
-    text: &mut String,
-    form: Form,
-    number: usize,
-    (says, ground): (&str, Ground),
-    verdict: Verdict,
-) -> Result<(), AllocError> {
-    match (form, verdict) {
-        (Form::Plain, Verdict::Unclear) => {
-            write!(
+/// Writes the line of a rule for people.
+fn push_plain(text: &mut String, entry: &Entry) -> Result<(), AllocError>
+    ensures { OnOk result (string_bytes text.new ≡ string_bytes text.old ++ plain_line (told entry.now)) }
+{
+    let (number, says) = (entry.number, entry.says);
+    match entry.outcome() {
+        Outcome::Unclear => {
+            writeln!(
                 text,
-                "{number} unclear: {says}: nothing was heard that shows it\n"
+                "{number} unclear: {says}: nothing was heard that shows it"
             )
         }
-        (Form::Plain, Verdict::Broken) => {
-            write!(text, "{number} broken: {says} ({})\n", ground_name(ground))
+        Outcome::Ok => writeln!(text, "{number} ok: {says}"),
+        Outcome::Either => writeln!(text, "{number} ok, in another way: {says}"),
+        Outcome::Broken => {
+            let ground = ground_name(entry.ground);
+            writeln!(text, "{number} broken: {says} ({ground})")
         }
-        (Form::Plain, _) => write!(text, "{number} {}: {says}\n", verdict_name(verdict)),
-        (Form::Tap, Verdict::Broken) => write!(text, "not ok {number} - {says}\n"),
-        (Form::Tap, Verdict::Unclear) => {
-            write!(
+        Outcome::Skipped => {
+            let why = entry.skipped.as_str();
+            writeln!(text, "{number} skipped: {says}: {why}")
+        }
+    }
+}
+
+/// Writes the line of a rule for other programs.
+fn push_tap(text: &mut String, entry: &Entry) -> Result<(), AllocError>
+    ensures { OnOk result (string_bytes text.new ≡ string_bytes text.old ++ tap_line (told entry.now)) }
+{
+    let (number, says) = (entry.number, entry.says);
+    match entry.outcome() {
+        Outcome::Unclear => {
+            writeln!(
                 text,
-                "ok {number} - {says} # SKIP unclear: nothing was heard that shows it\n"
+                "ok {number} - {says} # SKIP unclear: nothing was heard that shows it"
             )
         }
-        (Form::Tap, _) => write!(text, "ok {number} - {says}\n"),
+        Outcome::Ok | Outcome::Either => writeln!(text, "ok {number} - {says}"),
+        Outcome::Broken => writeln!(text, "not ok {number} - {says}"),
+        Outcome::Skipped => {
+            let why = entry.skipped.as_str();
+            writeln!(text, "ok {number} - {says} # SKIP {why}")
+        }
     }
 }
 
-/// The line of a rule that was left out.
-pub fn push_skipped(
+/// Writes the lines of a rule: how it came out, and what broke it.
+fn push_entry(text: &mut String, form: Form, entry: &Entry) -> Result<(), AllocError>
+    ensures { OnOk result (string_bytes text.new ≡ string_bytes text.old ++ entry_text form (told entry.now)) }
+{
+    match form {
+        Form::Plain => push_plain(text, entry)?,
+        Form::Tap => push_tap(text, entry)?,
+    }
+    text.push_str(entry.fault.as_str())
+}
+
+/// Writes the lines of all rules.
+fn push_entries(text: &mut String, form: Form, entries: &[Entry]) -> Result<(), AllocError>
+    ensures { OnOk result (string_bytes text.new ≡ string_bytes text.old ++ entries_text form (map told entries.now)) }
+{
+    'entries: for entry in entries {
+        push_entry(text, form, entry)?;
+    }
+    Ok(())
+}
+
+/// Writes how many rules are kept.
+#[tactic(auto, unfolding(crate::specs::Report::kept_words))]
+fn push_kept(text: &mut String, total: usize, counts: &Counts) -> Result<(), AllocError>
+    ensures { OnOk result (string_bytes text.new ≡ string_bytes text.old ++ kept_words total counts.now) }
+{
+    let (ok, either) = (counts.ok, counts.either);
+    write!(text, "rules {total} ok {ok} otherwise {either}")
+}
+
+/// Writes how many aren't.
+#[tactic(auto, unfolding(crate::specs::Report::unkept_words))]
+fn push_unkept(text: &mut String, counts: &Counts) -> Result<(), AllocError>
+    ensures { OnOk result (string_bytes text.new ≡ string_bytes text.old ++ unkept_words counts.now) }
+{
+    let (broken, unclear, skipped) = (counts.broken, counts.unclear, counts.skipped);
+    writeln!(text, " broken {broken} unclear {unclear} skipped {skipped}")
+}
+
+/// Writes the last line, which counts the rules.
+fn push_counts(
     text: &mut String,
     form: Form,
-    number: usize,
-    says: &str,
-    why: &str,
-) -> Result<(), AllocError> {
-    match form {
-        Form::Plain => write!(text, "{number} skipped: {says}: {why}\n"),
-        Form::Tap => write!(text, "ok {number} - {says} # SKIP {why}\n"),
-    }
-}
-
-/// The last line, which counts the verdicts.
-pub fn push_counts(text: &mut String, form: Form, counts: &Counts) -> Result<(), AllocError> {
-    let total = counts
-        .ok
-        .saturating_add(counts.either)
-        .saturating_add(counts.broken)
-        .saturating_add(counts.unclear)
-        .saturating_add(counts.skipped);
+    total: usize,
+    counts: &Counts,
+) -> Result<(), AllocError>
+    ensures { OnOk result (string_bytes text.new ≡ string_bytes text.old ++ counts_line form total counts.now) }
+{
     match form {
         Form::Plain => {
-            write!(text, "rules {total} ok {} ", counts.ok)?;
-            write!(
-                text,
-                "otherwise {} broken {} ",
-                counts.either, counts.broken
-            )?;
-            write!(
-                text,
-                "unclear {} skipped {}\n",
-                counts.unclear, counts.skipped
-            )
+            push_kept(text, total, counts)?;
+            push_unkept(text, counts)
         }
-        Form::Tap => write!(text, "1..{total}\n"),
+        Form::Tap => writeln!(text, "1..{total}"),
     }
+}
+
+/// The report of these rules: the lines of each, and the counts.
+pub fn report_text(alloc: Global, form: Form, entries: &[Entry]) -> Result<String, AllocError>
+    ensures { IfOk result (λ text. string_bytes text ≡ report_text form (map told entries.now)) }
+{
+    let mut text = String::new(alloc);
+    push_entries(&mut text, form, entries)?;
+    push_counts(&mut text, form, entries.len(), &Counts::of(entries))?;
+    Ok(text)
 }

@@ -1,5 +1,8 @@
 //! The rules, each with what it looks at and what asks for it.
 
+ghost use Rattle.std.specs.Prelude.{◌≡◌};
+ghost use Rattle.osdp_tool_test.specs.Rules.{rule_in};
+
 use osdp_rules::Aspect;
 
 /// What asks for a rule.
@@ -451,10 +454,18 @@ pub const RULES: [Rule; 85] = [
     },
 ];
 
+/// How many there are.
+pub(crate) const COUNT: usize = RULES.len();
+
 /// The rule of a number.
-pub(crate) fn rule_of(number: usize) -> Option<Rule> {
-    if number == 0 || number > RULES.len() {
+pub(crate) fn rule_of(rules: &[Rule], number: usize) -> Option<Rule>
+    ensures { result ≡ rule_in rules.now number }
+{
+    if number == 0 {
         return None;
     }
-    Some(RULES[number - 1])
+    match rules.get(number - 1) {
+        Some(rule) => Some(*rule),
+        None => None,
+    }
 }

@@ -1,0 +1,4 @@
+pub mod Each
+pub mod Panel
+pub mod Rows
+pub mod Parts

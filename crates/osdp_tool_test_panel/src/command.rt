@@ -1,66 +1,81 @@
 //! The command.
 
+ghost use Rattle.std.specs.Prelude.{List};
+ghost use Rattle.osdp_tool_streams.specs.Watched.{inner_of, has_failed};
+ghost use Rattle.osdp_words.specs.Word.{texts};
+ghost use Rattle.osdp_tool_test.specs.Ending.{Ends};
+ghost use Rattle.osdp_tool_test.specs.Running.{IsRefused, RunsBy};
+ghost use Rattle.osdp_tool_test_panel.specs.Table.{ArePanelRules};
+ghost use Rattle.osdp_tool_test_panel.specs.declared.rules.PanelRule.{PanelRule as RuleOf};
+ghost use Rattle.osdp_tool_test_panel.specs.Tests.{PanelFinds, PanelStops, Refuses, Takes, entries_of, model};
+
+use crate::exchange::said_in;
+use crate::rules::{PANEL_RULES, PanelRule};
 use crate::tested::Tested;
-use osdp_tool_streams::{ToolFault, Watched, finish, write_out};
-use osdp_tool_test::{Form, form_of, is_comment, read_all};
-use std::alloc::Global;
+use osdp_tool_streams::{LIMIT, ToolFault, Watched};
+use osdp_tool_test::{Entry, LineTest, form_of, judge_lines};
+use std::alloc::{AllocError, Global};
 use std::io::{Read, Write};
 
-/// Takes each line of a text, and writes the report of all of them. Whether a rule was broken.
-fn report(alloc: Global, form: Form, lines: &str, text: &mut String) -> Result<bool, ToolFault> {
-    let Ok(mut tested) = Tested::new(alloc, form) else {
-        return Err(ToolFault::NoMemory);
-    };
-    let mut number: u64 = 0;
-    'lines: for line in lines.split('\n') {
-        number = number.saturating_add(1);
-        if is_comment(line) {
-            continue;
+impl LineTest for Tested {
+    ghost takes = { Takes };
+
+    ghost refuses = { Refuses };
+
+    ghost found = { λ test. entries_of (model test) };
+
+    fn take_words(&mut self, words: &[&str]) -> Result<bool, AllocError> {
+        if words.is_empty() {
+            return Ok(true);
         }
-        match tested.take_line(line) {
-            Ok(true) => {}
-            Ok(false) => return Err(ToolFault::BadStep(number)),
-            Err(_) => return Err(ToolFault::NoMemory),
+        match said_in(words) {
+            Some(said) => {
+                self.take_said(said)?;
+                Ok(true)
+            }
+            None => Ok(false),
         }
     }
-    match tested.end(text) {
-        Ok(has_broken) => Ok(has_broken),
+
+    fn into_entries(self) -> Result<Vec<Entry>, AllocError> {
+        Ok(self.end())
+    }
+}
+
+/// Reads the lines of a test of a panel, and judges by these rules.
+fn test_by<R: Read, W: Write>(
+    alloc: Global,
+    rules: &'static [PanelRule],
+    words: &[&str],
+    input: &mut Watched<R>,
+    output: &mut Watched<W>,
+) -> Result<u8, ToolFault>
+    ensures { RunsBy (texts words.now)
+        (λ form. Ends (PanelFinds form rules.now) PanelStops LIMIT (R.remaining (inner_of input.old)) (R.remaining (inner_of input.new)) form
+        (W.contents (inner_of output.old)) (W.contents (inner_of output.new)) (has_failed output.new) result)
+        (IsRefused (R.remaining (inner_of input.old)) (R.remaining (inner_of input.new)) (W.contents (inner_of output.old)) (W.contents (inner_of output.new)) result) }
+{
+    let Some(form) = form_of(words) else {
+        return Err(ToolFault::BadWords);
+    };
+    match Tested::new(alloc, form, rules) {
+        Ok(tested) => judge_lines(alloc, form, tested, input, output),
         Err(_) => Err(ToolFault::NoMemory),
     }
 }
 
-/// Reads the lines of a test, and prints the verdict on each rule. Whether a rule was broken.
-fn work<R: Read, W: Write>(
-    alloc: Global,
-    form: Form,
-    input: &mut Watched<R>,
-    output: &mut Watched<W>,
-) -> Result<bool, ToolFault> {
-    let bytes = read_all(alloc, input)?;
-    let Ok(lines) = str::from_utf8(bytes.as_slice()) else {
-        return Err(ToolFault::BadStep(1));
-    };
-    let mut text = String::new(alloc);
-    let answer = report(alloc, form, lines, &mut text);
-    write_out(output, text.as_bytes())?;
-    answer
-}
-
 /// Reads the lines of a test of a panel, which `osdp-port` writes, and prints the verdict on each rule, and then the counts. `words` stand after
-/// `test panel`. The status: 1 where a rule was broken.
+/// `test panel`. The status: 1 where a rule was broken. Other words are `BadWords`: nothing is read then.
 pub fn test_panel<R: Read, W: Write>(
     alloc: Global,
     words: &[&str],
     input: &mut Watched<R>,
     output: &mut Watched<W>,
-) -> Result<u8, ToolFault> {
-    let Some(form) = form_of(words) else {
-        return Err(ToolFault::BadWords);
-    };
-    let answer = match work(alloc, form, input, output) {
-        Ok(true) => Ok(1),
-        Ok(false) => Ok(0),
-        Err(fault) => Err(fault),
-    };
-    finish(input.failed(), output, answer)
+) -> Result<u8, ToolFault>
+    ensures { (rules : List RuleOf) × ArePanelRules rules × RunsBy (texts words.now)
+        (λ form. Ends (PanelFinds form rules) PanelStops LIMIT (R.remaining (inner_of input.old)) (R.remaining (inner_of input.new)) form
+        (W.contents (inner_of output.old)) (W.contents (inner_of output.new)) (has_failed output.new) result)
+        (IsRefused (R.remaining (inner_of input.old)) (R.remaining (inner_of input.new)) (W.contents (inner_of output.old)) (W.contents (inner_of output.new)) result) }
+{
+    test_by(alloc, &PANEL_RULES, words, input, output)
 }

@@ -1,17 +1,22 @@
 //! A line of what a panel sent and what was said to it.
 
-use crate::rules::rule_of;
-use arrayvec::ArrayVec;
-use osdp_words::{byte_list, number_u8, number_u64};
+ghost use Rattle.std.specs.Prelude.{◌≡◌, ◌<◌, ◌∷◌, [], ℕ, option_map};
+ghost use Rattle.osdp_tool_test.specs.Lines.{skips_words};
+ghost use Rattle.osdp_words.specs.Reading.{Reads, ReadsWords};
+ghost use Rattle.osdp_words.specs.Word.{number, plain, texts};
+ghost use Rattle.osdp_tool_test_panel.specs.Rules.{IsAsked, IsRule};
+ghost use Rattle.osdp_tool_test_panel.specs.Lines.{ExchangeFits, MoreFits, SaidFits, SkipsHere, exchange_words, more_words, said_of, said_words, skip_of};
 
-/// Bytes that a line holds.
-pub(crate) type Bytes = ArrayVec<u8, 4096>;
+use crate::rules::COUNT;
+use osdp_frame::Address;
+use osdp_tool_test::{Bytes, heard_in, sent_in};
+use osdp_words::number_u8;
 
 /// What a panel sent, and what was said to it.
 #[derive(Drop)]
 pub(crate) struct Exchange {
     /// The number of the rule for which it was said; 0 where for none.
-    pub number: usize,
+    pub number: u8,
     /// The moment at which the packet was read, in milliseconds.
     pub moment: u64,
     /// What was read.
@@ -22,64 +27,136 @@ pub(crate) struct Exchange {
     pub said: Bytes,
 }
 
+/// What the device said too, some time later.
+#[derive(Drop)]
+pub(crate) struct More {
+    /// How many milliseconds later.
+    pub delay: u64,
+    /// What it said.
+    pub said: Bytes,
+}
+
+/// A rule that was left out.
+#[derive(Clone, Copy)]
+pub(crate) struct Skip<'a> {
+    /// Its number.
+    pub number: u8,
+    /// Why: the word that allows it.
+    pub why: &'a str,
+}
+
 /// What a line says.
 #[derive(Drop)]
 pub(crate) enum Said<'a> {
     /// The address at which the device answers.
-    Device(u8),
+    Device(Address),
     /// What the panel sent, and what was said to it.
-    Exchange(Exchange),
+    Hears(Exchange),
     /// What the device said too, some time later.
-    More(Bytes),
-    /// A rule was left out, with the word that allows it.
-    Skips(usize, &'a str),
-    /// Nothing.
-    Nothing,
+    Says(More),
+    /// A rule was left out.
+    Skips(Skip<'a>),
+}
+
+/// The address of a device.
+fn parse_device(words: &[&str]) -> Option<Address>
+    ensures { ReadsWords (λ n. number n ∷ []) (λ n. n < 127) (texts words.now) result }
+{
+    let [word] = words else {
+        return None;
+    };
+    Address::device(number_u8(word)?)
 }
 
 /// The number of a rule.
-fn numbered(word: &str) -> Option<usize> {
-    let number = usize::from(number_u8(word)?);
-    let _rule = rule_of(number)?;
-    Some(number)
+fn parse_rule(word: &str) -> Option<u8>
+    ensures { Reads number IsRule word.now result }
+{
+    let number = number_u8(word)?;
+    (number > 0 && usize::from(number) <= COUNT).then_some(number)
 }
 
 /// The number of a rule, or 0.
-fn number_or_none(word: &str) -> Option<usize> {
-    match word {
-        "0" => Some(0),
-        _ => numbered(word),
-    }
+fn parse_asked(word: &str) -> Option<u8>
+    ensures { Reads number IsAsked word.now result }
+{
+    let number = number_u8(word)?;
+    (usize::from(number) <= COUNT).then_some(number)
 }
 
-/// What was read and said, from the five words after the first.
-fn exchange_in(words: &[&str]) -> Option<Exchange> {
-    let [number, moment, read, delay, said] = words else {
-        return None;
-    };
+/// What was read and said, by a rule's number.
+fn exchange_in(number: &str, moment: &str, read: &str, delay: &str, said: &str) -> Option<Exchange>
+    ensures { ReadsWords exchange_words ExchangeFits (number.now ∷ moment.now ∷ read.now ∷ delay.now ∷ said.now ∷ []) result }
+{
+    let number = parse_asked(number)?;
+    let (moment, read, delay, said) = sent_in(moment, read, delay, said)?;
     Some(Exchange {
-        number: number_or_none(number)?,
-        moment: number_u64(moment)?,
-        read: byte_list(read)?,
-        delay: number_u64(delay)?,
-        said: byte_list(said)?,
+        number,
+        moment,
+        read,
+        delay,
+        said,
     })
 }
 
-/// What the device said too.
-fn more<'a>(delay: &str, said: &str) -> Option<Said<'a>> {
-    let _delay = number_u64(delay)?;
-    Some(Said::More(byte_list(said)?))
+/// What was read and said.
+fn parse_exchange(words: &[&str]) -> Option<Exchange>
+    ensures { ReadsWords exchange_words ExchangeFits (texts words.now) result }
+{
+    let [number, moment, read, delay, said] = words else {
+        return None;
+    };
+    exchange_in(number, moment, read, delay, said)
 }
 
-/// What the words of a line say. None where they are none of these.
-pub(crate) fn said_in<'a>(words: &[&'a str]) -> Option<Said<'a>> {
-    match words {
-        [] => Some(Said::Nothing),
-        ["device", address] => Some(Said::Device(number_u8(address)?)),
-        ["skips", number, why] => Some(Said::Skips(numbered(number)?, why)),
-        ["says", delay, said] => more(delay, said),
-        ["hears", rest @ ..] => Some(Said::Exchange(exchange_in(rest)?)),
+/// What the device said too, and how much later.
+fn more_in(delay: &str, said: &str) -> Option<More>
+    ensures { ReadsWords more_words MoreFits (delay.now ∷ said.now ∷ []) result }
+{
+    let (delay, said) = heard_in(delay, said)?;
+    Some(More { delay, said })
+}
+
+/// What the device said too.
+fn parse_more(words: &[&str]) -> Option<More>
+    ensures { ReadsWords more_words MoreFits (texts words.now) result }
+{
+    let [delay, said] = words else {
+        return None;
+    };
+    more_in(delay, said)
+}
+
+/// A rule that was left out, and why.
+fn parse_skip<'a>(words: &[&'a str]) -> Option<Skip<'a>>
+    ensures { ReadsWords skips_words SkipsHere (texts words.now) (option_map skip_of result) }
+{
+    let [number, why] = words else {
+        return None;
+    };
+    let number = parse_rule(number)?;
+    Some(Skip { number, why: *why })
+}
+
+/// The line whose words begin with a name and go on with these.
+fn parse_row<'a>(name: &str, words: &[&'a str]) -> Option<Said<'a>>
+    ensures { ReadsWords said_words SaidFits (name.now ∷ texts words.now) (option_map said_of result) }
+{
+    match name {
+        "device" => Some(Said::Device(parse_device(words)?)),
+        "hears" => Some(Said::Hears(parse_exchange(words)?)),
+        "says" => Some(Said::Says(parse_more(words)?)),
+        "skips" => Some(Said::Skips(parse_skip(words)?)),
         _ => None,
     }
+}
+
+/// What a line says that has these words: one line at most has them.
+pub(crate) fn said_in<'a>(words: &[&'a str]) -> Option<Said<'a>>
+    ensures { ReadsWords said_words SaidFits (texts words.now) (option_map said_of result) }
+{
+    let [name, rest @ ..] = words else {
+        return None;
+    };
+    parse_row(name, rest)
 }

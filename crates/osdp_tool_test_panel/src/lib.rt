@@ -3,7 +3,7 @@
 
 mod command;
 mod exchange;
-mod report;
+mod fault;
 mod rules;
 mod tested;
 

@@ -1,89 +1,160 @@
 //! A panel under test, line by line.
 
-use crate::exchange::{Exchange, Said, said_in};
-use crate::report::push_fault;
-use crate::rules::{PANEL_RULES, PanelRule};
+ghost use Rattle.std.specs.Prelude.{◌≡◌, Some, map, IfOk, OnOk};
+ghost use Rattle.osdp_tool_test.specs.Entries.{told};
+ghost use Rattle.osdp_tool_test_panel.specs.Lines.{said_of, skip_of};
+ghost use Rattle.osdp_tool_test_panel.specs.Rules.{fresh_from};
+ghost use Rattle.osdp_tool_test_panel.specs.Tests.{after_bytes, after_exchange, after_hearing, after_packet_of, after_said, asked_for, judged_entry, model, new_test, skipped_entry, waited};
+
+use crate::exchange::{Exchange, Said, Skip};
+use crate::fault::push_fault;
+use crate::rules::{PanelRule, rule_of};
 use osdp_frame::{Address, FrameView};
 use osdp_panel_rules::{Known, judged};
-use osdp_rules::{Finding, Verdict};
-use osdp_tool_test::{Counts, Form, packets, push_counts, push_skipped, push_verdict};
-use osdp_words::all_words_in;
+use osdp_tool_test::{Entry, Form, packets};
 use std::alloc::{AllocError, Global};
 use std::mem::replace;
-
-/// What was found of a rule.
-#[derive(Drop)]
-struct Entry {
-    rule: PanelRule,
-    verdict: Verdict,
-    /// The lines of what broke it.
-    fault: String,
-    /// Why its scenario was left out; empty where it wasn't.
-    skipped: String,
-}
 
 /// What was read of a test so far.
 #[derive(Drop)]
 pub(crate) struct Tested {
-    alloc: Global,
     form: Form,
+    rules: &'static [PanelRule],
     address: Address,
     known: Known,
     /// The exchange before.
     before: Option<Exchange>,
+    /// What was found of each rule.
     entries: Vec<Entry>,
 }
 
-/// A packet of the panel, and how long after the one before it came.
-#[derive(Drop)]
-struct Came<'a> {
-    packet: FrameView<'a>,
-    wait: u64,
+/// The rule for which the device spoke before; 0 where for none.
+fn asked_for(before: &Option<Exchange>) -> u8
+    ensures { result ≡ asked_for before.now }
+{
+    match before {
+        Some(last) => last.number,
+        None => 0,
+    }
 }
 
-/// Judges a rule by a packet.
-fn judge(
+/// How many milliseconds after the one before a packet came.
+fn waited(before: &Option<Exchange>, moment: u64) -> u64
+    ensures { result ≡ waited before.now moment }
+{
+    match before {
+        Some(last) => moment.saturating_sub(last.moment),
+        None => 0,
+    }
+}
+
+/// Judges a rule by a packet, where it is judged by all packets, or where the device spoke for it before this one.
+fn judge_entry(
     entry: &mut Entry,
     form: Form,
-    found: Finding,
+    rules: &[PanelRule],
+    address: Address,
+    known: &Known,
     before: &Option<Exchange>,
+    packet: &FrameView<'_>,
     exchange: &Exchange,
-) -> Result<(), AllocError> {
-    let is_first = entry.verdict != Verdict::Broken;
-    entry.verdict = entry.verdict.after(found);
-    if found == Finding::Broken && is_first {
-        push_fault(&mut entry.fault, form, entry.rule.aspect, before, exchange)?;
+) -> Result<(), AllocError>
+    ensures { OnOk result (told entry.new ≡ judged_entry form rules.now address known.now before.now packet.now exchange.now (told entry.old)) }
+{
+    let Some(rule) = rule_of(rules, entry.number) else {
+        return Ok(());
+    };
+    if !rule.is_always && entry.number != usize::from(asked_for(before)) {
+        return Ok(());
+    }
+    let wait = waited(before, exchange.moment);
+    let found = judged(rule.aspect, address, known, packet, wait);
+    if entry.judge(found) {
+        push_fault(&mut entry.fault, form, rule.aspect, before, exchange)?;
     }
     Ok(())
 }
 
+/// Judges each rule by a packet.
+fn judge_all(
+    entries: &mut [Entry],
+    form: Form,
+    rules: &[PanelRule],
+    address: Address,
+    known: &Known,
+    before: &Option<Exchange>,
+    packet: &FrameView<'_>,
+    exchange: &Exchange,
+) -> Result<(), AllocError>
+    ensures { OnOk result (map told entries.new ≡ map (judged_entry form rules.now address known.now before.now packet.now exchange.now) (map told entries.old)) }
+{
+    'entries: for entry in entries.iter_mut() {
+        judge_entry(entry, form, rules, address, known, before, packet, exchange)?;
+    }
+    Ok(())
+}
+
+/// The scenario of a rule was left out.
+fn skip_entry(entry: &mut Entry, skip: Skip<'_>) -> Result<(), AllocError>
+    ensures { OnOk result (told entry.new ≡ skipped_entry (skip_of skip.entry) (told entry.old)) }
+{
+    if entry.number == usize::from(skip.number) {
+        entry.skipped.clear();
+        entry.skipped.push_str(skip.why)?;
+    }
+    Ok(())
+}
+
+/// Of these rules the scenario of one was left out.
+fn skip_in(entries: &mut [Entry], skip: Skip<'_>) -> Result<(), AllocError>
+    ensures { OnOk result (map told entries.new ≡ map (skipped_entry (skip_of skip.entry)) (map told entries.old)) }
+{
+    'entries: for entry in entries.iter_mut() {
+        skip_entry(entry, skip)?;
+    }
+    Ok(())
+}
+
+/// Each rule, of which nothing was found yet.
+fn first_entries(alloc: Global, rules: &[PanelRule]) -> Result<Vec<Entry>, AllocError>
+    ensures { IfOk result (λ entries. map told entries.items ≡ fresh_from 1 rules.now) }
+{
+    let mut entries = Vec::new(alloc);
+    let mut number: usize = 0;
+    'rules: for rule in rules {
+        number += 1;
+        entries.push(Entry::new(alloc, number, rule.says, rule.ground))?;
+    }
+    Ok(entries)
+}
+
 /// What is known after the device has said bytes.
-fn after_bytes(known: Known, said: &[u8]) -> Known {
+fn after_bytes(known: Known, said: &[u8]) -> Known
+    ensures { result ≡ after_bytes said.now known }
+{
     if said.is_empty() {
         return known;
     }
     let found = packets(said, false);
-    let Some(packet) = found.view() else {
-        return known.after_noise();
-    };
-    known.after_said(&packet)
+    match found.view() {
+        Some(packet) => known.after_said(&packet),
+        None => known.after_noise(),
+    }
 }
 
 impl Tested {
     /// Nothing was read yet.
-    pub(crate) fn new(alloc: Global, form: Form) -> Result<Tested, AllocError> {
-        let mut entries = Vec::new(alloc);
-        'rules: for rule in PANEL_RULES {
-            entries.push(Entry {
-                rule,
-                verdict: Verdict::Unclear,
-                fault: String::new(alloc),
-                skipped: String::new(alloc),
-            })?;
-        }
+    pub(crate) fn new(
+        alloc: Global,
+        form: Form,
+        rules: &'static [PanelRule],
+    ) -> Result<Tested, AllocError>
+        ensures { IfOk result (λ test. model test ≡ new_test form rules.now) }
+    {
+        let entries = first_entries(alloc, rules)?;
         Ok(Tested {
-            alloc,
             form,
+            rules,
             address: Address::new(0).unwrap(),
             known: Known::nothing(),
             before: None,
@@ -91,107 +162,63 @@ impl Tested {
         })
     }
 
-    /// A packet of the panel: each rule is judged by it that is judged by all packets, and the one for which the device spoke before it.
-    fn judge_all(&mut self, came: &Came<'_>, exchange: &Exchange) -> Result<(), AllocError> {
-        let (form, address) = (self.form, self.address);
-        let asked = match &self.before {
-            Some(before) => before.number,
-            None => 0,
-        };
-        let mut number: usize = 0;
-        'rules: for entry in self.entries.iter_mut() {
-            number = number.saturating_add(1);
-            if entry.rule.is_always || number == asked {
-                let found = judged(
-                    entry.rule.aspect,
-                    address,
-                    &self.known,
-                    &came.packet,
-                    came.wait,
-                );
-                judge(entry, form, found, &self.before, exchange)?;
-            }
-        }
+    /// The device has said bytes.
+    fn hear(&mut self, said: &[u8])
+        ensures { model self.new ≡ after_hearing said.now (model self.old) }
+    {
+        let known = replace(&mut self.known, Known::nothing());
+        self.known = after_bytes(known, said);
+    }
+
+    /// A packet of the panel: the rules are judged by it, and what is known follows it.
+    fn take_packet(&mut self, packet: &FrameView<'_>, exchange: &Exchange) -> Result<(), AllocError>
+        ensures { OnOk result (model self.new ≡ after_packet_of exchange.now (Some packet.now) (model self.old)) }
+    {
+        judge_all(
+            self.entries.as_mut_slice(),
+            self.form,
+            self.rules,
+            self.address,
+            &self.known,
+            &self.before,
+            packet,
+            exchange,
+        )?;
+        let known = replace(&mut self.known, Known::nothing());
+        self.known = known.after_packet(self.address, packet);
         Ok(())
     }
 
     /// An exchange: the packet is judged, and what is known follows it and what was said.
-    fn take(&mut self, exchange: Exchange) -> Result<(), AllocError> {
+    fn take(&mut self, exchange: Exchange) -> Result<(), AllocError>
+        ensures { OnOk result (model self.new ≡ after_exchange exchange (model self.old)) }
+    {
         let found = packets(exchange.read.as_slice(), false);
-        let since = match &self.before {
-            Some(before) => before.moment,
-            None => exchange.moment,
-        };
         if let Some(packet) = found.view() {
-            let came = Came {
-                packet,
-                wait: exchange.moment.saturating_sub(since),
-            };
-            self.judge_all(&came, &exchange)?;
-            let known = replace(&mut self.known, Known::nothing());
-            self.known = known.after_packet(self.address, &came.packet);
+            self.take_packet(&packet, &exchange)?;
         }
-        let known = replace(&mut self.known, Known::nothing());
-        self.known = after_bytes(known, exchange.said.as_slice());
+        self.hear(exchange.said.as_slice());
         self.before = Some(exchange);
         Ok(())
     }
 
-    /// The device answers at this address. Whether a device may be there.
-    fn set_device(&mut self, number: u8) -> bool {
-        match Address::device(number) {
-            Some(address) => {
-                self.address = address;
-                true
-            }
-            None => false,
-        }
-    }
-
-    /// The scenario of a rule was left out.
-    fn skip(&mut self, number: usize, why: &str) -> Result<(), AllocError> {
-        if number > 0 && number <= self.entries.len() {
-            let entry = &mut self.entries[number - 1];
-            entry.skipped.clear();
-            entry.skipped.push_str(why)?;
+    /// What a line says.
+    pub(crate) fn take_said(&mut self, said: Said<'_>) -> Result<(), AllocError>
+        ensures { OnOk result (model self.new ≡ after_said (Some (said_of said.entry)) (model self.old)) }
+    {
+        match said {
+            Said::Device(address) => self.address = address,
+            Said::Hears(exchange) => self.take(exchange)?,
+            Said::Says(more) => self.hear(more.said.as_slice()),
+            Said::Skips(skip) => skip_in(self.entries.as_mut_slice(), skip)?,
         }
         Ok(())
     }
 
-    /// What a line says. Whether it is a line of a test.
-    pub(crate) fn take_line(&mut self, line: &str) -> Result<bool, AllocError> {
-        let words = all_words_in(self.alloc, line)?;
-        match said_in(words.as_slice()) {
-            None => return Ok(false),
-            Some(Said::Nothing) => {}
-            Some(Said::Device(number)) => return Ok(self.set_device(number)),
-            Some(Said::Exchange(exchange)) => self.take(exchange)?,
-            Some(Said::More(said)) => {
-                let known = replace(&mut self.known, Known::nothing());
-                self.known = after_bytes(known, said.as_slice());
-            }
-            Some(Said::Skips(number, why)) => self.skip(number, why)?,
-        }
-        Ok(true)
-    }
-
-    /// The lines are over: the verdict on each rule, and the counts. Whether a rule is broken.
-    pub(crate) fn end(&self, text: &mut String) -> Result<bool, AllocError> {
-        let mut counts = Counts::none();
-        let mut number: usize = 0;
-        'rules: for entry in self.entries.iter() {
-            number = number.saturating_add(1);
-            let (says, ground) = (entry.rule.says, entry.rule.ground);
-            if entry.verdict == Verdict::Unclear && !entry.skipped.is_empty() {
-                counts.add_skipped();
-                push_skipped(text, self.form, number, says, entry.skipped.as_str())?;
-            } else {
-                counts.add(entry.verdict);
-                push_verdict(text, self.form, number, (says, ground), entry.verdict)?;
-                text.push_str(entry.fault.as_str())?;
-            }
-        }
-        push_counts(text, self.form, &counts)?;
-        Ok(counts.broken > 0)
+    /// What was found of each rule.
+    pub(crate) fn end(self) -> Vec<Entry>
+        ensures { map told result.items ≡ (model self).entries }
+    {
+        self.entries
     }
 }

@@ -1,0 +1,3 @@
+pub mod Speaking
+pub mod Stopping
+pub mod AnsweringLines

@@ -1,0 +1,7 @@
+use Rattle.std.proofs.Common.{refl}
+use Rattle.osdp_tool_test.specs.Table.{device_rules}
+use Rattle.osdp_tool_test.proofs.command.test.Goals as goal
+
+pub returns : goal.returns
+unfolding device_rules
+returns g c = (_, refl, c.test_by.ensures)

@@ -1,0 +1,9 @@
+use Rattle.std.proofs.Common.{◌≡◌, ◌++◌, drop, flat_map, string_bytes}
+use Rattle.osdp_tool_test.specs.Entries.{told}
+use Rattle.osdp_tool_test.specs.Report.{entry_text}
+use Rattle.osdp_tool_test.proofs.report.push_entries.Given as goal
+
+abbrev pub invariant-entries : goal.invariant-entries
+invariant-entries l =
+    string_bytes l.text ++ flat_map (λ e. entry_text l.form (told e)) (drop l.entry-index l.entries)
+    ≡ string_bytes l.initial.text ++ flat_map (λ e. entry_text l.form (told e)) l.entries

@@ -1,0 +1,7 @@
+use Rattle.std.proofs.Common.{refl}
+use Rattle.osdp_tool_test_panel.specs.Table.{panel_rules}
+use Rattle.osdp_tool_test_panel.proofs.command.test_panel.Goals as goal
+
+pub returns : goal.returns
+unfolding panel_rules
+returns g c = (_, refl, c.test_by.ensures)

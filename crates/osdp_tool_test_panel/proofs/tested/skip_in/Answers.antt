@@ -1,0 +1,18 @@
+use Rattle.std.proofs.Common.{◌<◌, ◌≤◌, arith, length, refl}
+use Rattle.osdp_tool_test_panel.specs.Lines.{skip_of}
+use Rattle.osdp_tool_test_panel.specs.Tests.{skipped_entry}
+use Rattle.osdp_tool_test_panel.proofs.Each.{changed_all, changed_more}
+use Rattle.osdp_tool_test_panel.proofs.tested.skip_in.Goals as goal
+
+pub entries-preserved : goal.entries-preserved
+entries-preserved c =
+    let at = c.entries in
+    let within : at.entry-index < length at.entries = omega (arith, c.entries-test.true, at.auto.entries) in
+    changed_more (skipped_entry (skip_of c.args.skip)) c.args.entries.now at.entry-index at.entries _ c.entry-item.result c.skip_entry.new.entry within refl
+    c.in_ok-skip_entry.ensures at.invariant
+
+pub returns : goal.returns
+returns c =
+    let at = c.entries in
+    let past : length at.entries ≤ at.entry-index = omega (arith, c.entries-test.false, at.auto.entries) in
+    changed_all _ _ at.entry-index at.entries past at.invariant

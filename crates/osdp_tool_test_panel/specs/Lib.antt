@@ -1,0 +1,5 @@
+pub mod Rules
+pub mod Table
+pub mod Lines
+pub mod Faults
+pub mod Tests
