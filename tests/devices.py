@@ -11,6 +11,7 @@ import sys
 from pathlib import Path
 
 sys.path.insert(0, str(Path(__file__).resolve().parent.parent / "port"))
+from osdp_port.accused import accused  # noqa: E402
 from osdp_port.scenarios import SCENARIOS  # noqa: E402
 from osdp_port.testing import Player, crc, packet  # noqa: E402
 
@@ -901,6 +902,17 @@ class HearsTheLastOfTwo(HearsNeitherOfTwo):
         return Device.hears(self, data[size:] if 7 <= size < len(data) and data[size:size + 1] == b"\x53" else data)
 
 
+# what the monitor says of some of the wrong ones, by its manual page, and at which rules
+ACCUSED = {
+    "TakesAnyNumber": ((25, 26, 27, 28, 29), "a number out of turn was taken (standard)"),
+    "AnswersTwoByThree": ((6,), "another number (standard)"),
+    "AnswersTwice": ((9,), "a second reply to one packet (standard)"),
+    "PdidIsShort": ((54,), "a reply that can't be read (standard)"),
+    "IdIsAnewEachTime": ((20,), "a repeat is answered by something else (standard)"),
+    "AnswersCrcBySum": ((3,), "another check (standard)"),
+}
+
+
 def lines_of(device, loses=0, may=None):
     lines = []
     Played(device, lines.append, loses, may).goes()
@@ -933,11 +945,30 @@ def holds(osdp):
             if found.get("broken") or done.returncode:
                 print(f"{name}: broken {sorted(found.get('broken', ()))} at {loses} losses of 100, status {done.returncode} {done.stderr.strip()}")
                 bad += 1
+    bad += monitored(osdp)
     found, _ = verdicts(osdp, lines_of(Device()))
     if set(SCENARIOS) - found.get("ok", set()) - {11}:
         print(f"Right: not ok {sorted(set(SCENARIOS) - found.get('ok', set()))}")
         bad += 1
     print(f"devices: {len(WRONG)} wrong, {len(TOLERANT)} right in other ways, {bad} with another verdict")
+    return bad
+
+
+def monitored(osdp):
+    """How many devices the monitor beside the scenarios doesn't accuse as it must, or accuses though they keep the rules."""
+    bad = 0
+    for name, (rules, why) in ACCUSED.items():
+        said = accused(osdp, 5, lines_of(WRONG[name][0]()))
+        if not all(f"the monitor accuses the device: {why}" in said.get(rule, ()) for rule in rules):
+            print(f"{name}: the monitor says {said}, and is to say {why!r} at {rules}")
+            bad += 1
+    for name, kind in [("Device", Device), *TOLERANT.items()]:
+        for loses in (0, 10):
+            said = accused(osdp, 5, lines_of(kind(), loses))
+            if said:
+                print(f"{name}: the monitor accuses it at {loses} losses of 100: {said}")
+                bad += 1
+    print(f"the monitor: {len(ACCUSED)} wrong devices accused, {1 + len(TOLERANT)} others not")
     return bad
 
 

@@ -1,5 +1,6 @@
 #!/usr/bin/env python3
-"""`osdp-port .. test device 5` against `osdp-port .. reader 5` over two pseudo terminals: no rule is broken, and what needs --may is left out.
+"""`osdp-port .. test device 5` against `osdp-port .. reader 5` over two pseudo terminals: no rule is broken, what needs --may is left out, and the monitor
+accuses it of nothing. It does accuse a wrong device, which is served by devices.py.
 Takes the path of the program."""
 import os
 import pty
@@ -25,25 +26,49 @@ def carry():
             os.write(ways[end], os.read(end, 4096))
 
 
+def tested(program, device, streams):
+    """The lines of the report on a device at the reader's end, and what came of the test."""
+    served = subprocess.Popen(device, stderr=subprocess.DEVNULL, **streams)
+    try:
+        time.sleep(1)
+        done = subprocess.run([*PORT, os.ttyname(ENDS[0][1]), "9600", "test", "device", "5", "--osdp", program], capture_output=True, text=True, timeout=120)
+    finally:
+        served.kill()
+        served.wait()
+    return done.stdout.splitlines(), done
+
+
+def ours(program):
+    """Whether our own reader breaks no rule, and the monitor accuses it of nothing."""
+    reader = [*PORT, os.ttyname(ENDS[1][1]), "9600", "reader", "5", "cap", "1:1:0", "cap", "2:1:8", "cap", "10:160:5", "cap", "13:0:0", "--osdp", program]
+    lines, done = tested(program, reader, {"stdin": subprocess.PIPE, "stdout": subprocess.DEVNULL})
+    counts = re.fullmatch(r"rules 85 ok (\d+) otherwise (\d+) broken 0 unclear (\d+) skipped 14", lines[-1] if lines else "")
+    if done.returncode != 0 or counts is None or int(counts[1]) < 50 or "40 ok: POLL is not refused" not in lines or "the monitor" in done.stdout:
+        print(f"devices_line: status {done.returncode}", *lines, done.stderr, sep="\n")
+        return False
+    print(f"over pseudo terminals: {lines[-1]}")
+    return True
+
+
+def taken(program):
+    """Whether the monitor accuses a device that takes any number, below the verdict on the rule."""
+    device = [sys.executable, "-B", str(TOP / "tests/devices.py"), "--serve", "TakesAnyNumber"]
+    lines, done = tested(program, device, {"stdin": ENDS[1][1], "stdout": ENDS[1][1]})
+    wanted = "  the monitor accuses the device: a number out of turn was taken (standard)"
+    broken = [place for place, line in enumerate(lines) if line.startswith("26 broken: ")]
+    if done.returncode != 1 or not broken or lines[broken[0] + 4:broken[0] + 5] != [wanted] or lines.count(wanted) < 5:
+        print(f"devices_line: status {done.returncode}", *lines, done.stderr, sep="\n")
+        return False
+    print(f"a device that takes any number: the monitor accuses it {lines.count(wanted)} times")
+    return True
+
+
 def main():
     program = str(Path(sys.argv[1]).resolve())
     for end in (end for pair in ENDS for end in pair):
         tty.setraw(end)
     threading.Thread(target=carry, daemon=True).start()
-    panel, reader = (os.ttyname(pair[1]) for pair in ENDS)
-    device = subprocess.Popen([*PORT, reader, "9600", "reader", "5", "cap", "1:1:0", "cap", "2:1:8", "cap", "10:160:5", "cap", "13:0:0", "--osdp", program], stdin=subprocess.PIPE, stdout=subprocess.DEVNULL, stderr=subprocess.DEVNULL)
-    try:
-        time.sleep(1)
-        done = subprocess.run([*PORT, panel, "9600", "test", "device", "5", "--osdp", program], capture_output=True, text=True, timeout=120)
-    finally:
-        device.kill()
-    lines = done.stdout.splitlines()
-    counts = re.fullmatch(r"rules 85 ok (\d+) otherwise (\d+) broken 0 unclear (\d+) skipped 14", lines[-1] if lines else "")
-    if done.returncode != 0 or counts is None or int(counts[1]) < 50 or "40 ok: POLL is not refused" not in lines:
-        print(f"devices_line: status {done.returncode}", *lines, done.stderr, sep="\n")
-        return 1
-    print(f"over pseudo terminals: {lines[-1]}")
-    return 0
+    return 0 if ours(program) & taken(program) else 1
 
 
 if __name__ == "__main__":

@@ -1,6 +1,7 @@
 """`test device`: plays the scenarios against a device, and hands what was sent and heard to `osdp test`, which judges it."""
 import time
 
+from .accused import Beside, accused
 from .console import wait_for
 from .faults import BAD_WORDS, Stop
 from .program import Stream
@@ -218,25 +219,32 @@ def allowed(words):
 
 
 class Judge(Stream):
-    """`osdp test`, whose report is handed on as it comes."""
+    """`osdp test`, whose report is handed on as it comes, with what the monitor says of the scenarios."""
+
+    def __init__(self, osdp, is_tap, console):
+        self.beside = Beside(is_tap)
+        super().__init__(osdp, ["test", *(["--tap"] if is_tap else [])], console)
 
     def prints(self, line):
-        self.console.raw(line)
+        for each in self.beside.lines(line):
+            self.console.raw(each)
 
 
 def test(words, port, console, osdp):
     """Tests the device at an address. The status: that of `osdp test`."""
-    judge = Judge(osdp, ["test", *(["--tap"] if words.get("--tap") else [])], console)
+    judge, lines, address = Judge(osdp, bool(words.get("--tap")), console), [], int(words.rest[1])
     kept = open(words.get("--trace"), "w", encoding="ascii") if words.get("--trace") else None
 
     def write(line):
         judge.write(line.encode() + b"\n")
+        lines.append(line)
         if kept:
             kept.write(line + "\n")
     try:
-        Player(port, console, int(words.rest[1]), allowed(words.get("--may", "").split(",") if words.get("--may") else []), write,
+        Player(port, console, address, allowed(words.get("--may", "").split(",") if words.get("--may") else []), write,
                "sum" if words.get("--sum") else "crc").goes()
     finally:
         if kept:
             kept.close()
+    judge.beside.said = accused([osdp], address, lines)
     return judge.ends()
