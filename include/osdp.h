@@ -61,8 +61,9 @@
  * moments, however bytes are cut. Four things are asked, and these are the program's part of them:
  *
  * - In order. Bytes are handed in as they come, each once, to the machine whose line they came on.
- * - Quiet opening. What was said before a session's opening doesn't come after it: the quiet wait is longer than a line, or a
- *   radio on it, holds a packet back.
+ * - Quiet opening. What was said before a session's opening doesn't come after it: the quiet wait is more than twice as long as
+ *   a packet takes at most until it is read. A packet that a line, a radio or a slow program holds back may be answered within
+ *   the wait, and the answer is held back once more.
  * - Addresses. No two devices are given one address. After an order that sets one, and until the session after it has opened, the
  *   device may be at either: write both down before the order goes out, give neither to another device, and retarget to these two
  *   alone. A panel that starts again takes each device where it was, or where such an order may have taken it. A device that
@@ -696,7 +697,7 @@ struct osdp_panel_config {
     uint32_t busy_wait;
     /* How often a reader may answer BUSY in one exchange, 0 to 255. */
     uint32_t busy_limit;
-    /* How long a device is left quiet before a session opens. */
+    /* How long a device is left quiet before a session opens: more than twice as long as a packet takes at most until it is read. */
     uint32_t quiet_wait;
     /* After how long a silence a run of bytes is over. */
     uint32_t gap;

@@ -3,7 +3,7 @@ use Rattle.std.proofs.Common.{◌≢◌, ◌==◌, ℕ, not, Decides}
 use Rattle.std.proofs.lemmas.Bool.Decides.{Decides-eqb, Decides-not}
 use Rattle.osdp_bus_laws.specs.Calls as bus
 use Rattle.osdp_calls.specs.Calls.{Call, NewDevice, NewPanel, Next, OfPanel, Pending, SetBusy, SetHandler, Silence, SubmitEvent, Take, TickDevice, WithdrawEvent}
-use Rattle.osdp_calls.specs.Ends.{KeepsPanel}
+use Rattle.osdp_calls.specs.Ends.{CanStand, KeepsPanel}
 use Rattle.osdp_calls.specs.OneDevice.{KeepsHandler}
 use Rattle.osdp_calls.specs.Restarts.{KeepsDevice}
 use Rattle.osdp_calls.specs.Undisturbed.{IsOrdinaryOf, LeavesCommandsOf}
@@ -81,5 +81,26 @@ module _ {H : Type 0} where
   ordinary_decides k (Pending i) = always tt
   ordinary_decides k (NewDevice i address handler room gap) = another i k
 
+  can_stand : (call : Call H) → KeepsPanel call → CanStand call
+  can_stand (NewPanel config addresses) keeps = absurd keeps
+  can_stand (OfPanel call) keeps = tt
+  can_stand (SubmitEvent i event) keeps = tt
+  can_stand (SetBusy i busy) keeps = tt
+  can_stand (SetHandler i handler) keeps = tt
+  can_stand (WithdrawEvent i) keeps = tt
+  can_stand (Take i bytes now) keeps = tt
+  can_stand (TickDevice i now) keeps = tt
+  can_stand (Silence i now) keeps = tt
+  can_stand (Next i) keeps = tt
+  can_stand (Pending i) keeps = tt
+  can_stand (NewDevice i address handler room gap) keeps = tt
+
   pub leaving_exact : LeavingIsExact H
-  leaving_exact = record { panel = panel_stays; device = device_stays; handler = handler_stays; ordinary = ordinary_decides }
+  leaving_exact = record {
+    panel = panel_stays;
+    device = device_stays;
+    handler = handler_stays;
+    ordinary = ordinary_decides;
+    stands = can_stand;
+    anew = λ config addresses. ((λ h. h), (λ h. h));
+  }

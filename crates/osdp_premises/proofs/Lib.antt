@@ -1,5 +1,6 @@
 pub mod Deciding
 pub mod Addresses
 pub mod Exactly
+pub mod Ruling
 pub mod Leaving
 pub mod LongDay

@@ -1,6 +1,7 @@
 -- The long day keeps the premises: by the tests of each call, and since its values are in their ranges.
 use Rattle.std.proofs.Common.{◌≡◌, ◌≢◌, ◌<◌, ℕ, zero, suc, true, IfSome, List, [], ◌∷◌, length, Option, Some, None, is_some, refl, sym, subst, ap, ◌∙◌, arith}
-use Rattle.std.specs.Prelude.{slice_index, take}
+use Rattle.std.proofs.lemmas.Bool.{and_parts}
+use Rattle.std.specs.Prelude.{drop, slice_index, take}
 use Rattle.osdp_frame.specs.Held.{decided}
 use Rattle.osdp_frame.specs.Items.{items, left_over}
 use Rattle.osdp_frame.specs.declared.check_kind.CheckKind.TheVariants.{Sum}
@@ -22,16 +23,20 @@ use Rattle.osdp_reader.specs.Table.{hears}
 use Rattle.osdp_reader.specs.declared.handler.Answer.{Answer}
 use Rattle.osdp_shared_line.specs.Line.{site_at}
 use Rattle.osdp_calls.specs.Calls.{Call, NewDevice, NewPanel, Next, OfPanel, Pending, SetBusy, SetHandler, Silence, Step, SubmitEvent, Take, TickDevice, WithdrawEvent, after_call, after_calls, read_up_to}
+use Rattle.osdp_calls.specs.Ends.{CanStand}
 use Rattle.osdp_calls.specs.Lines.{InUse, Station}
 use Rattle.osdp_calls.specs.Premises.{AllKeep, InRange, IsSetUp, Keeps, NextInRange, PanelInRange}
+use Rattle.osdp_premises.specs.Deciding.{each_of}
 use Rattle.osdp_premises.specs.Exactly.{AllInRange}
+use Rattle.osdp_premises.specs.Leaving.{keeps_panel}
 use Rattle.osdp_premises.specs.LongDay.{LongDayKeeps, RestartHappens, RestartsHappen, calls, device_at, first_line, four, long_day, station_at, twice}
 use Rattle.osdp_premises.proofs.Exactly.{fair_keep}
+use Rattle.osdp_premises.proofs.Leaving.{leaving_exact}
 
 twice_fits : IsBusConfig twice
 twice_fits = bus_in_range Sum four 2 ((omega arith, omega arith), omega arith, omega arith) (omega arith, omega arith)
 
-room_fits : AreRoom four.messages four.bytes
+pub room_fits : AreRoom four.messages four.bytes
 room_fits = ((omega arith, omega arith), omega arith, omega arith)
 
 vendor_bytes : (i : ℕ) → slice_index (1 ∷ 2 ∷ 3 ∷ []) i < 256
@@ -40,21 +45,27 @@ vendor_bytes (suc zero) = omega arith
 vendor_bytes (suc (suc zero)) = omega arith
 vendor_bytes (suc (suc (suc i))) = omega arith
 
-id_fits : PdIdFits (device_at 3).id
+pub id_fits : PdIdFits (device_at 3).id
 id_fits = record { vendor_length = refl; vendor = vendor_bytes; model = omega arith; version = omega arith; serial = omega arith; firmware_major = omega arith; firmware_minor = omega arith; firmware_build = omega arith }
 
 key_bytes : (i : ℕ) → slice_index (49 ∷ []) i < 256
 key_bytes zero = omega arith
 key_bytes (suc i) = omega arith
 
-no_bytes : (i : ℕ) → slice_index [] i < 256
+pub no_bytes : (i : ℕ) → slice_index [] i < 256
 no_bytes i = omega arith
 
 key_fits : KeypadFits (record { reader = 0; digits = record { items = 49 ∷ [] } })
 key_fits = record { reader = omega arith; room = omega arith; digits = key_bytes }
 
-is_the_one : {A : Type 0} (x y : A) → Some x ≡ Some y → x ≡ y
+pub is_the_one : {A : Type 0} (x y : A) → Some x ≡ Some y → x ≡ y
 is_the_one x y e = cc
+
+-- what holds of the first of a list, and of the rest
+each_split : {A : Type 0} (P : A → Type 0) (n : ℕ) (xs : List A) → Each P (take n xs) → Each P (drop n xs) → Each P xs
+each_split P zero xs first rest = rest
+each_split P (suc n) [] first rest = tt
+each_split P (suc n) (x ∷ xs) first rest = (first.0, each_split P n xs first.1 rest)
 
 -- the addresses of the two
 abbrev at_place : ℕ → ℕ
@@ -89,6 +100,13 @@ module _ {H : Type 0} where
   stands handler (suc zero) t is = (omega arith, sym (ap (λ (x : Station H). x.reader.config.address) (is_the_one (station_at 4 handler) t is)))
   stands handler (suc (suc k)) t is = absurd cc
 
+  -- calls among which no panel is made anew
+  still : (steps : List (Step H)) → each_of (λ (step : Step H). keeps_panel step.call) steps ≡ true → Each (λ (step : Step H). CanStand step.call) steps
+  still [] is = tt
+  still (step ∷ steps) is =
+      let both = and_parts (keeps_panel step.call) (each_of (λ (s : Step H). keeps_panel s.call) steps) is in
+      (leaving_exact.stands step.call ((leaving_exact.panel step.call).0 both.0), still steps both.1)
+
   is_set_up : (handler : H) → IsSetUp (first_line handler)
   is_set_up handler = record {
     config = twice;
@@ -107,11 +125,11 @@ module _ {H : Type 0} where
 
 module _ {H : Type 0} (answer_of : H → Command → Answer) (after : H → Command → H) where
   -- the ranges of a call, said by what is there
-  abbrev NextEach : Option (Station H) → Type 0
+  abbrev pub NextEach : Option (Station H) → Type 0
   NextEach None = Unit {0}
   NextEach (Some t) = Each (λ p. IfSome (hears answer_of after t.reader p).said ReplyFits) (read_up_to t.reader (items_of t.line.held))
 
-  abbrev RangeOf : Call H → InUse H → Type 0
+  abbrev pub RangeOf : Call H → InUse H → Type 0
   RangeOf (OfPanel call) l = PanelInRange answer_of after call
   RangeOf (Next k) l = NextEach (site_at k l.stations)
   RangeOf (NewDevice k address handler room gap) l = (address < 127) × AreRoom room.messages room.bytes
@@ -144,11 +162,11 @@ module _ {H : Type 0} (answer_of : H → Command → Answer) (after : H → Comm
   range_of (Silence k now) l fits = tt
   range_of (Pending k) l fits = tt
 
-  abbrev AllRanges : List (Step H) → InUse H → Type 0
+  abbrev pub AllRanges : List (Step H) → InUse H → Type 0
   AllRanges [] l = Unit {0}
   AllRanges (step ∷ steps) l = RangeOf step.call l × AllRanges steps (after_call answer_of after step.call step.places l)
 
-  all_range : (steps : List (Step H)) (l : InUse H) → AllRanges steps l → AllInRange answer_of after steps l
+  pub all_range : (steps : List (Step H)) (l : InUse H) → AllRanges steps l → AllInRange answer_of after steps l
   all_range [] l fits = tt
   all_range (step ∷ steps) l fits =
       (range_of step.call l fits.0, all_range steps (after_call answer_of after step.call step.places l) fits.1)
@@ -164,6 +182,10 @@ module _ {H : Type 0} (answer_of : H → Command → Answer) (after : H → Comm
     up = is_set_up handler;
     keep = fair_keep answer_of after (long_day handler other) (first_line handler) refl
         (all_range (long_day handler other) (first_line handler) (ranges handler other));
+    stand = each_all (λ (step : Step H). CanStand step.call) (long_day handler other)
+        (each_split (λ (step : Step H). CanStand step.call) 122 (long_day handler other) (still (take 122 (long_day handler other)) refl)
+        ((twice_fits, (refl, (refl, tt))), still (drop 123 (long_day handler other)) refl));
+    none_refused = (refl, (refl, tt));
     openings = refl;
     addresses = refl;
     taken = refl;
@@ -188,7 +210,7 @@ module _ {H : Type 0} (answer_of : H → Command → Answer) (after : H → Comm
   keep_before (suc count) (step ∷ steps) l keep =
       (keep.0, keep_before count steps (after_call answer_of after step.call step.places l) keep.1)
 
-  keep_at : (count : ℕ) (steps : List (Step H)) (l : InUse H) (step : Step H) → site_at count steps ≡ Some step → AllKeep answer_of after steps l
+  pub keep_at : (count : ℕ) (steps : List (Step H)) (l : InUse H) (step : Step H) → site_at count steps ≡ Some step → AllKeep answer_of after steps l
       → Keeps answer_of after step (after_calls answer_of after (take count steps) l)
   keep_at count [] l step none keep = absurd (let e = none in cc)
   keep_at zero (first ∷ steps) l step is keep = subst (λ x. Keeps answer_of after x l) (is_the_one first step is) keep.0

@@ -1,11 +1,15 @@
 -- Which calls leave an end of an entry as it is, and take nothing of it back, as tests.
-use Rattle.std.specs.Prelude.{ℕ, ◌==◌, not, Bool, true, false}
+use Rattle.std.specs.Prelude.{◌↔◌, ℕ, ◌==◌, not, Bool, true, false, List}
 use Rattle.std.specs.Bool.{Decides}
+use Rattle.osdp_bus.specs.Buses.{new_bus}
+use Rattle.osdp_bus.specs.Settings.{IsBusConfig}
+use Rattle.osdp_bus.specs.declared.config.BusConfig.{BusConfig}
 use Rattle.osdp_bus_laws.specs.Calls as bus
 use Rattle.osdp_calls.specs.Calls.{Call, NewDevice, NewPanel, Next, OfPanel, Pending, SetBusy, SetHandler, Silence, SubmitEvent, Take, TickDevice, WithdrawEvent}
-use Rattle.osdp_calls.specs.Ends.{KeepsPanel}
+use Rattle.osdp_calls.specs.Ends.{CanStand, KeepsPanel}
 use Rattle.osdp_calls.specs.OneDevice.{KeepsHandler}
 use Rattle.osdp_calls.specs.Restarts.{KeepsDevice}
+use Rattle.osdp_calls.specs.Sayings.{NoneRefused}
 use Rattle.osdp_calls.specs.Undisturbed.{IsOrdinaryOf}
 
 -- a call of the panel takes back no command of this entry
@@ -83,3 +87,8 @@ pub record LeavingIsExact (H : Type 0) : Type 0 where
   pub device : (k : ℕ) (call : Call H) → Decides (keeps_device k call) (KeepsDevice k call)
   pub handler : (k : ℕ) (call : Call H) → Decides (keeps_handler k call) (KeepsHandler k call)
   pub ordinary : (k : ℕ) (call : Call H) → Decides (is_ordinary k call) (IsOrdinaryOf k call)
+  -- what is asked of a panel that is made anew for one exchange to be outstanding at most: its settings are in their ranges, and its entries can be
+  -- added as they stand. Nothing is asked of other calls
+  pub stands : (call : Call H) → KeepsPanel call → CanStand call
+  pub anew : (config : BusConfig) (addresses : List ℕ)
+      → (CanStand {H = H} (NewPanel config addresses)) ↔ (IsBusConfig config × NoneRefused addresses (new_bus config))

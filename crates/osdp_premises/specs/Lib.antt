@@ -1,4 +1,5 @@
 pub mod Deciding
 pub mod Exactly
+pub mod Ruling
 pub mod Leaving
 pub mod LongDay

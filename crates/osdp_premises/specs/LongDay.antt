@@ -1,7 +1,7 @@
 -- A list of calls in which all of it happens that a line knows: two devices, bytes in pieces, damage, lost packets and repeated ones, a packet that is
 -- read twice, a busy device, an event that is told again, orders and events that are taken back, another handler, a COMSET that is settled and one
 -- that is in doubt, devices that restart where they are and elsewhere, and a panel that restarts.
-use Rattle.std.specs.Prelude.{◌≡◌, ℕ, true, false, List, [], ◌∷◌, ◌++◌, map, length, take, drop, Option, Some, None}
+use Rattle.std.specs.Prelude.{◌≡◌, ℕ, true, false, All, List, [], ◌∷◌, ◌++◌, map, length, take, drop, Option, Some, None}
 use Rattle.osdp_frame.specs.Packed.{packed}
 use Rattle.osdp_frame.specs.Receiving.{new_line}
 use Rattle.osdp_frame.specs.Spelling.{spelling}
@@ -11,6 +11,7 @@ use Rattle.osdp_msg.specs.declared.command.Command.TheVariants.{Cap, Comset}
 use Rattle.osdp_msg.specs.declared.event.Event.{Event}
 use Rattle.osdp_msg.specs.declared.event.Event.TheVariants.{Keypad}
 use Rattle.osdp_msg.specs.declared.limits.Room.{Room}
+use Rattle.osdp_bus.specs.Buses.{new_bus}
 use Rattle.osdp_bus.specs.Settings.{default_config}
 use Rattle.osdp_bus.specs.declared.config.BusConfig.{BusConfig}
 use Rattle.osdp_bus.specs.declared.device.Device.{Device}
@@ -21,9 +22,11 @@ use Rattle.osdp_reader.specs.declared.config.ReaderConfig.{ReaderConfig}
 use Rattle.osdp_reader.specs.declared.handler.Answer.{Answer}
 use Rattle.osdp_shared_line.specs.Line.{site_at}
 use Rattle.osdp_calls.specs.Calls.{Call, NewDevice, NewPanel, Next, OfPanel, Pending, SetBusy, SetHandler, Silence, Step, SubmitEvent, Take, TickDevice, WithdrawEvent, after_calls}
+use Rattle.osdp_calls.specs.Ends.{CanStand}
 use Rattle.osdp_calls.specs.Lines.{InUse, Opening, Station, bus_with}
 use Rattle.osdp_calls.specs.Premises.{AllKeep, IsSetUp}
 use Rattle.osdp_calls.specs.Restarts.{IsBeforeAndAfter}
+use Rattle.osdp_calls.specs.Sayings.{NoneRefused}
 
 -- room for four messages, however long each is
 abbrev pub four : Room
@@ -301,6 +304,8 @@ module _ {H : Type 0} where
     pub record LongDayKeeps (handler other : H) : Type 0 where
       pub up : IsSetUp (first_line handler)
       pub keep : AllKeep answer_of after (long_day handler other) (first_line handler)
+      pub stand : All (λ (step : Step H). CanStand step.call) (long_day handler other)
+      pub none_refused : NoneRefused (3 ∷ 4 ∷ []) (new_bus twice)
       pub openings : map (λ (o : Opening). o.entry) (line_at_night handler other).openings ≡ 0 ∷ 0 ∷ 0 ∷ 0 ∷ 0 ∷ 1 ∷ 0 ∷ []
       pub addresses : map (λ (o : Opening). o.address) (line_at_night handler other).openings ≡ 9 ∷ 9 ∷ 7 ∷ 5 ∷ 3 ∷ 4 ∷ 3 ∷ []
       pub taken : map (λ (a : Account). length a.taken) (first_sessions handler other) ≡ 0 ∷ 1 ∷ 0 ∷ 1 ∷ 1 ∷ 1 ∷ 0 ∷ []

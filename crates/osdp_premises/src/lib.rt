@@ -5,6 +5,7 @@
 ghost use Rattle.osdp_premises.specs.Exactly.{FairCallsKeep, PremisesAreExact};
 ghost use Rattle.osdp_premises.specs.Leaving.{LeavingIsExact};
 ghost use Rattle.osdp_premises.specs.LongDay.{LongDayKeeps, RestartsHappen};
+ghost use Rattle.osdp_premises.specs.Ruling.{RuleIsExact, RuledCallsKeep};
 
 use osdp_reader::Handler;
 
@@ -15,8 +16,16 @@ pub fn premises_are_exact<H: Handler>()
     ensures suffice { FairCallsKeep H.answer_of H.after }
 {}
 
+/// The rule for programs that may stand for the premise on addresses (law `calls_rule_suffices` of `osdp_calls`) is computed by a test too, of a call, the line
+/// before it and what the program has noted: it holds exactly where the rule does.
+pub fn rule_is_exact<H: Handler>()
+    ensures exact { RuleIsExact H }
+    ensures suffice { RuledCallsKeep H.answer_of H.after }
+{}
+
 /// What laws of one life of an end ask of each call, of a device that is never made anew or that keeps its handler, and of an entry of which nothing is
-/// taken back, holds exactly where a test of the call does. Most calls pass all of these.
+/// taken back, holds exactly where a test of the call does. Most calls pass all of these. What the law of one exchange asks holds of each call, but of a panel
+/// that is made anew with settings out of their ranges, or with entries that can't be added.
 pub fn leaving_is_exact<H: Handler>()
     ensures { LeavingIsExact H }
 {}

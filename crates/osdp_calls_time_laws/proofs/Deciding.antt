@@ -1,0 +1,71 @@
+-- The test of a call holds exactly where it is in time.
+use Rattle.std.proofs.Common.{◌≡◌, ◌≤◌, ◌<◌, ◌+◌, ◌*◌, ◌&&◌, ◌==◌, ℕ, suc, Bool, true, Decides, List, [], ◌∷◌, Option, Some, None, IfSome}
+use Rattle.std.proofs.lemmas.Bool.{and_parts}
+use Rattle.std.proofs.lemmas.Bool.Decides.{Decides-and, Decides-eqb, Decides-like}
+use Rattle.std.specs.Prelude.{◌^◌, nat_le, nat_lt}
+use Rattle.osdp_msg.specs.declared.command.Command.{Command}
+use Rattle.osdp_bus.specs.declared.config.BusConfig.{BusConfig}
+use Rattle.osdp_reader.specs.declared.handler.Answer.{Answer}
+use Rattle.osdp_shared_line.specs.Line.{site_at}
+use Rattle.osdp_calls.specs.Calls.{Call, NewDevice, NewPanel, Next, OfPanel, Pending, SetBusy, SetHandler, Silence, SubmitEvent, Take, TickDevice, WithdrawEvent, after_call}
+use Rattle.osdp_calls.specs.Lines.{InUse}
+use Rattle.osdp_premises.specs.Deciding.{if_there}
+use Rattle.osdp_premises.proofs.Deciding.{always, each_decides, if_decides, leb_decides}
+use Rattle.osdp_calls_time_laws.specs.Deciding.{TimelyIsExact, are_read_within, are_timely, is_timely, keeps_clock, waits_twice}
+use Rattle.osdp_calls_time_laws.specs.Moments.{AllTimely, Clock, IsTimely, KeepsClock, Timed, WaitsTwice, clock_after, moment_of}
+
+-- the same where there is one
+some_decides : {A : Type 0} (p : A → Bool) (P : A → Type 0) → ((x : A) → Decides (p x) (P x)) → (o : Option A) → Decides (if_there p o) (IfSome o P)
+some_decides p P each None = always tt
+some_decides p P each (Some x) = each x
+
+pub twice_decides : (w : ℕ) (config : BusConfig) → Decides (waits_twice w config) (WaitsTwice w config)
+twice_decides w config = leb_decides (suc (2 * w)) config.quiet_wait
+
+module _ {H : Type 0} where
+  moment_decides : (t : Timed H) (l : InUse H) (now : ℕ)
+      → Decides ((t.start + now == t.at) && nat_lt (now + l.bus.config.quiet_wait) (2 ^ 64)) ((t.start + now ≡ t.at) × (now + l.bus.config.quiet_wait < 2 ^ 64))
+  moment_decides t l now =
+      Decides-and (t.start + now == t.at) (nat_lt (now + l.bus.config.quiet_wait) (2 ^ 64)) (Decides-eqb (t.start + now) t.at)
+      (leb_decides (suc (now + l.bus.config.quiet_wait)) (2 ^ 64))
+
+  clock_decides : (w : ℕ) (call : Call H) (t : Timed H) (c : Clock) (l : InUse H) → Decides (keeps_clock w call t c l) (KeepsClock w call t c l)
+  clock_decides w (OfPanel call) t c l =
+      Decides-and (t.start == c.start) (if_there (λ now. (t.start + now == t.at) && nat_lt (now + l.bus.config.quiet_wait) (2 ^ 64)) (moment_of call))
+      (Decides-eqb t.start c.start)
+      (some_decides (λ now. (t.start + now == t.at) && nat_lt (now + l.bus.config.quiet_wait) (2 ^ 64))
+      (λ now. (t.start + now ≡ t.at) × (now + l.bus.config.quiet_wait < 2 ^ 64)) (λ now. moment_decides t l now) (moment_of call))
+  clock_decides w (NewPanel config addresses) t c l =
+      Decides-and (nat_le t.start t.at) (waits_twice w config) (leb_decides t.start t.at) (twice_decides w config)
+  clock_decides w (SubmitEvent k event) t c l = Decides-eqb t.start c.start
+  clock_decides w (SetBusy k busy) t c l = Decides-eqb t.start c.start
+  clock_decides w (SetHandler k handler) t c l = Decides-eqb t.start c.start
+  clock_decides w (WithdrawEvent k) t c l = Decides-eqb t.start c.start
+  clock_decides w (Take k bytes now) t c l = Decides-eqb t.start c.start
+  clock_decides w (TickDevice k now) t c l = Decides-eqb t.start c.start
+  clock_decides w (Silence k now) t c l = Decides-eqb t.start c.start
+  clock_decides w (Next k) t c l = Decides-eqb t.start c.start
+  clock_decides w (Pending k) t c l = Decides-eqb t.start c.start
+  clock_decides w (NewDevice k address handler room gap) t c l = Decides-eqb t.start c.start
+
+  pub timely_exact : TimelyIsExact H
+  timely_exact w t c l =
+      let order = nat_le c.now t.at in
+      let clock = keeps_clock w t.step.call t c l in
+      let read = are_read_within w t.at c.said t.step.places in
+      Decides-like (order && (clock && read))
+      (λ h. record { in_turn = h.0; clock = h.1.0; read = h.1.1 })
+      (λ (is : IsTimely w t c l). (is.in_turn, (is.clock, is.read)))
+      (Decides-and order (clock && read) (leb_decides c.now t.at)
+      (Decides-and clock read (clock_decides w t.step.call t c l)
+      (each_decides (λ i. if_there (λ said. nat_le t.at (said + w)) (site_at i c.said)) (λ i. (said : ℕ) → site_at i c.said ≡ Some said → t.at ≤ said + w)
+      (λ i. if_decides (λ said. nat_le t.at (said + w)) (λ said. t.at ≤ said + w) (λ said. leb_decides t.at (said + w)) (site_at i c.said)) t.step.places)))
+
+  module _ (answer_of : H → Command → Answer) (after : H → Command → H) where
+    pub all_timely : (w : ℕ) (ts : List (Timed H)) (c : Clock) (l : InUse H) → are_timely answer_of after w ts c l ≡ true
+        → AllTimely answer_of after w ts c l
+    all_timely w [] c l is = tt
+    all_timely w (t ∷ ts) c l is =
+        let next = after_call answer_of after t.step.call t.step.places l in
+        let both = and_parts (is_timely w t c l) (are_timely answer_of after w ts (clock_after t c next) next) is in
+        ((timely_exact w t c l).0 both.0, all_timely w ts (clock_after t c next) next both.1)

@@ -1,0 +1,133 @@
+-- The long day is read in time; and of a quiet wait of twice the time for which packets are held an opening isn't quiet.
+use Rattle.std.proofs.Common.{◌≡◌, ◌≢◌, ◌<◌, ◌&&◌, ℕ, zero, suc, Bool, true, false, List, [], ◌∷◌, Some, None, refl, sym, subst, ◌∙◌, arith}
+use Rattle.std.proofs.lemmas.Bool.{and_parts, false≢true}
+use Rattle.std.specs.Prelude.{take}
+use Rattle.osdp_frame.specs.Held.{decided}
+use Rattle.osdp_frame.specs.Items.{items, left_over}
+use Rattle.osdp_msg.specs.CommandTable.{command_at, command_fault, command_of}
+use Rattle.osdp_msg.specs.ReplyTable.{reply_at, reply_fault, reply_of}
+use Rattle.osdp_msg.specs.declared.command.Command.{Command}
+use Rattle.osdp_bus.specs.Settings.{IsBusConfig}
+use Rattle.osdp_bus_laws.specs.Calls as bus
+use Rattle.osdp_link_laws.specs.Link.{new_account}
+use Rattle.osdp_reader.specs.declared.handler.Answer.{Answer}
+use Rattle.osdp_shared_line.specs.Line.{site_at}
+use Rattle.osdp_calls.specs.Calls.{OfPanel, Step, after_call, after_calls}
+use Rattle.osdp_calls.specs.Lines.{InUse, Station}
+use Rattle.osdp_calls.specs.Premises.{AllKeep, IsSetUp}
+use Rattle.osdp_premises.specs.Deciding.{has_addresses, is_in_order, is_quiet}
+use Rattle.osdp_premises.specs.Exactly.{AllInRange}
+use Rattle.osdp_premises.specs.LongDay.{answers, calls, first_line, long_day, station_at}
+use Rattle.osdp_premises.proofs.Exactly.{exact}
+use Rattle.osdp_premises.proofs.LongDay.{AllRanges, all_range, day_keeps, id_fits, is_the_one, keep_at, no_bytes, room_fits}
+use Rattle.osdp_calls_time_laws.specs.Instance.{LongDayIsTimely, TwiceIsTooShort, brief, held_day, moment_in, one_line, timed}
+use Rattle.osdp_calls_time_laws.specs.Laws.{steps_of}
+use Rattle.osdp_calls_time_laws.specs.Moments.{AllKeepElse, clock_at}
+use Rattle.osdp_calls_time_laws.proofs.Deciding.{all_timely}
+
+brief_fits : IsBusConfig brief
+brief_fits = record {
+  controllers = record {
+    config_in_range = record {
+      address = omega arith;
+      reply_wait = (omega arith, omega arith);
+      poll_interval = (omega arith, omega arith);
+      busy_wait = (omega arith, omega arith);
+      quiet_wait = (omega arith, omega arith);
+      sends = (omega arith, omega arith);
+      busy_limit = omega arith;
+    };
+    room = omega arith;
+    limit = omega arith;
+    bytes = (omega arith, omega arith);
+  };
+  gap = (omega arith, omega arith);
+}
+
+module _ {H : Type 0} where
+  one : (handler : H) (Q : Station H → Type 0) → Q (station_at 3 handler) → (k : ℕ) (t : Station H) → site_at k (station_at 3 handler ∷ []) ≡ Some t → Q t
+  one handler Q first zero t is = subst Q (is_the_one (station_at 3 handler) t is) first
+  one handler Q first (suc k) t is = absurd (let e = is in cc)
+
+  none_beside : (handler : H) (j k : ℕ) (s t : Station H) → j ≢ k → site_at j (station_at 3 handler ∷ []) ≡ Some s → site_at k (station_at 3 handler ∷ []) ≡ Some t → ⊥
+  none_beside handler zero zero s t other at there = other refl
+  none_beside handler (suc j) k s t other at there = let e = at in cc
+  none_beside handler zero (suc k) s t other at there = let e = there in cc
+
+  one_is_set_up : (handler : H) → IsSetUp (one_line handler)
+  one_is_set_up handler = record {
+    config = brief;
+    settings = brief_fits;
+    bus = refl;
+    devices = one handler (λ t. t.reader.config.address < 127) (omega arith);
+    apart = λ j k s t other at there e. none_beside handler j k s t other at there;
+    stored = one handler (λ t. t.reader.stored ≡ None) refl;
+    place = one handler (λ t. (t.place ≡ 0) × (t.begun ≡ None)) (refl, refl);
+    account = one handler (λ t. (t.account ≡ new_account [] t.reader.queue.events) × (t.earlier ≡ [])) (refl, refl);
+    said = refl;
+    read = refl;
+    openings = refl;
+  }
+
+  module _ (answer_of : H → Command → Answer) (after : H → Command → H) where
+    -- the premises but that on quiet openings, from all of them, or by tests
+    else_of : (before : ℕ) (steps : List (Step H)) (l : InUse H) → AllKeep answer_of after steps l → AllKeepElse answer_of after (timed before steps) l
+    else_of before [] l keep = tt
+    else_of before (step ∷ steps) l keep =
+        let k = keep.0 in (
+          record { in_order = k.in_order; addresses = k.addresses; in_range = k.in_range },
+          else_of (moment_in step.call before) steps (after_call answer_of after step.call step.places l) keep.1,
+        )
+
+    abbrev all_else : List (Step H) → InUse H → Bool
+    all_else [] l = true
+    all_else (step ∷ steps) l =
+        is_in_order step.call step.places l && (has_addresses step.call l && all_else steps (after_call answer_of after step.call step.places l))
+
+    else_keep : (before : ℕ) (steps : List (Step H)) (l : InUse H) → all_else steps l ≡ true → AllInRange answer_of after steps l
+        → AllKeepElse answer_of after (timed before steps) l
+    else_keep before [] l is fits = tt
+    else_keep before (step ∷ steps) l is fits =
+        let next = after_call answer_of after step.call step.places l in
+        let first = and_parts (is_in_order step.call step.places l) (has_addresses step.call l && all_else steps next) is in
+        let second = and_parts (has_addresses step.call l) (all_else steps next) first.1 in (
+          record { in_order = (exact.order step l).0 first.0; addresses = (exact.addresses step l).0 second.0; in_range = fits.0 },
+          else_keep (moment_in step.call before) steps next second.1 fits.1,
+        )
+
+    pub long_day_timely : (handler other : H) → LongDayIsTimely answer_of after handler other
+    unfolding items left_over decided reply_of reply_fault reply_at command_of command_fault command_at
+    long_day_timely handler other =
+        let day = day_keeps answer_of after handler other in
+        record {
+          up = day.up;
+          waits = let fits : 398 < 400 = omega arith in fits;
+          timely = all_timely answer_of after 199 (timed 0 (long_day handler other)) (clock_at 0) (first_line handler) refl;
+          keep = else_of 0 (long_day handler other) (first_line handler) day.keep;
+        }
+
+    held_ranges : (handler : H) → AllRanges answer_of after (held_day handler) (one_line handler)
+    unfolding items left_over decided reply_of reply_fault reply_at command_of command_fault command_at
+    held_ranges handler =
+        (tt, (tt, (tt, ((id_fits, tt), (tt, (tt, (tt, ((omega arith, room_fits), (tt, ((record { reason = tt; room = omega arith; detail = no_bytes }, tt), (tt, (tt, (tt, (tt, ((record { reason = tt; room = omega arith; detail = no_bytes }, tt), (tt, (tt, tt)))))))))))))))))
+
+    held_not_quiet : (handler : H) → AllKeep answer_of after (steps_of (timed 0 (held_day handler))) (one_line handler) → ⊥
+    unfolding items left_over decided reply_of reply_fault reply_at command_of command_fault command_at
+    held_not_quiet handler keep =
+        let steps = steps_of (timed 0 (held_day handler)) in
+        let last : Step H = calls (OfPanel (bus.OnBytes (answers 3 1 (65 ∷ 4 ∷ [])) 9)) (4 ∷ []) in
+        let line = after_calls answer_of after (take 16 steps) (one_line handler) in
+        let keeps = keep_at answer_of after 16 steps (one_line handler) last refl keep in
+        let quiet : is_quiet last.call last.places line ≡ true = (exact.quiet last line).1 keeps.quiet_opening in
+        let loud : is_quiet last.call last.places line ≡ false = refl in
+        false≢true (sym loud ∙ quiet)
+
+    pub too_short : (handler : H) → TwiceIsTooShort answer_of after handler
+    unfolding items left_over decided reply_of reply_fault reply_at command_of command_fault command_at
+    too_short handler = record {
+      up = one_is_set_up handler;
+      waits = refl;
+      timely = all_timely answer_of after 2 (timed 0 (held_day handler)) (clock_at 0) (one_line handler) refl;
+      keep = else_keep 0 (held_day handler) (one_line handler) refl (all_range answer_of after (held_day handler) (one_line handler) (held_ranges handler));
+      not_quiet = held_not_quiet handler;
+    }

@@ -1,0 +1,12 @@
+pub mod Stamps
+pub mod Waits
+pub mod Quiet
+pub mod Devices
+pub mod Ticks
+pub mod Nexts
+pub mod Handed
+pub mod Panel
+pub mod Holding
+pub mod Ruled
+pub mod Deciding
+pub mod Instance

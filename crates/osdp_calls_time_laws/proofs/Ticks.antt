@@ -1,0 +1,241 @@
+-- A tick of a controller of the bus, on a line whose packets are read in time: where it opens a session, what was said before is read by now.
+use Rattle.std.proofs.Common.{◌≡◌, ◌≢◌, ◌||◌, ◌+◌, ◌*◌, ◌<◌, ◌≤◌, ℕ, zero, suc, max, Bool, true, false, List, [], ◌∷◌, ◌++◌, length, Option, Some, None, refl, sym, subst, ap, ◌∙◌, inl, inr, arith}
+use Rattle.std.proofs.lemmas.Bool.Decides.{eqb_tells}
+use Rattle.std.specs.Prelude.{◌==◌, ◌^◌, ◌-◌, IfSome, slice_get, slice_set}
+use Rattle.osdp_frame.specs.Packet.{Packet}
+use Rattle.osdp_msg.specs.declared.command.Command.{Command}
+use Rattle.osdp_controller.specs.Sessions as clocks
+use Rattle.osdp_bus.specs.Buses.{device_of, waiting_after}
+use Rattle.osdp_bus.specs.Devices.{address_of, device_ticks, step_of}
+use Rattle.osdp_bus.specs.Ticking.{ticks_with}
+use Rattle.osdp_bus.specs.declared.device.Device.{Device}
+use Rattle.osdp_bus_laws.specs.Reports.{told_by_device}
+use Rattle.osdp_link_laws.proofs.Numbers.{is_false}
+use Rattle.osdp_link_laws.proofs.Stages.{Each}
+use Rattle.osdp_reader.specs.declared.handler.Answer.{Answer}
+use Rattle.osdp_shared_line.specs.Line.{Net, site_at}
+use Rattle.osdp_shared_line.proofs.Apart.{Apart}
+use Rattle.osdp_shared_line.proofs.Sites.{at_changed, at_other, some_same}
+use Rattle.osdp_calls.specs.Calls.{all_hear, begins_session, begins_with, begun_of, change_at, changes_at, panel_says, waiting_of}
+use Rattle.osdp_calls.specs.Lines.{Burst, InUse, Station, concerns}
+use Rattle.osdp_calls.proofs.Agreed.{ticks_to}
+use Rattle.osdp_calls.proofs.Agreeing.{address_same, at_entry, begun_heard}
+use Rattle.osdp_calls.proofs.Ahead.{from_panel}
+use Rattle.osdp_calls.proofs.Noticing.{got_new, got_other}
+use Rattle.osdp_calls.proofs.Same.{Controls, IsNetOf, IsToOpen}
+use Rattle.osdp_calls_time_laws.specs.Moments.{stamped}
+use Rattle.osdp_calls_time_laws.proofs.Devices.{frame_due, frames_to, ticks_config, whole_wait}
+use Rattle.osdp_calls_time_laws.proofs.Stamps.{IsStamped, SaidNow, WasSaid, is_stamped, stamped_same}
+use Rattle.osdp_calls_time_laws.proofs.Waits.{AllWait, IsPast, Waits, latest, of_entry, past_later, still_past, still_waits}
+
+-- what an entry's session waits for
+pub record IsWaiting (w q start : ℕ) (said : List Burst) (stamps : List ℕ) (k began g : ℕ) (d : Device) : Type 0 where
+  pub seen : d.controller.session.greatest ≤ g
+  pub quiet : d.controller.session.config.quiet_wait ≡ q
+  pub waits : Waits w said stamps k (address_of d) (start + began)
+
+latest_most : (w began : ℕ) (x : Bool) → latest w x began ≤ began + w
+latest_most w began true = omega arith
+latest_most w began false = omega arith
+
+module _ {H : Type 0} where
+  elsewhere : (k e : ℕ) (change : Station H → Station H) (ts : List (Station H)) → k ≢ e → site_at k (change_at e change ts) ≡ site_at k ts
+  elsewhere k e change ts other = by_station (site_at e ts)
+    where
+      by_station : (o : Option (Station H)) → site_at k (changes_at e change o ts) ≡ site_at k ts
+      by_station None = refl
+      by_station (Some t) = at_other k e (change t) ts other
+
+  has_begun : (e : ℕ) (ws : List Command) (ts : List (Station H)) → begun_of (site_at e (change_at e (begins_session ws) ts)) ≡ None
+  has_begun e ws ts = by_station (site_at e ts) refl
+    where
+      by_station : (o : Option (Station H)) → site_at e ts ≡ o → begun_of (site_at e (changes_at e (begins_session ws) o ts)) ≡ None
+      by_station None is = ap begun_of is
+      by_station (Some t) is = ap begun_of (at_changed e (begins_session ws t) t ts is)
+
+  -- what is so after it
+  pub record HasTicked (w start at : ℕ) (stamps : List ℕ) (l : InUse H) : Type 0 where
+    pub waits : AllWait w start (stamped at l.said stamps) l.bus.devices.entries l.stations l.said
+    pub opened : Each (IsPast w l.said (stamped at l.said stamps) at) l.openings
+
+  module _ (answer_of : H → Command → Answer) (after : H → Command → H) (w q start at now : ℕ) (stamps : List ℕ) (l : InUse H) (n : Net H) (h : IsNetOf l n)
+      (apart : Apart n) (same : length stamps ≡ length l.said) (patient : 2 * w < q) (clock : start + l.bus.greatest ≤ at) (far : l.bus.greatest + q < 2 ^ 64)
+      (later : now ≤ at) (opened : Each (IsPast w l.said stamps now) l.openings)
+      (waiting : (k : ℕ) (d : Device) (began : ℕ) → slice_get l.bus.devices.entries k ≡ Some d → begun_of (site_at k l.stations) ≡ Some began
+      → IsWaiting w q start l.said stamps k began l.bus.greatest d) where
+    -- ---- nothing is said
+
+    silent : (es : List Device) (ts : List (Station H)) → ((k : ℕ) (d : Device) (began : ℕ) → slice_get es k ≡ Some d → begun_of (site_at k ts) ≡ Some began
+        → Waits w l.said stamps k (address_of d) (start + began))
+        → AllWait w start (stamped at l.said stamps) es ts l.said × Each (IsPast w l.said (stamped at l.said stamps) at) l.openings
+    silent es ts waits =
+        let stays : stamped at l.said stamps ≡ stamps = stamped_same at l.said stamps same in (
+          subst (λ ms. AllWait w start ms es ts l.said) (sym stays) waits,
+          subst (λ ms. Each (IsPast w l.said ms at) l.openings) (sym stays) (past_later w at now l.said stamps l.openings later opened),
+        )
+
+    -- ---- two entries are at two addresses
+
+    differ : (j k : ℕ) (d e : Device) → j ≢ k → device_of j l.bus ≡ Some d → device_of k l.bus ≡ Some e → address_of d ≢ address_of e
+    differ j k d e other at there equal =
+        let a = at_entry j d l n h at in
+        let b = at_entry k e l n h there in
+        apart.names j k a.site b.site other a.at b.at (address_of e) (inl (address_same j d l a.station a.site a.is ∙ equal))
+        (inl (address_same k e l b.station b.site b.is))
+
+    module _ (e : ℕ) (d : Device) (is : device_of e l.bus ≡ Some d) where
+      -- an entry after it
+      entry_was : (k : ℕ) (f : Device) → slice_get (slice_set l.bus.devices.entries e (device_ticks l.bus.greatest d)) k ≡ Some f
+          → (f0 : Device) × (slice_get l.bus.devices.entries k ≡ Some f0) × (address_of f ≡ address_of f0)
+      entry_was k f at_k = elim (eqb_tells k e) [
+        | inl mine ↦
+            let there = subst (λ i. slice_get (slice_set l.bus.devices.entries e (device_ticks l.bus.greatest d)) i ≡ Some f) mine.1 at_k in
+            let equal : f ≡ device_ticks l.bus.greatest d =
+            some_same f (device_ticks l.bus.greatest d) (sym there ∙ got_new e (device_ticks l.bus.greatest d) d l.bus.devices.entries is) in (
+              d,
+              subst (λ i. slice_get l.bus.devices.entries i ≡ Some d) (sym mine.1) is,
+              ap address_of equal
+                  ∙ ap (λ (c : _). c.address) (ticks_config d.controller.session.state (clocks.seen l.bus.greatest d.controller.session) d.controller.waiting),
+            )
+        | inr other ↦
+            (f, sym (got_other k e (device_ticks l.bus.greatest d) l.bus.devices.entries other.1) ∙ at_k, refl)
+      ]
+
+      -- what still waits
+      waits_on : (k began : ℕ) (f : Device) → slice_get (slice_set l.bus.devices.entries e (device_ticks l.bus.greatest d)) k ≡ Some f
+          → begun_of (site_at k l.stations) ≡ Some began → Waits w l.said stamps k (address_of f) (start + began)
+      waits_on k began f at_k begun =
+          let f0 = entry_was k f at_k in
+          subst (λ a. Waits w l.said stamps k a (start + began)) (sym f0.2) (waiting k f0.0 began f0.1 begun).waits
+
+      -- ---- it says something
+
+      module _ (p : Packet) (sent : (step_of l.bus.greatest d).frame ≡ Some p) where
+        to_device : p.address ≡ address_of d
+        to_device =
+            subst (λ o. IfSome o (λ q. q.address ≡ address_of d)) sent
+            (frames_to d.controller.session.state (clocks.seen l.bus.greatest d.controller.session) d.controller.waiting)
+
+        not_mine : (k : ℕ) (f : Device) → k ≢ e → slice_get (slice_set l.bus.devices.entries e (device_ticks l.bus.greatest d)) k ≡ Some f
+            → concerns (of_entry k (address_of f)) (from_panel e p) ≡ false
+        not_mine k f other at_k =
+            let there : device_of k l.bus ≡ Some f = sym (got_other k e (device_ticks l.bus.greatest d) l.bus.devices.entries other) ∙ at_k in
+            ap (λ x. x || (p.address == address_of f)) (is_false e k (λ i. other (sym i)))
+            ∙ is_false p.address (address_of f) (λ i. differ e k d f (λ j. other (sym j)) is there (sym to_device ∙ i))
+
+        -- what waits beside it
+        others_wait : (k began : ℕ) (f : Device) → k ≢ e → slice_get (slice_set l.bus.devices.entries e (device_ticks l.bus.greatest d)) k ≡ Some f
+            → begun_of (site_at k l.stations) ≡ Some began
+            → Waits w (l.said ++ from_panel e p ∷ []) (stamped at (l.said ++ from_panel e p ∷ []) stamps) k (address_of f) (start + began)
+        others_wait k began f other at_k begun =
+            still_waits w at l.said (from_panel e p ∷ []) stamps k (address_of f) (start + began) same (waits_on k began f at_k begun)
+            (λ j b there con. absurd (by_place j b there con))
+          where
+            by_place : (j : ℕ) (b : Burst) → site_at j (from_panel e p ∷ []) ≡ Some b → concerns (of_entry k (address_of f)) b ≡ true → ⊥
+            by_place zero b there con =
+                let equal : from_panel e p ≡ b = some_same (from_panel e p) b there in
+                let e0 = sym (not_mine k f other at_k) ∙ subst (λ x. concerns (of_entry k (address_of f)) x ≡ true) (sym equal) con in
+                cc
+            by_place (suc j) b there con = let e0 = there in cc
+
+        -- the session of the entry opens
+        due : (began : ℕ) → begun_of (site_at e l.stations) ≡ Some began → began + q ≤ l.bus.greatest
+        due began begun =
+            let x = at_entry e d l n h is in
+            let control : IsToOpen began l.bus.greatest d.controller x.site.controller =
+            subst (λ o. Controls o l.bus.greatest d.controller x.site.controller) (sym (ap begun_of x.there) ∙ begun) x.is.controller in
+            let y = waiting e d began is begun in
+            let least = frame_due l.bus.greatest (clocks.later d.controller.session.config.quiet_wait (clocks.seen began (record d.controller.session { greatest = control.moment })))
+            d.controller.session d.controller.waiting p control.quiet sent in
+            let top = control.later l.bus.greatest (omega arith) in
+            let quiet = y.quiet in
+            let end : l.bus.greatest + d.controller.session.config.quiet_wait ≤ (2 ^ 64 - 1) =
+            subst (λ x. l.bus.greatest + x ≤ (2 ^ 64 - 1)) (sym quiet) (before_end (l.bus.greatest + q) (2 ^ 64) far) in
+            let whole = whole_wait (max control.moment began) d.controller.session.greatest l.bus.greatest d.controller.session.config.quiet_wait
+            ((2 ^ 64 - 1)) top y.seen end least in
+            omega (arith, whole, quiet)
+          where
+            before_end : (x end : ℕ) → x < end → x ≤ end - 1
+            before_end x end lt = omega (arith, lt)
+
+        opens : (began : ℕ) → begun_of (site_at e l.stations) ≡ Some began
+            → IsPast w (l.said ++ from_panel e p ∷ []) (stamped at (l.said ++ from_panel e p ∷ []) stamps) at
+            (record { entry = e; address = p.address; place = length l.said })
+        opens began begun i b m lt there then con =
+            by_stamp (is_stamped at l.said (from_panel e p ∷ []) stamps same i b m there then)
+          where
+            by_stamp : IsStamped at l.said (from_panel e p ∷ []) stamps i b m → m + w < at
+            by_stamp (SaidNow beyond now j here) = absurd (omega (arith, beyond, lt))
+            by_stamp (WasSaid here stamp) =
+                let x = (waiting e d began is begun).waits i b m here stamp
+                (subst (λ a. concerns (of_entry e a) b ≡ true) to_device con) in
+                let most = latest_most w (start + began) b.by_panel in
+                let whole = due began begun in
+                omega (arith, x, most, whole, clock, patient)
+
+      -- the line after this is said, or nothing
+      abbrev line_with : Option Packet → InUse H
+      line_with o = panel_says (Some e) o (record l {
+        bus = record l.bus {
+          devices = record {
+            entries = slice_set l.bus.devices.entries e (device_ticks l.bus.greatest d);
+            report = waiting_after e (step_of l.bus.greatest d).report l.bus.devices.report;
+          };
+          first = e + 1;
+        };
+        stations = all_hear (told_by_device e (Some d) l.bus) l.stations;
+      })
+
+      heard_same : (k : ℕ) → begun_of (site_at k (all_hear (told_by_device e (Some d) l.bus) l.stations)) ≡ begun_of (site_at k l.stations)
+      heard_same k = begun_heard k (told_by_device e (Some d) l.bus) l.stations
+
+      says : (p : Packet) → (step_of l.bus.greatest d).frame ≡ Some p → HasTicked w start at stamps (line_with (Some p))
+      says p sent = by_begun (begun_of (site_at e (all_hear (told_by_device e (Some d) l.bus) l.stations))) refl
+        where
+          old_past : Each (IsPast w (l.said ++ from_panel e p ∷ []) (stamped at (l.said ++ from_panel e p ∷ []) stamps) at) l.openings
+          old_past = still_past w at now l.said (from_panel e p ∷ []) stamps l.openings same h.openings later opened
+
+          not_it : (k began : ℕ) (ts : List (Station H)) → begun_of (site_at e ts) ≡ None → begun_of (site_at k ts) ≡ Some began → k ≢ e
+          not_it k began ts none begun mine =
+              let e0 = sym none ∙ subst (λ i. begun_of (site_at i ts) ≡ Some began) mine begun in cc
+
+          by_begun : (o : Option ℕ) → begun_of (site_at e (all_hear (told_by_device e (Some d) l.bus) l.stations)) ≡ o
+              → HasTicked w start at stamps (record (begins_with e p o (line_with None)) { said = l.said ++ from_panel e p ∷ [] })
+          by_begun None none = record {
+            waits = λ k f began at_k begun.
+                others_wait p sent k began f (not_it k began (all_hear (told_by_device e (Some d) l.bus) l.stations) none begun) at_k (sym (heard_same k) ∙ begun);
+            opened = old_past;
+          }
+          by_begun (Some began) begun =
+              let ws = waiting_of (slice_get (slice_set l.bus.devices.entries e (device_ticks l.bus.greatest d)) e) in
+              let ts = all_hear (told_by_device e (Some d) l.bus) l.stations in
+              record {
+                waits = λ k f began2 at_k begun2.
+                    let other : k ≢ e = not_it k began2 (change_at e (begins_session ws) ts) (has_begun e ws ts) begun2 in
+                    others_wait p sent k began2 f other at_k (sym (heard_same k) ∙ sym (ap begun_of (elsewhere k e (begins_session ws) ts other)) ∙ begun2);
+                opened = (opens p sent began (sym (heard_same e) ∙ begun), old_past);
+              }
+
+      with_frame : (o : Option Packet) → (step_of l.bus.greatest d).frame ≡ o → HasTicked w start at stamps (line_with o)
+      with_frame None none =
+          let both = silent (slice_set l.bus.devices.entries e (device_ticks l.bus.greatest d)) (all_hear (told_by_device e (Some d) l.bus) l.stations)
+          (λ k f began at_k begun. waits_on k began f at_k (sym (heard_same k) ∙ begun)) in
+          record { waits = both.0; opened = both.1 }
+      with_frame (Some p) sent = says p sent
+
+    -- nobody ticks
+    rests : (ts : List (Station H)) → ((k : ℕ) → begun_of (site_at k ts) ≡ begun_of (site_at k l.stations)) → HasTicked w start at stamps (record l { stations = ts })
+    rests ts begun =
+        let both = silent l.bus.devices.entries ts (λ k d began at_k is. (waiting k d began at_k (sym (begun k) ∙ is)).waits) in
+        record { waits = both.0; opened = both.1 }
+
+    pub has_ticked : (o : Option ℕ) → HasTicked w start at stamps (ticks_to answer_of after o l)
+    has_ticked None = rests l.stations (λ k. refl)
+    has_ticked (Some e) = by_device (device_of e l.bus) refl
+      where
+        by_device : (o : Option Device) → device_of e l.bus ≡ o → HasTicked w start at stamps (panel_says (Some e) (ticks_with e o l.bus).sent (record l {
+          bus = (ticks_with e o l.bus).bus;
+          stations = all_hear (told_by_device e o l.bus) l.stations;
+        }))
+        by_device None none = rests l.stations (λ k. refl)
+        by_device (Some d) is = with_frame e d is (step_of l.bus.greatest d).frame refl

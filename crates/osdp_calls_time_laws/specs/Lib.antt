@@ -1,0 +1,4 @@
+pub mod Moments
+pub mod Laws
+pub mod Deciding
+pub mod Instance

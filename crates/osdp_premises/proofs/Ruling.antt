@@ -1,0 +1,114 @@
+-- The test of the rule for programs holds exactly where the rule does.
+use Rattle.std.proofs.Common.{◌≡◌, ◌≢◌, ◌&&◌, ◌==◌, ℕ, not, Bool, Decides, [], ◌∷◌, length, Option, Some, None, refl, subst, arith}
+use Rattle.std.proofs.lemmas.Bool.{and_parts}
+use Rattle.std.proofs.lemmas.Bool.Decides.{Decides-eqb, Decides-like, Decides-not}
+use Rattle.osdp_msg.specs.declared.command.Command.{Command}
+use Rattle.osdp_msg.specs.declared.command_fields.Communication.{Communication}
+use Rattle.osdp_controller.specs.Hearing.{comset_of}
+use Rattle.osdp_bus.specs.Buses.{BusState, device_of}
+use Rattle.osdp_bus.specs.Devices.{address_of}
+use Rattle.osdp_bus.specs.Machine.{retarget_refusal_at, submit_refusal_at}
+use Rattle.osdp_bus.specs.declared.device.Device.{Device}
+use Rattle.osdp_bus.specs.declared.fault.BusFault.{BusFault}
+use Rattle.osdp_bus_laws.specs.Calls as bus
+use Rattle.osdp_reader.specs.declared.handler.Answer.{Answer}
+use Rattle.osdp_shared_line.specs.Line.{site_at}
+use Rattle.osdp_shared_line.specs.Programs.{Note}
+use Rattle.osdp_calls.specs.Calls.{NewDevice, NewPanel, Next, OfPanel, Pending, SetBusy, SetHandler, Silence, SubmitEvent, Take, TickDevice, WithdrawEvent, after_call}
+use Rattle.osdp_calls.specs.Lines.{Station}
+use Rattle.osdp_calls.specs.Programs.{IsKnown, PanelKeepsRule, notes_after}
+use Rattle.osdp_premises.specs.Deciding.{address_asked, if_there, is_in_order, is_quiet, is_there_with, stands_at}
+use Rattle.osdp_premises.specs.Ruling.{RuleIsExact, RuledCallsKeep, are_ruled, is_known, is_unknown_beside, keeps_rule, panel_keeps_rule, unless_refused}
+use Rattle.osdp_premises.proofs.Deciding.{always, below_decides, get_below, if_decides, other_decides, site_below, some_decides, there_decides}
+use Rattle.osdp_premises.proofs.Exactly.{exact}
+
+is_that_one : {A : Type 0} (x y : A) → Some x ≡ Some y → x ≡ y
+is_that_one x y e = cc
+
+known_decides : (address : ℕ) (d : Device) (note : Note) → Decides (is_known address d note) (IsKnown address d note)
+known_decides address d note = some_decides (λ a. a == address) (λ a. a ≡ address) (λ a. Decides-eqb a address) (address_of d ∷ note.addresses)
+
+-- no other entry knows it
+abbrev Unknown : ℕ → ℕ → BusState → (ℕ → Note) → Type 0
+Unknown k address b notes = (j : ℕ) (d : Device) → j ≢ k → device_of j b ≡ Some d → IsKnown address d (notes j) → ⊥
+
+unknown_decides : (k address : ℕ) (b : BusState) (notes : ℕ → Note) → Decides (is_unknown_beside k address b notes) (Unknown k address b notes)
+unknown_decides k address b notes =
+    Decides-like (is_unknown_beside k address b notes)
+    (λ h j d other at known. h j other (d, at, known))
+    (λ all j other held. all j held.0 other held.1 held.2)
+    (other_decides k (length b.devices.entries) (λ j. not (is_there_with (λ d. is_known address d (notes j)) (device_of j b)))
+    (λ j. ((d : Device) × (device_of j b ≡ Some d) × IsKnown address d (notes j)) → ⊥)
+    (λ j. Decides-not (is_there_with (λ d. is_known address d (notes j)) (device_of j b))
+    (there_decides (λ d. is_known address d (notes j)) (λ d. IsKnown address d (notes j)) (λ d. known_decides address d (notes j)) (device_of j b)))
+    (λ j above held. let below = get_below j b.devices.entries held.0 held.1 in absurd (omega (arith, above, below))))
+
+refused_decides : (f : Option BusFault) (p : Bool) (P : Type 0) → Decides p P → Decides (unless_refused f p) (f ≡ None → P)
+refused_decides None p P is = Decides-like p (λ h e. h) (λ h. h refl) is
+refused_decides (Some fault) p P is = always (λ none. absurd (let e = none in cc))
+
+asked_decides : (k : ℕ) (asked : Option Communication) (b : BusState) (notes : ℕ → Note)
+    → Decides (if_there (λ address. is_unknown_beside k address b notes) (address_asked asked)) ((c : Communication) → asked ≡ Some c → Unknown k c.address b notes)
+asked_decides k None b notes = always (λ c none. absurd (let e = none in cc))
+asked_decides k (Some c) b notes = Decides-like (is_unknown_beside k c.address b notes)
+    (λ h other same. subst (λ (x : Communication). Unknown k x.address b notes) (is_that_one c other same) h)
+    (λ all. all c refl) (unknown_decides k c.address b notes)
+
+panel_decides : (call : bus.Call) (b : BusState) (notes : ℕ → Note) → Decides (panel_keeps_rule call b notes) (PanelKeepsRule call b notes)
+panel_decides (bus.Submit k command) b notes =
+    refused_decides (submit_refusal_at k command b) (if_there (λ address. is_unknown_beside k address b notes) (address_asked (comset_of command)))
+    ((c : Communication) → comset_of command ≡ Some c → Unknown k c.address b notes) (asked_decides k (comset_of command) b notes)
+panel_decides (bus.Retarget k address) b notes =
+    refused_decides (retarget_refusal_at k address b) (if_there (λ d. is_known address d (notes k)) (device_of k b))
+    ((d : Device) → device_of k b ≡ Some d → IsKnown address d (notes k))
+    (if_decides (λ d. is_known address d (notes k)) (λ d. IsKnown address d (notes k)) (λ d. known_decides address d (notes k)) (device_of k b))
+panel_decides (bus.Add address) b notes = always tt
+panel_decides (bus.Begin entry now) b notes = always tt
+panel_decides (bus.Withdraw entry) b notes = always tt
+panel_decides (bus.OnBytes bytes now) b notes = always tt
+panel_decides (bus.OnSilence now) b notes = always tt
+panel_decides (bus.Tick now) b notes = always tt
+panel_decides bus.NextReport b notes = always tt
+
+module _ {H : Type 0} where
+  pub rule_exact : RuleIsExact H
+  rule_exact (OfPanel call) l notes = panel_decides call l.bus notes
+  rule_exact (NewDevice k address handler room gap) l notes =
+      if_decides (stands_at address) (λ (t : Station H). t.reader.config.address ≡ address) (λ t. Decides-eqb t.reader.config.address address) (site_at k l.stations)
+  rule_exact (NewPanel config addresses) l notes =
+      let known = λ (k : ℕ). if_there (λ a. if_there (λ d. is_known a d (notes k)) (device_of k l.bus)) (site_at k addresses) in
+      Decides-like (keeps_rule (NewPanel config addresses) l notes)
+      (λ h k a d at there. h k (site_below k addresses a at) a at d there)
+      (λ all k below a at d there. all k a d at there)
+      (below_decides known (λ k. (a : ℕ) → site_at k addresses ≡ Some a → (d : Device) → device_of k l.bus ≡ Some d → IsKnown a d (notes k))
+      (λ k. if_decides (λ a. if_there (λ d. is_known a d (notes k)) (device_of k l.bus)) (λ a. (d : Device) → device_of k l.bus ≡ Some d → IsKnown a d (notes k))
+      (λ a. if_decides (λ d. is_known a d (notes k)) (λ d. IsKnown a d (notes k)) (λ d. known_decides a d (notes k)) (device_of k l.bus)) (site_at k addresses))
+      (length addresses))
+  rule_exact (SubmitEvent k event) l notes = always tt
+  rule_exact (SetBusy k busy) l notes = always tt
+  rule_exact (SetHandler k handler) l notes = always tt
+  rule_exact (WithdrawEvent k) l notes = always tt
+  rule_exact (Take k bytes now) l notes = always tt
+  rule_exact (TickDevice k now) l notes = always tt
+  rule_exact (Silence k now) l notes = always tt
+  rule_exact (Next k) l notes = always tt
+  rule_exact (Pending k) l notes = always tt
+
+module _ {H : Type 0} (answer_of : H → Command → Answer) (after : H → Command → H) where
+  pub ruled_keep : RuledCallsKeep answer_of after
+  ruled_keep [] l notes is fits = tt
+  ruled_keep (step ∷ steps) l notes is fits =
+      let next = after_call answer_of after step.call step.places l in
+      let noted = notes_after step.call l notes in
+      let rest = are_ruled answer_of after steps next noted in
+      let a = and_parts (is_in_order step.call step.places l) (is_quiet step.call step.places l && (keeps_rule step.call l notes && rest)) is in
+      let b = and_parts (is_quiet step.call step.places l) (keeps_rule step.call l notes && rest) a.1 in
+      let c = and_parts (keeps_rule step.call l notes) rest b.1 in (
+        record {
+          in_order = (exact.order step l).0 a.0;
+          quiet_opening = (exact.quiet step l).0 b.0;
+          rule = (rule_exact step.call l notes).0 c.0;
+          in_range = fits.0;
+        },
+        ruled_keep steps next noted c.1 fits.1,
+      )
