@@ -1,5 +1,5 @@
 -- How the lines of an input are taken.
-use Rattle.std.specs.Prelude.{◌≡◌, ◌⊎◌, ℕ, ◌+◌, Bool, true, false, List, [], ◌∷◌, IsUtf8, Option, Some, None}
+use Rattle.std.specs.Prelude.{◌≡◌, ◌⊎◌, ℕ, ◌+◌, Bool, true, false, List, [], ◌∷◌, IsUtf8}
 use Rattle.osdp_words.specs.Word.{words_in}
 use Rattle.osdp_tool_test.specs.Entries.{Told}
 use Rattle.osdp_tool_test.specs.Saying.{IsComment}

@@ -1,5 +1,5 @@
 -- What is printed of the rules.
-use Rattle.std.specs.Prelude.{ℕ, ◌+◌, Bool, true, false, List, [], ◌∷◌, ◌++◌, codes, count_by, flat_map, length, if◌then◌else◌}
+use Rattle.std.specs.Prelude.{ℕ, Bool, true, false, List, ◌++◌, codes, count_by, flat_map, length}
 use Rattle.std.specs.Fmt.{decimal}
 use Rattle.osdp_tool_test.specs.Entries.{Told, outcome_of}
 use Rattle.osdp_tool_test.specs.declared.entry.Outcome.{Outcome}

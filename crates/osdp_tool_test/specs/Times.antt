@@ -1,5 +1,5 @@
 -- How long the answers of a run took, and what is printed of it.
-use Rattle.std.specs.Prelude.{ℕ, Bool, true, false, ◌&&◌, not, List, [], ◌++◌, codes, Option, Some, None, if◌then◌else◌, string_bytes}
+use Rattle.std.specs.Prelude.{ℕ, Bool, true, false, ◌&&◌, not, List, [], ◌++◌, codes, Option, Some, if◌then◌else◌, string_bytes}
 use Rattle.std.specs.Fmt.{decimal}
 use Rattle.std.specs.Option.{unwrap_or}
 use Rattle.osdp_rules.specs.Delays.{delays_after, delays_finding, median, most, new_delays}
