@@ -1,7 +1,7 @@
 //! The door: where it is, what it is, and when its session begins. What is to be kept of it is told by a line `keep ..` before anything more is sent.
 
 use super::kept::{Call, Identity, Place, Stand, comset, read_call};
-use osdp_panel::{Address, Command, Entry, Panel, Report};
+use osdp_panel::{Address, BusFault, Command, Entry, Panel, Report};
 use osdp_site::{Site, SiteConfig};
 use std::alloc::Global;
 use std::io;
@@ -13,12 +13,14 @@ pub const FIRST: Place = Place {
     address: 5,
     rate: 9600,
 };
-/// Where the door is, the rate of the port, the device that has answered the opening, and the site, which says when the next session begins.
+/// Where the door is, the rate of the port, the device that has answered the opening, the place of a COMSET that the panel doesn't take yet, and the site, which says
+/// when the next session begins.
 #[derive(Drop)]
 pub struct Door {
     stand: Stand,
     rate: u32,
     answered: Option<Identity>,
+    moves: Option<Place>,
     pub site: Site,
 }
 
@@ -30,6 +32,7 @@ impl Door {
             stand: Stand::new(FIRST),
             rate: FIRST.rate,
             answered: None,
+            moves: None,
             site,
         })
     }
@@ -102,24 +105,40 @@ impl Door {
             }
             Report::Lost(..) => {
                 self.answered = None;
+                self.moves = None; // stale, as each order that waits
                 Ok(())
             }
             _ => Ok(()),
         }
     }
 
-    /// Gives the door another place: both are kept before the order can go out. Where it is refused the door stays where it is.
+    /// Gives the door another place, once the panel takes the COMSET.
     fn go(&mut self, rt: &HostRuntime, panel: &mut Panel, place: Place) -> io::Result<()> {
-        if !self.may_order() || self.stand.other.is_some() {
+        if !self.may_order() || self.stand.other.is_some() || self.moves.is_some() {
             return println!(rt; "refused line");
         }
-        self.stand.other = Some(place);
-        self.keep(rt)?;
-        if panel.submit(DOOR, &Command::Comset(comset(place))).is_ok() {
+        self.moves = Some(place);
+        self.move_on(rt, panel)
+    }
+
+    /// Orders the COMSET that waits here. Right after an order the panel takes none until a POLL has gone out, and then it is tried again. Once it is taken, both places
+    /// are kept before it can go out. Where it is refused for good the door stays where it is.
+    pub fn move_on(&mut self, rt: &HostRuntime, panel: &mut Panel) -> io::Result<()> {
+        let Some(place) = self.moves else {
             return Ok(());
+        };
+        match panel.submit(DOOR, &Command::Comset(comset(place))) {
+            Err(BusFault::Full) => Ok(()),
+            Err(_) => {
+                self.moves = None;
+                Ok(())
+            }
+            Ok(()) => {
+                self.moves = None;
+                self.stand.other = Some(place);
+                self.keep(rt)
+            }
         }
-        self.stand.other = None;
-        self.keep(rt)
     }
 
     /// Does what a line says that is no turn.

@@ -30,9 +30,10 @@ fn may_enter(card: &Raw<'_>) -> bool {
     card.bits() == 26 && cards.iter().any(|known| card.bytes() == known.as_slice())
 }
 
-/// A panel with its door. None where there is no memory.
+/// A panel with its door, which is asked for its cards between two orders. None where there is no memory.
 fn new_panel(alloc: Global) -> Option<Panel> {
-    let mut panel = Panel::new(alloc, BusConfig::new(CheckKind::Crc, Room::of(16))).ok()?;
+    let config = BusConfig::new(CheckKind::Crc, Room::of(16));
+    let mut panel = Panel::new_with_polls_between(alloc, config).ok()?;
     panel.add(Address::new(FIRST.address)?).ok()?;
     Some(panel)
 }
@@ -72,7 +73,7 @@ fn turn(
             open(panel);
         }
     }
-    Ok(())
+    door.move_on(rt, panel)
 }
 
 fn main(rt: HostRuntime) -> io::Result<()> {
