@@ -1,4 +1,4 @@
-use Rattle.std.proofs.Common.{◌+◌, ◌<◌, ◌≤◌, ap, arith, length, rules}
+use Rattle.std.proofs.Common.{◌+◌, ◌≤◌, ap, arith, length, rules}
 use Rattle.osdp_tool_test_panel.proofs.Each.{made_all, made_more}
 use Rattle.osdp_tool_test_panel.proofs.tested.first_entries.Goals as goal
 
