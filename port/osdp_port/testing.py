@@ -219,7 +219,14 @@ def allowed(words):
 
 
 class Judge(Stream):
-    """`osdp test`, whose report is handed on as it comes, with what the monitor says of the scenarios."""
+    """`osdp test`, whose report is handed on as it comes."""
+
+    def prints(self, line):
+        self.console.raw(line)
+
+
+class Accusing(Judge):
+    """The same of a device, with what the monitor says of the scenarios."""
 
     def __init__(self, osdp, is_tap, console):
         self.beside = Beside(is_tap)
@@ -227,12 +234,12 @@ class Judge(Stream):
 
     def prints(self, line):
         for each in self.beside.lines(line):
-            self.console.raw(each)
+            super().prints(each)
 
 
 def test(words, port, console, osdp):
     """Tests the device at an address. The status: that of `osdp test`."""
-    judge, lines, address = Judge(osdp, bool(words.get("--tap")), console), [], int(words.rest[1])
+    judge, lines, address = Accusing(osdp, bool(words.get("--tap")), console), [], int(words.rest[1])
     kept = open(words.get("--trace"), "w", encoding="ascii") if words.get("--trace") else None
 
     def write(line):
