@@ -683,7 +683,7 @@ enum {
     OSDP_CHECK_CRC = 1
 };
 
-/* The settings of a panel. Times are in milliseconds, 1 to 3,600,000 where nothing else is said. 40 bytes. */
+/* The settings of a panel. Times are in milliseconds, 1 to 3,600,000 where nothing else is said. 44 bytes. */
 struct osdp_panel_config {
     /* OSDP_CHECK_SUM or OSDP_CHECK_CRC: which check the frames end with. */
     uint32_t check;
@@ -705,9 +705,15 @@ struct osdp_panel_config {
     uint32_t capacity;
     /* How far a moment may lie after the greatest one seen; 0 stands for a day. */
     uint32_t clock_limit;
+    /*
+     * 1: between two commands of a device it is asked for its events by a POLL. So commands that come as fast as they go keep none of its cards waiting. A
+     * command that comes before that POLL waits in the panel, and is counted and withdrawn as any that waits; a COMSET among them is refused with
+     * OSDP_COMMANDS_FULL. It takes memory for one more queue of commands for each device. 0: commands go out one after the other.
+     */
+    uint32_t poll_between_orders;
 };
 
-/* Writes the default settings: a CRC, 200, 50, 3, 50, 20, 400, 20, room for 64 commands, and a day. */
+/* Writes the default settings: a CRC, 200, 50, 3, 50, 20, 400, 20, room for 64 commands, a day, and no POLLs between commands. */
 void osdp_panel_defaults(struct osdp_panel_config *config);
 
 /*

@@ -68,7 +68,7 @@ done
 build texts tests/c/texts.c c/osdp_texts.c && passes "$work/texts"
 build structs tests/c/structs.c c/heap_malloc.c "$archive" && passes "$work/structs"
 build structs_checked tests/c/structs.c c/heap_malloc.c "$archive" "${checked[@]}" && passes "$work/structs_checked"
-for name in ages limits messages moments nulls; do
+for name in ages between limits messages moments nulls; do
   build "$name" "tests/c/$name.c" c/heap_malloc.c "$archive" "${checked[@]}" && passes "$work/$name"
 done
 

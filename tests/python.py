@@ -227,6 +227,35 @@ def judge_rooms():
     refused("no room for events", osdp.Status.DEVICE_OUT_OF_RANGE, lambda: osdp.Device(5, room=0))
 
 
+def judge_between():
+    """Commands that come as fast as they go: a card is told after two of them at the most, where the setting asks for it; else it waits as long as they come. What waits
+    is counted and withdrawn."""
+    for between in (1, 0):
+        settled, cards = 0, 0
+        with osdp.Panel(poll_between_orders=between, capacity=4) as panel, osdp.Device(5) as device:
+            door = panel.add(5)
+            panel.begin(door, 0)
+            device.event("KEYPAD 0 31")
+            for now in range(0, 4000):
+                while panel.waiting(door) < 4:
+                    panel.submit(door, "LSTAT")
+                for answer in device.hear(panel.tick(now), now):
+                    panel.hear(answer.data, now)
+                for report in panel.reports():
+                    settled += report.kind is osdp.Kind.SETTLED
+                    cards += report.kind is osdp.Kind.EVENT
+                    if report.kind is osdp.Kind.EVENT:
+                        tell("commands before the card", True, settled <= 2)
+        tell(f"cards, with {between}", (1, True) if between else (0, True), (cards, settled > (50 if between else 2000)))
+    with osdp.Panel(poll_between_orders=1) as panel:
+        door, texts = panel.add(5), ["LSTAT", "ISTAT", "OSTAT"]
+        for text in texts:
+            panel.submit(door, text)
+        tell("waiting", 3, panel.waiting(door))
+        tell("withdrawn in order", texts, [str(panel.withdraw(door)) for _ in texts])
+    refused("a setting of 2", osdp.Status.PANEL_OUT_OF_RANGE, lambda: osdp.Panel(poll_between_orders=2))
+
+
 def judge_device():
     """What a device is told, and what its program says to a command."""
     with osdp.Panel() as panel, osdp.Device(5, vendor=b"SIM", model=1, version=2, serial=3, firmware=(4, 5, 6), capabilities=bytes([2, 1, 4])) as device:
@@ -280,6 +309,6 @@ if __name__ == "__main__":
     judge_structs(header()), judge_functions(header()), judge_numbers(header()), judge_docs()
     for lost in ([], [41], [46], [30, 61, 66]):
         judge_session(lost)
-    judge_again(), judge_pieces(), judge_refusals(), judge_rooms(), judge_device(), judge_monitor(), judge_example()
+    judge_again(), judge_pieces(), judge_refusals(), judge_rooms(), judge_between(), judge_device(), judge_monitor(), judge_example()
     print(f"python: {len(faults)} faults", *faults, sep="\n")
     sys.exit(1 if faults else 0)

@@ -59,6 +59,7 @@ int main(int count, char **words)
     words = take_words(&count, words, 2, "door_panel [--keep FILE] PORT RATE\n", &kept);
     uint32_t rate = number(words[1], "rate");
     osdp_panel_defaults(&config);
+    config.poll_between_orders = 1; /* a card waits for no orders */
     osdp_status status = osdp_panel_new(&panel, &config);
     status = status == OSDP_OK ? add_door(&panel, &door, kept, 5, rate) : status;
     if (status != OSDP_OK) {

@@ -91,6 +91,7 @@ static osdp_status make(uint64_t now)
     static struct osdp_message red;
     struct osdp_panel_config config;
     osdp_panel_defaults(&config);
+    config.poll_between_orders = 1; /* a card waits for no orders */
     osdp_status status = osdp_panel_new(&panel, &config);
     osdp_site_new(&site, entries, DOORS, now);
     osdp_color(OSDP_COLOR_RED, &red);

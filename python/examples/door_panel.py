@@ -40,7 +40,7 @@ def take_reports(panel, door, now):
 
 def main():
     path, rate = take_words(__doc__, 2)
-    port, lines, panel = Port(path, number(rate, "rate")), Lines(), osdp.Panel()
+    port, lines, panel = Port(path, number(rate, "rate")), Lines(), osdp.Panel(poll_between_orders=1)  # a card waits for no orders
     door, begins = panel.add(5), 0
     while True:
         if begins is not None and begins <= moment():

@@ -85,7 +85,7 @@ class PanelHandle(ctypes.Structure):
 class PanelConfigStruct(ctypes.Structure):
     """The settings of a panel."""
 
-    _fields_ = [(name, c_uint32) for name in ("check", "reply_wait", "poll_interval", "sends", "busy_wait", "busy_limit", "quiet_wait", "gap", "capacity", "clock_limit")]
+    _fields_ = [(name, c_uint32) for name in ("check", "reply_wait", "poll_interval", "sends", "busy_wait", "busy_limit", "quiet_wait", "gap", "capacity", "clock_limit", "poll_between_orders")]
 
 
 class MomentStruct(ctypes.Structure):

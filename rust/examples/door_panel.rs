@@ -49,7 +49,10 @@ fn take_reports(panel: &mut Panel, door: &mut Door, now: Moment) -> Done {
 }
 
 fn run(mut port: Port) -> Done {
-    let mut panel = Panel::new(&PanelConfig::default())?;
+    let mut panel = Panel::new(&PanelConfig {
+        poll_between_orders: true, // a card waits for no orders
+        ..PanelConfig::default()
+    })?;
     let mut door = Door::add(&mut panel, &port, 5)?;
     loop {
         let until = door.site.wait_until(&panel, port.now() + TURN);

@@ -41,7 +41,10 @@ struct Doors {
 
 impl Doors {
     fn new(now: Moment) -> Result<Doors, Box<dyn Error>> {
-        let mut panel = Panel::new(&PanelConfig::default())?;
+        let mut panel = Panel::new(&PanelConfig {
+            poll_between_orders: true, // a card waits for no orders
+            ..PanelConfig::default()
+        })?;
         let mut site = Site::new(now);
         for address in (1..).take(DOORS) {
             let door = panel.add(address)?;

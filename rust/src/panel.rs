@@ -37,6 +37,10 @@ pub struct PanelConfig {
     pub capacity: u32,
     /// How far a moment may lie after the greatest one seen, 1 ms to 49 days; no time stands for a day.
     pub clock_limit: Duration,
+    /// Whether a device is asked for its events, by a POLL, between two of its commands. So commands that come as fast as they go keep none of its cards waiting.
+    /// A command that comes before that POLL waits in the panel, and is counted and withdrawn as any that waits; a COMSET among them is refused as one without
+    /// room. It takes memory for one more queue of commands for each device. By default commands go out one after the other.
+    pub poll_between_orders: bool,
 }
 
 /// A time of a setting, as the archive takes it; one that is too long is above what it takes.
@@ -65,6 +69,7 @@ impl PanelConfig {
             gap: milliseconds(self.gap),
             capacity: self.capacity,
             clock_limit: limit(self.clock_limit)?,
+            poll_between_orders: self.poll_between_orders.into(),
         })
     }
 }
@@ -88,6 +93,7 @@ impl Default for PanelConfig {
             gap: Duration::from_millis(config.gap.into()),
             capacity: config.capacity,
             clock_limit: Duration::from_millis(config.clock_limit.into()),
+            poll_between_orders: config.poll_between_orders != 0,
         }
     }
 }

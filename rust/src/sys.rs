@@ -206,7 +206,7 @@ structs! {
 
     /// The settings of a panel. Times are in milliseconds, 1 to 3,600,000.
     #[derive(Clone, Copy, Debug, PartialEq, Eq)]
-    osdp_panel_config, 40 {
+    osdp_panel_config, 44 {
         /// Which check the frames end with.
         check: Check,
         /// How long an answer is waited for.
@@ -226,6 +226,7 @@ structs! {
         /// How many commands may wait for each device, 1 to 1,024.
         capacity: u32,
         clock_limit: u32,
+        poll_between_orders: u32,
     }
 
     #[derive(Clone, Copy)]

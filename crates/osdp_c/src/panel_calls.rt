@@ -1,11 +1,11 @@
-//! The calls of a panel, on its bus.
+//! The calls of a panel, on its bus and its orders.
 
 ghost use Rattle.std.specs.Prelude.{◌≡◌};
-ghost use Rattle.osdp_bus.specs.Machine.{AddEnds};
+ghost use Rattle.osdp_orders.specs.Orders.{AddEnds};
 ghost use Rattle.osdp_c_values.specs.Addresses.{device_address};
 ghost use Rattle.osdp_bus.specs.Ticking.{bus_ticks};
 ghost use Rattle.osdp_c_values.specs.Clocks.{accepts};
-ghost use Rattle.osdp_c_values.specs.Panels.{IsSentIf, at_moment, begins, done_status, falls_silent, hears, retargets, sets_moment, submits, submits_data, submits_text, ticks, withdraws, writes_withdrawn};
+ghost use Rattle.osdp_c_values.specs.Panels.{IsSentIf, at_moment, begins, beside, done_status, falls_silent, hears, on_panel, panel_of, retargets, sets_moment, submits, submits_data, submits_text, ticks, with_panel, withdraws, writes_withdrawn};
 
 use crate::held::at_moment;
 use osdp_bus::{Bus, BusFault, Entry};
@@ -32,10 +32,13 @@ fn device_address(number: u32) -> Address
 }
 
 /// Adds a device.
-pub(crate) fn add(bus: &mut Bus, address: u32) -> Result<Entry, BusFault>
-    ensures { AddEnds (device_address address) bus.old bus.new result }
+pub(crate) fn add(machine: &mut PanelMachine, address: u32) -> Result<Entry, BusFault>
+    ensures ends { AddEnds (device_address address) (panel_of machine.old) (panel_of machine.new) result }
+    ensures machine { machine.new ≡ with_panel (panel_of machine.new) machine.old }
 {
-    bus.add(device_address(address))
+    machine
+        .orders
+        .add(&mut machine.bus, device_address(address))
 }
 
 /// Begins a session.
@@ -43,13 +46,17 @@ pub(crate) fn begin(machine: &mut PanelMachine, entry: Entry, now: u64) -> Statu
     ensures status { result ≡ (at_moment now (begins entry now) machine.old).status }
     ensures machine { machine.new ≡ (at_moment now (begins entry now) machine.old).machine }
 {
-    at_moment!(machine, now, done_status(machine.bus.begin(entry, now)))
+    at_moment!(
+        machine,
+        now,
+        done_status(machine.orders.begin(&mut machine.bus, entry, now))
+    )
 }
 
 /// Bytes have come from the line.
 pub(crate) fn hear(machine: &mut PanelMachine, bytes: &[u8], now: u64) -> Status
-    ensures status { result ≡ (at_moment now (hears bytes.now now) machine.old).status }
-    ensures machine { machine.new ≡ (at_moment now (hears bytes.now now) machine.old).machine }
+    ensures status { result ≡ (at_moment now (beside (hears bytes.now now)) machine.old).status }
+    ensures machine { machine.new ≡ (at_moment now (beside (hears bytes.now now)) machine.old).machine }
 {
     at_moment!(
         machine,
@@ -63,8 +70,8 @@ pub(crate) fn hear(machine: &mut PanelMachine, bytes: &[u8], now: u64) -> Status
 
 /// The line was seen silent.
 pub(crate) fn fall_silent(machine: &mut PanelMachine, now: u64) -> Status
-    ensures status { result ≡ (at_moment now (falls_silent now) machine.old).status }
-    ensures machine { machine.new ≡ (at_moment now (falls_silent now) machine.old).machine }
+    ensures status { result ≡ (at_moment now (beside (falls_silent now)) machine.old).status }
+    ensures machine { machine.new ≡ (at_moment now (beside (falls_silent now)) machine.old).machine }
 {
     at_moment!(
         machine,
@@ -101,49 +108,53 @@ pub(crate) fn set_moment(machine: &mut PanelMachine, now: u64)
 }
 
 /// Puts a command after those that wait for a device.
-fn submit(bus: &mut Bus, entry: Entry, command: &Command<'_>) -> Status
-    ensures status { result ≡ (submits entry command.now bus.old).status }
-    ensures bus { bus.new ≡ (submits entry command.now bus.old).machine }
+fn submit(machine: &mut PanelMachine, entry: Entry, command: &Command<'_>) -> Status
+    ensures status { result ≡ (on_panel (submits entry command.now) machine.old).status }
+    ensures machine { machine.new ≡ (on_panel (submits entry command.now) machine.old).machine }
 {
-    done_status(bus.submit(entry, command))
+    done_status(machine.orders.submit(&mut machine.bus, entry, command))
 }
 
 /// The same by the command's code and data.
-pub(crate) fn submit_data(bus: &mut Bus, entry: Entry, code: u8, body: &[u8]) -> Status
-    ensures status { result ≡ (submits_data entry code body.now bus.old).status }
-    ensures bus { bus.new ≡ (submits_data entry code body.now bus.old).machine }
+pub(crate) fn submit_data(machine: &mut PanelMachine, entry: Entry, code: u8, body: &[u8]) -> Status
+    ensures status { result ≡ (on_panel (submits_data entry code body.now) machine.old).status }
+    ensures machine { machine.new ≡ (on_panel (submits_data entry code body.now) machine.old).machine }
 {
     match Command::read(code, body) {
-        Ok(command) => submit(bus, entry, &command),
+        Ok(command) => submit(machine, entry, &command),
         Err(fault) => Status::Message(fault),
     }
 }
 
 /// The same by what was read of the command's text.
-pub(crate) fn submit_read(bus: &mut Bus, entry: Entry, read: &Option<Command<'_>>) -> Status
-    ensures status { result ≡ (submits_text entry read.now bus.old).status }
-    ensures bus { bus.new ≡ (submits_text entry read.now bus.old).machine }
+pub(crate) fn submit_read(
+    machine: &mut PanelMachine,
+    entry: Entry,
+    read: &Option<Command<'_>>,
+) -> Status
+    ensures status { result ≡ (on_panel (submits_text entry read.now) machine.old).status }
+    ensures machine { machine.new ≡ (on_panel (submits_text entry read.now) machine.old).machine }
 {
     match read {
-        Some(command) => submit(bus, entry, command),
+        Some(command) => submit(machine, entry, command),
         None => Status::BadText,
     }
 }
 
 /// Takes back a command, and writes which.
-pub(crate) fn withdraw(bus: &mut Bus, entry: Entry, out: &mut MessageStruct) -> Status
-    ensures status { result ≡ (withdraws entry bus.old).status }
-    ensures bus { bus.new ≡ (withdraws entry bus.old).machine }
-    ensures written { out.new ≡ writes_withdrawn entry bus.old out.old }
+pub(crate) fn withdraw(machine: &mut PanelMachine, entry: Entry, out: &mut MessageStruct) -> Status
+    ensures status { result ≡ (on_panel (withdraws entry) machine.old).status }
+    ensures machine { machine.new ≡ (on_panel (withdraws entry) machine.old).machine }
+    ensures written { out.new ≡ writes_withdrawn entry (panel_of machine.old) out.old }
 {
-    let status = match bus.withdrawable(entry) {
+    let status = match machine.orders.withdrawable(&machine.bus, entry) {
         Ok(command) => {
             out.set_command(command.as_ref());
             Status::Done
         }
         Err(fault) => Status::Panel(fault),
     };
-    let _ = bus.withdraw(entry);
+    let _ = machine.orders.withdraw(&mut machine.bus, entry);
     status
 }
 

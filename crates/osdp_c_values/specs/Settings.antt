@@ -1,5 +1,5 @@
 -- The settings of machines as structs of plain fields.
-use Rattle.std.specs.Prelude.{ℕ, ◌+◌, ◌*◌, ◌==◌, ◌&&◌, nat_le, if◌then◌else◌, Option, None, Some}
+use Rattle.std.specs.Prelude.{ℕ, ◌+◌, ◌*◌, Bool, not, ◌==◌, ◌&&◌, nat_le, if◌then◌else◌, Option, None, Some}
 use Rattle.osdp_bus.specs.declared.config.BusConfig.{BusConfig}
 use Rattle.osdp_frame.specs.declared.check_kind.CheckKind.{CheckKind}
 use Rattle.osdp_frame.specs.declared.check_kind.CheckKind.TheVariants.{Sum, Crc}
@@ -21,10 +21,10 @@ room_for count = record { messages = count; bytes = count * (1 + most_data) }
 abbrev pub default_room : ℕ → Option Room
 default_room count = if nat_le count most_waiting then Some (room_for count) else None
 
--- the bus's settings that a struct stands for, with such room: there are two checks, and the sends and the BUSYs are bytes
+-- the bus's settings that a struct stands for, with such room: there are two checks, the sends and the BUSYs are bytes, and POLLs stand between orders or not
 abbrev pub bus_config_in : Room → PanelSettings → Option BusConfig
 bus_config_in room s =
-    if nat_le s.check 1 && (nat_le s.sends 255 && nat_le s.busy_limit 255) then Some (record {
+    if nat_le s.check 1 && (nat_le s.sends 255 && (nat_le s.busy_limit 255 && nat_le s.poll_between_orders 1)) then Some (record {
       check = check_of s.check;
       reply_wait = s.reply_wait;
       poll_interval = s.poll_interval;
@@ -59,6 +59,10 @@ id_of s = pd_id s.serial s.product
 -- a day, in milliseconds
 abbrev pub day : ℕ
 day = 86400000
+
+-- whether a device is asked for its events between two of its orders
+abbrev pub polls_between : PanelSettings → Bool
+polls_between s = not (s.poll_between_orders == 0)
 
 -- how far a moment may lie after the greatest one seen, by a setting
 abbrev pub limit_of : ℕ → ℕ

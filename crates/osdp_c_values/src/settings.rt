@@ -3,7 +3,7 @@
 ghost use Rattle.std.specs.Prelude.{◌≡◌, Some};
 ghost use Rattle.osdp_bus.specs.Settings.{default_config};
 ghost use Rattle.osdp_frame.specs.declared.check_kind.CheckKind.TheVariants.{Crc};
-ghost use Rattle.osdp_c_values.specs.Settings.{bus_config_in, bus_config_of, bus_config_with, check_of, day, default_room, id_of, limit_of, room_for};
+ghost use Rattle.osdp_c_values.specs.Settings.{bus_config_in, bus_config_of, bus_config_with, check_of, day, default_room, id_of, limit_of, polls_between, room_for};
 
 use osdp_bus::BusConfig;
 use osdp_frame::CheckKind;
@@ -33,6 +33,8 @@ pub struct PanelSettings {
     pub capacity: u32,
     /// How far a moment may lie after the greatest one seen; 0 stands for a day.
     pub clock_limit: u32,
+    /// 1: between two orders of a device it is asked for its events by a POLL. 0: orders go out one after the other.
+    pub poll_between_orders: u32,
 }
 
 /// A day, in milliseconds.
@@ -72,6 +74,7 @@ impl PanelSettings {
     pub fn set_defaults(&mut self)
         ensures bus { bus_config_of self.new ≡ Some (default_config Crc (room_for 64)) }
         ensures clock { self.new.clock_limit ≡ day }
+        ensures between { self.new.poll_between_orders ≡ 0 }
     {
         self.check = 1;
         self.reply_wait = 200;
@@ -83,6 +86,7 @@ impl PanelSettings {
         self.gap = 20;
         self.capacity = 64;
         self.clock_limit = DAY;
+        self.poll_between_orders = 0;
     }
 
     /// How far a moment may lie after the greatest one seen.
@@ -92,8 +96,15 @@ impl PanelSettings {
         limit_of(self.clock_limit)
     }
 
-    /// The settings of a bus that they stand for, with room for each command, however long it is. None where the check, the sends, the BUSYs or
-    /// the commands that may wait have no such number.
+    /// Whether a device is asked for its events between two of its orders.
+    pub fn polls_between(&self) -> bool
+        ensures { result ≡ polls_between self.now }
+    {
+        self.poll_between_orders != 0
+    }
+
+    /// The settings of a bus that they stand for, with room for each command, however long it is. None where the check, the sends, the BUSYs, the
+    /// commands that may wait or the POLLs between orders have no such number.
     pub fn to_config(&self) -> Option<BusConfig>
         ensures { result ≡ bus_config_of self.now }
     {
@@ -114,7 +125,11 @@ impl PanelSettings {
     fn config_in(&self, room: Room) -> Option<BusConfig>
         ensures { result ≡ bus_config_in room self.now }
     {
-        if self.check > 1 || self.sends > 255 || self.busy_limit > 255 {
+        if self.check > 1
+            || self.sends > 255
+            || self.busy_limit > 255
+            || self.poll_between_orders > 1
+        {
             return None;
         }
         Some(BusConfig {

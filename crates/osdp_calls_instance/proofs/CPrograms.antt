@@ -8,11 +8,10 @@ use Rattle.osdp_msg.specs.declared.event.Event.{Event}
 use Rattle.osdp_msg.specs.declared.fault.MsgFault.{MsgFault}
 use Rattle.osdp_msg.specs.declared.limits.Room.{Room}
 use Rattle.osdp_bus.specs.Buses.{BusState, new_bus}
-use Rattle.osdp_bus.specs.Machine.{AddEnds, add_refusal, after_add, changed_unless}
+use Rattle.osdp_bus.specs.Machine.{add_refusal, after_add, changed_unless}
 use Rattle.osdp_bus.specs.declared.config.BusConfig.{BusConfig}
 use Rattle.osdp_bus.specs.declared.fault.BusFault.{BusFault}
 use Rattle.osdp_bus.specs.declared.fault.BusFault.TheVariants as fault
-use Rattle.osdp_bus_laws.proofs.Ordering.{order_made}
 use Rattle.osdp_bus_laws.specs.Calls as bus
 use Rattle.osdp_device.specs.Deciding.{is_asked, pending_of, turned_by, with_question}
 use Rattle.osdp_device.specs.Program.{new_program, program_after, program_answer}
@@ -22,6 +21,9 @@ use Rattle.osdp_device.specs.declared.question.Question.{Question}
 use Rattle.osdp_device.specs.declared.question.Question.TheVariants.{Answered, Asked, NotAsked}
 use Rattle.osdp_link_laws.proofs.Lines.{each_all}
 use Rattle.osdp_link_laws.proofs.Stages.{Each}
+use Rattle.osdp_orders.specs.Orders.{AddEnds, PanelState, new_orders, with_new_queue}
+use Rattle.osdp_orders_laws.proofs.OfBus.{calls_of_the_bus}
+use Rattle.osdp_orders_laws.specs.OfTheBus.{bus_calls}
 use Rattle.osdp_reader.specs.Queue.{lacks_room}
 use Rattle.osdp_reader.specs.State.{ReaderState, new_reader}
 use Rattle.osdp_reader.specs.declared.handler.Answer.{Answer}
@@ -31,7 +33,7 @@ use Rattle.osdp_c_values.specs.Calls.{Done}
 use Rattle.osdp_c_values.specs.Clocks.{accepts, new_clock, sees}
 use Rattle.osdp_c_values.specs.Panels as panel
 use Rattle.osdp_c_values.specs.Readers as reader
-use Rattle.osdp_c_values.specs.Settings.{bus_config_of, bus_config_with, limit_of}
+use Rattle.osdp_c_values.specs.Settings.{bus_config_of, bus_config_with, limit_of, polls_between}
 use Rattle.osdp_c_values.specs.Statuses.{number}
 use Rattle.osdp_c_values.specs.declared.machine.PanelMachine.{PanelMachine}
 use Rattle.osdp_c_values.specs.declared.machine.ReaderMachine.{ReaderMachine}
@@ -46,84 +48,87 @@ use Rattle.osdp_calls.specs.Ends.{Held, takes_event}
 use Rattle.osdp_calls.specs.Sayings.{AddsMakeTheBus, NoneRefused}
 use Rattle.osdp_calls_instance.proofs.LinePrograms.{bus_same, own_device, panels_own}
 use Rattle.osdp_calls_instance.specs.CPrograms as c
-use Rattle.osdp_calls_instance.specs.CPrograms.{AddsEach, DeviceCall, DeviceCallFits, MakesAnew, MakesAnewBy, PanelCall, answer_calls, c_device, c_panel, device_call, device_calls, event_calls, event_read, if_read, panel_call, panel_calls, settle_calls, settles_by, submitted, told_states}
+use Rattle.osdp_calls_instance.specs.CPrograms.{AddsEach, DeviceCall, DeviceCallFits, MakesAnew, MakesAnewBy, PanelCall, answer_calls, c_device, c_panel, device_call, device_calls, event_calls, event_read, if_read, orders_with, panel_call, panel_calls, settle_calls, settles_by, submitted, told_states}
 use Rattle.osdp_calls_instance.specs.OwnCalls.{AreDeviceCalls, ArePanelCalls, IsOfDevice, IsOfPanel, bus_after_each, device_after_each}
 
 -- ---- a panel
 
-one_accepted : (H : Type 0) (ok : Bool) (call : bus.Call) → Each (IsOfPanel {H = H}) (cond ok (OfPanel call ∷ []) [])
-one_accepted H true call = (tt, tt)
-one_accepted H false call = tt
+one_accepted : (H : Type 0) (ok : Bool) (calls : List bus.Call) → Each (IsOfPanel {H = H}) (cond ok (map OfPanel calls) [])
+one_accepted H true calls = panels_own H calls
+one_accepted H false calls = tt
 
-one_submitted : (H : Type 0) (entry : ℕ) (o : Option Command) → Each (IsOfPanel {H = H}) (submitted entry o)
-one_submitted H entry None = tt
-one_submitted H entry (Some command) = panels_own H (bus.orders entry command)
+one_submitted : (H : Type 0) (entry : ℕ) (o : Option Command) (m : PanelMachine) → Each (IsOfPanel {H = H}) (submitted entry o m)
+one_submitted H entry None m = tt
+one_submitted H entry (Some command) m = panels_own H (bus_calls (bus.Submit entry command) (panel.panel_of m))
 
 panel_end : (H : Type 0) (call : PanelCall) (m : PanelMachine) → Each (IsOfPanel {H = H}) (panel_calls call m)
-panel_end H (c.Begin entry now) m = one_accepted H (accepts now m.clock) (bus.Begin entry now)
-panel_end H (c.Submit entry code body) m = one_submitted H entry (if_read (command_of code body))
-panel_end H (c.SubmitText entry read) m = one_submitted H entry read
+panel_end H (c.Begin entry now) m = one_accepted H (accepts now m.clock) (bus_calls (bus.Begin entry now) (panel.panel_of m))
+panel_end H (c.Submit entry code body) m = one_submitted H entry (if_read (command_of code body)) m
+panel_end H (c.SubmitText entry read) m = one_submitted H entry read m
 panel_end H (c.Withdraw entry) m = (tt, tt)
 panel_end H (c.Retarget entry address) m = (tt, tt)
-panel_end H (c.Bytes bytes now) m = one_accepted H (accepts now m.clock) (bus.OnBytes bytes now)
-panel_end H (c.PanelSilence now) m = one_accepted H (accepts now m.clock) (bus.OnSilence now)
-panel_end H (c.PanelTick now) m = one_accepted H (accepts now m.clock) (bus.Tick now)
+panel_end H (c.Bytes bytes now) m = one_accepted H (accepts now m.clock) (bus.OnBytes bytes now ∷ [])
+panel_end H (c.PanelSilence now) m = one_accepted H (accepts now m.clock) (bus.OnSilence now ∷ [])
+panel_end H (c.PanelTick now) m = one_accepted H (accepts now m.clock) (bus_calls (bus.Tick now) (panel.panel_of m))
 panel_end H c.NextReport m = (tt, tt)
 panel_end H (c.SetPanelMoment now) m = (tt, tt)
 panel_end H (c.LooksAt entry) m = tt
 panel_end H c.Looks m = tt
-panel_end H (c.PanelAnew config limit addresses) m = (tt, tt)
+panel_end H (c.PanelAnew between config limit addresses) m = (tt, tt)
 
 -- a call at a moment
-at_moment : (H : Type 0) (ok : Bool) (call : bus.Call) (after : BusState) (m : PanelMachine) → bus.after_call call m.bus ≡ after
-    → cond ok after m.bus ≡ bus_after_each {H = H} (cond ok (OfPanel call ∷ []) []) m.bus
-at_moment H true call after m is = sym is
-at_moment H false call after m is = refl
+at_moment : (H : Type 0) (ok : Bool) (calls : List bus.Call) (after : BusState) (m : PanelMachine) → after ≡ bus.after_calls calls m.bus
+    → cond ok after m.bus ≡ bus_after_each {H = H} (cond ok (map OfPanel calls) []) m.bus
+at_moment H true calls after m is = is ∙ bus_same H calls m.bus
+at_moment H false calls after m is = refl
 
-abbrev if_moment : Bool → ℕ → (BusState → Done BusState) → PanelMachine → Done PanelMachine
+abbrev if_moment : Bool → ℕ → (PanelState → Done PanelState) → PanelMachine → Done PanelMachine
 if_moment ok now call m =
     cond ok (record {
-      status = (call m.bus).status;
-      machine = record m { bus = (call m.bus).machine; clock = panel.sees_if_done now (call m.bus).status m.clock };
+      status = (call (panel.panel_of m)).status;
+      machine = record (panel.with_panel (call (panel.panel_of m)).machine m) { clock = panel.sees_if_done now (call (panel.panel_of m)).status m.clock };
     }) (record { status = status.MomentTooFar; machine = m })
 
-moment_bus : (ok : Bool) (now : ℕ) (call : BusState → Done BusState) (m : PanelMachine)
-    → (if_moment ok now call m).machine.bus ≡ cond ok (call m.bus).machine m.bus
+moment_bus : (ok : Bool) (now : ℕ) (call : PanelState → Done PanelState) (m : PanelMachine)
+    → (if_moment ok now call m).machine.bus ≡ cond ok (call (panel.panel_of m)).machine.bus m.bus
 moment_bus true now call m = refl
 moment_bus false now call m = refl
 
 submits_so : (H : Type 0) (entry : ℕ) (o : Option Command) (m : PanelMachine)
-    → (panel.submits_text entry o m.bus).machine ≡ bus_after_each {H = H} (submitted entry o) m.bus
+    → (panel.submits_text entry o (panel.panel_of m)).machine.bus ≡ bus_after_each {H = H} (submitted entry o m) m.bus
 submits_so H entry None m = refl
-submits_so H entry (Some command) m = order_made entry command m.bus ∙ bus_same H (bus.orders entry command) m.bus
+submits_so H entry (Some command) m =
+    calls_of_the_bus (panel.panel_of m) (bus.Submit entry command) ∙ bus_same H (bus_calls (bus.Submit entry command) (panel.panel_of m)) m.bus
 
 reads_so : (H : Type 0) (entry : ℕ) (r : Result Command MsgFault) (m : PanelMachine)
-    → (panel.submits_read entry r m.bus).machine ≡ bus_after_each {H = H} (submitted entry (if_read r)) m.bus
+    → (panel.submits_read entry r (panel.panel_of m)).machine.bus ≡ bus_after_each {H = H} (submitted entry (if_read r) m) m.bus
 reads_so H entry (Ok command) m = submits_so H entry (Some command) m
 reads_so H entry (Err fault) m = refl
 
 panel_is : (H : Type 0) (call : PanelCall) (m : PanelMachine) → (panel_call call m).machine.bus ≡ bus_after_each {H = H} (panel_calls call m) m.bus
 panel_is H (c.Begin entry now) m =
+    let x = panel.panel_of m in
     moment_bus (accepts now m.clock) now (panel.begins entry now) m
-    ∙ at_moment H (accepts now m.clock) (bus.Begin entry now) (panel.begins entry now m.bus).machine m refl
+    ∙ at_moment H (accepts now m.clock) (bus_calls (bus.Begin entry now) x) (panel.begins entry now x).machine.bus m (calls_of_the_bus x (bus.Begin entry now))
 panel_is H (c.Submit entry code body) m = reads_so H entry (command_of code body) m
 panel_is H (c.SubmitText entry read) m = submits_so H entry read m
-panel_is H (c.Withdraw entry) m = refl
+panel_is H (c.Withdraw entry) m = calls_of_the_bus (panel.panel_of m) (bus.Withdraw entry)
 panel_is H (c.Retarget entry address) m = refl
 panel_is H (c.Bytes bytes now) m =
-    moment_bus (accepts now m.clock) now (panel.hears bytes now) m
-    ∙ at_moment H (accepts now m.clock) (bus.OnBytes bytes now) (panel.hears bytes now m.bus).machine m refl
+    moment_bus (accepts now m.clock) now (panel.beside (panel.hears bytes now)) m
+    ∙ at_moment H (accepts now m.clock) (bus.OnBytes bytes now ∷ []) (panel.hears bytes now m.bus).machine m refl
 panel_is H (c.PanelSilence now) m =
-    moment_bus (accepts now m.clock) now (panel.falls_silent now) m
-    ∙ at_moment H (accepts now m.clock) (bus.OnSilence now) (panel.falls_silent now m.bus).machine m refl
+    moment_bus (accepts now m.clock) now (panel.beside (panel.falls_silent now)) m
+    ∙ at_moment H (accepts now m.clock) (bus.OnSilence now ∷ []) (panel.falls_silent now m.bus).machine m refl
 panel_is H (c.PanelTick now) m =
+    let x = panel.panel_of m in
     moment_bus (accepts now m.clock) now (panel.ticks now) m
-    ∙ at_moment H (accepts now m.clock) (bus.Tick now) (panel.ticks now m.bus).machine m refl
+    ∙ at_moment H (accepts now m.clock) (bus_calls (bus.Tick now) x) (panel.ticks now x).machine.bus m (calls_of_the_bus x (bus.Tick now))
 panel_is H c.NextReport m = refl
 panel_is H (c.SetPanelMoment now) m = refl
 panel_is H (c.LooksAt entry) m = refl
 panel_is H c.Looks m = refl
-panel_is H (c.PanelAnew config limit addresses) m = refl
+panel_is H (c.PanelAnew between config limit addresses) m = refl
 
 pub panels_are : {H : Type 0} → ArePanelCalls (c_panel {H = H})
 panels_are {H} = record {
@@ -135,56 +140,56 @@ panels_are {H} = record {
 
 record Added (address : ℕ) (m : PanelMachine) (next : Option PanelMachine) : Type 0 where
   fine : add_refusal (device_address address) m.bus ≡ None
-  is : next ≡ Some (record m { bus = after_add (device_address address) m.bus })
+  is : next ≡ Some (record m { orders = with_new_queue m.orders; bus = after_add (device_address address) m.bus })
 
-added : (address : ℕ) (m : PanelMachine) (next : Option PanelMachine) (out out' : ℕ) (r : Result ℕ BusFault) (b' : BusState)
-    → AddEnds (device_address address) m.bus b' r → number status.Done ≡ number (panel.added_status r) → next ≡ Some (record m { bus = b' })
+added : (address : ℕ) (m : PanelMachine) (next : Option PanelMachine) (out out' : ℕ) (r : Result ℕ BusFault) (x' : PanelState)
+    → AddEnds (device_address address) (panel.panel_of m) x' r → number status.Done ≡ number (panel.added_status r) → next ≡ Some (panel.with_panel x' m)
     → Added address m next
-added address m next out out' (Ok entry) b' ends done is =
-    record { fine = ends.0; is = is ∙ ap (λ b. Some (record m { bus = b })) ends.2 }
-added address m next out out' (Err fault.NoMemory) b' ends done is = absurd (let e : 0 ≡ 21 = done in omega (arith, e))
-added address m next out out' (Err fault.TooMany) b' ends done is = absurd (let e : 0 ≡ 22 = done in omega (arith, e))
-added address m next out out' (Err fault.AddressTaken) b' ends done is = absurd (let e : 0 ≡ 23 = done in omega (arith, e))
-added address m next out out' (Err fault.NoEntry) b' ends done is = absurd (let e : 0 ≡ 24 = done in omega (arith, e))
-added address m next out out' (Err fault.OutOfRange) b' ends done is = absurd (let e : 0 ≡ 25 = done in omega (arith, e))
-added address m next out out' (Err fault.AddressOutOfRange) b' ends done is = absurd (let e : 0 ≡ 26 = done in omega (arith, e))
-added address m next out out' (Err fault.Full) b' ends done is = absurd (let e : 0 ≡ 33 = done in omega (arith, e))
-added address m next out out' (Err fault.PollSubmitted) b' ends done is = absurd (let e : 0 ≡ 34 = done in omega (arith, e))
-added address m next out out' (Err fault.NotClosed) b' ends done is = absurd (let e : 0 ≡ 35 = done in omega (arith, e))
+added address m next out out' (Ok entry) x' ends done is =
+    record { fine = ends.0; is = is ∙ ap (λ x. Some (panel.with_panel x m)) ends.2 }
+added address m next out out' (Err fault.NoMemory) x' ends done is = absurd (let e : 0 ≡ 21 = done in omega (arith, e))
+added address m next out out' (Err fault.TooMany) x' ends done is = absurd (let e : 0 ≡ 22 = done in omega (arith, e))
+added address m next out out' (Err fault.AddressTaken) x' ends done is = absurd (let e : 0 ≡ 23 = done in omega (arith, e))
+added address m next out out' (Err fault.NoEntry) x' ends done is = absurd (let e : 0 ≡ 24 = done in omega (arith, e))
+added address m next out out' (Err fault.OutOfRange) x' ends done is = absurd (let e : 0 ≡ 25 = done in omega (arith, e))
+added address m next out out' (Err fault.AddressOutOfRange) x' ends done is = absurd (let e : 0 ≡ 26 = done in omega (arith, e))
+added address m next out out' (Err fault.Full) x' ends done is = absurd (let e : 0 ≡ 33 = done in omega (arith, e))
+added address m next out out' (Err fault.PollSubmitted) x' ends done is = absurd (let e : 0 ≡ 34 = done in omega (arith, e))
+added address m next out out' (Err fault.NotClosed) x' ends done is = absurd (let e : 0 ≡ 35 = done in omega (arith, e))
 
 record AllAdded (addresses : List ℕ) (m : PanelMachine) (last : Option PanelMachine) : Type 0 where
   none : NoneRefused (map device_address addresses) m.bus
-  is : last ≡ Some (record m { bus = bus.after_calls (map bus.Add (map device_address addresses)) m.bus })
+  is : last ≡ Some (record m { orders = orders_with (map device_address addresses) m.orders; bus = bus.after_calls (map bus.Add (map device_address addresses)) m.bus })
 
 add_done : (o : Option BusFault) (address : ℕ) (b : BusState) → o ≡ None → changed_unless o b (after_add address b) ≡ after_add address b
 add_done o address b none = ap (λ x. changed_unless x b (after_add address b)) none
 
 all_added : (addresses : List ℕ) (m : PanelMachine) (last : Option PanelMachine) → AddsEach addresses (Some m) last → AllAdded addresses m last
 all_added [] m last adds = record { none = tt; is = adds }
-all_added (address ∷ addresses) m last (next, out, out', (r, b', ends, done, is, written), more) =
-    let a = added address m next out out' r b' ends done is in
-    let next_m : PanelMachine = record m { bus = after_add (device_address address) m.bus } in
+all_added (address ∷ addresses) m last (next, out, out', (r, x', ends, done, is, written), more) =
+    let a = added address m next out out' r x' ends done is in
+    let next_m : PanelMachine = record m { orders = with_new_queue m.orders; bus = after_add (device_address address) m.bus } in
     let rest = all_added addresses next_m last (subst (λ o. AddsEach addresses o last) a.is more) in
     record {
       none = (a.fine, rest.none);
-      is = rest.is ∙ ap (λ b. Some (record m { bus = bus.after_calls (map bus.Add (map device_address addresses)) b }))
+      is = rest.is ∙ ap (λ b. Some (record m { orders = orders_with (map device_address addresses) (with_new_queue m.orders); bus = bus.after_calls (map bus.Add (map device_address addresses)) b }))
           (sym (add_done (add_refusal (device_address address) m.bus) (device_address address) m.bus a.fine));
     }
 
 record NewMade (given : Option BusConfig) (settings : PanelSettings) (made : Option PanelMachine) : Type 0 where
   config : BusConfig
   settings_are : given ≡ Some config
-  is : made ≡ Some (record { bus = new_bus config; clock = new_clock (limit_of settings.clock_limit); sent = tt })
+  is : made ≡ Some (record { orders = new_orders (polls_between settings) config.room; bus = new_bus config; clock = new_clock (limit_of settings.clock_limit); sent = tt })
 
-new_made : (settings : PanelSettings) (made : Option PanelMachine) (given : Option BusConfig) (r : Result BusState BusFault)
-    → panel.MadeAs given r → number status.Done ≡ number (panel.made_status r)
+new_made : (settings : PanelSettings) (made : Option PanelMachine) (given : Option BusConfig) (r : Result PanelState BusFault)
+    → panel.MadeAs (polls_between settings) given r → number status.Done ≡ number (panel.made_status r)
     → made ≡ panel.made_in (limit_of settings.clock_limit) r → NewMade given settings made
 new_made settings made None r makes done is =
     absurd (let e : 0 ≡ 25 = done ∙ ap (λ x. number (panel.made_status x)) makes in omega (arith, e))
-new_made settings made (Some config) (Ok b) makes done is = record {
+new_made settings made (Some config) (Ok x) makes done is = record {
   config = config;
   settings_are = refl;
-  is = is ∙ ap (λ x. Some (record { bus = x; clock = new_clock (limit_of settings.clock_limit); sent = tt })) makes.1;
+  is = is ∙ ap (λ (x : PanelState). Some (record { orders = x.orders; bus = x.bus; clock = new_clock (limit_of settings.clock_limit); sent = tt })) makes.1;
 }
 new_made settings made (Some config) (Err fault.NoMemory) makes done is = absurd (let e : 0 ≡ 21 = done in omega (arith, e))
 new_made settings made (Some config) (Err fault.TooMany) makes done is = absurd (let e : 0 ≡ 22 = done in omega (arith, e))
@@ -197,15 +202,15 @@ new_made settings made (Some config) (Err fault.PollSubmitted) makes done is = a
 new_made settings made (Some config) (Err fault.NotClosed) makes done is = absurd (let e : 0 ≡ 35 = done in omega (arith, e))
 
 made_anew_by : AddsMakeTheBus → (config_of : PanelSettings → Option BusConfig)
-    → MakesAnewBy config_of (λ settings before answer after. panel.NewPanelIn (config_of settings) (limit_of settings.clock_limit) before answer after)
+    → MakesAnewBy config_of (λ settings before answer after. panel.NewPanelIn (polls_between settings) (config_of settings) (limit_of settings.clock_limit) before answer after)
 made_anew_by adds config_of settings m freed made last addresses frees news each =
-    let new = subst (λ o. panel.NewPanelIn (config_of settings) (limit_of settings.clock_limit) o (number status.Done) made) frees.machine news in
+    let new = subst (λ o. panel.NewPanelIn (polls_between settings) (config_of settings) (limit_of settings.clock_limit) o (number status.Done) made) frees.machine news in
     let n = new_made settings made (config_of settings) new.0 new.1 new.2 new.3 in
-    let first : PanelMachine = record { bus = new_bus n.config; clock = new_clock (limit_of settings.clock_limit); sent = tt } in
+    let first : PanelMachine = record { orders = new_orders (polls_between settings) n.config.room; bus = new_bus n.config; clock = new_clock (limit_of settings.clock_limit); sent = tt } in
     let all = all_added addresses first last (subst (λ o. AddsEach addresses o last) n.is each) in (
       n.config,
       n.settings_are,
-      all.is ∙ ap (λ b. Some (record first { bus = b })) (adds n.config (map device_address addresses) all.none),
+      all.is ∙ ap (λ b. Some (record first { orders = orders_with (map device_address addresses) first.orders; bus = b })) (adds n.config (map device_address addresses) all.none),
     )
 
 pub makes_anew : AddsMakeTheBus → MakesAnew

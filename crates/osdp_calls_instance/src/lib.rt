@@ -1,4 +1,4 @@
-//! Lists of calls that keep the premises of `osdp_calls`, and those that programs make in C, by lines and over a simulated line.
+//! Lists of calls that keep the premises of `osdp_calls`, and those of programs in C, by lines and on a simulated line.
 //!
 //! So the premises are not empty, and the theorem of any calls names what such programs call. The functions do nothing: their contracts are laws.
 #![tactic(auto)]
@@ -50,8 +50,9 @@ fn stands_on_calls<H: Handler>()
 
 /// Whatever a panel's program in C and its devices' programs in C call, power losses among it, is a list of calls of a line in use: each call of a handle
 /// is the calls that `panel_calls` and `device_calls` name, and brings the bus and the devices to where these bring them. So the promises hold of
-/// them where these calls keep the premises. A panel whose handle is freed, made and given its devices, each call done, is one made anew, whether it is
-/// made with room for each command or for so many bytes of them.
+/// them where these calls keep the premises. An order that waits for a POLL is no call yet: it is one of the tick that sends the POLL. A panel whose handle is
+/// freed, made and given its devices, each call done, is one made anew, whether it is made with room for each command or for so many bytes of them, and
+/// with POLLs between orders or not.
 pub fn calls_for_c_are_calls()
     ensures anew { MakesAnew }
     ensures line { CallTheLine c_panel c_device program_answer program_after }

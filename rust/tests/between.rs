@@ -1,0 +1,97 @@
+//! Commands of a device that come as fast as they go. Where the setting asks for it, the device is asked for its events between two of them, and a card is told; else
+//! it waits as long as they come.
+mod settings;
+
+use osdp::{Command, Device, Error, Moment, Panel, PanelConfig, Report};
+use settings::DEVICE;
+
+/// What the panel sends comes to the device at once, and its answer to the panel.
+fn carry(
+    panel: &mut Panel,
+    device: &mut Device,
+    mut bytes: &[u8],
+    now: Moment,
+) -> Result<(), Error> {
+    loop {
+        let step = device.step(bytes, now)?;
+        bytes = &bytes[step.taken..];
+        let said = step.answer.is_some();
+        if let Some(answer) = step.answer {
+            answer.send(|burst| panel.on_bytes(burst, now))?;
+        }
+        if !said && bytes.is_empty() {
+            return Ok(());
+        }
+    }
+}
+
+/// How many commands are settled and how many cards told in ten seconds, where a command is ordered as soon as there is room, and a card is shown at once.
+fn ten_seconds(poll_between_orders: bool) -> Result<(usize, usize), Error> {
+    let mut panel = Panel::new(&PanelConfig {
+        capacity: 4,
+        poll_between_orders,
+        ..PanelConfig::default()
+    })?;
+    let mut device = Device::new(&DEVICE)?;
+    let door = panel.add(5)?;
+    panel.begin(door, Moment::from_millis(0))?;
+    device.event(0x53, &[0, 1, 0x31])?;
+    let (mut settled, mut cards) = (0, 0);
+    for now in (1..10_000).map(Moment::from_millis) {
+        while panel.waiting(door)? < 4 {
+            panel.submit(door, &Command::local_status())?;
+        }
+        assert_eq!(
+            panel.submit(door, &Command::local_status()),
+            Err(Error::Full)
+        );
+        let mut sent = Vec::new();
+        panel.tick(now)?.send(|bytes| -> Result<(), Error> {
+            sent.extend_from_slice(bytes);
+            Ok(())
+        })?;
+        carry(&mut panel, &mut device, &sent, now)?;
+        while let Some((_, report)) = panel.next_report() {
+            match report {
+                Report::Settled(..) => settled += 1,
+                Report::Event { .. } => cards += 1,
+                _ => {}
+            }
+        }
+    }
+    Ok((settled, cards))
+}
+
+#[test]
+fn a_card_waits_for_no_orders() {
+    let (settled, cards) = ten_seconds(true).unwrap();
+    assert!(settled > 150 && cards == 1, "{settled} {cards}");
+    let (settled, cards) = ten_seconds(false).unwrap();
+    assert!(settled > 5000 && cards == 0, "{settled} {cards}");
+}
+
+#[test]
+fn what_waits_is_counted_and_withdrawn() {
+    let mut panel = Panel::new(&PanelConfig {
+        poll_between_orders: true,
+        ..PanelConfig::default()
+    })
+    .unwrap();
+    assert!(!PanelConfig::default().poll_between_orders);
+    let door = panel.add(5).unwrap();
+    let commands = || {
+        [
+            Command::local_status(),
+            Command::input_status(),
+            Command::output_status(),
+        ]
+    };
+    for command in commands() {
+        panel.submit(door, &command).unwrap();
+    }
+    assert_eq!(panel.waiting(door), Ok(3));
+    for command in commands() {
+        assert_eq!(panel.withdraw(door), Ok(Some(command)));
+    }
+    assert_eq!(panel.withdraw(door), Ok(None));
+}
