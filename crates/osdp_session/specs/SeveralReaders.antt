@@ -12,6 +12,7 @@ use Rattle.osdp_sim_bus_laws.specs.Accounts.{BusAnswer, EachMeets, IsAnswer, Was
 use Rattle.osdp_sim_bus_laws.specs.Begun.{EachIsBegun}
 use Rattle.osdp_sim_laws.specs.Accounts.{IsInARow, IsInSession, IsOnce}
 use Rattle.osdp_sim_laws.specs.Begun.{reopens_in}
+use Rattle.osdp_sim_ledger.specs.SeveralReaders.{EachReaderKeepsLedger}
 use Rattle.osdp_session.specs.Sessions.{HoldsInSessions}
 
 module _ {H : Type 0} (answer_of : H → Command → Answer) (after : H → Command → H) where
@@ -29,6 +30,7 @@ module _ {H : Type 0} (answer_of : H → Command → Answer) (after : H → Comm
   pub record HoldsOfBusRun (config : BusConfig) (readers : List (Given H)) (steps : List SimStep) (answer : BusAnswer) : Type 0 where
     pub run : IsAnswer answer_of after config readers steps answer
     pub room : WasSetUp answer → AcceptsEach config readers (steps_done steps answer) (accounts_in answer)
+    pub ledger : WasSetUp answer → EachReaderKeepsLedger answer_of after config readers (steps_done steps answer) (accounts_in answer)
     pub once : WasSetUp answer → All IsInSession (steps_done steps answer) → EachMeets (IsOnce answer_of after) readers (accounts_in answer)
     pub sessions : WasSetUp answer → EachMeets (HoldsInSessions answer_of after) readers (accounts_in answer)
     pub begun : WasSetUp answer → EachIsBegun answer_of after config readers (steps_done steps answer) (accounts_in answer)

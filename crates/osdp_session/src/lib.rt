@@ -27,6 +27,9 @@ use std::alloc::Global;
 ///
 /// Once both ends are set up:
 ///
+/// - `ledger`: each step of the reader's ledger, read off a function of the schedule, is one that the ledger allows where it happens, and the account tells
+///   what these steps come to. So each accepted command has one place: it is settled once with the answer that the reader gave, is told unsettled once, or
+///   is ahead. None is taken twice. Events are reported in turn, in each session once, and none is skipped; at most the last of a session is told again.
 /// - `once`: where no session begins again, the commands that the reader has taken are a beginning of those issued. They hold each settled one, with
 ///   the answer that the reader gave, and at most one that isn't settled. The events that the controller reported are a beginning of those
 ///   queued, each once and in order.

@@ -17,6 +17,8 @@ use std::alloc::Global;
 /// - `room`: of the commands for it in the steps that were taken, POLL left out, some are accepted, each once and in their order. Where none is a
 ///   COMSET, and the bus has room for as many as may wait however long each is (`Room::of`), all are where they are at most as many as may wait;
 ///   else the first of them are, as many as may wait, and some of the others. So it is of its events, with the room that it has for them.
+/// - `ledger`: its account tells what the steps of its ledger come to, each of which may happen where it does: each accepted command is settled once with
+///   its answer, is told unsettled once, or is ahead; none is taken twice; events are reported in turn, and none is skipped.
 /// - `once`: where no session begins again, the commands that it has taken are a beginning of those issued to it. They hold each settled one, with
 ///   the answer that it gave, and at most one that isn't settled. The events reported are a beginning of those queued at it, each once and in
 ///   order.

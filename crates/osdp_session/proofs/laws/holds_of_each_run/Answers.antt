@@ -7,6 +7,7 @@ pub returns-clause-link : goal.returns-clause-link
 returns-clause-link g c config handler steps answer run = record {
   run = run;
   room = c.accepts_by_room.ensures config handler steps answer run;
+  ledger = c.run_keeps_ledger.ensures config handler steps answer run;
   once = c.schedule_holds_once.ensures.once config handler steps answer run;
   sessions = λ begun.
       c.holds_in_sessions.ensures.each config.reader handler (account_in answer) (c.schedule_holds_once.ensures.row config handler steps answer run begun);
@@ -22,6 +23,7 @@ pub returns-clause-bus : goal.returns-clause-bus
 returns-clause-bus g c config readers steps answer run = record {
   run = run;
   room = c.each_accepts_by_room.ensures config readers steps answer run;
+  ledger = c.bus_run_keeps_ledgers.ensures config readers steps answer run;
   once = c.each_account_holds_once.ensures.once config readers steps answer run;
   sessions = λ begun.
       c.each_holds_in_sessions.ensures readers (accounts_in answer) (c.each_account_holds_once.ensures.row config readers steps answer run begun);

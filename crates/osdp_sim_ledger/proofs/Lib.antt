@@ -1,0 +1,6 @@
+mod Plain
+mod Telling
+mod Queued
+mod SeveralQueued
+mod OneReader
+mod SeveralReaders

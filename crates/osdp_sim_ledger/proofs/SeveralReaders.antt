@@ -1,0 +1,87 @@
+-- The run over a bus, for each of its readers.
+use Rattle.std.proofs.Common.{◌≡◌, ◌++◌, ℕ, List, [], Some, refl, sym, ap, ◌∙◌}
+use Rattle.std.proofs.lemmas.Option.{slice_get-map}
+use Rattle.std.specs.Prelude.{option_map, slice_get}
+use Rattle.osdp_msg.specs.declared.command.Command.{Command}
+use Rattle.osdp_reader.specs.declared.handler.Answer.{Answer}
+use Rattle.osdp_bus.specs.declared.config.BusConfig.{BusConfig}
+use Rattle.osdp_bus_links.specs.Premises.{IsScheduled}
+use Rattle.osdp_bus_links.proofs.Keeping.{moves_usual}
+use Rattle.osdp_bus_links.proofs.Names.{are_steady}
+use Rattle.osdp_ledger.specs.Laws.{TellsInTurn}
+use Rattle.osdp_line_ledger.specs.Laws.{EachKeepsLedger}
+use Rattle.osdp_link_laws.specs.Sessions.{all_queued, all_submitted, queued}
+use Rattle.osdp_link_laws.proofs.Lines.{each_of}
+use Rattle.osdp_link_laws.proofs.OrdinaryRuns.{steady_ordinary}
+use Rattle.osdp_shared_line.specs.Addresses.{NobodyElseHears}
+use Rattle.osdp_shared_line.specs.Line.{run}
+use Rattle.osdp_shared_line.specs.Runs as runs
+use Rattle.osdp_shared_line.specs.Runs.{EachHasSessionsInARow, EachHoldsOnce}
+use Rattle.osdp_shared_line.specs.Views.{EachMoveIsItsOwn, view}
+use Rattle.osdp_calls.proofs.Counting.{all_heard, in_link}
+use Rattle.osdp_calls.proofs.Holding.{events_counted}
+use Rattle.osdp_sim.specs.Account.{Account}
+use Rattle.osdp_sim.specs.declared.step.SimStep.{SimStep}
+use Rattle.osdp_sim_bus.specs.Runs as simulation
+use Rattle.osdp_sim_bus.specs.Runs.{steps_done}
+use Rattle.osdp_sim_bus.specs.State.{Given, new_site, set_up}
+use Rattle.osdp_sim_bus_laws.specs.Moves.{SchedulesAreMoves, moves_of}
+use Rattle.osdp_sim_bus_laws.proofs.Beginning.{follows_first, has_site, is_set_up, none_is_kept}
+use Rattle.osdp_sim_bus_laws.proofs.Rows.{IsRun, account_at, answers, told_by}
+use Rattle.osdp_sim_ledger.specs.SeveralReaders.{BusRunKeepsLedgers, first_net, first_site, steps_of_reader}
+use Rattle.osdp_sim_ledger.specs.Telling.{TellsByLedger}
+use Rattle.osdp_sim_ledger.proofs.Plain.{link_plain}
+use Rattle.osdp_sim_ledger.proofs.SeveralQueued.{all_queue, site_of}
+use Rattle.osdp_sim_ledger.proofs.Telling.{tells_once}
+
+module _ {H : Type 0} (answer_of : H → Command → Answer) (after : H → Command → H) (schedules : SchedulesAreMoves answer_of after)
+    (own : EachMoveIsItsOwn answer_of after) (nobody : NobodyElseHears answer_of after) (once : EachHoldsOnce answer_of after)
+    (rows : EachHasSessionsInARow answer_of after) (keeps : EachKeepsLedger answer_of after) (in_turn : TellsInTurn) where
+  abbrev HasKept : ℕ → Given H → BusConfig → List (Given H) → List SimStep → List Account → Type 0
+  HasKept k given config readers steps told =
+      (a : Account) × (slice_get told k ≡ Some a) × TellsByLedger a (steps_of_reader answer_of after k given config readers steps)
+
+  one_reader : (config : BusConfig) (readers : List (Given H)) (steps : List SimStep) (k : ℕ) (given : Given H) → slice_get readers k ≡ Some given
+      → IsRun answer_of after config readers steps → HasKept k given config readers steps (told_by answer_of after config readers steps)
+  one_reader config readers steps k given at is =
+      let s0 = set_up config readers in
+      let n0 = first_net config readers in
+      let up = is_set_up config readers is.settings in
+      let none = none_is_kept config readers in
+      let follows = follows_first config readers in
+      let moves = moves_of answer_of after steps s0 in
+      let done = schedules steps s0 n0 up none follows is.well is.fits in
+      let first = first_site config given in
+      let from = has_site config k given readers at in
+      let here = slice_get-map new_site readers k ∙ ap (option_map new_site) at in
+      let found = all_queue answer_of after schedules k s0 n0 up none follows (new_site given) here refl steps is.well is.fits in
+      let u = found.0 in
+      let last = run answer_of after moves n0 in
+      let s = simulation.run answer_of after steps s0 in
+      let t = site_of k u s.sites last.sites done.follows.sites found.1 in
+      let mine = runs.moves_of answer_of after k moves n0 in
+      let l = view k first n0 in
+      let kept = keeps n0 moves up done.fits k first t.0 from t.1 in
+      let row = rows n0 moves up done.fits k first t.0 from t.1 in
+      let heard = all_heard answer_of after nobody n0 up [] moves done.fits in
+      let steady = are_steady mine (moves_usual answer_of after moves k n0 (each_of IsScheduled moves done.scheduled)) in (
+        u.account,
+        account_at k u s.sites found.1,
+        tells_once in_turn u.account (first.controller.waiting ++ all_submitted answer_of after mine l) (first.reader.queue.events ++ all_queued answer_of after mine l)
+            (view k t.0 last) (steps_of_reader answer_of after k given config readers steps) (record {
+              allowed = kept.allowed;
+              accounts = kept.accounts;
+              orders = kept.orders;
+              events = kept.events;
+              plain = link_plain answer_of after mine l (steady_ordinary mine steady);
+              once = once n0 moves up done.fits k first t.0 from t.1;
+              lists = t.2.tells;
+              issued = t.2.tells.issued ∙ sym row.commands;
+              queued_so = found.2 ∙ sym (in_link answer_of after queued own k moves n0 first heard done.fits from) ∙ sym (events_counted answer_of after mine l);
+            }),
+      )
+
+  pub bus_run_keeps_ledgers : BusRunKeepsLedgers answer_of after
+  bus_run_keeps_ledgers config readers steps answer is was k given at =
+      answers answer_of after (HasKept k given config readers (steps_done steps answer)) config readers steps answer is was
+      (one_reader config readers (steps_done steps answer) k given at)

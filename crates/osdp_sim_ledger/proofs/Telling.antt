@@ -1,0 +1,72 @@
+-- What the accounts of a link and its ledger say, the account of a run says too.
+use Rattle.std.proofs.Common.{◌≡◌, ℕ, List, [], ◌∷◌, ◌++◌, Contains, map, refl, sym, ap, ◌∙◌}
+use Rattle.std.proofs.lemmas.List.{map-append}
+use Rattle.osdp_msg.specs.declared.command.Command.{Command}
+use Rattle.osdp_msg.specs.declared.event.Event.{Event}
+use Rattle.osdp_msg.specs.declared.reply.Reply.{Reply}
+use Rattle.osdp_ledger.specs.History.{AfterReport, AreAllowed, End, History, Left, new_history, runs}
+use Rattle.osdp_ledger.specs.Laws.{EventsHold, OrdersHold, TellsInTurn}
+use Rattle.osdp_ledger.specs.Ledger.{Order, Step}
+use Rattle.osdp_link_laws.specs.Headline.{EachIsOnce, asked}
+use Rattle.osdp_link_laws.specs.Link as link
+use Rattle.osdp_link_laws.specs.Link.{Link}
+use Rattle.osdp_link_laws.proofs.Lines.{each_all}
+use Rattle.osdp_link_laws.proofs.Stages.{Each}
+use Rattle.osdp_link_ledger.specs.Accounts.{TellsAccounts, in_all}
+use Rattle.osdp_sim.specs.Account.{Account}
+use Rattle.osdp_sim_laws.specs.Accounts.{IsOf, all_in}
+use Rattle.osdp_sim_ledger.specs.Telling.{EndsTold, TellsByLedger}
+use Rattle.osdp_sim_ledger.proofs.Plain.{IsPlain, runs_told}
+
+-- ---- lists of sessions
+
+same_lists : {A : Type 0} (part : link.Account → List A) (ts : List link.Account) → in_all part ts ≡ all_in part ts
+same_lists part [] = refl
+same_lists part (t ∷ ts) = ap (λ xs. xs ++ part t) (same_lists part ts)
+
+-- each command that was taken has the answer that the reader gave to it
+taken_in : (ts : List link.Account) → EachIsOnce ts → map asked (in_all (λ t. t.given) ts) ≡ all_in (λ t. t.taken) ts
+taken_in [] once = refl
+taken_in (t ∷ ts) once = map-append asked (in_all (λ t. t.given) ts) t.given ∙ (λ i. taken_in ts once.1 i ++ once.0.answered i)
+
+commands_acted : (ds : List (Order × Reply)) → map asked (map (λ (d : Order × Reply). (d.0.command, d.1)) ds) ≡ map (λ (d : Order × Reply). d.0.command) ds
+commands_acted [] = refl
+commands_acted (d ∷ ds) = ap (λ cs. d.0.command ∷ cs) (commands_acted ds)
+
+-- ---- the account of a run
+
+module _ {H : Type 0} where
+  -- what is known of the link of a reader whose steps these are
+  pub record IsKnown (a : Account) (accepted : List Command) (queued : List Event) (l : Link H) (steps : List Step) : Type 0 where
+    pub allowed : AreAllowed steps new_history
+    pub accounts : TellsAccounts accepted queued l (runs steps new_history)
+    pub orders : OrdersHold (runs steps new_history)
+    pub events : EventsHold (runs steps new_history)
+    pub plain : Each IsPlain steps
+    pub once : EachIsOnce (l.account ∷ l.earlier)
+    pub lists : IsOf a l.account l.earlier
+    pub issued : a.issued ≡ accepted
+    pub queued_so : a.queued ≡ queued
+
+  pub tells_once : TellsInTurn → (a : Account) (accepted : List Command) (queued : List Event) (l : Link H) (steps : List Step)
+      → IsKnown a accepted queued l steps → TellsByLedger a steps
+  tells_once in_turn a accepted queued l steps is =
+      let h = runs steps new_history in
+      let sessions = l.account ∷ l.earlier in
+      let told = runs_told steps new_history is.plain (record { ended = tt; left = tt }) in
+      record {
+        allowed = is.allowed;
+        tells = record {
+          issued = is.issued ∙ sym is.accounts.orders;
+          queued = is.queued_so ∙ sym is.accounts.cards;
+          taken = is.lists.taken ∙ sym (sym (commands_acted h.acted) ∙ ap (map asked) is.accounts.acted ∙ taken_in sessions is.once);
+          settled = is.lists.settled ∙ sym (is.accounts.settled ∙ same_lists (λ t. t.settled) sessions);
+          unsettled = is.lists.unsettled ∙ sym (is.accounts.in_doubt ∙ same_lists (λ t. t.unsettled) sessions);
+          reported = is.lists.reported ∙ sym (is.accounts.reported ∙ same_lists (λ t. t.reported) sessions);
+          orders = is.orders;
+          cards = is.events;
+          ends = each_all (λ (e : Order × End). EndsTold e.1) h.ended told.ended;
+          exits = each_all (λ (w : Left). w.why ≡ AfterReport) h.left told.left;
+          untold = in_turn steps is.allowed;
+        };
+      }

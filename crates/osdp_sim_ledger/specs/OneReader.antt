@@ -1,0 +1,24 @@
+-- A run over a line with one reader keeps the ledger. Its steps are those of the moves that the steps of the schedule are.
+use Rattle.std.specs.Prelude.{List, Result}
+use Rattle.osdp_msg.specs.declared.command.Command.{Command}
+use Rattle.osdp_reader.specs.declared.handler.Answer.{Answer}
+use Rattle.osdp_ledger.specs.Ledger.{Step}
+use Rattle.osdp_link_ledger.specs.Steps.{steps_from}
+use Rattle.osdp_sim.specs.Runs.{steps_done}
+use Rattle.osdp_sim.specs.declared.account.Account.{Account}
+use Rattle.osdp_sim.specs.declared.config.SimConfig.{SimConfig}
+use Rattle.osdp_sim.specs.declared.fault.Fault.{Fault}
+use Rattle.osdp_sim.specs.declared.step.SimStep.{SimStep}
+use Rattle.osdp_sim_laws.specs.Accounts.{IsAnswer, WasSetUp, account_in}
+use Rattle.osdp_sim_laws.specs.Moves.{first_link, moves_of}
+use Rattle.osdp_sim_ledger.specs.Telling.{TellsByLedger}
+
+module _ {H : Type 0} (answer_of : H → Command → Answer) (after : H → Command → H) where
+  abbrev pub steps_of_run : SimConfig → H → List SimStep → List Step
+  steps_of_run config handler steps = steps_from answer_of after (moves_of steps 0) (first_link config handler)
+
+  -- of what `run_session` answers, with a fault too: once both ends were set up, for the steps that it took
+  abbrev pub RunKeepsLedger : Type 0
+  RunKeepsLedger = (config : SimConfig) (handler : H) (steps : List SimStep) (answer : Result Account (Fault Account))
+      → IsAnswer answer_of after config handler steps answer → WasSetUp answer
+      → TellsByLedger (account_in answer) (steps_of_run config handler (steps_done steps answer))
