@@ -92,7 +92,7 @@ usage: osdp monitor [FORM] [OPTION]... [FILE]...
   --xxd      the input is what xxd wrote of bytes, and one run
   --stamped  the input is lines of a stamp, TX or RX, and digits
   --packets  print each packet, skipped byte and refused byte too, as show does
-  --talk     the same, but no POLL, and no ACK that answers a POLL
+  --talk     the same, but no POLL, and no ACK that answers a POLL; and the reason of a NAK in words
   --standard leave out accusations by the profile alone, where other makers may do otherwise
   --recorded the bytes were recorded before: no silence ends a run, as in a file
   --times    put its run's moment and way before each line, and tell how long each device takes to answer

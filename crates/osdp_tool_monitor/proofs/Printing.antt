@@ -10,15 +10,16 @@ use Rattle.osdp_monitor.specs.Accused.{basis}
 use Rattle.osdp_monitor.specs.Line.{after_items, expected_in, found_in}
 use Rattle.osdp_tool_show.specs.ToldItems.{shown_line}
 use Rattle.osdp_tool_monitor.specs.Laws.{PrintsAccusations, both_packets, culprit, naming_line}
+use Rattle.osdp_tool_monitor.specs.Talk.{talk_line}
 use Rattle.osdp_tool_monitor.specs.Trail.{detail_after}
 use Rattle.osdp_tool_monitor.specs.Listening.{Listening, heard_item, item_report, items_report, told_in}
 use Rattle.osdp_tool_monitor.specs.Text.{accusation_line, accused_text, expected_bytes, expected_lines, is_left_out, is_profile, notice_line}
 use Rattle.osdp_tool_monitor.specs.InTurn.{after_all, report_of_all}
 
-in_parts : (s n a e r : List ℕ) → (s ++ (n ++ (a ++ e))) ++ r ≡ s ++ (n ++ (a ++ (e ++ r)))
-in_parts s n a e r =
-    append_assoc s (n ++ (a ++ e)) r
-    ∙ ap (λ t. s ++ t) (append_assoc n (a ++ e) r ∙ ap (λ t. n ++ t) (append_assoc a e r))
+in_parts : (s k n a e r : List ℕ) → (s ++ (k ++ (n ++ (a ++ e)))) ++ r ≡ s ++ (k ++ (n ++ (a ++ (e ++ r))))
+in_parts s k n a e r =
+    append_assoc s (k ++ (n ++ (a ++ e))) r
+    ∙ ap (λ t. s ++ t) (append_assoc k (n ++ (a ++ e)) r ∙ ap (λ t. k ++ t) (append_assoc n (a ++ e) r ∙ ap (λ t. n ++ t) (append_assoc a e r)))
 
 party_is : (reply : Bool) → accused_text reply ≡ culprit reply
 party_is true = refl
@@ -59,14 +60,15 @@ prints_lem detail l [] rest p accusation accused counts =
     let run = l.tally.runs + 1 in
     let found = told_in l p in
     let shown = shown_line (detail_after l.trail detail) l.tally (PacketItem p) in
+    let talk = talk_line detail run l.tally.place l.trail (PacketItem p) in
     let notice = notice_line run l.tally.place p.address found.notice in
     let expected = expected_lines (expected_bytes (expected_in l.knowledge p)) p in
     let others = items_report detail (heard_item l (PacketItem p)) rest in
-    in_parts shown notice (accusation_line run l.tally.place p found.accusation) expected others
-    ∙ ap (λ a. shown ++ (notice ++ (accusation_line run l.tally.place p a ++ (expected ++ others)))) is
-    ∙ ap (λ t. shown ++ (notice ++ (t ++ (expected ++ others)))) (named_is l.tally.runs l.tally.place p accusation)
-    ∙ ap (λ t. shown ++ (notice ++ (naming_line l.tally.runs l.tally.place p accusation ++ (t ++ others)))) (both_are (expected_in l.knowledge p) p)
-    ∙ ap (λ n. shown ++ (notice_line run l.tally.place p.address n ++ (naming_line l.tally.runs l.tally.place p accusation ++ (both_packets (expected_in l.knowledge p) p ++ others)))) (notice_is l p)
+    in_parts shown talk notice (accusation_line run l.tally.place p found.accusation) expected others
+    ∙ ap (λ a. shown ++ (talk ++ (notice ++ (accusation_line run l.tally.place p a ++ (expected ++ others))))) is
+    ∙ ap (λ t. shown ++ (talk ++ (notice ++ (t ++ (expected ++ others))))) (named_is l.tally.runs l.tally.place p accusation)
+    ∙ ap (λ t. shown ++ (talk ++ (notice ++ (naming_line l.tally.runs l.tally.place p accusation ++ (t ++ others))))) (both_are (expected_in l.knowledge p) p)
+    ∙ ap (λ n. shown ++ (talk ++ (notice_line run l.tally.place p.address n ++ (naming_line l.tally.runs l.tally.place p accusation ++ (both_packets (expected_in l.knowledge p) p ++ others))))) (notice_is l p)
 prints_lem detail l (part ∷ front) rest p accusation accused counts =
     ap (λ t. item_report detail l part ++ t) (prints_lem detail (heard_item l part) front rest p accusation accused counts)
     ∙ sym (append_assoc (item_report detail l part) (items_report detail (heard_item l part) front) _)

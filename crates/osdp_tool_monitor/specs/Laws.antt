@@ -12,6 +12,7 @@ use Rattle.osdp_monitor.specs.Line.{after_items, expected_in, found_in}
 use Rattle.osdp_tool_show.specs.ToldItems.{shown_line}
 use Rattle.osdp_tool_show.specs.declared.detail.Detail.{Detail}
 use Rattle.osdp_tool_monitor.specs.Listening.{Listening, heard_item, heard_items, items_report}
+use Rattle.osdp_tool_monitor.specs.Talk.{talk_line}
 use Rattle.osdp_tool_monitor.specs.Trail.{detail_after}
 use Rattle.osdp_tool_monitor.specs.Text.{accusation_text, basis_text, notice_line}
 
@@ -32,7 +33,7 @@ both_packets (Some expected) p =
     codes "     expected " ++ (printed (bytes (spelling expected)) ++ (codes "\n     seen     " ++ (printed (bytes (spelling p)) ++ codes "\n")))
 
 -- Whoever is accused in a packet, by a rule that isn't left out, is named in what is printed of any items about it. Before that line stands what is printed of the items before the packet,
--- the packet's own line and what is worth a look in it. After it stand the two packets, and what is printed of the items after the packet.
+-- the packet's own line, what a NAK refuses and what is worth a look in it. After it stand the two packets, and what is printed of the items after the packet.
 abbrev pub PrintsAccusations : Type 0
 PrintsAccusations = (detail : Detail) (l : Listening) (front rest : List RunItem) (p : Packet) (accusation : Accusation)
     → (found_in (after_items l.knowledge front) p).accusation ≡ Some accusation → (l.standard ≡ false) ⊎ (basis accusation ≡ Standard)
@@ -40,7 +41,8 @@ PrintsAccusations = (detail : Detail) (l : Listening) (front rest : List RunItem
     items_report detail l (front ++ PacketItem p ∷ rest)
     ≡ items_report detail l front
     ++ (shown_line (detail_after now.trail detail) now.tally (PacketItem p)
+    ++ (talk_line detail (now.tally.runs + 1) now.tally.place now.trail (PacketItem p)
     ++ (notice_line (now.tally.runs + 1) now.tally.place p.address (found_in now.knowledge p).notice
     ++ (naming_line now.tally.runs now.tally.place p accusation
     ++ (both_packets (expected_in now.knowledge p) p
-    ++ items_report detail (heard_item now (PacketItem p)) rest))))
+    ++ items_report detail (heard_item now (PacketItem p)) rest)))))

@@ -2,6 +2,7 @@ pub mod Text
 pub mod Counts
 pub mod Trail
 pub mod Diagnoses
+pub mod Talk
 pub mod Listening
 pub mod Hearing
 pub mod Laws

@@ -14,6 +14,7 @@ use Rattle.osdp_tool_monitor.specs.declared.counts.Counts.{Counts}
 use Rattle.osdp_tool_monitor.specs.declared.listener.Listener.{Listener}
 use Rattle.osdp_tool_monitor.specs.Counts.{counts_after, counts_after_damage, is_unjudged, more_if, no_counts, table_of}
 use Rattle.osdp_tool_monitor.specs.Diagnoses.{diagnoses_text}
+use Rattle.osdp_tool_monitor.specs.Talk.{talk_line}
 use Rattle.osdp_tool_monitor.specs.Trail.{after_bad, detail_after, hit_by, is_clean, no_trail, trail_after}
 use Rattle.osdp_tool_monitor.specs.declared.trail.Trail.{Trail}
 use Rattle.osdp_tool_monitor.specs.InTurn.{after_all, report_of_all}
@@ -79,9 +80,10 @@ item_found l (PacketItem p) =
 item_found l (SkippedItem b) = []
 item_found l (RefusedItem fault) = []
 
--- its line, as `show` prints it where it is wanted, and as `check` does else; and then what is found in it
+-- its line, as `show` prints it where it is wanted, and as `check` does else; then what a NAK refuses; and then what is found in it
 abbrev pub item_report : Detail → Listening → RunItem → List ℕ
-item_report detail l part = shown_line (detail_after l.trail detail) l.tally part ++ item_found l part
+item_report detail l part =
+    shown_line (detail_after l.trail detail) l.tally part ++ (talk_line detail (l.tally.runs + 1) l.tally.place l.trail part ++ item_found l part)
 
 -- after items, one after the other
 abbrev pub heard_items : Listening → List RunItem → Listening

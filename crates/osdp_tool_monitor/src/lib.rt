@@ -13,6 +13,7 @@ mod open_line;
 mod output;
 mod session;
 mod table;
+mod talk;
 mod text;
 mod trail;
 

@@ -9,6 +9,7 @@ ghost use Rattle.osdp_tool_show.specs.Tally.{counted};
 use crate::counts::{Counts, more_if};
 use crate::diagnosis::push_diagnoses;
 use crate::table::{is_unjudged, push_table};
+use crate::talk::push_talk;
 use crate::text::{push_found, told};
 use crate::trail::Trail;
 use osdp_frame::{Burst, FrameView, Item, ReadItem, read_at, whole_item};
@@ -138,6 +139,10 @@ impl Listener {
         let run = self.tally.runs + 1;
         let place = self.tally.place;
         match tell(text, self.trail.detail(self.detail), &mut self.tally, item) {
+            Ok(()) => {}
+            Err(_) => return Err(ToolFault::NoMemory),
+        }
+        match push_talk(text, self.detail, run, place, self.trail, item) {
             Ok(()) => {}
             Err(_) => return Err(ToolFault::NoMemory),
         }
