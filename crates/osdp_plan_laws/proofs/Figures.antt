@@ -1,0 +1,59 @@
+-- The figures of a plan are the bounds of the laws in time.
+use Rattle.std.specs.Prelude.{if◌then◌else◌, min}
+use Rattle.std.proofs.Common.{◌≡◌, ◌∙◌, ap, sym, subst, ℕ, suc, ◌+◌, ◌-◌, ◌*◌, ◌≤◌, length, arith}
+use Rattle.std.proofs.lemmas.List.{length-replicate}
+use Rattle.osdp_bus.specs.Buses.{BusState}
+use Rattle.osdp_bus.specs.Settings.{controller_config}
+use Rattle.osdp_bus_laws.specs.Calls.{Submit, after_call}
+use Rattle.osdp_bus_time_laws.specs.Laws.{GoesOutBy, time_of}
+use Rattle.osdp_bus_time_laws.specs.Turns.{turns_of}
+use Rattle.osdp_bus_time_laws.proofs.Devices.{Well}
+use Rattle.osdp_bus_time_laws.proofs.InTime.{lines_add_up}
+use Rattle.osdp_bus_time_laws.proofs.Ordered.{orders_go_out}
+use Rattle.osdp_card_time_laws.specs.Cards.{KeepsServing, ReportedBy, to_offer_before}
+use Rattle.osdp_card_time_laws.proofs.Figures.{cards_by_figures}
+use Rattle.osdp_time_laws.specs.Lines.{card_time, line_order_time, turns_time}
+use Rattle.osdp_plan.specs.declared.bounds.Others.{Others}
+use Rattle.osdp_plan.specs.declared.bounds.Others.TheVariants.{Answer, OneSilent, Hostile}
+use Rattle.osdp_plan.specs.declared.plan.Plan.{Plan}
+use Rattle.osdp_plan.specs.Figures.{card_wait, exchanges, order_between_time, order_wait, orders_before}
+use Rattle.osdp_plan.specs.Plans.{IsPlan, config_of}
+use Rattle.osdp_plan_laws.specs.Figures.{CardsKeepToFigures, OrdersKeepToFigures, planned_time}
+
+-- each reader has its exchange
+one_more : (n : ℕ) → 1 ≤ n → suc (n - 1) ≡ n
+one_more n some = omega (arith, some)
+
+as_many : (others : Others) (p : Plan) → IsPlan p → length (exchanges others p.readers p) ≡ p.readers
+as_many Answer p plan = length-replicate p.readers _
+as_many Hostile p plan = length-replicate p.readers _
+as_many OneSilent p plan = ap suc (length-replicate (p.readers - 1) _) ∙ one_more p.readers plan.readers.0
+
+turns_are : (others : Others) (p : Plan) → IsPlan p → turns_of (planned_time others p) p.late p.readers ≡ turns_time p.late (exchanges others p.readers p)
+turns_are others p plan =
+    let xs = exchanges others p.readers p in ap (turns_of (time_of xs) p.late) (sym (as_many others p plan)) ∙ (lines_add_up p.late xs).all
+
+pub orders_by_plan : (p : Plan) (b : BusState) → Well b → OrdersKeepToFigures p b
+orders_by_plan p b well others entry command calls planned off accepted keeps =
+    let xs = exchanges others p.readers p in
+    let wait : order_wait others p ≡ (p.orders + 1) * turns_time p.late xs =
+    ap (λ t. if t then order_between_time p.poll_interval p.late p.orders xs else line_order_time p.late p.orders xs) off in
+    subst (λ (t : ℕ). GoesOutBy (b.greatest + t) p.orders entry calls (after_call (Submit entry command) b))
+    (ap (λ t. (p.orders + 1) * t) (turns_are others p planned.plan) ∙ sym wait)
+    (orders_go_out b well p.late (planned_time others p) p.readers entry p.orders command calls accepted keeps)
+
+none_more : (n : ℕ) → 0 + n ≡ n
+none_more n = omega arith
+
+pub cards_by_plan : (p : Plan) (b : BusState) → Well b → CardsKeepToFigures p b
+cards_by_plan p b well others entry place event q steps off next keeps =
+    let xs = exchanges others p.readers p in
+    let before : orders_before p ≡ p.orders = ap (λ t. if t then min p.orders 1 else p.orders) off in
+    let is : card_time (controller_config 0 b.config) p.late (to_offer_before place q + p.orders) (time_of xs entry) xs ≡ card_wait others p =
+    ap (λ c. card_time c p.late (to_offer_before place q + p.orders) (time_of xs entry) xs) next.planned.config
+    ∙ ap (λ n. card_time (config_of p) p.late (n + p.orders) (time_of xs entry) xs) next.first
+    ∙ ap (λ n. card_time (config_of p) p.late n (time_of xs entry) xs) (none_more p.orders ∙ sym before)
+    ∙ ap (λ a. card_time (config_of p) p.late (orders_before p) a xs) next.answers in
+    subst (λ (t : ℕ). ReportedBy (b.greatest + t) event place entry q steps b) is
+    (cards_by_figures b well p.late entry place p.orders xs event q steps next.queued
+    (subst (λ (n : ℕ). KeepsServing p.late (time_of xs) n entry p.orders q steps b) (sym (as_many others p next.planned.plan)) keeps))

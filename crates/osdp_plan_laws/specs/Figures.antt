@@ -1,0 +1,44 @@
+-- What the figures of a plan say of a line that is as it was planned.
+use Rattle.std.specs.Prelude.{◌≡◌, ℕ, ◌+◌, false, List}
+use Rattle.osdp_msg.specs.declared.command.Command.{Command}
+use Rattle.osdp_msg.specs.declared.event.Event.{Event}
+use Rattle.osdp_bus.specs.Buses.{BusState}
+use Rattle.osdp_bus.specs.Settings.{controller_config}
+use Rattle.osdp_bus_laws.specs.Calls.{Call, Submit, after_call}
+use Rattle.osdp_bus_time_laws.specs.Laws.{GoesOutBy, IsAccepted, time_of}
+use Rattle.osdp_bus_time_laws.specs.Turns.{KeepsTurns}
+use Rattle.osdp_card_time_laws.specs.Beside.{Step}
+use Rattle.osdp_card_time_laws.specs.Cards.{IsQueued, KeepsServing, ReportedBy, to_offer_before}
+use Rattle.osdp_reader.specs.Queue.{Queue}
+use Rattle.osdp_plan.specs.declared.bounds.Others.{Others}
+use Rattle.osdp_plan.specs.declared.plan.Plan.{Plan}
+use Rattle.osdp_plan.specs.Figures.{answered_time, card_wait, exchanges, order_wait}
+use Rattle.osdp_plan.specs.Plans.{IsPlan, config_of}
+
+-- how long the exchange of each entry takes, as it was planned
+abbrev pub planned_time : Others → Plan → ℕ → ℕ
+planned_time others p = time_of (exchanges others p.readers p)
+
+-- a plan in its ranges, and a bus with its settings
+pub record IsAsPlanned (p : Plan) (b : BusState) : Type 0 where
+  pub plan : IsPlan p
+  pub config : controller_config 0 b.config ≡ config_of p
+
+-- an order, where no POLL comes between two: as many as were planned wait before it
+abbrev pub OrdersKeepToFigures : Plan → BusState → Type 0
+OrdersKeepToFigures p b = (others : Others) (entry : ℕ) (command : Command) (calls : List Call) → IsAsPlanned p b → p.between ≡ false
+    → IsAccepted entry p.orders command b → KeepsTurns p.late (planned_time others p) p.readers calls (after_call (Submit entry command) b)
+    → GoesOutBy (b.greatest + order_wait others p) p.orders entry calls (after_call (Submit entry command) b)
+
+-- a card of a reader that answers in the planned time, before which no other is still to be offered
+pub record IsNextCard (others : Others) (p : Plan) (event : Event) (place entry : ℕ) (q : Queue) (b : BusState) : Type 0 where
+  pub planned : IsAsPlanned p b
+  pub answers : planned_time others p entry ≡ answered_time p
+  pub queued : IsQueued event place entry q b
+  pub first : to_offer_before place q ≡ 0
+
+-- .. no POLL has to come between two orders, and as many as were planned wait or are accepted
+abbrev pub CardsKeepToFigures : Plan → BusState → Type 0
+CardsKeepToFigures p b = (others : Others) (entry place : ℕ) (event : Event) (q : Queue) (steps : List Step) → p.between ≡ false
+    → IsNextCard others p event place entry q b → KeepsServing p.late (planned_time others p) p.readers entry p.orders q steps b
+    → ReportedBy (b.greatest + card_wait others p) event place entry q steps b
