@@ -86,12 +86,12 @@ build session_checked "${session[@]}" c/heap_malloc.c "${counted[@]}" "$archive"
 # the session needs no more than 64 KiB of stack for the whole program
 (ulimit -s 64 && passes "$work/session_malloc") || fail "the session needs more stack"
 
-# what the calls take of the stack, as `bench/exchange` measures it: they keep to 4,096 bytes, but the text of a message to 6,200, those by which a monitor
+# what the calls take of the stack, as `bench/exchange` measures it: they keep to 4,096 bytes, but a command by its text to 5,200, the text of a message to 6,200, those by which a monitor
 # hears to 11,000, and those that make a panel, a monitor and a device to 6,000, 6,000 and 17,000 (docs/SIZES.md)
 build exchange bench/exchange.c c/heap_malloc.c "$archive" && passes "$work/exchange" &&
   { sed 's/^stack of //; s/ bytes, wanted.*//' "$work/said" | awk '
       BEGIN {
-        most["osdp_panel_new and add"] = 6000; most["osdp_device_new"] = 17000; most["osdp_command_text"] = 6200
+        most["osdp_panel_new and add"] = 6000; most["osdp_device_new"] = 17000; most["osdp_command_text"] = 6200; most["osdp_panel_submit_text"] = 5200
         most["osdp_monitor_new"] = 6000; most["osdp_monitor_bytes"] = 11000; most["osdp_monitor_silence"] = 11000
       }
       { taken = $NF; sub(/ +[0-9]+$/, ""); if (taken > ($0 in most ? most[$0] : 4096)) { print; more = 1 } }

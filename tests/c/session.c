@@ -51,7 +51,7 @@ static void new_panel(void)
         before = bytes_given;
         status = osdp_panel_new(&panel, &config);
     }
-    demand(status == OSDP_OK && bytes_given - before == counted(6872));
+    demand(status == OSDP_OK && bytes_given - before == counted(6920));
     demand(osdp_panel_new(&panel, &config) == OSDP_IN_USE);
     demand(osdp_panel_add(&panel, 127, &entry) == OSDP_PANEL_OUT_OF_RANGE);
 }
