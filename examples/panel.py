@@ -94,6 +94,6 @@ class Panel:
 if __name__ == "__main__":
     path, rate, addresses, *settings = take_words(__doc__, 3)
     numbers = [number(address, "address") for address in addresses.split(",")]
-    panel = Panel(Port(path, number(rate, "rate")), numbers, Program("panel", settings))
+    panel = Panel(Port(path, number(rate, "rate")), numbers, Program("panel", settings, ("poll-between-orders", "on")))  # so orders keep no card waiting
     while True:
         panel.turn()

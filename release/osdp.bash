@@ -7,9 +7,9 @@ _osdp_words() {
     monitor) echo '--raw --osdpcap --xxd --stamped --hex --packets --talk --standard --recorded --times --json --gap --every' ;;
     check) echo '--raw --osdpcap --xxd --stamped --hex --join' ;;
     make) echo 'sum crc' ;;
-    panel) echo 'check reply-wait poll-interval sends busy-wait busy-limit quiet-wait gap capacity' ;;
+    panel) echo 'check reply-wait poll-interval sends busy-wait busy-limit quiet-wait gap capacity poll-between-orders' ;;
     reader) echo 'address vendor model version serial firmware cap room gap expire presence' ;;
-    plan) echo 'readers rate check longest answer hold late orders reply-wait poll-interval sends busy-wait busy-limit quiet-wait' ;;
+    plan) echo 'readers rate check longest answer hold late orders poll-between-orders reply-wait poll-interval sends busy-wait busy-limit quiet-wait' ;;
     test) echo '--tap panel script' ;;
     help) echo 'show monitor check make sim panel reader plan test' ;;
   esac

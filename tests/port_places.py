@@ -13,7 +13,7 @@ from pathlib import Path
 
 from simulated import Line, Panel, Port, Reader, new_devices
 
-COMSET, COM, NAK, ID, POLL = 0x6E, 0x54, 0x41, 0x61, 0x60
+COMSET, COM, NAK, ID, POLL, OUT = 0x6E, 0x54, 0x41, 0x61, 0x60, 0x68
 SETTINGS = ((), ("reply-wait", "400"), ("sends", "1"), ("sends", "2", "reply-wait", "50", "poll-interval", "10", "quiet-wait", "150"), ("check", "sum", "quiet-wait", "1000"))
 TOGETHER = 6  # rounds within which all are at one rate again
 osdp = ""
@@ -38,7 +38,7 @@ def opened_line(count, settings=(), names=(5, 6, 7), keep=None):
 
 def is_settled(line):
     """All sessions are open, and no COMSET is on its way."""
-    return line.all_open() and not any(device.orders for device in line.panel.devices)
+    return line.all_open() and not any(device.orders or device.move for device in line.panel.devices)
 
 
 def order_each(line, what, timer=[0]):
@@ -60,7 +60,7 @@ def loses_once(line, count, settings, what, loses, addresses=(5, 6, 7), before=(
     for order in (*before, "5 rate 19200"):
         line.order(order)
     what = f"{count} readers, {settings}, {what}"
-    asks(line.run(lambda: not any(device.orders for device in line.panel.devices), 60), f"{what}: an order has no end")
+    asks(line.run(lambda: not any(device.orders or device.move for device in line.panel.devices), 60), f"{what}: an order has no end")
     line.loses = lambda way, burst: False
     began, told, reached = line.panel.rounds.number, len(line.told), set()
 
@@ -130,6 +130,31 @@ def new_addresses():
     line.loses = lambda way, burst: False
     asks(line.run(line.all_open, 20) and line.panel.devices[0].address == 9, "address: not found at 9")
     asks(not any(told.startswith("lost 6") for told in line.told), "address: the other device was disturbed")
+    line.close()
+
+
+def moves_after_orders():
+    """A COMSET right after orders goes out once these have their ends and a POLL has gone out. Where the session is lost before, it is taken back, and the place stays."""
+    line, sent = opened_line(1), []
+    line.loses = lambda way, burst: way == "out" and sent.append(burst[5])
+    for order in ("5 on", "5 off", "5 move 9", "5 on"):
+        line.order(order)
+    asks("not taken" in line.told[-1], f"moves: an order while a COMSET waits is answered {line.told[-1]}")
+    asks(line.run(lambda: line.all_open() and line.panel.devices[0].address == 9, 20), "moves: not at 9")
+    at = sent.index(COMSET) if COMSET in sent else 0
+    asks(at > 1 and sent[at - 1] == POLL and sent[:at].count(OUT) == 2, f"moves: sent were {[f'{code:02X}' for code in sent[:at + 1]]}")
+    order_each(line, "moves")
+    line.close()
+    line = opened_line(1)
+    for order in ("5 on", "5 move 9"):
+        line.order(order)
+    line.loses = lambda way, burst: True
+    asks(line.run(lambda: any(told.startswith("lost 5") for told in line.told), 20), "moves: not lost")
+    asks(any(told.startswith("withdrawn 5 COMSET 9") for told in line.told), f"moves: told are {line.told[-4:]}")
+    asks([str(place) for place in line.panel.devices[0].places] == ["5 9600"], "moves: two places of a COMSET that was taken back")
+    line.loses = lambda way, burst: False
+    asks(line.run(line.all_open, 20), "moves: not found again")
+    order_each(line, "moves, taken back")
     line.close()
 
 
@@ -327,6 +352,7 @@ def main(path):
     lost_at_random()
     after_other_orders()
     new_addresses()
+    moves_after_orders()
     refusing()
     gone()
     eight()

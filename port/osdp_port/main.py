@@ -6,7 +6,7 @@ from .advice import Advice
 from .console import Console, wait_for
 from .faults import BAD_WORDS, FAILED, Stop
 from .keep import PanelPlaces, ReaderPlace
-from .panel import BUSY, Panel, first_rate, new_devices
+from .panel import SETTINGS, Panel, first_rate, new_devices
 from .program import Lines, find_program
 from .reader import ABSENT, Reader
 from .serial_port import Port, needs_pyserial
@@ -69,7 +69,7 @@ def says_for_panel(port, console):
 
 def panel(words, port, console, osdp, kept, devices):
     ends = taps(words, port, console, osdp)
-    settings = [*BUSY, *words.rest[1:]]
+    settings = [*SETTINGS, *words.rest[1:]]
     program = Lines(osdp, ["panel", *settings])
     console.say(f"panel at {port.path} {port.rate}: devices {','.join(str(device.address) for device in devices)}; settings {' '.join(settings)}")
     machine = Panel(port, program, devices, moment, says_for_panel(port, console), kept)

@@ -4,7 +4,9 @@ from .faults import BAD_WORDS, Refused, Stop, is_number
 from .rounds import PAUSE, Entry, Place, Rounds
 from .serial_port import has_rate
 
-BUSY = ("busy-limit", "4", "busy-wait", "200")  # how long a device may be busy, where its words don't say otherwise: some 0.8 s, and an exchange ends within 3.8 s
+# What the panel's words may set otherwise. A device may be busy for some 0.8 s, and an exchange ends within 3.8 s; and a device is asked for its cards between two orders.
+SETTINGS = ("busy-limit", "4", "busy-wait", "200", "poll-between-orders", "on")
+POLL = 0x60
 HEALS = 2  # how often a device at another rate than the line's is given a COMSET for it
 MOST = 16  # devices of a line
 FAULTS = {"line": "osdp doesn't read this command: man osdp-panel has them", "B3": "that address is another device's, or may be",
@@ -17,8 +19,10 @@ class Device(Entry):
     def __init__(self, number, name, places, identity=None):
         super().__init__(number, name, places)
         self.identity = identity  # vendor, model and serial number of the device that stood here
+        self.is_asked = False  # whether the packet that went out to it last was a POLL
         self.other = None  # those of another one that stands here now, and gets no order
         self.heals = 0
+        self.move = None  # a COMSET that waits here until no other order does, since `osdp` reserves no address for one that it holds back
 
 
 def new_devices(names, rate, kept):
@@ -76,8 +80,10 @@ class Panel:
 
     def send(self, burst):
         """Writes a packet, at the rate of its device alone: at another one it would be noise."""
-        if any(device.address == burst[1] & 0x7F and device.place.rate == self.port.rate for device in self.devices):
-            self.port.write(burst)
+        for device in self.devices:
+            if device.address == burst[1] & 0x7F and device.place.rate == self.port.rate:
+                self.port.write(burst)
+                device.is_asked = burst[5] == POLL
 
     def heed(self, line):
         """Prints a report, with the address of its device, and does what it asks for."""
@@ -151,6 +157,7 @@ class Panel:
     def close(self, device, pause):
         """A session has ended: the orders that wait are stale, and are taken back."""
         device.session, device.begins = "closed", self.clock() + pause
+        self.takes_back_move(device)
         while self.call(f"withdraw {device.number}"):
             pass
 
@@ -189,7 +196,7 @@ class Panel:
             self.goal, self.has_turned_back = None, False
             for each in self.devices:
                 each.heals = 0
-        if self.goal is None or device.place.rate == self.goal or device.other:
+        if self.goal is None or device.place.rate == self.goal or device.other or device.move:
             return
         if not any(each.place.rate == self.goal and not each.is_in_doubt() for each in self.devices):
             return
@@ -270,7 +277,7 @@ class Panel:
             raise Refused(f"the session with {device.address} isn't open")
         if device.other:
             raise Refused(f"another device stands at {device.address}: type {device.address} accept if it is the right one")
-        if self.awaits_move(device) or device.is_in_doubt():
+        if self.awaits_move(device) or device.move or device.is_in_doubt():
             raise Refused(f"where device {device.address} is isn't known until its COMSET has an answer")
         if self.rounds.is_leaving or not self.rounds.is_reached(device):
             sought = " and ".join(str(each.address) for each in self.rounds.seekers())
@@ -289,7 +296,7 @@ class Panel:
         for each in self.devices:
             if each.session != "open":
                 raise Refused(f"the session with {each.address} isn't open: it would stay at its rate, where nobody finds it")
-            if each.is_in_doubt():
+            if each.is_in_doubt() or each.move:
                 raise Refused(f"the COMSET of {each.address} isn't answered yet")
 
     def may_go_to(self, address):
@@ -299,8 +306,8 @@ class Panel:
             if name not in here and any(place.address == address for place in known.places):
                 raise Refused(f"at address {address} there may be the device that began as {name}: {self.kept.path} says so")
 
-    def submit(self, device, text):
-        """Hands an order to `osdp`. Whether it was taken. A COMSET's new place is written down before it goes out."""
+    def submit(self, device, text, is_told=False):
+        """Hands an order to `osdp`. Whether it was taken. A COMSET's new place is written down before it goes out. Where other orders have to go before, it waits."""
         before = list(device.places)
         if text.startswith("COMSET "):
             device.may_be(Place(*map(int, text.split()[1:3])))
@@ -308,7 +315,8 @@ class Panel:
                 device.places = before
                 self.say(f"not taken {before[0].address} {text}: the new place must be kept first")
                 return False
-        self.say(f"ordered {device.address} {text}")
+        if not is_told:
+            self.say(f"ordered {device.address} {text}")
         device.orders.append(text)
         refusals = [told.split()[1] for told in self.call(f"submit {device.number} {text}") if told.startswith("refused ")]
         if not refusals:
@@ -316,8 +324,23 @@ class Panel:
         device.orders.pop()
         device.places = before
         self.keep()
+        if refusals == ["C3"] and text.startswith("COMSET "):
+            device.move = text
+            return True
         self.say(f"not taken {device.address} {text}: {FAULTS.get(refusals[0], refusals[0])}")
         return False
+
+    def moves(self):
+        """Hands over each COMSET that waits, where no order of its device does and a POLL has gone out since the last one."""
+        for device in self.devices:
+            if device.move and device.is_asked and not device.orders:
+                text, device.move = device.move, None
+                self.submit(device, text, is_told=True)
+
+    def takes_back_move(self, device):
+        if device.move:
+            self.say(f"withdrawn {device.address} {device.move}")
+            device.move = None
 
     # the loop
 
@@ -329,6 +352,7 @@ class Panel:
             self.call(f"bytes {read.hex()}")
         for line in lines:
             self.order(line)
+        self.moves()
         if not self.is_ending:
             self.goes_round(now)
         self.call("tick")
@@ -359,11 +383,13 @@ class Panel:
     def ends(self):
         """No session begins from now on. Whether each order has its end."""
         self.is_ending = True
+        for device in self.devices:
+            self.takes_back_move(device)
         return not any(device.orders for device in self.devices)
 
     def nothing_comes(self):
         """Nothing can come any more: the moments of what is due go by without a wait, so that each order gets its end."""
-        self.is_ending = True
+        self.ends()
         for _ in range(100000):
             if self.due is None or not any(device.orders for device in self.devices):
                 return

@@ -2,7 +2,7 @@
 #![tactic(auto)]
 
 use osdp_line_calls::{
-    LineCommand, LineDevice, LinePanel, LineRun, WrongSetting, panel_settings, reader_settings,
+    LineCommand, LineDevice, LineRun, OrderedPanel, WrongSetting, panel_settings, reader_settings,
     run_lines,
 };
 use osdp_tool::{
@@ -91,7 +91,7 @@ fn run(rt: &HostRuntime) -> Result<u8, ToolFault> {
         Choice::Show => return run_captures(rt, Reads::Show, &words),
         Choice::Check => return run_captures(rt, Reads::Check, &words),
         Choice::Monitor => return run_captures(rt, Reads::Monitor, &words),
-        Choice::Panel => run_machine::<LinePanel>(rt, &words)?,
+        Choice::Panel => run_machine::<OrderedPanel>(rt, &words)?,
         Choice::Reader => run_machine::<LineDevice>(rt, &words)?,
         Choice::Plan => run_plan(rt, &words)?,
         Choice::Test => return run_test(rt, after_name(&words)),

@@ -18,7 +18,7 @@ use Rattle.osdp_line_calls.specs.ReaderAbsence.{lets_go}
 use Rattle.osdp_line_calls.specs.ReaderCalls.{CallFits}
 use Rattle.osdp_line_calls.specs.ReaderLines as device_lines
 use Rattle.osdp_line_calls.specs.ReaderSessions as device
-use Rattle.osdp_line_calls.specs.Rooms.{room_for}
+use Rattle.osdp_msg.specs.Limits.{room_for}
 use Rattle.osdp_line_calls.specs.declared.panel_call.PanelCall.{PanelCall}
 use Rattle.osdp_line_calls.specs.declared.panel_call.PanelCall.TheVariants.{Add}
 use Rattle.osdp_line_calls.specs.declared.reader_call.ReaderCall.{ReaderCall}

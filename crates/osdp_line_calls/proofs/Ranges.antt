@@ -7,9 +7,9 @@ use Rattle.osdp_bus.specs.Settings.{IsBusConfig}
 use Rattle.osdp_bus.proofs.Defaults as by_default
 use Rattle.osdp_controller.specs.Settings.{IsConfig}
 use Rattle.osdp_msg.specs.declared.limits.Room.{Room}
-use Rattle.osdp_line_calls.specs.Rooms.{room_for}
+use Rattle.osdp_msg.specs.Limits.{room_for}
 use Rattle.osdp_line_calls.specs.declared.panel_command.PanelSetting.{PanelSetting}
-use Rattle.osdp_line_calls.specs.declared.panel_command.PanelSetting.TheVariants.{Check, ReplyWait, PollInterval, Sends, BusyWait, BusyLimit, QuietWait, Gap, Capacity}
+use Rattle.osdp_line_calls.specs.declared.panel_command.PanelSetting.TheVariants.{Check, ReplyWait, PollInterval, Sends, BusyWait, BusyLimit, QuietWait, Gap, Capacity, PollBetweenOrders}
 use Rattle.osdp_line_calls.specs.declared.reader_command.ReaderSetting.{ReaderSetting}
 use Rattle.osdp_line_calls.specs.declared.reader_command.ReaderSetting.TheVariants as reader
 use Rattle.osdp_line_calls.specs.declared.reader_command.ReaderSettings.{ReaderSettings}
@@ -65,6 +65,7 @@ set_in_range (QuietWait n) c fits h =
     with_config c _ h (record { address = k.address; reply_wait = k.reply_wait; poll_interval = k.poll_interval; busy_wait = k.busy_wait; quiet_wait = fits; sends = k.sends; busy_limit = k.busy_limit }) refl refl
 set_in_range (Gap n) c fits h = record { controllers = h.controllers; gap = fits }
 set_in_range (Capacity n) c fits h = record { controllers = record { config_in_range = h.controllers.config_in_range; room = fits.0; limit = fits.1; bytes = (omega (arith, fits.0), omega (arith, fits.1)) }; gap = h.gap }
+set_in_range (PollBetweenOrders on) c fits h = h
 
 -- ---- readers
 
@@ -89,7 +90,7 @@ put_in_range (reader.Expire n) r e fits is h = subst of_reader.AreInRange (some_
 put_in_range (reader.Presence told) r e fits is h = subst of_reader.AreInRange (some_same _ e is) (record { address = h.address; room = h.room; gap = h.gap; expire = h.expire })
 
 -- what is set without settings
-pub bus_in_range : IsBusConfig panel.defaults
+pub bus_in_range : IsBusConfig panel.defaults.config
 bus_in_range = by_default.bus_in_range Crc (room_for 64) 3 ((omega arith, omega arith), omega arith, omega arith) (omega arith, omega arith)
 
 pub reader_in_range : of_reader.AreInRange of_reader.defaults

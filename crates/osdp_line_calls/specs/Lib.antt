@@ -11,7 +11,6 @@ pub mod PassingLaws
 pub mod PanelSessions
 pub mod PanelLines
 pub mod Values
-pub mod Rooms
 pub mod PanelSettings
 pub mod ReaderSettings
 pub mod Runs
@@ -19,3 +18,5 @@ pub mod Answers
 pub mod Calls
 pub mod Steps
 pub mod Ending
+pub mod OrderedPanels
+pub mod OrderedLines

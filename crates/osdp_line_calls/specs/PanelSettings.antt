@@ -1,15 +1,17 @@
 -- The settings of a panel: their words, and what each sets.
-use Rattle.std.specs.Prelude.{ℕ, ◌<◌, ◌^◌, List, codes, Option, Some}
+use Rattle.std.specs.Prelude.{ℕ, ◌<◌, ◌^◌, Bool, false, List, codes, Option, Some}
 use Rattle.osdp_bus.specs.declared.config.BusConfig.{BusConfig}
-use Rattle.osdp_bus.specs.Settings.{default_config}
+use Rattle.osdp_bus.specs.Settings.{IsBusConfig, default_config}
 use Rattle.osdp_frame.specs.Times.{IsTime}
 use Rattle.osdp_msg.specs.Limits.{IsRoom}
 use Rattle.osdp_frame.specs.declared.check_kind.CheckKind.TheVariants.{Crc}
 use Rattle.osdp_frame.specs.Check.{check_name}
 use Rattle.osdp_words.specs.Word.{plain, number}
 use Rattle.osdp_line_calls.specs.declared.panel_command.PanelSetting.{PanelSetting}
-use Rattle.osdp_line_calls.specs.declared.panel_command.PanelSetting.TheVariants.{Check, ReplyWait, PollInterval, Sends, BusyWait, BusyLimit, QuietWait, Gap, Capacity}
-use Rattle.osdp_line_calls.specs.Rooms.{room_for}
+use Rattle.osdp_line_calls.specs.declared.panel_command.PanelSetting.TheVariants.{Check, ReplyWait, PollInterval, Sends, BusyWait, BusyLimit, QuietWait, Gap, Capacity, PollBetweenOrders}
+use Rattle.osdp_line_calls.specs.declared.panel_command.PanelSettings.{PanelSettings}
+use Rattle.osdp_settings.specs.Values.{switch_word}
+use Rattle.osdp_msg.specs.Limits.{room_for}
 use Rattle.osdp_line_calls.specs.Values.{IsSends}
 use Rattle.osdp_settings.specs.Settings.{Entry, Make, SettingFits, setting_words}
 
@@ -24,7 +26,9 @@ entry (BusyLimit n) = record { name = codes "busy-limit"; value = number n; Fits
 entry (QuietWait n) = record { name = codes "quiet-wait"; value = number n; Fits = IsTime n }
 entry (Gap n) = record { name = codes "gap"; value = number n; Fits = IsTime n }
 entry (Capacity n) = record { name = codes "capacity"; value = number n; Fits = IsRoom n }
+entry (PollBetweenOrders on) = record { name = codes "poll-between-orders"; value = switch_word on; Fits = Unit {0} }
 
+-- what it sets of the bus
 abbrev pub with_setting : PanelSetting → BusConfig → BusConfig
 with_setting (Check kind) c = record c { check = kind }
 with_setting (ReplyWait n) c = record c { reply_wait = n }
@@ -35,14 +39,23 @@ with_setting (BusyLimit n) c = record c { busy_limit = n }
 with_setting (QuietWait n) c = record c { quiet_wait = n }
 with_setting (Gap n) c = record c { gap = n }
 with_setting (Capacity n) c = record c { room = room_for n }
+with_setting (PollBetweenOrders on) c = c
 
-abbrev pub put : PanelSetting → BusConfig → Option BusConfig
-put s c = Some (with_setting s c)
+-- .. and whether orders wait for POLLs
+abbrev pub with_switch : PanelSetting → Bool → Bool
+with_switch (PollBetweenOrders on) between = on
+with_switch _ between = between
 
--- without settings packets end with a CRC, and 64 commands may wait for each device
-abbrev pub defaults : BusConfig
-defaults = default_config Crc (room_for 64)
+abbrev pub put : PanelSetting → PanelSettings → Option PanelSettings
+put s c = Some (record { config = with_setting s c.config; between = with_switch s c.between })
 
--- the words are settings of a panel, and they make this bus of the defaults
-abbrev pub AreOfPanel : List (List ℕ) → BusConfig → Type 0
+-- without settings packets end with a CRC, 64 commands may wait for each device, and no order waits for a POLL
+abbrev pub defaults : PanelSettings
+defaults = record { config = default_config Crc (room_for 64); between = false }
+
+abbrev pub AreInRange : PanelSettings → Type 0
+AreInRange c = IsBusConfig c.config
+
+-- the words are settings of a panel, and they make this one of the defaults
+abbrev pub AreOfPanel : List (List ℕ) → PanelSettings → Type 0
 AreOfPanel = Make (setting_words entry) (SettingFits entry) put defaults

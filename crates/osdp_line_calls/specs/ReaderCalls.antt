@@ -3,14 +3,11 @@ use Rattle.std.specs.Prelude.{ℕ, ◌≤◌, ◌<◌, ◌^◌, Bool, true, fals
 use Rattle.hex.specs.Hex.{IsBytes}
 use Rattle.osdp_msg.specs.Events.{EventFits, event_words}
 use Rattle.osdp_msg.specs.Limits.{most_data}
+use Rattle.osdp_settings.specs.Values.{switch_word}
 use Rattle.osdp_words.specs.Word.{Word, plain, bytes, number}
 use Rattle.osdp_line_calls.specs.Calls.{IsLong}
 use Rattle.osdp_line_calls.specs.declared.reader_call.ReaderCall.{ReaderCall}
 use Rattle.osdp_line_calls.specs.declared.reader_call.ReaderCall.TheVariants.{At, Bytes, Silence, Tick, Event, Busy, Inputs, Outputs, Readers, Local}
-
-abbrev pub switch_word : Bool → Word
-switch_word true = plain (codes "on")
-switch_word false = plain (codes "off")
 
 -- a call's name, and the words after it
 abbrev pub call_name : ReaderCall → List ℕ

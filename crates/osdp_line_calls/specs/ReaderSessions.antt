@@ -12,7 +12,7 @@ use Rattle.osdp_reader.specs.State.{ReaderState, after_set_busy, after_set_handl
 use Rattle.osdp_reader.specs.declared.config.ReaderConfig.{ReaderConfig}
 use Rattle.osdp_line_calls.specs.LineAnswers.{CalledIn}
 use Rattle.osdp_line_calls.specs.ReaderAbsence.{LetGo, lets_go}
-use Rattle.osdp_line_calls.specs.Rooms.{room_for}
+use Rattle.osdp_msg.specs.Limits.{room_for}
 use Rattle.osdp_line_calls.specs.declared.reader_call.ReaderCall.{ReaderCall}
 use Rattle.osdp_line_calls.specs.declared.reader_call.ReaderCall.TheVariants as call
 use Rattle.osdp_line_calls.specs.declared.reader_absence.Absence.{Absence}

@@ -11,7 +11,7 @@ use Rattle.osdp_line_calls.specs.declared.reader_command.ReaderSetting.{ReaderSe
 use Rattle.osdp_line_calls.specs.declared.reader_command.ReaderSetting.TheVariants.{At, Vendor, Model, Version, Serial, Firmware, Cap, Room, Gap, Expire, Presence}
 use Rattle.osdp_line_calls.specs.declared.reader_command.ReaderSettings.{ReaderSettings}
 use Rattle.osdp_line_calls.specs.declared.reader_absence.Absence.{Absence}
-use Rattle.osdp_line_calls.specs.ReaderCalls.{switch_word}
+use Rattle.osdp_settings.specs.Values.{switch_word}
 use Rattle.osdp_line_calls.specs.Values.{IsTriple, IsVendor}
 use Rattle.osdp_settings.specs.Settings.{Entry, Make, SettingFits, setting_words}
 

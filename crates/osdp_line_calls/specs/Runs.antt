@@ -3,8 +3,8 @@ use Rattle.std.specs.Prelude.{◌≡◌, ◌⊎◌, ℕ, false, List, Option, Re
 use Rattle.std.specs.Io.KnownBytes.{Keeps}
 use Rattle.osdp_line_calls.specs.Answers.{Answering}
 use Rattle.osdp_line_calls.specs.Ending.{Ends}
-use Rattle.osdp_line_calls.specs.PanelLines.{Answers as PanelAnswers}
-use Rattle.osdp_line_calls.specs.PanelSessions.{Session as PanelSession, new_session as new_panel}
+use Rattle.osdp_line_calls.specs.OrderedLines.{Answers as PanelAnswers}
+use Rattle.osdp_line_calls.specs.OrderedPanels.{Ordered as PanelSession, new_ordered as new_panel}
 use Rattle.osdp_line_calls.specs.ReaderLines.{Answers as ReaderAnswers}
 use Rattle.osdp_line_calls.specs.ReaderSessions.{Session as ReaderSession, new_session as new_reader}
 use Rattle.osdp_tool_streams.specs.declared.fault.ToolFault.{ToolFault}

@@ -18,7 +18,7 @@
 //!                                 due 600
 //! ```
 //!
-//! `LineDevice` and `LinePanel` are each a `LineMachine`: `answer_line` answers a line, and their `answer` a call. What they answer is the definitions
+//! `LineDevice`, `LinePanel` and `OrderedPanel`, whose orders may wait for POLLs, are each a `LineMachine`: `answer_line` answers a line, and their `answer` a call. What they answer is the definitions
 //! in `specs/`, over those of `osdp_device` and `osdp_bus`. `answer_lines` reads to the end of an input, and answers each line at once.
 //!
 //! The commands `panel` and `reader` have settings, as the words after their names: a name and its value, in any order, and each has a default; where
@@ -32,11 +32,11 @@
 
 mod answering;
 mod call;
-mod kept;
 pub mod laws;
 mod lines;
 mod listener;
 mod machine;
+mod ordered_panel;
 mod panel_call;
 mod panel_command;
 mod panel_machine;
@@ -55,11 +55,12 @@ mod words;
 
 pub use answering::answer_lines;
 pub use call::{LineCall, read_line};
-pub use kept::{KeptCommand, KeptEvent};
 pub use machine::LineMachine;
+pub use ordered_panel::OrderedPanel;
+pub use osdp_msg::{KeptCommand, KeptEvent};
 pub use osdp_settings::WrongSetting;
 pub use panel_call::PanelCall;
-pub use panel_command::{PanelSetting, panel_settings};
+pub use panel_command::{PanelSetting, PanelSettings, panel_settings};
 pub use panel_session::LinePanel;
 pub use reader_absence::Absence;
 pub use reader_call::ReaderCall;

@@ -8,11 +8,11 @@ ghost use Rattle.osdp_words.specs.Reading.{Reads, ReadsWords};
 ghost use Rattle.osdp_words.specs.Word.{number, texts};
 ghost use Rattle.osdp_line_calls.specs.PanelCalls.{CallFits, IsAddress, IsEntry, call_words, entry_word};
 
-use crate::kept::KeptCommand;
 use crate::words::{one_list, one_moment, one_word};
 use arrayvec::ArrayVec;
 use osdp_bus::Entry;
 use osdp_frame::Address;
+use osdp_msg::KeptCommand;
 use osdp_words::{number_u8, number_u32};
 
 /// What a line orders. An entry is that of the bus, which counts from 0; the line's word for it counts from 1.

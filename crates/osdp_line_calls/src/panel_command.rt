@@ -2,26 +2,24 @@
 
 ghost use Rattle.std.specs.Prelude.{◌≡◌, ◌∷◌, [], IfErr, IfOk};
 ghost use Rattle.std.specs.Result.{result_ok};
-ghost use Rattle.osdp_bus.specs.Settings.{IsBusConfig};
 ghost use Rattle.osdp_words.specs.Reading.{ReadsWords};
 ghost use Rattle.osdp_words.specs.Word.{texts};
-ghost use Rattle.osdp_line_calls.specs.PanelSettings.{defaults, entry, put, with_setting};
-ghost use Rattle.osdp_line_calls.specs.Rooms.{room_for};
+ghost use Rattle.osdp_line_calls.specs.PanelSettings.{AreInRange, defaults, entry, put, with_setting, with_switch};
+ghost use Rattle.osdp_msg.specs.Limits.{room_for};
 ghost use Rattle.osdp_line_calls.specs.Runs.{IsPanelOf};
 ghost use Rattle.osdp_settings.specs.Settings.{ReadsSettings, SettingFits, setting_words};
 ghost use Rattle.osdp_settings.specs.Wrong.{IsWrong};
 
-use crate::panel_session::LinePanel;
+use crate::ordered_panel::OrderedPanel;
 use crate::run::LineCommand;
 use crate::values::{room, sends, time};
 use osdp_bus::BusConfig;
 use osdp_frame::CheckKind;
-use osdp_msg::{MAX_MESSAGE, Room};
-use osdp_settings::{Configured, WrongSetting, read_settings};
+use osdp_msg::Room;
+use osdp_settings::{Configured, WrongSetting, read_settings, read_switch};
 use osdp_tool_streams::ToolFault;
 use osdp_words::number_u8;
 use std::alloc::Global;
-use std::marker::Model;
 
 /// What one setting of a panel sets. Times are in milliseconds, 1 to 3,600,000.
 #[derive(Clone, Copy, Debug, PartialEq, Eq)]
@@ -44,17 +42,8 @@ pub enum PanelSetting {
     Gap(u32),
     /// `capacity`: how many commands may wait for each device, 1 to 1024.
     Capacity(u32),
-}
-
-/// Room for so many commands, however long each is.
-fn room_for(count: u32) -> Room
-    ensures { result ≡ room_for count }
-{
-    let messages = count as usize;
-    Room {
-        messages,
-        bytes: messages * MAX_MESSAGE,
-    }
+    /// `poll-between-orders`: whether the next order of a device goes out only once a POLL was answered since the order before it, `on` or `off`.
+    PollBetweenOrders(bool),
 }
 
 impl PanelSetting {
@@ -72,11 +61,12 @@ impl PanelSetting {
             "quiet-wait" => Some(PanelSetting::QuietWait(time(value)?)),
             "gap" => Some(PanelSetting::Gap(time(value)?)),
             "capacity" => Some(PanelSetting::Capacity(room(value)?)),
+            "poll-between-orders" => Some(PanelSetting::PollBetweenOrders(read_switch(value)?)),
             _ => None,
         }
     }
 
-    /// Sets it.
+    /// Sets what it says of the bus.
     fn set(self, config: &mut BusConfig)
         ensures { config.new ≡ with_setting self config.old }
     {
@@ -89,26 +79,32 @@ impl PanelSetting {
             PanelSetting::BusyLimit(count) => config.busy_limit = count,
             PanelSetting::QuietWait(wait) => config.quiet_wait = wait,
             PanelSetting::Gap(wait) => config.gap = wait,
-            PanelSetting::Capacity(count) => config.room = room_for(count),
+            PanelSetting::Capacity(count) => config.room = Room::of(count as usize),
+            PanelSetting::PollBetweenOrders(_) => {}
+        }
+    }
+
+    /// Whether orders wait for POLLs after it.
+    fn switched(self, between: bool) -> bool
+        ensures { result ≡ with_switch self between }
+    {
+        match self {
+            PanelSetting::PollBetweenOrders(on) => on,
+            _ => between,
         }
     }
 }
 
-/// The settings of a bus, which words set.
-#[derive(Drop)]
-struct BusSettings {
-    config: BusConfig,
+/// The settings of a panel, which words set.
+#[derive(Clone, Copy, Debug, PartialEq, Eq, Drop)]
+pub struct PanelSettings {
+    /// The settings of its bus.
+    pub config: BusConfig,
+    /// Whether the next order of a device goes out only once a POLL was answered since the order before it.
+    pub between: bool,
 }
 
-impl Model for BusSettings {
-    ghost use Rattle.osdp_bus.specs.declared.config.BusConfig.{BusConfig};
-
-    ghost Value = { BusConfig };
-
-    ghost view = { λ s. s.config };
-}
-
-impl Configured for BusSettings {
+impl Configured for PanelSettings {
     type Setting = PanelSetting;
 
     ghost entry = { entry };
@@ -117,11 +113,12 @@ impl Configured for BusSettings {
 
     ghost defaults = { defaults };
 
-    ghost is_in_range = { IsBusConfig };
+    ghost is_in_range = { AreInRange };
 
-    fn default_settings() -> BusSettings {
-        BusSettings {
-            config: BusConfig::new(CheckKind::Crc, room_for(64)),
+    fn default_settings() -> PanelSettings {
+        PanelSettings {
+            config: BusConfig::new(CheckKind::Crc, Room::of(64)),
+            between: false,
         }
     }
 
@@ -129,32 +126,32 @@ impl Configured for BusSettings {
         PanelSetting::parse(name, value)
     }
 
-    fn set(self, setting: PanelSetting) -> Option<BusSettings> {
+    fn set(self, setting: PanelSetting) -> Option<PanelSettings> {
         let mut settings = self;
         setting.set(&mut settings.config);
+        settings.between = setting.switched(settings.between);
         Some(settings)
     }
 }
 
-/// The bus that the words set: each name, in any order, with its value after it. What no word sets has its default, and where
+/// The panel that the words set: each name, in any order, with its value after it. What no word sets has its default, and where
 /// a name stands twice, its later value holds. Where the words are no settings, the first that are none.
-pub fn panel_settings<'a>(words: &'a [&'a str]) -> Result<BusConfig, WrongSetting<'a>>
+pub fn panel_settings<'a>(words: &'a [&'a str]) -> Result<PanelSettings, WrongSetting<'a>>
     ensures reads { ReadsSettings (setting_words entry) (SettingFits entry) put defaults (texts words.now) (result_ok result) }
-    ensures range { IfOk result IsBusConfig }
+    ensures range { IfOk result AreInRange }
     ensures wrong { IfErr result (λ wrong. IsWrong (setting_words entry) (SettingFits entry) put defaults (texts words.now) wrong) }
 {
-    let settings = read_settings::<BusSettings>(words)?;
-    Ok(settings.config)
+    read_settings(words)
 }
 
-impl LineCommand for LinePanel {
+impl LineCommand for OrderedPanel {
     ghost is_set_by = { IsPanelOf };
 
-    fn of_words(alloc: Global, words: &[&str]) -> Result<LinePanel, ToolFault> {
-        let Ok(config) = panel_settings(words) else {
+    fn of_words(alloc: Global, words: &[&str]) -> Result<OrderedPanel, ToolFault> {
+        let Ok(settings) = panel_settings(words) else {
             return Err(ToolFault::BadWords);
         };
-        match LinePanel::new(alloc, config) {
+        match OrderedPanel::new(alloc, settings) {
             Ok(panel) => Ok(panel),
             Err(_) => Err(ToolFault::NoMemory),
         }

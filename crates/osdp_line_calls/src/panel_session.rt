@@ -19,8 +19,8 @@ use std::marker::Model;
 /// A panel's bus, the moment of the calls to come, and what is heard beside the bus.
 #[derive(Drop)]
 pub struct LinePanel {
-    bus: Bus,
-    now: u64,
+    pub(crate) bus: Bus,
+    pub(crate) now: u64,
     listener: Listener,
 }
 
@@ -83,7 +83,7 @@ impl LinePanel {
 
 impl LinePanel {
     /// Writes what a call lets be heard beside the bus: a reply that a session passes over while it isn't open.
-    fn listen(&mut self, call: &PanelCall, text: &mut String) -> Result<(), AllocError>
+    pub(crate) fn listen(&mut self, call: &PanelCall, text: &mut String) -> Result<(), AllocError>
         ensures text { OnOk result (string_bytes text.new ≡ string_bytes text.old ++ (overhears call.now self.old).text) }
         ensures session { OnOk result (self.new ≡ record self.old { listening = (overhears call.now self.old).after }) }
     {
@@ -113,7 +113,7 @@ impl LinePanel {
     }
 
     /// Does what a call orders, and writes what comes of it at once.
-    fn call(&mut self, call: PanelCall, text: &mut String) -> Result<(), AllocError>
+    pub(crate) fn call(&mut self, call: PanelCall, text: &mut String) -> Result<(), AllocError>
         ensures { OnOk result (Comes (string_bytes text.old) (string_bytes text.new) self.new (does call self.old)) }
     {
         match call {
@@ -143,7 +143,7 @@ impl LinePanel {
     }
 
     /// Takes the report that waits, and writes it.
-    fn tell(&mut self, text: &mut String) -> Result<(), AllocError>
+    pub(crate) fn tell(&mut self, text: &mut String) -> Result<(), AllocError>
         ensures { (before : List ℕ) (c : Called) → OnOk result (Comes before (string_bytes text.old) self.old c → Comes before (string_bytes text.new) self.new (then_reports c)) }
     {
         let maybe_again = self.bus.is_maybe_again();
@@ -155,7 +155,7 @@ impl LinePanel {
     }
 
     /// Writes the moment of the next tick, which ends an answer.
-    fn end(&mut self, text: &mut String) -> Result<(), AllocError>
+    pub(crate) fn end(&mut self, text: &mut String) -> Result<(), AllocError>
         ensures { (before : List ℕ) (done : Called) → OnOk result (Comes before (string_bytes text.old) self.old done
             → (c : Called) × Ends done c × Comes before (string_bytes text.new) self.new c) }
     {

@@ -3,13 +3,13 @@
 ghost use Rattle.std.specs.Prelude.{◌<◌, ◌^◌, ◌∷◌, ℕ, []};
 ghost use Rattle.osdp_words.specs.Reading.{ReadsWords};
 ghost use Rattle.osdp_words.specs.Word.{bytes, number, texts};
-ghost use Rattle.osdp_line_calls.specs.ReaderCalls.{AreStates, CallFits, call_words, switch_word};
+ghost use Rattle.osdp_settings.specs.Values.{switch_word};
+ghost use Rattle.osdp_line_calls.specs.ReaderCalls.{AreStates, CallFits, call_words};
 
-use crate::kept::KeptEvent;
-use crate::values::switch;
 use crate::words::{one_list, one_moment, one_word};
 use arrayvec::ArrayVec;
-use osdp_msg::MAX_DATA;
+use osdp_msg::{KeptEvent, MAX_DATA};
+use osdp_settings::read_switch;
 use osdp_words::{byte_list, number_u8};
 
 /// What a line orders.
@@ -58,7 +58,7 @@ fn parse_local(words: &[&str]) -> Option<(u8, u8)>
 fn parse_switch(words: &[&str]) -> Option<bool>
     ensures { ReadsWords (λ busy. switch_word busy ∷ []) (λ busy. Unit {0}) (texts words.now) result }
 {
-    switch(one_word(words)?)
+    read_switch(one_word(words)?)
 }
 
 /// The call whose words begin with a name and go on with these.

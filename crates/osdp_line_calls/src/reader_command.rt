@@ -12,12 +12,12 @@ ghost use Rattle.osdp_settings.specs.Wrong.{IsWrong};
 use crate::reader_absence::Absence;
 use crate::reader_session::LineDevice;
 use crate::run::LineCommand;
-use crate::values::{device_address, limit, room, switch, time, triple};
+use crate::values::{device_address, limit, room, time, triple};
 use arrayvec::ArrayVec;
 use osdp_frame::Address;
 use osdp_msg::{Capability, PdId};
 use osdp_reader::ReaderConfig;
-use osdp_settings::{Configured, WrongSetting, read_settings};
+use osdp_settings::{Configured, WrongSetting, read_settings, read_switch};
 use osdp_tool_streams::ToolFault;
 use osdp_words::{number_u8, number_u32, vendor};
 use std::alloc::Global;
@@ -78,7 +78,7 @@ impl ReaderSetting {
             "room" => Some(ReaderSetting::Room(room(value)? as usize)),
             "gap" => Some(ReaderSetting::Gap(time(value)?)),
             "expire" => Some(ReaderSetting::Expire(limit(value)?)),
-            "presence" => Some(ReaderSetting::Presence(switch(value)?)),
+            "presence" => Some(ReaderSetting::Presence(read_switch(value)?)),
             _ => None,
         }
     }

@@ -6,7 +6,7 @@ ghost use Rattle.osdp_line_calls.specs.Runs.{HasNotFailed, Runs, RunsPanel, Runs
 
 use crate::answering::answer_lines;
 use crate::machine::LineMachine;
-use crate::panel_session::LinePanel;
+use crate::ordered_panel::OrderedPanel;
 use crate::reader_session::LineDevice;
 use osdp_tool_streams::{ToolFault, Watched};
 use std::alloc::Global;
@@ -58,7 +58,7 @@ pub fn panel_lines<R: Read, W: Write>(run: &mut LineRun<'_, R, W>) -> Result<(),
     ensures run { RunsPanel R.remaining W.contents run.old run.new result }
     ensures words { run.new.words ≡ run.old.words }
 {
-    run_lines::<LinePanel, R, W>(run)
+    run_lines::<OrderedPanel, R, W>(run)
 }
 
 /// The run of a reader's device.

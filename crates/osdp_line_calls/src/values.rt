@@ -5,7 +5,6 @@ ghost use Rattle.osdp_frame.specs.Times.{IsTime, longest_time};
 ghost use Rattle.osdp_msg.specs.Limits.{IsRoom};
 ghost use Rattle.osdp_words.specs.Reading.{Reads};
 ghost use Rattle.osdp_words.specs.Word.{number, numbers};
-ghost use Rattle.osdp_line_calls.specs.ReaderCalls.{switch_word};
 ghost use Rattle.osdp_line_calls.specs.Values.{IsSends, IsTriple};
 
 use osdp_frame::{Address, is_time};
@@ -32,17 +31,6 @@ pub(crate) fn limit(word: &str) -> Option<u32>
         return None;
     }
     Some(wait)
-}
-
-/// `on` or `off`.
-pub(crate) fn switch(word: &str) -> Option<bool>
-    ensures { Reads switch_word (λ on. Unit {0}) word.now result }
-{
-    match word {
-        "on" => Some(true),
-        "off" => Some(false),
-        _ => None,
-    }
 }
 
 /// How often a frame is sent, 1 to 255.

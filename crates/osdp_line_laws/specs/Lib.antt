@@ -4,3 +4,4 @@ pub mod OldEvents
 pub mod PanelRuns
 pub mod ReaderRuns
 pub mod PanelListening
+pub mod OrderedLines

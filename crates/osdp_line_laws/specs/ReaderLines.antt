@@ -25,7 +25,7 @@ use Rattle.osdp_line_calls.specs.declared.reader_call.ReaderCall.TheVariants as 
 use Rattle.osdp_line_calls.specs.ReaderCalls.{CallFits, call_words}
 use Rattle.osdp_line_calls.specs.ReaderLines.{Answers}
 use Rattle.osdp_line_calls.specs.ReaderSessions.{Session, after_event, heard, new_session, submit_text}
-use Rattle.osdp_line_calls.specs.Rooms.{room_for}
+use Rattle.osdp_msg.specs.Limits.{room_for}
 use Rattle.osdp_line_calls.specs.ReaderTexts.{all_lines, expired_line, no_line, presence_text, waiting_line}
 use Rattle.osdp_line_calls.specs.declared.reader_absence.Absence.{Absence}
 

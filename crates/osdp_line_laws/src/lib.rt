@@ -5,6 +5,7 @@
 #![tactic(auto)]
 
 ghost use Rattle.osdp_line_laws.specs.OldEvents.{OldEventsAlwaysLeave};
+ghost use Rattle.osdp_line_laws.specs.OrderedLines.{ComeOfOrdersCalls, IsOrdersCallOrNone, WithoutTheSetting};
 ghost use Rattle.osdp_line_laws.specs.PanelLines.{ComesOfCalls, IsCallOrNone};
 ghost use Rattle.osdp_line_laws.specs.PanelListening.{ListensAlways};
 ghost use Rattle.osdp_line_laws.specs.PanelRuns.{RunsAreCalls as PanelRunsAreCalls};
@@ -58,4 +59,21 @@ pub fn a_devices_run_is_its_calls()
 /// tells as passed over does nothing to its device, as the device stands, but bring the moment.
 pub fn panels_listen_as_their_bus()
     ensures { ListensAlways }
+{}
+
+/// A line to a panel whose orders may wait for POLLs is one call of its orders and its bus at most, and then the taking of the report that waits. A line that is
+/// none changes nothing.
+pub fn a_line_is_a_call_of_orders()
+    ensures { IsOrdersCallOrNone }
+{}
+
+/// Lines to a new panel whose orders may wait come to a list of calls of new orders and a new bus. So what is so after every list of them is so after any lines:
+/// with the setting a POLL is answered between two orders of a device.
+pub fn an_ordered_panel_comes_of_calls()
+    ensures { ComeOfOrdersCalls }
+{}
+
+/// Where orders don't wait for POLLs, a run of lines is answered as by a panel that holds no order back. So what the laws say of such runs they say of this one.
+pub fn without_the_setting_a_panel_answers_as_before()
+    ensures { WithoutTheSetting }
 {}

@@ -204,6 +204,7 @@ usage: osdp panel [SETTING VALUE]...
   quiet-wait MS         how long a device is left quiet before a session opens: 400
   gap MS                after how long a silence a run of bytes is over: 20
   capacity N            how many commands may wait for each device, 1 to 1024: 64
+  poll-between-orders   on, off: whether a device is asked for its cards between two of its orders: off
 
 Input: a call on each line. Another program carries the port: share/osdp/examples/panel.py is one. Devices
 count from 1, in the order in which they were added.
@@ -337,6 +338,7 @@ usage: osdp plan [SETTING VALUE]...
   hold MS           for how long a driver, an adapter or a network holds a packet back: 0
   late MS           how late the panel's program is: 1
   orders N          how many orders of its reader wait before an order or a card, 0 to 1024: 0
+  poll-between-orders  on, off: whether a reader is asked for its cards between two of its orders: off
   reply-wait MS     how long an answer is waited for: 200
   poll-interval MS  from an answer to the next POLL: 50
   sends N           how often a packet is sent while no answer comes, 1 to 255: 3

@@ -1,6 +1,0 @@
-use Rattle.std.proofs.Common.{refl}
-use Rattle.osdp_line_calls.specs.PanelSessions.{new_session}
-use Rattle.osdp_line_calls.proofs.panel_command.LinePanelLineCommand.of_words.Goals as goal
-
-pub returns-in-Err-clause-none : goal.returns-in-Err-clause-none
-returns-in-Err-clause-none c = (new_session c.in-Ok.config, (c.in-Ok.config, c.in-Ok.ensures.reads.value, refl))

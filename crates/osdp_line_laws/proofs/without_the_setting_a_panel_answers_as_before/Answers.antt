@@ -1,0 +1,7 @@
+use Rattle.std.proofs.Common.{false, refl}
+use Rattle.osdp_line_calls.specs.OrderedPanels.{new_ordered}
+use Rattle.osdp_line_laws.proofs.Ordered.{plain_at_first, speaks_plain}
+use Rattle.osdp_line_laws.proofs.without_the_setting_a_panel_answers_as_before.Goals as goal
+
+pub returns : goal.returns
+returns c = λ config lines text last spoken. speaks_plain (new_ordered (record { config = config; between = false })) lines text last (plain_at_first _ refl refl) spoken
