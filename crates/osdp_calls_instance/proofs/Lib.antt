@@ -1,13 +1,13 @@
 mod Keeping
 mod TwoCalls
 mod RuleKept
-mod OwnCalls
+pub mod OwnCalls
 mod LinePrograms
 mod CPrograms
-mod SimulatedLists
-mod SimulatedEnds
-mod SimulatedBus
-mod SimSetUp
+pub mod SimulatedLists
+pub mod SimulatedEnds
+pub mod SimulatedBus
+pub mod SimSetUp
 mod SimulatedReports
 mod SimulatedAccounts
 mod SimulatedTakes
@@ -22,10 +22,9 @@ mod SimulatedPlaces
 mod SimulatedHeard
 mod SimulatedNet
 mod SimulatedLine
-mod SimulatedReaders
+pub mod SimulatedReaders
 mod SimulatedStepping
 mod SimulatedHearing
 mod SimulatedOrder
-mod SimulatedHolding
 mod Fitting
 mod SimulatedDay

@@ -3,19 +3,17 @@ use Rattle.std.proofs.Common.{◌≡◌, ◌≢◌, ◌⊎◌, ℕ, true, false,
 use Rattle.std.specs.Prelude.{◌==◌}
 use Rattle.std.proofs.lemmas.Bool.Decides.{eqb_tells}
 use Rattle.osdp_msg.specs.declared.command.Command.{Command}
-use Rattle.osdp_bus.specs.Buses.{BusState, device_of}
+use Rattle.osdp_bus.specs.Buses.{BusState}
 use Rattle.osdp_bus_laws.specs.Calls as bus
 use Rattle.osdp_link_laws.proofs.Lines.{each_all, each_of}
 use Rattle.osdp_link_laws.proofs.Stages.{Each}
 use Rattle.osdp_reader.specs.declared.handler.Answer.{Answer}
 use Rattle.osdp_shared_line.specs.Line.{changed, site_at}
 use Rattle.osdp_shared_line.proofs.Sites.{at_changed, at_other, some_same}
-use Rattle.osdp_calls.specs.Accepted.{all_accepted, all_queued}
 use Rattle.osdp_calls.specs.Calls.{Call, NewDevice, NewPanel, Next, OfPanel, Pending, SetBusy, SetHandler, Silence, Step, SubmitEvent, Take, TickDevice, after_call, after_calls, WithdrawEvent}
 use Rattle.osdp_calls.specs.Ends.{GoByTheirOwn, Held, KeepsPanel, device_after, device_after_all, held_by, is_of_device, panel_calls}
 use Rattle.osdp_calls.specs.Lines.{InUse}
-use Rattle.osdp_calls.specs.Promises.{CallsHoldOnce, HoldsPromises}
-use Rattle.osdp_calls_instance.specs.OwnCalls.{AreDeviceCalls, ArePanelCalls, AtDevice, AtPanel, CallTheLine, DeviceKind, FitsAt, IsLineOf, IsOfDevice, IsOfPanel, OwnCall, OwnFits, PanelKind, Programs, ProgramsHoldOnce, after_each, after_own, all_calls, bus_after, bus_after_each, calls_at, calls_by, device_after_each, devices_after}
+use Rattle.osdp_calls_instance.specs.OwnCalls.{AreDeviceCalls, ArePanelCalls, AtDevice, AtPanel, CallTheLine, DeviceKind, FitsAt, IsLineOf, IsOfDevice, IsOfPanel, OwnCall, OwnFits, PanelKind, Programs, after_each, after_own, all_calls, bus_after, bus_after_each, calls_at, calls_by, device_after_each, devices_after}
 
 -- ---- lists of steps
 
@@ -236,14 +234,3 @@ module _ {H : Type 0} where
           let joined : after_calls answer_of after steps l ≡ after_calls answer_of after s.rest (after_calls answer_of after s.first l) =
           ap (λ all. after_calls answer_of after all l) s.both ∙ more_steps answer_of after s.first s.rest l in
           subst (IsLineOf P D (after_each P D (call ∷ more) w)) (sym joined) rest
-
-      pub programs_hold : CallsHoldOnce answer_of after → ProgramsHoldOnce P D answer_of after
-      programs_hold hold calls w l steps fit is are up keep k first d at there =
-          let line = after_calls answer_of after steps l in
-          let goes = call_the_line calls w l steps fit is are in
-          let last = goes.devices k d there in (
-            last.1,
-            last.3,
-            subst (λ b. HoldsPromises (all_accepted answer_of after k steps l) (first.reader.queue.events ++ all_queued answer_of after k steps l) (device_of k b) last.1)
-                goes.bus (hold l steps up keep k first last.1 at last.2),
-          )

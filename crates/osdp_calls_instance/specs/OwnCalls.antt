@@ -1,23 +1,19 @@
 -- Programs that call the machines by calls of their own, as those for C, or lines of text: which calls of a line in use theirs are.
 use Rattle.std.specs.Prelude.{◌≡◌, ℕ, true, All, List, [], ◌∷◌, ◌++◌, map, Option, Some, None}
 use Rattle.osdp_msg.specs.declared.command.Command.{Command}
-use Rattle.osdp_bus.specs.Buses.{BusState, device_of}
+use Rattle.osdp_bus.specs.Buses.{BusState}
 use Rattle.osdp_bus_laws.specs.Calls as bus
 use Rattle.osdp_reader.specs.declared.handler.Answer.{Answer}
 use Rattle.osdp_shared_line.specs.Line.{changed, site_at}
-use Rattle.osdp_calls.specs.Accepted.{all_accepted, all_queued}
 use Rattle.osdp_calls.specs.Calls.{Call, NewPanel, OfPanel, Step, after_calls}
 use Rattle.osdp_calls.specs.Ends.{GoByTheirOwn, Held, device_after, held_by, is_of_device}
 use Rattle.osdp_calls.specs.Lines.{InUse, Station, bus_with}
-use Rattle.osdp_calls.specs.Premises.{AllKeep, IsSetUp}
 use Rattle.osdp_calls.specs.Sayings.{AddsMakeTheBus}
-use Rattle.osdp_calls.specs.Promises.{CallsHoldOnce, HoldsPromises}
 
--- what the laws of programs stand on: adding makes the bus, each end goes by its own calls, and the promises hold
+-- what the laws of programs stand on: adding makes the bus, and each end goes by its own calls
 pub record StandsOnCalls {H : Type 0} (answer_of : H → Command → Answer) (after : H → Command → H) : Type 0 where
   pub adds : AddsMakeTheBus
   pub own : (l : InUse H) → GoByTheirOwn answer_of after l
-  pub hold : CallsHoldOnce answer_of after
 
 -- a kind of panel's program, beside devices with the handler H: what such a program is, and the bus in it; its own calls, what each makes of it,
 -- when it is one, and which calls of a line in use it is
@@ -136,13 +132,3 @@ module _ {H : Type 0} (P : PanelKind H) (D : DeviceKind H) where
     CallTheLine = (own : List OwnCall) (w : Programs) (l : InUse H) (steps : List (Step H)) → AllFit own w → IsLineOf w l
         → map (λ (step : Step H). step.call) steps ≡ all_calls own w
         → IsLineOf (after_each own w) (after_calls answer_of after steps l)
-
-    -- So where these steps keep the premises, from a set-up on, the promises hold of each entry, with the device that its program has.
-    abbrev pub ProgramsHoldOnce : Type 0
-    ProgramsHoldOnce = (own : List OwnCall) (w : Programs) (l : InUse H) (steps : List (Step H)) → AllFit own w → IsLineOf w l
-        → map (λ (step : Step H). step.call) steps ≡ all_calls own w
-        → IsSetUp l → AllKeep answer_of after steps l
-        → (k : ℕ) (first : Station H) (d : D.Program) → site_at k l.stations ≡ Some first → site_at k (after_each own w).devices ≡ Some d
-        → (last : Station H) × (held_by last ≡ D.held d)
-        × HoldsPromises (all_accepted answer_of after k steps l) (first.reader.queue.events ++ all_queued answer_of after k steps l)
-        (device_of k (P.bus (after_each own w).panel)) last

@@ -1,25 +1,20 @@
--- The places of what a run of a schedule over a bus reads: the calls that it is keep order and quiet openings, and so the promises hold of it.
+-- The places of what a run of a schedule over a bus reads: the calls that it is keep order and quiet openings, and so all premises.
 use Rattle.std.specs.Prelude.{◌≡◌, ℕ, ◌≤◌, true, All, List, [], ◌∷◌, Some, slice_get}
 use Rattle.osdp_msg.specs.declared.command.Command.{Command}
-use Rattle.osdp_bus.specs.Buses.{device_of}
 use Rattle.osdp_bus.specs.declared.config.BusConfig.{BusConfig}
 use Rattle.osdp_reader.specs.declared.handler.Answer.{Answer}
-use Rattle.osdp_shared_line.specs.Line.{site_at}
 use Rattle.osdp_shared_line.specs.Programs.{Note}
 use Rattle.osdp_sim.specs.Schedules.{HoldsAlong}
 use Rattle.osdp_sim.specs.declared.step.SimStep.{SimStep}
 use Rattle.osdp_sim_bus.specs.Runs.{AreSettings, FitAlong, is_well, run}
 use Rattle.osdp_sim_bus.specs.State.{Given, ReaderSite, set_up}
 use Rattle.osdp_sim_bus.specs.Steps.{after_step}
-use Rattle.osdp_calls.specs.Accepted.{all_accepted, all_queued}
 use Rattle.osdp_calls.specs.Calls.{Step, after_call, after_calls}
 use Rattle.osdp_calls.specs.Lines.{InUse, Station}
 use Rattle.osdp_calls.specs.Premises.{AllKeep, InOrder, QuietOpening}
 use Rattle.osdp_calls.specs.Programs.{KeepsRule, first_notes, notes_after}
-use Rattle.osdp_calls.specs.Promises.{HoldsPromises}
 use Rattle.osdp_calls_instance.specs.SimulatedBus.{AreItsCalls, HandsBytes, line_at_first}
 use Rattle.osdp_calls_instance.specs.SimulatedPremises.{HandsShort, OrdersNoComset}
-use Rattle.osdp_calls_instance.specs.SimulatedReports.{in_all, told_in_run, told_to}
 
 module _ {H : Type 0} where
   -- what a call reads was said, in order, and nothing of it before an opening that it concerns
@@ -60,23 +55,3 @@ module _ {H : Type 0} where
     abbrev pub RunKeepsOrder : Type 0
     RunKeepsOrder = (config : BusConfig) (readers : List (Given H)) (steps : List SimStep) (gap : ℕ) → 1 ≤ gap → IsTaken config readers steps
         → KeepsOrder config readers steps gap
-
-    -- Of each reader of a run whose calls keep the premises: a device at its entry with this reader, of which the promises hold. What its sessions have
-    -- as settled with answers, as told unsettled, as reported and as taken is what the account of the run has.
-    pub record HoldsOnceInRun (config : BusConfig) (readers : List (Given H)) (steps : List SimStep) (gap : ℕ) (calls : List (Step H)) (k : ℕ)
-        (u : ReaderSite H) : Type 0 where
-      pub station : Station H
-      pub there : site_at k (after_calls answer_of after calls (line_at_first config gap readers)).stations ≡ Some station
-      pub reader : station.reader ≡ u.reader
-      pub promises : HoldsPromises (all_accepted answer_of after k calls (line_at_first config gap readers))
-          (all_queued answer_of after k calls (line_at_first config gap readers))
-          (device_of k (run answer_of after steps (set_up config readers)).bus) station
-      pub told : told_to station ≡ told_in_run u
-      pub taken : in_all (λ a. a.taken) (station.account ∷ station.earlier) ≡ u.account.taken
-
-    abbrev pub RunsHoldOnce : Type 0
-    RunsHoldOnce = (config : BusConfig) (readers : List (Given H)) (steps : List SimStep) (gap : ℕ) (calls : List (Step H)) → 1 ≤ gap
-        → IsTaken config readers steps → AreItsCalls answer_of after config readers steps gap calls
-        → AllKeep answer_of after calls (line_at_first config gap readers)
-        → (k : ℕ) (u : ReaderSite H) → slice_get (run answer_of after steps (set_up config readers)).sites k ≡ Some u
-        → HoldsOnceInRun config readers steps gap calls k u

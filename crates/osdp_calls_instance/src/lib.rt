@@ -7,11 +7,11 @@ ghost use Rattle.osdp_calls_instance.specs.CPrograms.{MakesAnew, PanelCallsAreCa
 ghost use Rattle.osdp_calls_instance.specs.Fitting.{CallsForCFit, LinesFit};
 ghost use Rattle.osdp_calls_instance.specs.Instance.{SomeCallsKeep};
 ghost use Rattle.osdp_calls_instance.specs.LinePrograms.{LinesAreThese, PanelLinesAreCalls, line_device, line_panel};
-ghost use Rattle.osdp_calls_instance.specs.OwnCalls.{CallTheLine, ProgramsHoldOnce, StandsOnCalls};
+ghost use Rattle.osdp_calls_instance.specs.OwnCalls.{CallTheLine, StandsOnCalls};
 ghost use Rattle.osdp_calls_instance.specs.Rule.{TwoCallsKeepRule};
 ghost use Rattle.osdp_calls_instance.specs.SimulatedBus.{RunIsCalls, RunsFromASetUp};
 ghost use Rattle.osdp_calls_instance.specs.SimulatedDay.{SomeScheduleIsTaken};
-ghost use Rattle.osdp_calls_instance.specs.SimulatedOrder.{RunKeepsOrder, RunsHoldOnce};
+ghost use Rattle.osdp_calls_instance.specs.SimulatedOrder.{RunKeepsOrder};
 ghost use Rattle.osdp_calls_instance.specs.SimulatedPremises.{RunIsInRange, RunKeepsAddresses};
 ghost use Rattle.osdp_calls_instance.specs.SimulatedReports.{RunTakesTheSame, RunTellsTheSame};
 ghost use Rattle.osdp_calls_instance.specs.TwoEntries.{TwoCallsKeep};
@@ -39,35 +39,32 @@ pub fn rule_is_kept_by_two<H: Handler>()
     ensures { (handler : H) → TwoCallsKeepRule H.answer_of H.after handler }
 {}
 
-/// What the laws of programs stand on: adding makes the bus, each end goes by its own calls, and the promises hold of any calls.
+/// What the laws of programs stand on: adding makes the bus, and each end goes by its own calls.
 fn stands_on_calls<H: Handler>()
     ensures { StandsOnCalls H.answer_of H.after }
 {
     osdp_calls::adds_make_the_bus();
     osdp_calls::ends_go_by_their_own_calls::<H>();
-    osdp_calls::calls_hold_once::<H>();
 }
 
 /// Whatever a panel's program in C and its devices' programs in C call, power losses among it, is a list of calls of a line in use: each call of a handle
-/// is the calls that `panel_calls` and `device_calls` name, and brings the bus and the devices to where these bring them. So the promises hold of
-/// them where these calls keep the premises. An order that waits for a POLL is no call yet: it is one of the tick that sends the POLL. A panel whose handle is
+/// is the calls that `panel_calls` and `device_calls` name, and brings the bus and the devices to where these bring them. What is promised of
+/// them then is law `c_programs_hold_once` of `osdp_programs_ledger`. An order that waits for a POLL is no call yet: it is one of the tick that sends the POLL. A panel whose handle is
 /// freed, made and given its devices, each call done, is one made anew, whether it is made with room for each command or for so many bytes of them, and
 /// with POLLs between orders or not.
 pub fn calls_for_c_are_calls()
     ensures anew { MakesAnew }
     ensures line { CallTheLine c_panel c_device program_answer program_after }
-    ensures hold { ProgramsHoldOnce c_panel c_device program_answer program_after }
 {
     stands_on_calls::<ProgramAnswers>();
 }
 
 /// What a run of lines to `osdp panel` and to `osdp reader` leaves is what the calls leave that these lines say. And whatever a panel and its devices
-/// are called by lines, power losses among it, is a list of calls of a line in use, which brings the bus and the devices to the same. So the promises
-/// hold of them where these calls keep the premises.
+/// are called by lines, power losses among it, is a list of calls of a line in use, which brings the bus and the devices to the same. What is
+/// promised of them then is law `line_programs_hold_once` of `osdp_programs_ledger`.
 pub fn lines_are_calls()
     ensures lines { LinesAreThese }
     ensures line { CallTheLine line_panel line_device status_answer status_after }
-    ensures hold { ProgramsHoldOnce line_panel line_device status_answer status_after }
 {
     stands_on_calls::<DeviceStatus>();
     osdp_line_laws::a_panels_run_is_its_calls();
@@ -138,17 +135,4 @@ pub fn run_keeps_order<H: Handler>()
     osdp_calls::hands_over_what_is_read();
     osdp_link_laws::reads_what_is_asked();
     osdp_sim_bus_laws::schedules_are_moves::<H>();
-}
-
-/// So the simulated line is an instance of any calls. This asks five things of a run: its settings are in their ranges, no step is refused, what goes over
-/// the line has its fields in their ranges, no burst that comes to the readers is longer than a packet, and the calls that the run is keep the premises.
-/// Then the promises hold of each reader. They speak of its reader and its entry as the run leaves them, and of the commands with their answers, the
-/// unsettled commands, the reported events and the taken commands of its account.
-pub fn runs_hold_once<H: Handler>()
-    ensures { RunsHoldOnce H.answer_of H.after }
-{
-    osdp_calls::calls_hold_once::<H>();
-    osdp_sim_bus::laws::has_an_account_each::<H>();
-    run_is_calls::<H>();
-    run_tells_the_same::<H>();
 }

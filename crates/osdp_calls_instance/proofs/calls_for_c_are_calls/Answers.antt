@@ -1,5 +1,5 @@
 use Rattle.osdp_calls_instance.proofs.CPrograms.{devices_are, makes_anew, panels_are}
-use Rattle.osdp_calls_instance.proofs.OwnCalls.{call_the_line, programs_hold}
+use Rattle.osdp_calls_instance.proofs.OwnCalls.{call_the_line}
 use Rattle.osdp_calls_instance.specs.CPrograms.{c_device, c_panel}
 use Rattle.osdp_device.specs.Program.{program_after, program_answer}
 use Rattle.osdp_calls_instance.proofs.calls_for_c_are_calls.Goals as goal
@@ -8,6 +8,4 @@ pub returns : goal.returns
 returns c = record {
   anew = makes_anew c.stands_on_calls.ensures.adds;
   line = call_the_line program_answer program_after c.stands_on_calls.ensures.own c_panel c_device panels_are devices_are;
-  hold = programs_hold program_answer program_after c.stands_on_calls.ensures.own c_panel c_device panels_are devices_are
-      c.stands_on_calls.ensures.hold;
 }

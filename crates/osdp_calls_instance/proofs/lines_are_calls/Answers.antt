@@ -1,5 +1,5 @@
 use Rattle.osdp_calls_instance.proofs.LinePrograms.{device_lines_are, lines_are_these, panel_lines_are}
-use Rattle.osdp_calls_instance.proofs.OwnCalls.{call_the_line, programs_hold}
+use Rattle.osdp_calls_instance.proofs.OwnCalls.{call_the_line}
 use Rattle.osdp_calls_instance.specs.LinePrograms.{line_device, line_panel}
 use Rattle.osdp_device.specs.Status.{status_after, status_answer}
 use Rattle.osdp_calls_instance.proofs.lines_are_calls.Goals as goal
@@ -9,6 +9,4 @@ returns c = record {
   lines = lines_are_these c.a_panels_run_is_its_calls.ensures c.a_devices_run_is_its_calls.ensures;
   line = call_the_line status_answer status_after c.stands_on_calls.ensures.own line_panel line_device
       (panel_lines_are c.stands_on_calls.ensures.adds) device_lines_are;
-  hold = programs_hold status_answer status_after c.stands_on_calls.ensures.own line_panel line_device
-      (panel_lines_are c.stands_on_calls.ensures.adds) device_lines_are c.stands_on_calls.ensures.hold;
 }

@@ -1,35 +1,23 @@
--- The promises hold of each reader of a run whose calls keep the premises.
-use Rattle.std.proofs.Common.{◌≡◌, ◌≤◌, ◌<◌, ◌+◌, ℕ, zero, suc, Bool, true, false, cond, List, [], ◌∷◌, ◌++◌, length, map, Some, None, refl, sym, subst, ap, arith, lt-ltb}
+-- Where the settings of a run are in their ranges, its entries can be added to its bus.
+use Rattle.std.proofs.Common.{◌≡◌, ◌≤◌, ◌<◌, ◌+◌, ℕ, suc, Bool, true, false, cond, List, [], ◌∷◌, ◌++◌, length, map, Some, None, refl, sym, subst, ap, arith, lt-ltb}
 use Rattle.std.proofs.lemmas.Bool.{leb-true, lt-leb}
 use Rattle.std.proofs.lemmas.List.{length-append}
 use Rattle.std.specs.List.{list_all, list_any}
 use Rattle.std.specs.Prelude.{not, ◌==◌, ◌&&◌, ◌||◌, nat_le, nat_lt}
-use Rattle.osdp_msg.specs.declared.command.Command.{Command}
-use Rattle.osdp_bus.specs.Buses.{device_of, new_bus}
+use Rattle.osdp_bus.specs.Buses.{new_bus}
 use Rattle.osdp_bus.specs.Devices.{takes_up}
 use Rattle.osdp_bus.specs.Machine.{most_devices, new_device}
 use Rattle.osdp_bus.specs.declared.config.BusConfig.{BusConfig}
 use Rattle.osdp_bus.specs.declared.fault.BusFault.TheVariants.{AddressTaken, OutOfRange, TooMany}
 use Rattle.osdp_link_laws.proofs.Stages.{Each}
 use Rattle.osdp_link_laws.proofs.Lines.{each_append, each_map}
-use Rattle.osdp_reader.specs.declared.handler.Answer.{Answer}
-use Rattle.osdp_shared_line.specs.Line.{site_at}
-use Rattle.osdp_sim_bus.specs.Laws.{HasAnAccountEach}
-use Rattle.osdp_sim_bus.specs.Runs.{are_apart, is_at, is_reader_in_range, run}
-use Rattle.osdp_sim_bus.specs.State.{Given, address_of, set_up}
-use Rattle.osdp_calls.specs.Accepted.{all_accepted, all_queued}
+use Rattle.osdp_sim_bus.specs.Runs.{AreSettings, are_apart, is_at, is_reader_in_range}
+use Rattle.osdp_sim_bus.specs.State.{Given, address_of}
 use Rattle.osdp_calls.specs.Lines.{bus_with}
-use Rattle.osdp_calls.specs.Promises.{CallsHoldOnce, HoldsPromises}
 use Rattle.osdp_calls.specs.Sayings.{NoneRefused}
 use Rattle.osdp_calls.proofs.Sayings.{added}
-use Rattle.osdp_calls_instance.proofs.SimSetUp.{both, is_not, neither, not_equal, runs_from_a_set_up}
-use Rattle.osdp_calls_instance.proofs.SimulatedAccounts.{account_count, first_within}
+use Rattle.osdp_calls_instance.proofs.SimSetUp.{both, is_not, neither, not_equal}
 use Rattle.osdp_calls_instance.proofs.SimulatedLists.{other_number}
-use Rattle.osdp_calls_instance.specs.SimulatedBus.{RunIsCalls, line_at_first, new_station}
-use Rattle.osdp_calls_instance.specs.SimulatedOrder.{RunsHoldOnce}
-use Rattle.osdp_calls_instance.specs.SimulatedReports.{RunTakesTheSame, RunTellsTheSame}
-
--- ---- no entry is refused
 
 no_refusal : (many low taken : Bool) → many ≡ false → low ≡ true → taken ≡ false
     → cond many (Some TooMany) (cond low (cond taken (Some AddressTaken) None) (Some OutOfRange)) ≡ None
@@ -87,35 +75,9 @@ module _ {H : Type 0} where
             (is_not (list_any (is_at (address_of given)) readers) parts.0, tt))),
       )
 
-  -- ---- a reader of a run
-
-  there_first : (gap k : ℕ) (readers : List (Given H)) → k < length readers → (given : Given H) × (site_at k (map (new_station gap) readers) ≡ Some (new_station gap given))
-  there_first gap k [] lt = absurd (omega (arith, lt))
-  there_first gap zero (given ∷ readers) lt = (given, refl)
-  there_first gap (suc k) (given ∷ readers) lt = there_first gap k readers (omega (arith, lt))
-
-  module _ (answer_of : H → Command → Answer) (after : H → Command → H) where
-    pub runs_hold_once : CallsHoldOnce answer_of after → RunIsCalls answer_of after → RunTellsTheSame answer_of after → RunTakesTheSame answer_of after
-        → HasAnAccountEach answer_of after → RunsHoldOnce answer_of after
-    runs_hold_once holds is_calls tells takes each config readers steps gap calls some taken are keep k u at =
-        let first = set_up config readers in
-        let last = run answer_of after steps first in
-        let l = line_at_first config gap readers in
-        let lt : k < length readers = omega (arith, first_within k u last.sites at, account_count last.sites, each config readers steps) in
-        let begun = there_first gap k readers lt in
-        let ends = is_calls config readers steps gap calls some taken.well taken.bytes are in
-        let t = ends.readers k u at in
-        let up = runs_from_a_set_up config readers gap taken.settings in
-        let within = both (nat_le (length readers) most_devices) (list_all is_reader_in_range readers && are_apart readers) taken.settings.each in
-        let parts = both (list_all is_reader_in_range readers) (are_apart readers) within.1 in
-        let few = leb-true (length readers) most_devices within.0 in
-        let fine : NoneRefused (map address_of readers) (new_bus config) = none_refused config readers [] (omega (arith, few)) parts.0 parts.1 tt in
-        record {
-          station = t.0;
-          there = t.1;
-          reader = t.2;
-          promises = subst (λ b. HoldsPromises (all_accepted answer_of after k calls l) (all_queued answer_of after k calls l) (device_of k b) t.0) ends.bus
-              (holds l calls up keep k (new_station gap begun.0) t.0 begun.1 t.1);
-          told = tells config readers steps gap calls taken.settings.bus fine taken.well taken.bytes are k u t.0 at t.1;
-          taken = takes config readers steps gap calls some taken.well taken.bytes are k u t.0 at t.1;
-        }
+  pub entries_stand : (config : BusConfig) (readers : List (Given H)) → AreSettings config readers → NoneRefused (map address_of readers) (new_bus config)
+  entries_stand config readers settings =
+      let within = both (nat_le (length readers) most_devices) (list_all is_reader_in_range readers && are_apart readers) settings.each in
+      let parts = both (list_all is_reader_in_range readers) (are_apart readers) within.1 in
+      let few = leb-true (length readers) most_devices within.0 in
+      none_refused config readers [] (omega (arith, few)) parts.0 parts.1 tt

@@ -1,0 +1,5 @@
+mod Accepted
+mod Entries
+mod Programs
+mod Standing
+mod Schedules

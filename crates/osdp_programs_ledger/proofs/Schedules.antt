@@ -1,0 +1,86 @@
+-- The run of a schedule is calls of a line in use, and its account tells what their ledger says.
+use Rattle.std.proofs.Common.{◌≡◌, ℕ, zero, suc, List, [], ◌∷◌, ◌++◌, map, Some, refl, sym, subst, ap, ◌∙◌}
+use Rattle.std.proofs.lemmas.List.{map-append}
+use Rattle.std.specs.Prelude.{slice_get}
+use Rattle.osdp_msg.specs.declared.command.Command.{Command}
+use Rattle.osdp_msg.specs.declared.reply.Reply.{Reply}
+use Rattle.osdp_bus.specs.Buses.{device_of}
+use Rattle.osdp_ledger.specs.History.{new_history, runs}
+use Rattle.osdp_ledger.specs.Ledger.{Order}
+use Rattle.osdp_link_laws.specs.Headline.{EachIsOnce, asked}
+use Rattle.osdp_link_laws.specs.Link as link
+use Rattle.osdp_link_ledger.specs.Accounts as ledgers
+use Rattle.osdp_reader.specs.declared.handler.Answer.{Answer}
+use Rattle.osdp_shared_line.specs.Line.{site_at}
+use Rattle.osdp_shared_line.specs.Runs.{EachHoldsOnce}
+use Rattle.osdp_sim_bus.specs.Runs.{run}
+use Rattle.osdp_sim_bus.specs.State.{Given, set_up}
+use Rattle.osdp_calls.specs.Ends.{GoByTheirOwn}
+use Rattle.osdp_calls.specs.Lines.{InUse}
+use Rattle.osdp_calls_instance.specs.SimulatedBus.{RunIsCalls, line_at_first, new_station}
+use Rattle.osdp_calls_instance.specs.SimulatedReports.{RunTakesTheSame, RunTellsTheSame, Told, in_all}
+use Rattle.osdp_calls_instance.proofs.SimSetUp.{runs_from_a_set_up}
+use Rattle.osdp_calls_ledger.specs.Laws.{EachKeepsLedger}
+use Rattle.osdp_calls_ledger.specs.Promises.{LedgerHoldsOnce}
+use Rattle.osdp_calls_ledger.specs.Steps.{steps_from}
+use Rattle.osdp_programs_ledger.specs.Schedules.{RunsHoldOnce}
+use Rattle.osdp_programs_ledger.proofs.Accepted.{run_accepts}
+use Rattle.osdp_programs_ledger.proofs.Entries.{entry_of, once_of}
+use Rattle.osdp_programs_ledger.proofs.Standing.{entries_stand}
+
+same_lists : {A : Type 0} (part : link.Account → List A) (ts : List link.Account) → ledgers.in_all part ts ≡ in_all part ts
+same_lists part [] = refl
+same_lists part (t ∷ ts) = ap (λ xs. xs ++ part t) (same_lists part ts)
+
+-- each command that was taken has the answer that the device gave to it
+taken_in : (ts : List link.Account) → EachIsOnce ts → map asked (ledgers.in_all (λ t. t.given) ts) ≡ in_all (λ t. t.taken) ts
+taken_in [] once = refl
+taken_in (t ∷ ts) once = map-append asked (ledgers.in_all (λ t. t.given) ts) t.given ∙ (λ i. taken_in ts once.1 i ++ once.0.answered i)
+
+commands_acted : (ds : List (Order × Reply)) → map asked (map (λ (d : Order × Reply). (d.0.command, d.1)) ds) ≡ map (λ (d : Order × Reply). d.0.command) ds
+commands_acted [] = refl
+commands_acted (d ∷ ds) = ap (λ cs. d.0.command ∷ cs) (commands_acted ds)
+
+module _ {H : Type 0} where
+  station_at : (gap k : ℕ) (given : Given H) (readers : List (Given H)) → slice_get readers k ≡ Some given
+      → site_at k (map (new_station gap) readers) ≡ Some (new_station gap given)
+  station_at gap k given [] at = absurd (let e = at in cc)
+  station_at gap zero given (g ∷ readers) at = ap (λ (h : Given H). Some (new_station gap h)) (let same : g ≡ given = cc in same)
+  station_at gap (suc k) given (g ∷ readers) at = station_at gap k given readers at
+
+  module _ (answer_of : H → Command → Answer) (after : H → Command → H) where
+    pub runs_hold_once : ((l : InUse H) → GoByTheirOwn answer_of after l) → EachKeepsLedger answer_of after → LedgerHoldsOnce answer_of after → EachHoldsOnce answer_of after → RunIsCalls answer_of after
+        → RunTellsTheSame answer_of after → RunTakesTheSame answer_of after → RunsHoldOnce answer_of after
+    runs_hold_once own keeps holds once is_calls tells takes config readers steps gap calls some taken are keep k given u there at =
+        let l = line_at_first config gap readers in
+        let first = new_station gap given in
+        let is = station_at gap k given readers there in
+        let ends = is_calls config readers steps gap calls some taken.well taken.bytes are in
+        let t = ends.readers k u at in
+        let up = runs_from_a_set_up config readers gap taken.settings in
+        let entry = entry_of answer_of after l calls up keep k t.0 t.1 in
+        let held = holds l calls up keep k first t.0 entry.0 is t.1 entry.1 in
+        let kept = keeps l calls up keep k first t.0 entry.0 is t.1 entry.1 in
+        let sessions = t.0.account ∷ t.0.earlier in
+        let h = runs (steps_from answer_of after k first calls l) new_history in
+        let told = tells config readers steps gap calls taken.settings.bus (entries_stand config readers taken.settings) taken.well taken.bytes are k u t.0 at t.1 in
+        let more = run_accepts answer_of after own config readers steps gap calls some taken.well taken.bytes are k given u there at in
+        let took = takes config readers steps gap calls some taken.well taken.bytes are k u t.0 at t.1 in
+        record {
+          entry = entry.0;
+          has = subst (λ b. device_of k b ≡ Some entry.0) ends.bus entry.1;
+          station = t.0;
+          there = t.1;
+          reader = t.2;
+          allowed = held.0;
+          holds = held.1;
+          told = record {
+            issued = more.0 ∙ sym kept.accounts.orders;
+            queued = more.1 ∙ sym kept.accounts.cards;
+            settled = sym (kept.accounts.settled ∙ same_lists (λ t. t.settled) sessions ∙ ap (λ (x : Told). x.settled) told);
+            unsettled = sym (kept.accounts.in_doubt ∙ same_lists (λ t. t.unsettled) sessions ∙ ap (λ (x : Told). x.unsettled) told);
+            taken = sym (sym (commands_acted h.acted) ∙ ap (map asked) kept.accounts.acted
+                ∙ taken_in sessions (once_of answer_of after once l calls up keep k first t.0 is t.1) ∙ took);
+            reported = sym (kept.accounts.reported ∙ same_lists (λ t. t.reported) sessions ∙ ap (λ (x : Told). x.reported) told);
+          };
+        }

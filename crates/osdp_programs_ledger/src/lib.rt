@@ -1,0 +1,53 @@
+//! What makers' programs are promised, by the ledger of each entry: programs in C, by lines, and over a simulated line. The functions do nothing: their
+//! contracts are laws.
+#![tactic(auto)]
+
+ghost use Rattle.osdp_calls_instance.specs.CPrograms.{c_device, c_panel};
+ghost use Rattle.osdp_calls_instance.specs.LinePrograms.{line_device, line_panel};
+ghost use Rattle.osdp_device.specs.Program.{program_after, program_answer};
+ghost use Rattle.osdp_device.specs.Status.{status_after, status_answer};
+ghost use Rattle.osdp_programs_ledger.specs.Programs.{ProgramsHoldOnce, RuledProgramsHoldOnce};
+ghost use Rattle.osdp_programs_ledger.specs.Schedules.{RunsHoldOnce};
+
+use osdp_device::{DeviceStatus, ProgramAnswers};
+use osdp_reader::Handler;
+
+/// Whatever a panel's program in C and its devices' programs in C call, losses of power among it, where the calls of a line in use that these are keep
+/// the premises: of each entry of the panel, with the device that its program has, each accepted command is settled once with its answer, is told in
+/// doubt once, is given back, is lost with its panel's power, or is ahead. None is taken twice, and what is settled was taken, with that answer. Each
+/// accepted event has left the device's queue once, or waits. Events are reported in their order, in each session once, and at most the last of a
+/// session is told again later. None is skipped but by its device's program, or by a loss of the device's power.
+///
+/// The rule for programs may stand for the premise on addresses.
+pub fn c_programs_hold_once()
+    ensures calls { ProgramsHoldOnce c_panel c_device program_answer program_after }
+    ensures ruled { RuledProgramsHoldOnce c_panel c_device program_answer program_after }
+{
+    osdp_calls_instance::calls_for_c_are_calls();
+    osdp_calls_ledger::ledger_holds_once::<ProgramAnswers>();
+    osdp_calls::calls_rule_suffices::<ProgramAnswers>();
+}
+
+/// The same of lines to `osdp panel` and to `osdp reader`.
+pub fn line_programs_hold_once()
+    ensures calls { ProgramsHoldOnce line_panel line_device status_answer status_after }
+    ensures ruled { RuledProgramsHoldOnce line_panel line_device status_answer status_after }
+{
+    osdp_calls_instance::lines_are_calls();
+    osdp_calls_ledger::ledger_holds_once::<DeviceStatus>();
+    osdp_calls::calls_rule_suffices::<DeviceStatus>();
+}
+
+/// The same of each reader of a run of a schedule over a bus, as the calls that the run is, where they keep the premises: with its reader and its entry as
+/// the run leaves them. What the steps come to is what the account of the run tells: the commands accepted, those taken, those settled, each with its
+/// answer, and those told unsettled; and the events accepted and reported.
+pub fn runs_hold_once<H: Handler>()
+    ensures { RunsHoldOnce H.answer_of H.after }
+{
+    osdp_calls::ends_go_by_their_own_calls::<H>();
+    osdp_calls_instance::run_is_calls::<H>();
+    osdp_calls_instance::run_tells_the_same::<H>();
+    osdp_calls_ledger::each_keeps_ledger::<H>();
+    osdp_calls_ledger::ledger_holds_once::<H>();
+    osdp_shared_line::promises::each_holds_once::<H>();
+}
