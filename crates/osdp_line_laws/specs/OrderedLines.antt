@@ -33,7 +33,7 @@ called line.Tick now = ordered line.Tick now
 abbrev pub IsOrdersCallOrNone : Type 0
 IsOrdersCallOrNone = (s : Ordered) (given text : List ℕ) (next : Ordered) → Answers s given text next
     → ((call : PanelCall) × Says call_words CallFits given call
-        × (panel_of next ≡ after_calls (called call s.session.now ++ NextReport ∷ []) (panel_of s)))
+    × (panel_of next ≡ after_calls (called call s.session.now ++ NextReport ∷ []) (panel_of s)))
     ⊎ (SaysNothing call_words CallFits given × (next ≡ s))
 
 -- lines to a new panel come to a list of calls of new orders and a new bus, so what holds after every list of calls of these holds after any lines
