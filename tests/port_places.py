@@ -15,6 +15,7 @@ from simulated import Line, Panel, Port, Reader, new_devices
 
 COMSET, COM, NAK, ID, POLL, OUT = 0x6E, 0x54, 0x41, 0x61, 0x60, 0x68
 SETTINGS = ((), ("reply-wait", "400"), ("sends", "1"), ("sends", "2", "reply-wait", "50", "poll-interval", "10", "quiet-wait", "150"), ("check", "sum", "quiet-wait", "1000"))
+BETWEEN = ("poll-between-orders", "on")
 TOGETHER = 6  # rounds within which all are at one rate again
 osdp = ""
 faults = []
@@ -135,7 +136,7 @@ def new_addresses():
 
 def moves_after_orders():
     """A COMSET right after orders goes out once these have their ends and a POLL has gone out. Where the session is lost before, it is taken back, and the place stays."""
-    line, sent = opened_line(1), []
+    line, sent = opened_line(1, BETWEEN), []
     line.loses = lambda way, burst: way == "out" and sent.append(burst[5])
     for order in ("5 on", "5 off", "5 move 9", "5 on"):
         line.order(order)
@@ -145,7 +146,7 @@ def moves_after_orders():
     asks(at > 1 and sent[at - 1] == POLL and sent[:at].count(OUT) == 2, f"moves: sent were {[f'{code:02X}' for code in sent[:at + 1]]}")
     order_each(line, "moves")
     line.close()
-    line = opened_line(1)
+    line = opened_line(1, BETWEEN)
     for order in ("5 on", "5 move 9"):
         line.order(order)
     line.loses = lambda way, burst: True
