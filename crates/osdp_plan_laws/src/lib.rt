@@ -3,7 +3,7 @@
 
 ghost use Rattle.osdp_plan.specs.declared.plan.Plan.{Plan};
 ghost use Rattle.osdp_bus_laws.specs.Calls.{Always};
-ghost use Rattle.osdp_plan_laws.specs.Figures.{CardsKeepToFigures, OrdersKeepToFigures};
+ghost use Rattle.osdp_plan_laws.specs.Figures.{CardsAmongOrdersKeepToFigures, CardsKeepToFigures, OrdersKeepToFigures};
 
 /// An order that is accepted while its session is under way, with as many before it as were planned, goes out within the figure of its plan, or its session has ended
 /// by then: whether all readers answer, one is silent, or each takes as long as its settings allow. No POLL has to come between two orders.
@@ -12,7 +12,8 @@ pub fn orders_keep_to_figures()
 {}
 
 /// A card is reported within the figure of its plan, where no other waits before it and its reader serves, or its session has ended by then: after as many orders as
-/// were planned. No POLL has to come between two orders.
+/// were planned; and where a POLL comes between two orders, after one of them at the most.
 pub fn cards_keep_to_figures()
-    ensures { (p : Plan) → Always (CardsKeepToFigures p) }
+    ensures each { (p : Plan) → Always (CardsKeepToFigures p) }
+    ensures between { (p : Plan) → Always (CardsAmongOrdersKeepToFigures p) }
 {}
