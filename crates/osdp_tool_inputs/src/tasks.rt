@@ -2,7 +2,7 @@
 
 ghost use Rattle.std.specs.Prelude.{◌≡◌, ◌<◌, ◌^◌, ◌++◌, IfOk, OnOk, false, string_bytes};
 ghost use Rattle.std.specs.Io.KnownBytes.{Appends};
-ghost use Rattle.osdp_tool_inputs.specs.Done.{Does, EndsHeard};
+ghost use Rattle.osdp_tool_inputs.specs.Done.{Does, EndsHeard, ListensTimed};
 ghost use Rattle.osdp_tool_inputs.specs.Times.{timed_text};
 ghost use Rattle.osdp_tool_inputs.specs.Heard.{printed_of};
 ghost use Rattle.osdp_tool_show.specs.Ending.{Ends, EndsWhole, watched};
@@ -117,7 +117,9 @@ fn listen_timed<W: Write>(
     mode: MonitorMode,
     text: &[u8],
     output: &mut Watched<W>,
-) -> Result<bool, ToolFault> {
+) -> Result<bool, ToolFault>
+    ensures { ListensTimed mode text.now (watched W.contents output.old output.new) result }
+{
     let mut shown = Vec::new(rt.alloc());
     let mut memory = Watched::new(&mut shown);
     let mut input = Watched::new(text);
@@ -126,8 +128,11 @@ fn listen_timed<W: Write>(
     if answer == Err(ToolFault::WriteFailed) || answer == Err(ToolFault::NoMemory) {
         return Err(ToolFault::NoMemory);
     }
-    print_heard(rt.alloc(), mode.json, text, shown.as_slice(), output)?;
-    answer
+    match print_heard(rt.alloc(), mode.json, text, shown.as_slice(), output) {
+        Ok(()) => answer,
+        Err(ToolFault::WriteFailed) => Err(ToolFault::WriteFailed),
+        Err(_) => Err(ToolFault::NoMemory),
+    }
 }
 
 /// Prints these lines of `show`, each after the moment and the way of its run, which stand in the text.
