@@ -189,7 +189,6 @@ removed_session state waiting left more q ps qs t g ahead split same (inr (inr s
   offers = s.offers;
 }))
 
--- where nothing is taken back
 none_withdrawn : (state : State) (waiting : List Command) (q : EventQueue) (ps qs : List Packet) (t : Account) (g : Ledger)
     → Ties state waiting q ps qs t g → Ties state waiting q ps qs (with_removed [] t) g
 none_withdrawn state waiting q ps qs t g h = record {
