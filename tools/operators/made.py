@@ -73,8 +73,12 @@ def remove(tools, words):
     """Prints the kept edits that operators make, each with the generated edit that is the same, and with `--remove` removes their files."""
     is_to_remove = "--remove" in words
     crates = [it for it in words if it != "--remove"] or [it for it in tools.USES if os.path.isdir(f"{generated.TOP}/crates/{it}/planted")]
-    kept, count, spelled = [], 0, 0
+    kept, count, spelled, by_runs = [], 0, 0, 0
     for edit in [it for found in tools.wanted(crates).values() for it in found]:
+        # what runs alone refuses isn't tried with what operators make
+        if any(kind != "law" for _, _, kind in edit.targets()):
+            by_runs += 1
+            continue
         try:
             edit.texts()
             kept.append(edit)
@@ -90,5 +94,5 @@ def remove(tools, words):
         if is_to_remove:
             os.remove(edit.path)
     done = "removed" if is_to_remove else "made by operators"
-    print(f"{len(kept)} kept edits: {count} {done}, of these {spelled} in another spelling; {len(kept) - count} stay")
+    print(f"{len(kept)} kept edits: {count} {done}, of these {spelled} in another spelling; {len(kept) - count} stay, and {by_runs} that runs alone refuse")
     return 0
