@@ -12,7 +12,7 @@ pub enum TooShort {
     PacketPasses(u64),
     /// `reply-wait`: so long after a packet was handed out its answer may come.
     AnswerComes(u64),
-    /// `quiet-wait`: for so long the line may hold back a packet and its answer together.
+    /// `quiet-wait`: for so long the line may hold back a packet and its answer together, and the quiet has to last longer.
     LineIsQuiet(u64),
 }
 
@@ -31,7 +31,7 @@ pub fn judge(plan: &Plan) -> Option<TooShort>
         return Some(TooShort::AnswerComes(answer));
     }
     let held = u64::from(plan.hold) * 2;
-    if u64::from(plan.quiet_wait) < held {
+    if u64::from(plan.quiet_wait) <= held {
         return Some(TooShort::LineIsQuiet(held));
     }
     None
