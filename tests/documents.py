@@ -1,8 +1,8 @@
 #!/usr/bin/env python3
 """Holds the documents to the tree, and prints each disagreement.
 
-- Each call, law, clause, definition and file that the tables of docs/PROOFS.md name stands in the crates that the section's heading names.
-- Each public law stands in the section of its crate. A law is a public function that gives nothing and changes nothing.
+- docs/PROOFS.md has the tables that tools/map makes of the laws' docstrings. Each public law has one; a law is a public function that gives nothing and changes nothing.
+  Each file and definition that the table at its top names stands in the crates that the row names.
 - Each path that README names is there, and a law that stands in one row with a path is a law of that file.
 - docs/ARCHITECTURE.md has the picture and the table that tools/map makes of crates.txt. Each definition that it names is there.
   Each file of src/ and specs/, but for tests, says at its head what it holds.
@@ -19,8 +19,8 @@
 - Each crate, script and folder that any page names is there; a name with `osdp_` may be one of the header for C too.
 - Each call, law and type that running text of any page names between backticks is a word of the tree's sources, or of the toolchain's.
 - No page, manual page or script says "behind" or "want of memory". No sentence of a page has more than 60 words, but in the list of what is left to do.
-- README has lines of at most 120 characters. docs/DEVELOPING.md has at most 120 lines, docs/ARCHITECTURE.md 300, docs/GUIDE.md 500, docs/HEADLINE.md 300, and no row of a table has more than
-  200 characters."""
+- README has lines of at most 120 characters. docs/DEVELOPING.md has at most 120 lines, docs/ARCHITECTURE.md 300, docs/GUIDE.md and docs/PROOFS.md 500, docs/HEADLINE.md 300, and no row of
+  a table has more than 200 characters."""
 import re
 import runpy
 import subprocess
@@ -55,13 +55,6 @@ def sources(crate, *folders):
 def laws(text):
     """The laws of a text: public functions that give nothing and change nothing."""
     return {name for name, head in LAW.findall(text) if "->" not in head and "&mut" not in head}
-
-
-def sections(text):
-    """Heading and body of each part of a document."""
-    for part in re.split(r"^## ", text, flags=re.M)[1:]:
-        heading, _, body = part.partition("\n")
-        yield heading, body
 
 
 def rows(body):
@@ -126,20 +119,24 @@ def judge_exchanges():
 
 
 def judge_proofs(all_crates):
-    """docs/PROOFS.md: what is named is there, and each law is named."""
-    told = {}
-    for heading, body in sections((TOP / "docs/PROOFS.md").read_text()):
-        named = [crate for crate in re.findall(r"`(\w+)`", heading) if crate in all_crates]
-        for crate in named:
-            told[crate] = told.get(crate, "") + body
-        text = "\n".join(sources(crate, "src", "specs") for crate in named)
-        known_laws, words = laws(text), set(WORD.findall(text))
-        for cells in rows(body):
-            judge_row(f"docs/PROOFS.md, {heading}", cells[-1], known_laws, words, named)
+    """docs/PROOFS.md: its tables are those of the laws as the tree has them, and each law says what it says. What the table at its top names is there."""
+    text = (TOP / "docs/PROOFS.md").read_text()
+    tool = runpy.run_path(str(TOP / "tools/map"))
+    if tool["proofs_text"]() != text:
+        faults.append("docs/PROOFS.md: the tables of the laws are old ones (tools/map --write)")
     for crate in all_crates:
-        for law in sorted(laws(sources(crate, "src"))):
-            if not re.search(rf"`(?:\w+::)*{law}`", told.get(crate, "")):
-                faults.append(f"docs/PROOFS.md: law {law} of {crate} is not told")
+        for file, name, said in tool["laws"](crate):
+            if not said:
+                faults.append(f"crates/{crate}/src/{file}: law {name} has no docstring")
+    for cells in rows(text.split(tool["BEGIN"])[0]):
+        named = [crate for crate in re.findall(r"`(\w+)`", cells[-1]) if crate in all_crates]
+        stems = {file.stem for crate in named for file in (TOP / "crates" / crate).rglob("*.antt")}
+        known = {word for crate in named for word in WORD.findall(sources(crate, "src", "specs"))} | stems | set(all_crates)
+        for name in re.findall(r"`([^`]+)`", cells[-1]):
+            if "/" in name and not any((TOP / "crates" / front / name).exists() or (TOP / "crates" / front / f"{name}.antt").exists() for front in ["", *named]):
+                faults.append(f"docs/PROOFS.md: there is no {name}")
+            elif "/" not in name and " " not in name and name not in known:
+                faults.append(f"docs/PROOFS.md: {name} is not in {', '.join(named)}")
 
 
 def judge_readme():
@@ -425,7 +422,7 @@ def judge_lengths():
     readme = (TOP / "README.md").read_text().splitlines()
     if max(map(len, readme)) > 120:
         faults.append("README.md: a line of more than 120 characters")
-    for page, most in (("docs/DEVELOPING.md", 120), ("docs/ARCHITECTURE.md", 300), ("docs/GUIDE.md", 500), ("docs/HEADLINE.md", 300)):
+    for page, most in (("docs/DEVELOPING.md", 120), ("docs/ARCHITECTURE.md", 300), ("docs/GUIDE.md", 500), ("docs/PROOFS.md", 500), ("docs/HEADLINE.md", 300)):
         if len((TOP / page).read_text().splitlines()) > most:
             faults.append(f"{page}: more than {most} lines")
 
