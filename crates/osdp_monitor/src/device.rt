@@ -1,40 +1,35 @@
 //! What is known of one address.
 
-ghost use Rattle.std.specs.Prelude.{◌≡◌, ◌↔◌, [], is_some, None, Ok, Some, true, false};
+ghost use Rattle.std.specs.Prelude.{◌≡◌, ◌↔◌, is_some, None, Ok, Some, true, false};
 ghost use Rattle.osdp_msg.specs.declared.reply.Reply.TheVariants.{Ack};
 ghost use Rattle.osdp_monitor.specs.Known.{nothing_known};
-ghost use Rattle.osdp_monitor.specs.Line.{after_reply_if, expected_if, found_in_reply, found_in_sent, is_last, is_reply_judged, late_notice, moves_to, nothing_wrong, reply_notice};
-ghost use Rattle.osdp_monitor.specs.Panel.{after_another, after_sent, is_first_doubt, is_waiting, still_suspected};
+ghost use Rattle.osdp_monitor.specs.Line.{after_reply_if, found_in_reply, found_in_sent, is_last, moves_to, nothing_wrong};
+ghost use Rattle.osdp_monitor.specs.Panel.{after_another, after_sent, is_waiting, still_suspected};
 ghost use Rattle.osdp_frame.specs.Packet.{Packet};
-ghost use Rattle.osdp_monitor.specs.Private.{AnswersPoll, IsNext, IsSpelledIf};
-ghost use Rattle.osdp_monitor.specs.Reader.{after_answer, after_own, has_earlier_number, is_doubtful, is_late, is_of_either, is_one_more, is_owed, is_stray, is_unheard, reader_accused, repeat_reply};
-ghost use Rattle.osdp_monitor.specs.Saying.{reply_told, said};
+ghost use Rattle.osdp_monitor.specs.Private.{AnswersPoll, IsNext};
+ghost use Rattle.osdp_monitor.specs.Reader.{after_answer, after_own, has_earlier_number, is_late, is_owed, is_stray, is_unheard, repeat_reply};
+ghost use Rattle.osdp_monitor.specs.Saying.{reply_told};
 
-use crate::accusation::Accusation;
-use crate::found::{DOUBT, Found, NOTHING, Notice};
 use crate::kept::KeptPacket;
-use crate::panel::{SUSPECTED_FOR, is_after, is_doubt, is_number, sent_after};
-use crate::reader::{answer_accused, busy_accused, refusal_accused};
-use crate::said::{
-    ReadReply, Said, has_no_number, is_nak, moved_by, read_command, said_in, tells_number,
-};
-use osdp_frame::{Address, Burst, FrameView, Seq};
+use crate::panel::{SUSPECTED_FOR, is_after, is_doubt, is_number};
+use crate::said::{ReadReply, Said, has_no_number, moved_by, read_command, said_in, tells_number};
+use osdp_frame::{Address, FrameView, Seq};
 use osdp_msg::Reply;
 use std::marker::Model;
 
 /// What is known of one address.
 #[derive(Debug, Drop)]
 pub(crate) struct Device {
-    last: KeptPacket,
-    replied: bool,
-    answered: bool,
-    missed: bool,
-    taken: Option<Seq>,
-    stored: KeptPacket,
+    pub(crate) last: KeptPacket,
+    pub(crate) replied: bool,
+    pub(crate) answered: bool,
+    pub(crate) missed: bool,
+    pub(crate) taken: Option<Seq>,
+    pub(crate) stored: KeptPacket,
     earlier: Option<Seq>,
     owing: bool,
-    settled: bool,
-    suspected: u8,
+    pub(crate) settled: bool,
+    pub(crate) suspected: u8,
 }
 
 impl Model for Device {
@@ -80,13 +75,6 @@ impl Device {
         self.suspected = 0;
     }
 
-    /// Whether a packet after the last one, which has this number, is a first doubt: one packet that was missed explains it.
-    fn is_first_doubt(&self, number: Seq, packet: &FrameView<'_>) -> bool
-        ensures { (last : Packet) → last.sequence ≡ number → result ≡ is_first_doubt (Some last) self.now packet.now }
-    {
-        is_doubt(number, self.answered, packet) && self.suspected == 0
-    }
-
     /// Of how many packets more to it a doubt is no first one, after this packet.
     fn still_suspected(&self, packet: &FrameView<'_>) -> u8
         ensures { result ≡ still_suspected self.now.last self.now packet.now }
@@ -98,28 +86,6 @@ impl Device {
             SUSPECTED_FOR
         } else {
             self.suspected.saturating_sub(1)
-        }
-    }
-
-    /// What is found in a packet to it.
-    fn found_in_sent(&self, packet: &FrameView<'_>) -> Found
-        ensures { result ≡ found_in_sent self.now packet.now }
-    {
-        let Some(number) = self.last.number() else {
-            return NOTHING;
-        };
-        if self.is_first_doubt(number, packet) {
-            return DOUBT;
-        }
-        let is_missed = !self.replied && !self.missed;
-        Found {
-            accusation: sent_after(&self.last, number, self.answered, packet),
-            notice: if is_missed {
-                Some(Notice::Unanswered)
-            } else {
-                None
-            },
-            judged: true,
         }
     }
 
@@ -207,14 +173,14 @@ impl Device {
     }
 
     /// Whether a packet with this number is known to be a repeat, and the reply that it must have is stored.
-    fn is_repeat(&self, number: Seq) -> bool
+    pub(crate) fn is_repeat(&self, number: Seq) -> bool
         ensures { (p : Packet) → p.sequence ≡ number → result ≡ is_some (repeat_reply self.now p) }
     {
         number.get() != 0 && is_number(self.taken, number) && self.stored.number().is_some()
     }
 
     /// Whether a reply has the number of the packet before the last one, to which one may still come.
-    fn has_earlier_number(&self, reply: &ReadReply<'_, '_>) -> bool
+    pub(crate) fn has_earlier_number(&self, reply: &ReadReply<'_, '_>) -> bool
         ensures { result ≡ has_earlier_number self.now reply.now }
     {
         let number = reply.packet.seq();
@@ -223,21 +189,14 @@ impl Device {
     }
 
     /// Whether it comes late: the last packet has another number.
-    fn is_late(&self, last: &FrameView<'_>, reply: &ReadReply<'_, '_>) -> bool
+    pub(crate) fn is_late(&self, last: &FrameView<'_>, reply: &ReadReply<'_, '_>) -> bool
         ensures { result ≡ is_late self.now last.now reply.now }
     {
         self.has_earlier_number(reply) && !(reply.packet.seq().get() == last.seq().get())
     }
 
-    /// Whether nobody can tell which of two packets with number 0 it answers.
-    fn is_of_either(&self, last: &FrameView<'_>, reply: &ReadReply<'_, '_>) -> bool
-        ensures { result ≡ is_of_either self.now last.now reply.now }
-    {
-        self.has_earlier_number(reply) && last.seq().get() == 0
-    }
-
     /// Whether the packet that it answers wasn't heard.
-    fn is_unheard(&self, last: &FrameView<'_>, reply: &ReadReply<'_, '_>) -> bool
+    pub(crate) fn is_unheard(&self, last: &FrameView<'_>, reply: &ReadReply<'_, '_>) -> bool
         ensures { result ≡ is_unheard self.now last.now reply.now }
     {
         matches!(said_in(reply.read), Said::Answer)
@@ -245,33 +204,8 @@ impl Device {
             && reply.packet.seq().get() == last.seq().next().get()
     }
 
-    /// Whether it is not judged.
-    fn is_doubtful(&self, last: &FrameView<'_>, reply: &ReadReply<'_, '_>) -> bool
-        ensures { result ≡ is_doubtful self.now last.now reply.now }
-    {
-        self.is_late(last, reply) || self.is_of_either(last, reply) || self.is_unheard(last, reply)
-    }
-
-    /// Whether it is held to the rules.
-    fn is_reply_judged(&self, last: &FrameView<'_>, reply: &ReadReply<'_, '_>) -> bool
-        ensures { result ≡ is_reply_judged self.now last.now reply.now }
-    {
-        !self.is_doubtful(last, reply) && !matches!(said_in(reply.read), Said::Damage)
-    }
-
-    /// What is told of a reply that comes late.
-    fn late_notice(&self) -> Notice
-        ensures { result ≡ late_notice self.now }
-    {
-        if self.settled {
-            Notice::Late
-        } else {
-            Notice::Unsure
-        }
-    }
-
     /// Whether a reply may still come to the packet before, or to an earlier copy.
-    fn is_owed(&self) -> bool
+    pub(crate) fn is_owed(&self) -> bool
         ensures { result ≡ is_owed self.now }
     {
         self.owing || self.earlier.is_some()
@@ -284,33 +218,6 @@ impl Device {
         has_no_number(said_in(reply.read), reply.packet.seq().get()) && self.is_owed()
     }
 
-    /// Whether it is one more reply to this copy.
-    fn is_one_more(&self, reply: &ReadReply<'_, '_>) -> bool
-        ensures { result ≡ is_one_more self.now reply.now }
-    {
-        self.replied && !matches!(said_in(reply.read), Said::Damage)
-    }
-
-    /// What the reader is accused of for a reply to its last packet.
-    fn reader_accused(&self, last: &FrameView<'_>, reply: &ReadReply<'_, '_>) -> Option<Accusation>
-        ensures { result ≡ reader_accused self.now last.now reply.now }
-    {
-        if self.is_doubtful(last, reply) {
-            return None;
-        }
-        if self.is_one_more(reply) && !self.is_owed() {
-            return Some(Accusation::SecondReply);
-        }
-        let said = said_in(reply.read);
-        let is_repeat = self.is_repeat(last.seq());
-        match said {
-            Said::Busy => busy_accused(is_repeat, last, reply.packet),
-            Said::Damage => None,
-            Said::Refusal => refusal_accused(last, reply.packet),
-            Said::Answer => answer_accused(is_repeat, &self.stored, self.taken, last, reply),
-        }
-    }
-
     /// Where a reply to its last packet moves it, its new address.
     pub fn moves_to(&self, reply: &ReadReply<'_, '_>) -> Option<Address>
         ensures { result ≡ moves_to self.now.last reply.now }
@@ -321,57 +228,6 @@ impl Device {
                 moved_by(&read_command(&last), reply.read, reply.packet.address())
             }
             _ => None,
-        }
-    }
-
-    /// What is worth a look in a reply to its last packet.
-    fn reply_notice(
-        &self,
-        moved: Option<Address>,
-        last: &FrameView<'_>,
-        reply: &ReadReply<'_, '_>,
-    ) -> Option<Notice>
-        ensures { result ≡ reply_notice moved self.now last.now reply.now }
-    {
-        if let Some(address) = moved {
-            return Some(Notice::Moved(address.get()));
-        }
-        if self.is_late(last, reply) {
-            return Some(self.late_notice());
-        }
-        if self.is_unheard(last, reply) {
-            return Some(Notice::Unsure);
-        }
-        let meant = said_in(reply.read);
-        if matches!(meant, Said::Refusal) {
-            return Some(Notice::Restarted);
-        }
-        let is_opening = last.seq().get() == 0
-            && reply.packet.seq().get() == 0
-            && !self.answered
-            && matches!(meant, Said::Answer)
-            && !is_nak(reply.read);
-        if is_opening {
-            Some(Notice::Opened)
-        } else if self.is_one_more(reply) && self.is_owed() {
-            Some(self.late_notice())
-        } else {
-            None
-        }
-    }
-
-    /// What is found in a reply from it.
-    fn found_in_reply(&self, reply: &ReadReply<'_, '_>) -> Found
-        ensures { result ≡ found_in_reply self.now.last self.now reply.now }
-    {
-        let Some(last) = self.last.view() else {
-            return NOTHING;
-        };
-        let moved = self.moves_to(reply);
-        Found {
-            accusation: self.reader_accused(&last, reply),
-            notice: self.reply_notice(moved, &last, reply),
-            judged: self.is_reply_judged(&last, reply),
         }
     }
 
@@ -466,42 +322,5 @@ impl Device {
         } else {
             self.stored.keep(reply);
         }
-    }
-
-    /// Puts the bytes of the packet that had to come in place of the one that is accused, where one had to, into `out`.
-    fn expect(&self, accusation: Option<Accusation>, out: &mut Burst)
-        requires { out.old.items ≡ [] }
-        ensures { IsSpelledIf (expected_if self.now accusation) out.new.items }
-    {
-        let expected = match accusation {
-            Some(Accusation::AnotherPacket) => self.last.view(),
-            Some(Accusation::AnotherReply) => self.stored.view(),
-            _ => None,
-        };
-        if let Some(packet) = expected {
-            packet.encode_to(out);
-        }
-    }
-
-    /// What is found in a packet to it, and the bytes of the packet that had to come.
-    pub fn judge_sent(&self, packet: &FrameView<'_>, expected: &mut Burst) -> Found
-        requires { expected.old.items ≡ [] }
-        ensures found { result ≡ found_in_sent self.now packet.now }
-        ensures expected { IsSpelledIf (expected_if self.now result.accusation) expected.new.items }
-    {
-        let found = self.found_in_sent(packet);
-        self.expect(found.accusation, expected);
-        found
-    }
-
-    /// What is found in a reply from it, and the bytes of the packet that had to come.
-    pub fn judge_reply(&self, reply: &ReadReply<'_, '_>, expected: &mut Burst) -> Found
-        requires none { expected.old.items ≡ [] }
-        ensures found { result ≡ found_in_reply self.now.last self.now reply.now }
-        ensures expected { IsSpelledIf (expected_if self.now result.accusation) expected.new.items }
-    {
-        let found = self.found_in_reply(reply);
-        self.expect(found.accusation, expected);
-        found
     }
 }

@@ -8,6 +8,7 @@ mod accusation;
 mod device;
 mod devices;
 mod found;
+mod judging;
 mod kept;
 pub mod laws;
 mod monitor;

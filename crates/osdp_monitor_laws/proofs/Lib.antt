@@ -15,6 +15,7 @@ pub mod Remembering
 pub mod Missing
 pub mod Telling
 pub mod Naming
+pub mod Seconds
 pub mod Breaking
 pub mod Repeating
 pub mod Accusing

@@ -14,14 +14,15 @@ use Rattle.osdp_monitor.specs.declared.found.Notice.TheVariants.{Opened, Late, M
 use Rattle.osdp_monitor.specs.declared.said.Said.{Said}
 use Rattle.osdp_monitor.specs.declared.said.Said.TheVariants.{Busy, Damage, Refusal, Answer}
 use Rattle.osdp_monitor.specs.Known.{Known, is_number, same_packet}
-use Rattle.osdp_monitor.specs.Line.{Knowledge, after_items, after_packet, found_in, found_in_reply, found_in_sent, late_notice, moves_to, nothing_found, notice_if, reply_notice}
+use Rattle.osdp_monitor.specs.Line.{Knowledge, after_items, after_packet, found_in, late_notice, moves_to, notice_if, reply_notice}
 use Rattle.osdp_monitor.specs.Panel.{after_another, after_copy, after_sent, is_first_doubt, is_missed, keeps_number, left_waiting}
 use Rattle.osdp_monitor.specs.Reader.{has_earlier_number, is_doubtful, is_late, is_nak, is_of_either, is_one_more, is_opening, is_owed, is_unheard, reader_accused}
 use Rattle.osdp_monitor.specs.Saying.{is_answer, is_foreign, is_refusal, reply_told, said}
 use Rattle.osdp_monitor_laws.proofs.Accusing.{IsAnswered, now_answered}
 use Rattle.osdp_monitor_laws.proofs.Agreeing.{none_some, same_some, sent_asked}
 use Rattle.osdp_monitor_laws.proofs.Missing.{device_of, sent_told}
-use Rattle.osdp_monitor_laws.proofs.Naming.{IsFresh, heard, in_time, is_fresh, line7, nothing_more, quiet_items, replied, whole}
+use Rattle.osdp_monitor_laws.proofs.Naming.{IsFresh, heard, in_time, is_fresh, line7, quiet_items, whole}
+use Rattle.osdp_monitor_laws.proofs.Seconds.{nothing_more, replied}
 use Rattle.osdp_monitor_laws.proofs.Remembering.{after_append, after_one, at_remembered, forgotten_append}
 use Rattle.osdp_monitor_laws.proofs.Telling.{late_accused, reply_found, tells}
 use Rattle.osdp_monitor_laws.specs.Misses.{IsRemembered, IsTo, NothingForgotten}

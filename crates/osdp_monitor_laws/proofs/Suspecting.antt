@@ -1,5 +1,5 @@
 -- Since when a panel is suspected, and for how long.
-use Rattle.std.proofs.Common.{◌≡◌, ◌≢◌, ◌⊎◌, inl, inr, ℕ, ◌+◌, ◌-◌, ◌&&◌, Bool, true, false, cond, eqb, ltb, not, List, [], ◌∷◌, ◌++◌, count_by, Option, Some, None, refl, sym, ap, ◌∙◌, arith}
+use Rattle.std.proofs.Common.{◌≡◌, ◌≢◌, ◌⊎◌, inl, inr, ℕ, ◌+◌, ◌-◌, Bool, true, false, cond, eqb, ltb, not, List, [], ◌∷◌, ◌++◌, Some, refl, sym, ap, ◌∙◌, arith}
 use Rattle.std.proofs.lemmas.Bool.{and_from, and_left, and_parts, and_right, cases_Bool, cond-false, cond-true, cond_both, eq-eqb, eqb-true, false≢true, lt-ltb, ne_eqb, not-true, not_from_false, not_from_true}
 use Rattle.std.proofs.lemmas.List.Sums.{sum_by-cons}
 use Rattle.std.specs.Prelude.{is_some}
@@ -12,10 +12,10 @@ use Rattle.osdp_monitor.specs.declared.said.Said.{Said}
 use Rattle.osdp_monitor.specs.declared.said.Said.TheVariants.{Busy, Damage, Refusal, Answer}
 use Rattle.osdp_monitor.specs.Known.{Known, same_packet}
 use Rattle.osdp_monitor.specs.Line.{Knowledge, after_item, after_items, after_packet, found_in, no_knowledge, notice_if, notice_in_sent}
-use Rattle.osdp_monitor.specs.Panel.{after_another, after_copy, after_sent, is_doubt, is_first_doubt, is_missed, keeps_number, left_waiting, panel_accused, sent_after, still_suspected, suspected_for}
-use Rattle.osdp_monitor.specs.Reader.{after_reply, after_reply_of, repeat_reply}
+use Rattle.osdp_monitor.specs.Panel.{after_another, after_copy, after_sent, is_doubt, is_first_doubt, is_missed, keeps_number, left_waiting, panel_accused, still_suspected, suspected_for}
+use Rattle.osdp_monitor.specs.Reader.{after_reply_of, repeat_reply}
 use Rattle.osdp_monitor.specs.Saying.{is_foreign, said}
-use Rattle.osdp_monitor_laws.proofs.Agreeing.{none_some, same_some, sent_asked}
+use Rattle.osdp_monitor_laws.proofs.Agreeing.{sent_asked}
 use Rattle.osdp_monitor_laws.proofs.Late.{by_fate, by_number}
 use Rattle.osdp_monitor_laws.proofs.Missing.{IsUnanswered, by_suspicion, device_of, first_is_unanswered, in_doubt, is_first, next_accused, sent_found, sent_told, unanswered_step}
 use Rattle.osdp_monitor_laws.proofs.Numbers.{next_differs}

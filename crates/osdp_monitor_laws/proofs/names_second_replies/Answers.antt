@@ -1,4 +1,4 @@
-use Rattle.osdp_monitor_laws.proofs.Naming.{names_second_replies}
+use Rattle.osdp_monitor_laws.proofs.Seconds.{names_second_replies}
 use Rattle.osdp_monitor_laws.proofs.names_second_replies.Goals as goal
 
 pub returns : goal.returns

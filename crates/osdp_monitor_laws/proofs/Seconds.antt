@@ -1,0 +1,96 @@
+-- A second reply to a packet: it is accused so.
+use Rattle.std.proofs.Common.{◌≡◌, ◌≢◌, ℕ, true, false, cond, eqb, ◌&&◌, ◌||◌, not, [], ◌∷◌, ◌++◌, Some, None, refl, sym, subst, ap, ◌∙◌}
+use Rattle.std.proofs.lemmas.Bool.{and_from, and_left, and_right, cond-false, cond-true, cond_both, false≢true, ne_eqb, not_from_false, not_from_true, or_from}
+use Rattle.std.specs.Prelude.{is_some}
+use Rattle.osdp_frame.specs.Packet.{Packet, next_sequence}
+use Rattle.osdp_frame.specs.Reading.{PacketItem}
+use Rattle.osdp_monitor.specs.declared.accusation.Accusation.TheVariants.{SecondReply}
+use Rattle.osdp_monitor.specs.declared.said.Said.{Said}
+use Rattle.osdp_monitor.specs.declared.said.Said.TheVariants.{Busy, Damage, Refusal, Answer}
+use Rattle.osdp_monitor.specs.Known.{Known, is_number}
+use Rattle.osdp_monitor.specs.Line.{Knowledge, after_items, after_packet, found_in}
+use Rattle.osdp_monitor.specs.Reader.{after_reply, after_reply_of, has_earlier_number, is_doubtful, is_late, is_of_either, is_one_more, is_owed, is_stray, is_unheard, reader_accused, repeat_reply, reply_accused, tells_number}
+use Rattle.osdp_monitor.specs.Saying.{is_answer, is_damage, said}
+use Rattle.osdp_monitor_laws.proofs.Agreeing.{none_some, same_some}
+use Rattle.osdp_monitor_laws.proofs.Late.{by_fate, by_number}
+use Rattle.osdp_monitor_laws.proofs.Missing.{device_of, reply_found}
+use Rattle.osdp_monitor_laws.proofs.Naming.{IsFresh, heard, in_time, is_fresh, line7, not_stray, whole}
+use Rattle.osdp_monitor_laws.proofs.Remembering.{after_append, after_one, at_remembered, forgotten_append}
+use Rattle.osdp_monitor_laws.specs.Misses.{IsFrom, IsRemembered}
+use Rattle.osdp_monitor_laws.specs.Names.{NamesSecondReplies, items_of}
+
+pub record IsReplied (q : Packet) (k : Known) : Type 0 where
+  pub last : k.last ≡ Some q
+  pub replied : k.replied ≡ true
+  pub earlier : k.earlier ≡ None
+  pub owing : k.owing ≡ false
+  pub settled : k.settled ≡ true
+
+replied_by : (s : Said) (n : ℕ) (q : Packet) (k : Known) (r : Packet) → s ≢ Damage → IsFresh n q k → IsReplied q (after_reply_of s k q r)
+replied_by Busy n q k r some known = record { last = known.last; replied = refl; earlier = known.earlier; owing = known.owing; settled = known.settled }
+replied_by Damage n q k r some known = absurd (some refl)
+replied_by Refusal n q k r some known = record { last = known.last; replied = refl; earlier = known.earlier; owing = known.owing; settled = known.settled }
+replied_by Answer n q k r some known =
+    by_number (IsReplied q) (is_some (repeat_reply k q)) q.sequence k r
+    (λ _. record {
+      last = known.last;
+      replied = refl;
+      earlier = cond_both (eqb q.sequence 0) k.earlier None (λ o. o ≡ None) (λ _. known.earlier) (λ _. refl);
+      owing = known.owing;
+      settled = known.settled;
+    })
+    (λ _. record { last = known.last; replied = refl; earlier = known.earlier; owing = known.owing; settled = known.settled })
+
+pub replied : (a n : ℕ) (q : Packet) (line : Knowledge) (r : Packet) → IsFrom a r → said r ≢ Damage → IsFresh n q (line.devices a)
+    → IsRemembered a (PacketItem r) line → IsReplied q ((after_packet line r).devices a)
+replied a n q line r from some known is =
+    let k = line.devices a in
+    at_remembered a (IsReplied q) line r is (λ away. absurd (away from.1)) (λ _ _ none. absurd (none_some q (sym none ∙ known.last)))
+    (λ _ sent. absurd (false≢true (sym sent ∙ from.0)))
+    (λ _ _ last before unheard.
+    let same : q ≡ last = same_some q last (sym known.last ∙ before) in
+    subst (λ x. IsReplied q (after_reply k x r)) same
+    (by_fate (IsReplied q) k q r (λ late. absurd (false≢true (sym (or_from (is_late k q r) (is_stray k r) (in_time n q k known r) (not_stray n q k known r)) ∙ late)))
+    (λ missed. absurd (false≢true (sym (heard n q k known r) ∙ missed))) (replied_by (said r) n q k r some known)))
+
+second_accused : (q : Packet) (k : Known) (s : Packet) → IsReplied q k → said s ≢ Damage → s.sequence ≢ next_sequence q.sequence
+    → reader_accused k q s ≡ Some SecondReply
+second_accused q k s known some third =
+    let none : has_earlier_number k s ≡ false =
+    and_right (tells_number (said s) s.sequence) (not k.settled || is_number k.earlier s.sequence)
+    (or_from (not k.settled) (is_number k.earlier s.sequence) (not_from_true k.settled known.settled) (ap (λ o. is_number o s.sequence) known.earlier)) in
+    cond-false (is_doubtful k q s) None (cond (is_one_more k s && not (is_owed k)) (Some SecondReply) (reply_accused (said s) k q s))
+    (or_from (is_late k q s || is_of_either k q s) (is_unheard k q s)
+    (or_from (is_late k q s) (is_of_either k q s) (and_left (has_earlier_number k s) (not (eqb s.sequence q.sequence)) none)
+    (and_left (has_earlier_number k s) (eqb q.sequence 0) none))
+    (and_right (is_answer (said s) && k.answered) (eqb s.sequence (next_sequence q.sequence)) (ne_eqb s.sequence (next_sequence q.sequence) third)))
+    ∙ cond-true (is_one_more k s && not (is_owed k)) (Some SecondReply) (reply_accused (said s) k q s)
+    (and_from (is_one_more k s) (not (is_owed k))
+    (and_from k.replied (not (is_damage (said s))) known.replied (not_from_false (is_damage (said s)) (no_damage (said s) some)))
+    (not_from_false (is_owed k) (or_from k.owing (is_some k.earlier) known.owing (ap is_some known.earlier))))
+  where
+    no_damage : (t : Said) → t ≢ Damage → is_damage t ≡ false
+    no_damage Busy other = refl
+    no_damage Damage other = absurd (other refl)
+    no_damage Refusal other = refl
+    no_damage Answer other = refl
+
+pub nothing_more : (l : Knowledge) → after_items l [] ≡ l
+unfolding after_items
+nothing_more l = refl
+
+pub names_second_replies : NamesSecondReplies
+names_second_replies line a e r s is from some nothing second plain says third =
+    let fresh_now = is_fresh line a e is in
+    let before = line7 line a e is in
+    let more = forgotten_append a line (items_of e) (PacketItem r ∷ []) nothing in
+    let remembered : IsRemembered a (PacketItem r) before =
+    subst (λ (l : Knowledge). IsRemembered a (PacketItem r) l) (whole line a e is) more.1.0 in
+    let now = after_packet before r in
+    let known = replied a e.second.sequence e.last before r from some fresh_now remembered in
+    let all : after_items line (items_of e ++ PacketItem r ∷ []) ≡ now =
+    after_append line (items_of e) (PacketItem r ∷ []) ∙ ap (λ (l : Knowledge). after_items l (PacketItem r ∷ [])) (whole line a e is)
+    ∙ after_one before (PacketItem r) [] ∙ nothing_more now in
+    ap (λ (l : Knowledge). (found_in l s).accusation) all
+    ∙ reply_found now a s e.last SecondReply second (device_of line a e.first is.first_to.1 is.nothing.0) plain known.last
+    (second_accused e.last (now.devices a) s known says third)
