@@ -63,8 +63,9 @@ pub fn each_round_brings_one_more<H: Handler>()
     stands_on_several_links::<H>();
 }
 
-/// The same after any steps in which no session begins again, once the line is cleared (`rests_between_rounds`): over m such rounds each of n readers whose
-/// session has not ended has m / n - 1 more of its commands and events settled and reported, or all of them. No COMSET to a device's address was issued.
+/// After any steps in which no session begins again, once the line is cleared, as much comes through as after steps that leave nothing on it. To clear a
+/// line is as `rests_between_rounds` has it. Over m such rounds each of n readers whose session has not ended has m / n - 1 more of its commands and events
+/// settled and reported, or all of them. No COMSET to a device's address was issued.
 ///
 /// So it is of the accounts that are answered where no step is refused and memory suffices: of each such reader m / n - 1 commands and events, or all of
 /// them, are settled and reported. Where m / n is more than all of them, each command issued is settled with this reader's own answer, and each event
@@ -79,8 +80,9 @@ pub fn each_recovers<H: Handler>()
     osdp_sim_bus::laws::has_an_account_each::<H>();
 }
 
-/// A reader at 5 with room for four events, an OUT and a BUZ for it, two events of it, and `clean 3`: where there is memory, both commands are taken
-/// and settled by ACK in their order, the first event is reported, no command is unsettled, and the session lasts.
+/// A row of the program: where there is memory, three rounds settle two commands of a reader and report the first of two events. The reader is at 5, with
+/// room for four events. The commands are an OUT and a BUZ, and the rounds `clean 3`. Both are taken and settled by ACK in their order, no command is
+/// unsettled, and the session lasts.
 pub fn three_rounds_settle_two_and_report_one()
     ensures { ThreeRoundsSettleTwoAndReportOne }
 {
@@ -88,8 +90,8 @@ pub fn three_rounds_settle_two_and_report_one()
     osdp_sim_laws::schedule_goes_in_turn::<ScriptReader>();
 }
 
-/// An OUT, a BUZ and an event of a reader at 5, and a first frame that is lost: once the line is cleared, four rounds of 400 ms settle both commands by ACK and
-/// report the event, where there is memory and the session lasts.
+/// A row: an OUT, a BUZ and an event come through in four rounds after a lost first frame, where there is memory and the session lasts. They are a reader's
+/// at 5. Once the line is cleared, four rounds of 400 ms settle both commands by ACK and report the event.
 pub fn four_rounds_bring_three()
     ensures { FourRoundsBringThree }
 {
@@ -97,8 +99,9 @@ pub fn four_rounds_bring_three()
     osdp_sim_laws::schedule_comes_through::<ScriptReader>();
 }
 
-/// An OUT for a reader at 5, a BUZ for one at 6 and an event of it, and a first frame that is lost: once the line is cleared, six rounds of 400 ms, three for
-/// each reader, settle each command by ACK and report the event, where there is memory and both sessions last.
+/// A row of two readers: an OUT, a BUZ and an event come through in six rounds after a lost first frame, where there is memory and both sessions last. The
+/// OUT is for a reader at 5, the BUZ for one at 6, whose event it is. Once the line is cleared, six rounds of 400 ms, three for each reader, settle each
+/// command by ACK and report the event.
 pub fn six_rounds_bring_three_of_two()
     ensures { SixRoundsBringThreeOfTwo }
 {
@@ -107,23 +110,23 @@ pub fn six_rounds_bring_three_of_two()
     osdp_sim_bus::laws::has_an_account_each::<ScriptReader>();
 }
 
-/// An OUT for a reader at 5 and a BUZ for one at 6, and four rounds of 400 ms: of the third and the fourth one is the first reader's, where its session
-/// lasts.
+/// A row of two readers: of the third and the fourth round of 400 ms one is the first reader's, where its session lasts. An OUT for a reader at 5 and a BUZ
+/// for one at 6 come before the rounds.
 pub fn one_of_two_is_its_round()
     ensures { OneOfTwoIsItsRound }
 {
     each_round_brings_one_more::<ScriptReader>();
 }
 
-/// The same bus: once the first reader has had two rounds its OUT is settled, and its controller is idle, where its session lasts.
+/// On the same line, once the first reader has had two rounds, its OUT is settled and its controller is idle, where its session lasts.
 pub fn its_second_round_settles()
     ensures { ItsSecondRoundSettles }
 {
     each_round_brings_one_more::<ScriptReader>();
 }
 
-/// Whatever is lost in one session of a reader at 5: where an OUT and then a BUZ were taken, the OUT was settled by ACK. So one taken command at most
-/// isn't settled.
+/// Whatever is lost in one session of a reader at 5: where an OUT and then a BUZ were taken, the OUT was settled by ACK. So one taken command at most isn't
+/// settled.
 pub fn of_two_taken_one_is_settled()
     ensures { OfTwoTakenOneIsSettled }
 {

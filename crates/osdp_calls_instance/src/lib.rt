@@ -21,20 +21,22 @@ ghost use Rattle.osdp_device.specs.Status.{status_after, status_answer};
 use osdp_device::{DeviceStatus, ProgramAnswers};
 use osdp_reader::Handler;
 
-/// A session is begun, and its opening ID comes to the device in two pieces. The PDID comes back in two pieces, and the report is taken. A COMSET
-/// goes out and is lost. Then the device fails, and after it the panel. All of this keeps the premises, whatever the device's handler answers.
+/// One list of calls with a session, a lost COMSET and restarts of both ends keeps all premises, whatever the device's handler answers. A session is begun,
+/// and its opening ID comes to the device in two pieces. The PDID comes back in two pieces, and the report is taken. A COMSET goes out and is lost. Then
+/// the device fails, and after it the panel.
 pub fn premises_are_met<H: Handler>()
     ensures { (handler : H) → SomeCallsKeep H.answer_of H.after handler }
 {}
 
-/// With two entries: a session opens, and the device at the other address passes its opening ID over. An order is settled, a COMSET is lost and told
-/// unsettled, the panel asks at its address and goes back, and a second session opens while it is unread, and then one of the other entry.
+/// So does a list with two entries, a COMSET that is lost, and a session that opens while that is unread. A session opens, and the device at the other
+/// address passes its opening ID over. An order is settled, a COMSET is lost and told unsettled, the panel asks at its address and goes back, and a second
+/// session opens while it is unread, and then one of the other entry.
 pub fn premises_are_met_by_two<H: Handler>()
     ensures { (handler : H) → TwoCallsKeep H.answer_of H.after handler }
 {}
 
-/// In that list with two entries programs keep to the rule that stands for the premise on addresses: each address that `retarget` sets is one of the
-/// two of the COMSET.
+/// In that list with two entries programs keep to the rule that stands for the premise on addresses. Each address that `retarget` sets is one of the two of
+/// the COMSET.
 pub fn rule_is_kept_by_two<H: Handler>()
     ensures { (handler : H) → TwoCallsKeepRule H.answer_of H.after handler }
 {}
@@ -47,11 +49,10 @@ fn stands_on_calls<H: Handler>()
     osdp_calls::ends_go_by_their_own_calls::<H>();
 }
 
-/// Whatever a panel's program in C and its devices' programs in C call, power losses among it, is a list of calls of a line in use: each call of a handle
-/// is the calls that `panel_calls` and `device_calls` name, and brings the bus and the devices to where these bring them. What is promised of
-/// them then is law `c_programs_hold_once` of `osdp_programs_ledger`. An order that waits for a POLL is no call yet: it is one of the tick that sends the POLL. A panel whose handle is
-/// freed, made and given its devices, each call done, is one made anew, whether it is made with room for each command or for so many bytes of them, and
-/// with POLLs between orders or not.
+/// Whatever programs in C call, losses of power among it, is a list of calls of a line in use, which leads to the same bus and devices. Each call of a
+/// handle is the calls that `panel_calls` and `device_calls` name. What is promised of them then is law `c_programs_hold_once` of `osdp_programs_ledger`.
+/// An order that waits for a POLL is no call yet: it is one of the tick that sends the POLL. A panel whose handle is freed, made and given its devices,
+/// each call done, is one made anew, whether it is made with room for each command or for so many bytes of them, and with POLLs between orders or not.
 pub fn calls_for_c_are_calls()
     ensures anew { MakesAnew }
     ensures line { CallTheLine c_panel c_device program_answer program_after }
@@ -71,9 +72,9 @@ pub fn lines_are_calls()
     osdp_line_laws::a_devices_run_is_its_calls();
 }
 
-/// The laws of programs leave nearly nothing out. Of calls for C they speak of each, but of one that makes a device anew as another model. Of lines to a
-/// panel they speak of each, but of a run anew with entries that can't be added; two at different addresses can. Of lines to a device they leave out
-/// those by which an event leaves that is in doubt. And some schedule is taken.
+/// The laws of programs leave out nearly none of the calls for C and of the lines. Of calls for C they speak of each, but of one that makes a device anew
+/// as another model. Of lines to a panel they speak of each, but of a run anew with entries that can't be added; two at different addresses can. Of lines
+/// to a device they leave out those by which an event leaves that is in doubt. And some schedule is taken.
 pub fn laws_speak_of_programs<H: Handler>()
     ensures c { CallsForCFit H }
     ensures lines { LinesFit H }
@@ -88,10 +89,10 @@ pub fn panels_stand_beside_any_devices<H: Handler>()
     osdp_calls::adds_make_the_bus();
 }
 
-/// The run of a schedule over a bus, as `run_bus` runs it, is a list of calls of a line in use, as to what it makes of the bus and of the readers: a
-/// session of each is begun, and then each step is the calls that `step_calls` names. A burst that comes to the readers is handed to a device for each,
-/// one after the other, and then the line falls silent. After all of them the bus and the readers are those of the run. The line that they begin on is
-/// set up, where the settings are in their ranges.
+/// The run of a schedule by `run_bus` is a list of calls of a line in use, which leads to the same bus and readers. A session of each reader is begun, and
+/// then each step is the calls that `step_calls` names. A burst that comes to the readers is handed to a device for each, one after the other, and then the
+/// line falls silent. After all of them the bus and the readers are those of the run. The line that they begin on is set up, where the settings are in
+/// their ranges.
 pub fn run_is_calls<H: Handler>()
     ensures set_up { RunsFromASetUp H }
     ensures calls { RunIsCalls H.answer_of H.after }
@@ -122,11 +123,11 @@ pub fn run_keeps_ranges_and_addresses<H: Handler>()
     osdp_calls::ends_go_by_their_own_calls::<H>();
 }
 
-/// This asks four things of a run: its settings are in their ranges, no step is refused, what goes over the line has its fields in their ranges, and no
-/// burst that comes to the readers is longer than a packet. Then each packet that the run reads is a copy of a burst that was said, and each burst has
-/// its place in what was said. With these places the calls that the run is keep order and quiet openings: a simulated line hands bursts over in order,
-/// damage spells no packet, and a session begins again on a quiet line alone. So they keep all premises where no step orders a COMSET, and where the programs keep to the rule that
-/// stands for the premise on addresses.
+/// The calls that such a run is keep order and quiet openings, where fields are in their ranges and no step is refused. This asks that its settings are in
+/// their ranges too, and that no burst that comes to the readers is longer than a packet. Then each packet that the run reads is a copy of a burst that was
+/// said, and each burst has its place in what was said. With these places the calls keep order and quiet openings: a simulated line hands bursts over in
+/// order, damage spells no packet, and a session begins again on a quiet line alone. So they keep all premises where no step orders a COMSET, and where the
+/// programs keep to the rule that stands for the premise on addresses.
 pub fn run_keeps_order<H: Handler>()
     ensures { RunKeepsOrder H.answer_of H.after }
 {

@@ -19,8 +19,8 @@ pub fn timely_calls_open_quietly<H: Handler>()
     osdp_link_laws::reads_what_is_asked();
 }
 
-/// So law `ledger_holds_once` of `osdp_calls_ledger` holds with a premise in milliseconds in place of that on quiet openings, also where the rule for programs
-/// stands for the premise on addresses.
+/// Where each packet is read in time, law `ledger_holds_once` of `osdp_calls_ledger` holds without the premise on quiet openings. So it is also where the
+/// rule for programs stands for the premise on addresses.
 pub fn timely_ledger_holds_once<H: Handler>()
     ensures calls { TimelyLedgerHoldsOnce H.answer_of H.after }
     ensures ruled { TimelyRuledHoldsOnce H.answer_of H.after }
@@ -41,7 +41,7 @@ pub fn a_long_day_is_read_in_time<H: Handler>()
     ensures { (handler other : H) → LongDayIsTimely H.answer_of H.after handler other }
 {}
 
-/// A quiet wait of exactly 2w is too short: of one line with such a wait, on which each packet is read within w and all else holds, an opening isn't quiet.
+/// A quiet wait of exactly 2w is too short: of one line with such a wait an opening isn't quiet. Each packet on it is read within w, and all else holds.
 pub fn twice_is_too_short<H: Handler>()
     ensures { (handler : H) → TwiceIsTooShort H.answer_of H.after handler }
 {}

@@ -12,8 +12,8 @@ ghost use Rattle.osdp_line_laws.specs.PanelRuns.{RunsAreCalls as PanelRunsAreCal
 ghost use Rattle.osdp_line_laws.specs.ReaderLines.{ComesOfSteps, IsStepsOrNone};
 ghost use Rattle.osdp_line_laws.specs.ReaderRuns.{RunsAreCalls as ReaderRunsAreCalls};
 
-/// A line to a panel is one call of its bus at most, and then the taking of the report that waits: what is written is what the bus refuses,
-/// sends and reports by that, after what it lets be heard beside the bus, and the moment of the next tick. A line that is none changes nothing.
+/// A line to a panel is one call of its bus at most, and then the taking of the report that waits. What is written is what the bus refuses, sends and
+/// reports by that, after what it lets be heard beside the bus, and the moment of the next tick. A line that is none changes nothing.
 pub fn a_line_is_a_call()
     ensures { IsCallOrNone }
 {}
@@ -23,9 +23,9 @@ pub fn a_panel_comes_of_calls()
     ensures { ComesOfCalls }
 {}
 
-/// A line to a reader's device is the steps that it orders: it hears the packets that the bytes on its line decide, submits an event, sets busy
-/// or a status, or does nothing. What is written is what the reader's table says to these packets, that there is no room for the event, and
-/// how many events wait. A line that is none changes nothing.
+/// A line to a reader's device is the steps that it orders: packets heard, an event submitted, busy or a status set, or nothing. The packets are those that
+/// the bytes on its line decide. What is written is what the reader's table says to these packets, that there is no room for the event, and how many events
+/// wait. A line that is none changes nothing.
 pub fn a_line_is_steps()
     ensures { IsStepsOrNone }
 {}
@@ -41,15 +41,15 @@ pub fn a_device_comes_of_steps()
     ensures { ComesOfSteps }
 {}
 
-/// To each line of a run, from the first to the last, a panel writes what the line lets be heard beside the bus, what is told of the calls that the
-/// line is, and the moment of the next tick. Each call finds the panel as the calls before it have left it. After them it is the panel that these
-/// calls leave, and its calls to come have the moment of the last line of one.
+/// To each line of a run, from the first to the last, a panel writes what is told of the calls that the line is. Before that comes what the line lets be
+/// heard beside the bus, and after it the moment of the next tick. Each call finds the panel as the calls before it have left it. After them it is the
+/// panel that these calls leave, and its calls to come have the moment of the last line of one.
 pub fn a_panels_run_is_its_calls()
     ensures { PanelRunsAreCalls }
 {}
 
-/// To each line of a run, from the first to the last, a reader's device writes what is told of the calls that the line is, and how many events wait
-/// then. Each call finds the device as the calls before it have left it. After them the reader, the bytes held of its line, the moments seen of it
+/// To each line of a run, from the first to the last, a reader's device writes what is told of the calls that the line is. How many events wait then comes
+/// after that. Each call finds the device as the calls before it have left it. After them the reader, the bytes held of its line, the moments seen of it
 /// and the moment of the calls to come are those that these calls leave.
 pub fn a_devices_run_is_its_calls()
     ensures { ReaderRunsAreCalls }

@@ -5,14 +5,14 @@ ghost use Rattle.osdp_plan.specs.declared.plan.Plan.{Plan};
 ghost use Rattle.osdp_bus_laws.specs.Calls.{Always};
 ghost use Rattle.osdp_plan_laws.specs.Figures.{CardsKeepToFigures, OrdersKeepToFigures};
 
-/// An order that is accepted while its session is under way, with as many before it as were planned, goes out within the figure of its plan, or its session has ended
-/// by then: whether all readers answer, one is silent, or each takes as long as its settings allow. No POLL has to come between two orders.
+/// An order accepted in a session goes out within its plan's figure, with as many before it as planned, or the session has ended by then. So it is whether
+/// all readers answer, one is silent, or each takes as long as its settings allow. No POLL has to come between two orders.
 pub fn orders_keep_to_figures()
     ensures { (p : Plan) → Always (OrdersKeepToFigures p) }
 {}
 
-/// A card is reported within the figure of its plan, where no other waits before it and its reader serves, or its session has ended by then: after as many orders as
-/// were planned. No POLL has to come between two orders.
+/// A card with no other before it is reported within the figure of its plan, where its reader serves, or its session has ended by then. As many orders come
+/// before it as were planned, and no POLL has to come between two orders.
 pub fn cards_keep_to_figures()
     ensures { (p : Plan) → Always (CardsKeepToFigures p) }
 {}

@@ -9,31 +9,31 @@ ghost use Rattle.osdp_premises.specs.Ruling.{RuleIsExact, RuledCallsKeep};
 
 use osdp_reader::Handler;
 
-/// What the theorem of any calls asks of each call is computed by tests: of what is read, of quiet openings, and of addresses. A test holds exactly
-/// where its premise does, whatever the line is.
+/// Each premise on what is read, on quiet openings and on addresses holds of a call exactly where a test of the call does, whatever the line is. So a list
+/// of calls whose values are in their ranges, and that passes these tests, keeps the premises of the theorem of any calls.
 pub fn premises_are_exact<H: Handler>()
     ensures exact { PremisesAreExact H }
     ensures suffice { FairCallsKeep H.answer_of H.after }
 {}
 
-/// The rule for programs that may stand for the premise on addresses (law `calls_rule_suffices` of `osdp_calls`) is computed by a test too, of a call, the line
-/// before it and what the program has noted: it holds exactly where the rule does.
+/// The rule for programs, which may stand for the premise on addresses, holds of a call exactly where a test says so. The test computes it of the call, the
+/// line before it, and what the program has noted. Law `calls_rule_suffices` of `osdp_calls` has the rule.
 pub fn rule_is_exact<H: Handler>()
     ensures exact { RuleIsExact H }
     ensures suffice { RuledCallsKeep H.answer_of H.after }
 {}
 
-/// What laws of one life of an end ask of each call, of a device that is never made anew or that keeps its handler, and of an entry of which nothing is
-/// taken back, holds exactly where a test of the call does. Most calls pass all of these. What the law of one exchange asks holds of each call, but of a panel
-/// that is made anew with settings out of their ranges, or with entries that can't be added.
+/// What laws of one life of an end, of one handler and of what is undisturbed ask of a call holds exactly where a test of the call does. These ask that a
+/// device is never made anew, that it keeps its handler, or that nothing of an entry is taken back. Most calls pass all of these. What the law of one
+/// exchange asks holds of each call, but of a panel that is made anew with settings out of their ranges, or with entries that can't be added.
 pub fn leaving_is_exact<H: Handler>()
     ensures { LeavingIsExact H }
 {}
 
-/// One list of calls in which all of it happens that a line knows keeps all premises, whatever the devices' handlers answer: bytes in pieces, damage,
-/// a lost packet and a repeated one, a packet that is read twice, a busy device, an event that is told again, an order and an event that are taken
-/// back, another handler, a COMSET that is settled and one that is in doubt, a device that restarts where it is and one that comes back elsewhere, and
-/// a panel that restarts.
+/// One list of calls in which all of it happens that a line knows keeps all premises, whatever the devices' handlers answer. It has bytes in pieces,
+/// damage, a lost packet and a repeated one, a packet that is read twice, a busy device, an event that is told again, an order and an event that are taken
+/// back, another handler, a COMSET that is settled and one that is in doubt, a device that restarts where it is and one that comes back elsewhere, and a
+/// panel that restarts.
 pub fn a_long_day_keeps_the_premises<H: Handler>()
     ensures keeps { (handler other : H) → LongDayKeeps H.answer_of H.after handler other }
     ensures restarts { (handler other : H) → RestartsHappen H.answer_of H.after handler other }

@@ -12,11 +12,11 @@ ghost use Rattle.osdp_programs_ledger.specs.Schedules.{RunsHoldOnce};
 use osdp_device::{DeviceStatus, ProgramAnswers};
 use osdp_reader::Handler;
 
-/// Whatever a panel's program in C and its devices' programs in C call, losses of power among it, where the calls of a line in use that these are keep
-/// the premises: of each entry of the panel, with the device that its program has, each accepted command is settled once with its answer, is told in
-/// doubt once, is given back, is lost with its panel's power, or is ahead. None is taken twice, and what is settled was taken, with that answer. Each
-/// accepted event has left the device's queue once, or waits. Events are reported in their order, in each session once, and at most the last of a
-/// session is told again later. None is skipped but by its device's program, or by a loss of the device's power.
+/// Whatever programs in C call, each entry of the panel keeps the ledger's promises, where these calls keep the premises. Losses of power are among the
+/// calls, and the premises are those of the calls of a line in use that these are. Of each entry, with the device that its program has: each accepted
+/// command is settled once with its answer, is told in doubt once, is given back, is lost with its panel's power, or is ahead. None is taken twice, and
+/// what is settled was taken, with that answer. Each accepted event has left the device's queue once, or waits. Events are reported in their order, in each
+/// session once, and at most the last of a session is told again later. None is skipped but by its device's program, or by a loss of the device's power.
 ///
 /// The rule for programs may stand for the premise on addresses.
 pub fn c_programs_hold_once()
@@ -38,7 +38,7 @@ pub fn line_programs_hold_once()
     osdp_calls::calls_rule_suffices::<DeviceStatus>();
 }
 
-/// The same of each reader of a run of a schedule over a bus, as the calls that the run is, where they keep the premises: with its reader and its entry as
+/// The same of each reader of a run of a schedule over a bus, as the calls that the run is, where they keep the premises. Its reader and its entry are as
 /// the run leaves them. What the steps come to is what the account of the run tells: the commands accepted, those taken, those settled, each with its
 /// answer, and those told unsettled; and the events accepted and reported.
 pub fn runs_hold_once<H: Handler>()
