@@ -57,18 +57,9 @@
  *
  * What is promised of a line, where both ends are these machines and one panel speaks: in each session orders are taken once and
  * in order, each settled with the answer that the device gave, and events are told once and in order, but those that a restart of
- * the device threw away. No order that the panel accepted is taken twice (docs/HEADLINE.md). That holds of any calls, at any
- * moments, however bytes are cut. Four things are asked, and these are the program's part of them:
- *
- * - In order. Bytes are handed in as they come, each once, to the machine whose line they came on.
- * - Quiet opening. What was said before a session's opening doesn't come after it: the quiet wait is more than twice as long as
- *   a packet takes at most until it is read. A packet that a line, a radio or a slow program holds back may be answered within
- *   the wait, and the answer is held back once more.
- * - Addresses. No two devices are given one address. After an order that sets one, and until the session after it has opened, the
- *   device may be at either: write both down before the order goes out, give neither to another device, and retarget to these two
- *   alone. A panel that starts again takes each device where it was, or where such an order may have taken it. A device that
- *   starts again starts at the address that it has kept.
- * - Set-up. Devices are added at different addresses, each with its device there and no reply stored, before anything is said.
+ * the device threw away. No order that the panel accepted is taken twice. That holds of any calls, at any moments, however bytes
+ * are cut. docs/HEADLINE.md has it, its premises under "What is asked", and what a program does for each: above all a quiet wait
+ * of more than twice as long as a packet takes at most until it is read, and a rule for addresses, which docs/PROTOCOL.md has.
  */
 #ifndef OSDP_H
 #define OSDP_H
