@@ -3,6 +3,7 @@
 
 - docs/PROOFS.md has the tables that tools/map makes of the laws' docstrings. Each public law has one; a law is a public function that gives nothing and changes nothing.
   Each file and definition that the table at its top names stands in the crates that the row names.
+- Each script that the table of docs/UNPROVED.md names is there.
 - Each path that README names is there, and a law that stands in one row with a path is a law of that file.
 - docs/ARCHITECTURE.md has the picture and the table that tools/map makes of crates.txt. Each definition that it names is there.
   Each file of src/ and specs/, but for tests, says at its head what it holds.
@@ -137,6 +138,14 @@ def judge_proofs(all_crates):
                 faults.append(f"docs/PROOFS.md: there is no {name}")
             elif "/" not in name and " " not in name and name not in known:
                 faults.append(f"docs/PROOFS.md: {name} is not in {', '.join(named)}")
+
+
+def judge_unproved():
+    """docs/UNPROVED.md: the scripts that its table names are there."""
+    for cells in rows((TOP / "docs/UNPROVED.md").read_text()):
+        for name in re.findall(r"`(\w+\.(?:sh|py))`", cells[-1]):
+            if not (TOP / "tests" / name).exists():
+                faults.append(f"docs/UNPROVED.md: there is no tests/{name}")
 
 
 def judge_readme():
@@ -430,6 +439,7 @@ def judge_lengths():
 if __name__ == "__main__":
     every = crates()
     judge_proofs(every)
+    judge_unproved()
     judge_readme()
     judge_architecture(every)
     judge_heads(every)
