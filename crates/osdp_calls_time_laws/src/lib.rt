@@ -19,8 +19,8 @@ pub fn timely_calls_open_quietly<H: Handler>()
     osdp_link_laws::reads_what_is_asked();
 }
 
-/// Where each packet is read in time, law `ledger_holds_once` of `osdp_calls_ledger` holds without the premise on quiet openings. So it is also where the
-/// rule for programs stands for the premise on addresses.
+/// Where each packet is read within w, and the quiet wait is longer than 2w, law `ledger_holds_once` needs no premise on quiet openings. So it is also
+/// where the rule for programs stands for the premise on addresses. The law is that of `osdp_calls_ledger`.
 pub fn timely_ledger_holds_once<H: Handler>()
     ensures calls { TimelyLedgerHoldsOnce H.answer_of H.after }
     ensures ruled { TimelyRuledHoldsOnce H.answer_of H.after }
