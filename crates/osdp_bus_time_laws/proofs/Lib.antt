@@ -8,7 +8,10 @@ pub mod Opened
 pub mod Ordered
 pub mod Told
 pub mod InTime
+pub mod Unread
+pub mod Silent
 pub mod Instances
 pub mod Asking
 pub mod Acting
 pub mod SlowOrder
+pub mod SlowTelling

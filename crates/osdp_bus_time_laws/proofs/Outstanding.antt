@@ -24,7 +24,7 @@ use Rattle.osdp_time_laws.specs.Clock.{TicksBy, is_tick}
 use Rattle.osdp_time_laws.specs.Instances.{busy}
 use Rattle.osdp_time_laws.specs.Laws.{IsNotBusy}
 use Rattle.osdp_time_laws.proofs.Accepted.{phase_now}
-use Rattle.osdp_time_laws.proofs.Beginnings.{Begins as BeginsOne, begun_tick, one_less, whole, whole_is}
+use Rattle.osdp_time_laws.proofs.Beginnings.{Begins as BeginsOne, Few, begun_tick, one_less, whole, whole_is}
 use Rattle.osdp_time_laws.proofs.Duties.{Due, due_ahead, due_at, due_kept, due_seen, until_of}
 use Rattle.osdp_time_laws.proofs.Ends.{tick_at_moment}
 use Rattle.osdp_time_laws.proofs.Phases.{Holds, Phase, frame_holds, phase_near, phase_passed, phase_seen, still, tick_holds}
@@ -151,7 +151,7 @@ module _ (late e : ℕ) (c : ControllerConfig) (more : ℕ) (many : c.sends ≡ 
 
   -- ---- the call is done
 
-  kept_on : (ticks : Bool) (g : ℕ) (l : List CallOf) → ticks ≡ false → (d : Device) → On (as_tick ticks g ∷ l) g d → On l g d
+  pub kept_on : (ticks : Bool) (g : ℕ) (l : List CallOf) → ticks ≡ false → (d : Device) → On (as_tick ticks g ∷ l) g d → On l g d
   kept_on ticks g l other d on = (
     on.0,
     λ stands. let before = on.1 stands in (
@@ -168,7 +168,7 @@ module _ (late e : ℕ) (c : ControllerConfig) (more : ℕ) (many : c.sends ≡ 
   ahead_by d g stands never (inl (test, reached)) = absurd (never (due_then d g (stands_not_closed d stands) reached))
   ahead_by d g stands never (inr (test, below)) = below
 
-  ahead_on : (x : CallOf) (g : ℕ) (l : List CallOf) (d : Device) → (holds d ≡ true → is_device_due g d ≡ true → ⊥) → On (x ∷ l) g d → On l g d
+  pub ahead_on : (x : CallOf) (g : ℕ) (l : List CallOf) (d : Device) → (holds d ≡ true → is_device_due g d ≡ true → ⊥) → On (x ∷ l) g d → On l g d
   ahead_on x g l d never on = (
     on.0,
     λ stands.
@@ -181,7 +181,7 @@ module _ (late e : ℕ) (c : ControllerConfig) (more : ℕ) (many : c.sends ≡ 
   )
 
   -- a holder that ticks
-  ticked_out : (x : CallOf) (g : ℕ) (l : List CallOf) (d : Device) → g ≤ e → holds d ≡ true → On (x ∷ l) g d → On l g (device_ticks g d)
+  pub ticked_out : (x : CallOf) (g : ℕ) (l : List CallOf) (d : Device) → g ≤ e → holds d ≡ true → On (x ∷ l) g d → On l g (device_ticks g d)
   ticked_out x g l d near stands on =
       let s = d.controller.session in
       let before = on.1 stands in
@@ -197,7 +197,48 @@ module _ (late e : ℕ) (c : ControllerConfig) (more : ℕ) (many : c.sends ≡ 
         λ so. ((h.1 so).0, subst (λ (n : ℕ). Ph l (ticks_in s.state (seen_by g s) d.controller.waiting).session.state n) (is ∙ at) (h.1 so).1),
       )
 
-  -- ---- one call, while an entry holds the line
+  -- ---- one call, while an entry holds the line: how far its exchange is at the moment of the call
+
+  module _ (end : List CallOf) (ended : (limit : ℕ) → TicksBy limit end) (call : Call) (calls : List Call) (b : BusState) (entry : ℕ) (d : Device) (well : Well b)
+      (there : device_of entry b ≡ Some d) (stands : holds d ≡ true) (owed : (at : ℕ) → IsOwed at call b → DoneBy (at + late) (call ∷ calls) b)
+      (config : d.controller.session.config ≡ c) (phase : Ph (ticks_of end ended (call ∷ calls) b) d.controller.session.state b.greatest) where
+    abbrev at_call : ℕ
+    at_call = (after_call call b).greatest
+
+    abbrev calls_on : List CallOf
+    calls_on = as_tick (ends_duty call b) at_call ∷ ticks_of end ended calls (after_call call b)
+
+    unreported : has_report b ≡ false
+    unreported = is_false (has_report b) (λ told. let free = well.sound.devices.waits told entry d there in cc)
+
+    owed_at : (at : ℕ) → b.greatest ≤ at → at ≤ at_call → until_of d.controller.session.state ≤ at → TicksBy (at + late) calls_on
+    owed_at at not_before not_after reached =
+        let held = (has_one_exchange b well.sound).belongs entry (record { device = d; there = there; outstanding = stands }) in
+        done_ticks end ended (at + late) (call ∷ calls) b (omega arith)
+        (owed at (record {
+          not_before = not_before;
+          not_after = not_after;
+          due = or_second (has_report b) (acts at b)
+              (acts_held b entry d at unreported held there stands (due_then d (max b.greatest at) (stands_not_closed d stands) (omega arith)));
+        }))
+
+    phase_then : Ph calls_on d.controller.session.state at_call
+    phase_then =
+        phase_seen late e c more (Unit {0}) is_outstanding refl calls_on d.controller.session.state b.greatest at_call
+        (λ n due. due_seen late n (until_of d.controller.session.state) b.greatest at_call (as_tick (ends_duty call b) at_call)
+        (ticks_of end ended calls (after_call call b)) (grows call b) (λ limit within by. by_tick (ends_duty call b) at_call limit by) owed_at due)
+        phase
+
+    pub near_end : at_call ≤ e
+    near_end = phase_near late e c more (Unit {0}) is_outstanding refl calls_on d.controller.session.state at_call (stands_not_closed d stands) phase_then
+
+    pub on_then : On calls_on at_call d
+    on_then = (
+      (let reached : d.controller.session.greatest ≤ b.greatest = (well.devices entry d there).reached in let on = grows call b in omega arith),
+      λ so. (config, phase_then),
+    )
+
+  -- ---- and after it, whatever it reads
 
   module _ (call : Call) (calls : List Call) (b : BusState) (entry : ℕ) (d : Device) (well : Well b) (there : device_of entry b ≡ Some d) (stands : holds d ≡ true)
       (owed : (at : ℕ) → IsOwed at call b → DoneBy (at + late) (call ∷ calls) b) (config : d.controller.session.config ≡ c)
@@ -211,38 +252,14 @@ module _ (late e : ℕ) (c : ControllerConfig) (more : ℕ) (many : c.sends ≡ 
     abbrev x : CallOf
     x = as_tick (ends_duty call b) g
 
-    unreported : has_report b ≡ false
-    unreported = is_false (has_report b) (λ told. let free = well.sound.devices.waits told entry d there in cc)
+    near : g ≤ e
+    near = near_end endless endless_ended call calls b entry d well there stands owed config phase
 
-    owed_at : (at : ℕ) → b.greatest ≤ at → at ≤ g → until_of d.controller.session.state ≤ at → TicksBy (at + late) (x ∷ l)
-    owed_at at not_before not_after reached =
-        let held = (has_one_exchange b well.sound).belongs entry (record { device = d; there = there; outstanding = stands }) in
-        done_ticks endless endless_ended (at + late) (call ∷ calls) b (omega arith)
-        (owed at (record {
-          not_before = not_before;
-          not_after = not_after;
-          due = or_second (has_report b) (acts at b)
-              (acts_held b entry d at unreported held there stands (due_then d (max b.greatest at) (stands_not_closed d stands) (omega arith)));
-        }))
-
-    phase_then : Ph (x ∷ l) d.controller.session.state g
-    phase_then =
-        phase_seen late e c more (Unit {0}) is_outstanding refl (x ∷ l) d.controller.session.state b.greatest g
-        (λ n due. due_seen late n (until_of d.controller.session.state) b.greatest g x l (grows call b)
-        (λ limit within by. by_tick (ends_duty call b) g limit by) owed_at due)
-        phase
-
-    pub near_end : g ≤ e
-    near_end = phase_near late e c more (Unit {0}) is_outstanding refl (x ∷ l) d.controller.session.state g (stands_not_closed d stands) phase_then
-
-    on_then : On (x ∷ l) g d
-    on_then = (
-      (let reached : d.controller.session.greatest ≤ b.greatest = (well.devices entry d there).reached in let on = grows call b in omega arith),
-      λ so. (config, phase_then),
-    )
+    on_now : On (x ∷ l) g d
+    on_now = on_then endless endless_ended call calls b entry d well there stands owed config phase
 
     hears_on : (p : Packet) (f : Device) → On (x ∷ l) g f → On (x ∷ l) g (device_hears p g f)
-    hears_on p f on = heard_on (x ∷ l) g (may_be_busy (call ∷ calls) b) near_end p f on
+    hears_on p f on = heard_on (x ∷ l) g (may_be_busy (call ∷ calls) b) near p f on
 
     abbrev After : Type 0
     After = NoneBegins call b → AtPlace entry (On l g) (after_call call b).devices
@@ -253,7 +270,7 @@ module _ (late e : ℕ) (c : ControllerConfig) (more : ℕ) (many : c.sends ≡ 
         call_place g (On (x ∷ l) g) hears_on entry (λ command f on. on) (λ f on lives. on) call b other refl
         (λ f here. let one = one_device (device_of entry b) d f there here in
         subst (λ (k : Device). is_closed k.controller.session.state ≡ false) one (stands_not_closed d stands))
-        (d, there, on_then) in
+        (d, there, on_now) in
         (place.0, place.1, kept_on (ends_duty call b) g l other place.0 place.2)
 
     by_outcome : (now : ℕ) → call ≡ Tick now → Outcome g (On (x ∷ l) g) hears_on entry now b (bus_ticks now b) → After
@@ -261,13 +278,13 @@ module _ (late e : ℕ) (c : ControllerConfig) (more : ℕ) (many : c.sends ≡ 
     by_outcome now is (inr (inl (f, at, (on, never)))) none =
         (f, ap (λ t. device_of entry (after_call t b)) is ∙ at, ahead_on x g l f never on)
     by_outcome now is (inr (inr (f, on, so, due, at))) none =
-        (device_ticks g f, ap (λ t. device_of entry (after_call t b)) is ∙ at, ticked_out x g l f near_end so on)
+        (device_ticks g f, ap (λ t. device_of entry (after_call t b)) is ∙ at, ticked_out x g l f near so on)
 
     place_tick : (now : ℕ) → call ≡ Tick now → After
     place_tick now is =
         by_outcome now is
-        (tick_place g (On (x ∷ l) g) hears_on entry now b well.sound unreported
-        (sym ((moments_are_seen b).brought (Tick now) now refl) ∙ ap (λ t. (after_call t b).greatest) (sym is)) (d, there, on_then))
+        (tick_place g (On (x ∷ l) g) hears_on entry now b well.sound (unreported endless endless_ended call calls b entry d well there stands owed config phase)
+        (sym ((moments_are_seen b).brought (Tick now) now refl) ∙ ap (λ t. (after_call t b).greatest) (sym is)) (d, there, on_now))
 
   place_by : (call : Call) (calls : List Call) (b : BusState) (entry : ℕ) (d : Device) (well : Well b) (there : device_of entry b ≡ Some d) (stands : holds d ≡ true)
       (owed : (at : ℕ) → IsOwed at call b → DoneBy (at + late) (call ∷ calls) b) (config : d.controller.session.config ≡ c)
@@ -284,7 +301,7 @@ module _ (late e : ℕ) (c : ControllerConfig) (more : ℕ) (many : c.sends ≡ 
 
   -- ---- all calls
 
-  only_then : (call : Call) (b : BusState) (entry : ℕ) → NoneBegins call b → ((j : ℕ) → IsOutstandingAt j b → j ≡ entry) → Who call b
+  pub only_then : (call : Call) (b : BusState) (entry : ℕ) → NoneBegins call b → ((j : ℕ) → IsOutstandingAt j b → j ≡ entry) → Who call b
       → (j : ℕ) → IsOutstandingAt j (after_call call b) → j ≡ entry
   only_then call b entry none only (inl (k, begun)) j out = absurd (none k begun)
   only_then call b entry none only (inr quiet) j out =
@@ -299,7 +316,7 @@ module _ (late e : ℕ) (c : ControllerConfig) (more : ℕ) (many : c.sends ≡ 
       let one = one_device (device_of entry b) out.device d (ap (λ n. device_of n b) (sym same) ∙ out.there) there in
       let stands : holds d ≡ true = ap holds (sym one) ∙ out.outstanding in
       let now = on.1 stands in (
-        near_end call calls b entry d well there stands in_time.0 now.0 now.1,
+        near_end endless endless_ended call calls b entry d well there stands in_time.0 now.0 now.1,
         λ none.
             ends_by calls (after_call call b) entry (well_call call b well) in_time.1 (only_then call b entry none only (who call b well.first))
             (place_by call calls b entry d well there stands in_time.0 now.0 now.1 none),
@@ -322,45 +339,76 @@ began (Pausing until o) s w out = cc
 sound_asking : (now : ℕ) (b : BusState) → SoundBus b → SoundBus (asking now b)
 sound_asking now b sound = sound_run (judged now b) (sound_silent (seen now b) (sound_seen now b sound))
 
+-- how an exchange stands as it begins, where so many BUSY answers are allowed, or none is read
+module _ (late q : ℕ) (end : List CallOf) (ended : (limit : ℕ) → TicksBy limit end) (call : Call) (calls : List Call) (b : BusState) (entry : ℕ) (well : Well b)
+    (begun : Begins call entry b) where
+  abbrev pub begun_device : Device
+  begun_device = begun.next.due.device
+
+  abbrev pub begun_config : ControllerConfig
+  begun_config = begun.next.due.device.controller.session.config
+
+  abbrev pub begun_calls : List CallOf
+  begun_calls = ticks_of end ended calls (after_call call b)
+
+  pub sends_of : (more : ℕ) × (begun_config.sends ≡ more + 1)
+  sends_of =
+      one_less begun_config.sends ((sound_asking begun.now b well.sound).devices.devices entry begun_device begun.next.due.there).machine.session.config.sends.0
+
+  pub stands_begun : Few begun_config q begun_calls
+      → AtPlace entry
+      (On late ((after_call call b).greatest + whole late sends_of.0 q begun_config) begun_config sends_of.0 sends_of.1 begun_calls (after_call call b).greatest)
+      (after_call call b).devices
+  stands_begun few =
+      let r = asking begun.now b in
+      let d = begun_device in
+      let s = d.controller.session in
+      let k = after_call call b in
+      let kept = kept_asking begun.now b well entry d begun.next.due.there in
+      let device = (sound_asking begun.now b well.sound).devices.devices entry d begun.next.due.there in
+      let free = is_false (holds d) (λ h. still_free begun.now b begun.free entry d begun.next.due.there h) in
+      let ticked = begun_ticked begun.now entry b begun.free begun.next in
+      let after : k ≡ (ticks_with entry (Some d) r).bus = ap (λ t. after_call t b) begun.tick ∙ ap (λ (t : BusTicked). t.bus) ticked in
+      let there : device_of entry k ≡ Some (device_ticks r.greatest d) =
+      ap (device_of entry) after ∙ set_here r.devices.entries entry d (device_ticks r.greatest d) begun.next.due.there in
+      let moment : k.greatest ≡ r.greatest = ap (λ (x : BusState). x.greatest) after in
+      let seen_now : k.greatest ≡ max b.greatest begun.now =
+      ap (λ t. (after_call t b).greatest) begun.tick ∙ (moments_are_seen b).brought (Tick begun.now) begun.now refl in
+      let reached : s.greatest ≤ max b.greatest begun.now = kept.reached in
+      let at : (seen_by r.greatest s).greatest ≡ k.greatest = omega arith in
+      let first = begun_tick late sends_of.0 q begun_calls s.state (seen_by r.greatest s) d.controller.waiting few device.machine.session.state
+      (began s.state (seen_by r.greatest s) d.controller.waiting free (begins_frame r.greatest d free begun.next.due.due)) in
+      let e = k.greatest + whole late sends_of.0 q s.config in
+      let is : (after_call_of (TickOf r.greatest) d.controller).session.greatest ≡ max s.greatest r.greatest = tick_at_moment r.greatest d.controller in
+      let holds_then : Holds late e s.config sends_of.0 (Unit {0}) is_outstanding refl begun_calls (device_ticks r.greatest d).controller.session =
+      subst (λ (n : ℕ). Holds late (n + whole late sends_of.0 q s.config) s.config sends_of.0 (Unit {0}) is_outstanding refl begun_calls
+      (device_ticks r.greatest d).controller.session) at first in (
+        device_ticks r.greatest d,
+        there,
+        (
+          omega arith,
+          λ so. (
+            (holds_then.1 so).0,
+            subst (λ (n : ℕ). Phase late e s.config sends_of.0 (Unit {0}) begun_calls (device_ticks r.greatest d).controller.session.state n) (is ∙ at)
+                (holds_then.1 so).1,
+          ),
+        ),
+      )
+
 begun_ends : (late : ℕ) (call : Call) (calls : List Call) (b : BusState) (entry : ℕ) → Well b → KeepsTime late calls (after_call call b) → Begins call entry b
     → EndsBy ((after_call call b).greatest + exchange_of b late) calls (after_call call b)
 begun_ends late call calls b entry well in_time begun =
-    let r = asking begun.now b in
-    let d = begun.next.due.device in
-    let s = d.controller.session in
     let k = after_call call b in
-    let kept = kept_asking begun.now b well entry d begun.next.due.there in
-    let device = (sound_asking begun.now b well.sound).devices.devices entry d begun.next.due.there in
-    let sends = one_less s.config.sends device.machine.session.config.sends.0 in
-    let free = is_false (holds d) (λ h. still_free begun.now b begun.free entry d begun.next.due.there h) in
-    let ticked = begun_ticked begun.now entry b begun.free begun.next in
-    let after : k ≡ (ticks_with entry (Some d) r).bus = ap (λ t. after_call t b) begun.tick ∙ ap (λ (t : BusTicked). t.bus) ticked in
-    let there : device_of entry k ≡ Some (device_ticks r.greatest d) =
-    ap (device_of entry) after ∙ set_here r.devices.entries entry d (device_ticks r.greatest d) begun.next.due.there in
-    let moment : k.greatest ≡ r.greatest = ap (λ (x : BusState). x.greatest) after in
-    let seen_now : k.greatest ≡ max b.greatest begun.now =
-    ap (λ t. (after_call t b).greatest) begun.tick ∙ (moments_are_seen b).brought (Tick begun.now) begun.now refl in
-    let reached : s.greatest ≤ max b.greatest begun.now = kept.reached in
-    let at : (seen_by r.greatest s).greatest ≡ k.greatest = omega arith in
-    let first = begun_tick late sends.0 s.config.busy_limit (moments calls k) s.state (seen_by r.greatest s) d.controller.waiting (inl (omega arith)) device.machine.session.state
-    (began s.state (seen_by r.greatest s) d.controller.waiting free (begins_frame r.greatest d free begun.next.due.due)) in
-    let e = k.greatest + whole late sends.0 s.config.busy_limit s.config in
-    let length_is : whole late sends.0 s.config.busy_limit s.config ≡ exchange_of b late =
-    whole_is late sends.0 s.config.busy_limit s.config sends.1 ∙ ap (λ x. longest_exchange x late) kept.config in
-    let is : (after_call_of (TickOf r.greatest) d.controller).session.greatest ≡ max s.greatest r.greatest = tick_at_moment r.greatest d.controller in
-    let holds_then : Holds late e s.config sends.0 (Unit {0}) is_outstanding refl (moments calls k) (device_ticks r.greatest d).controller.session =
-    subst (λ (n : ℕ). Holds late (n + whole late sends.0 s.config.busy_limit s.config) s.config sends.0 (Unit {0}) is_outstanding refl (moments calls k) (device_ticks r.greatest d).controller.session) at first in
+    let c = begun.next.due.device.controller.session.config in
+    let kept = kept_asking begun.now b well entry begun.next.due.device begun.next.due.there in
+    let sends = sends_of late c.busy_limit endless endless_ended call calls b entry well begun in
+    let length_is : whole late sends.0 c.busy_limit c ≡ exchange_of b late =
+    whole_is late sends.0 c.busy_limit c sends.1 ∙ ap (λ x. longest_exchange x late) kept.config in
     let out = stands_after call entry b begun in
     subst (λ (n : ℕ). EndsBy (k.greatest + n) calls k) length_is
-    (ends_by late e s.config sends.0 sends.1 calls k entry (well_call call b well) in_time
-    (λ j other. (has_one_exchange k (well_call call b well).sound).one j entry other out) (
-      device_ticks r.greatest d,
-      there,
-      (
-        omega arith,
-        λ so. ((holds_then.1 so).0, subst (λ (n : ℕ). Phase late e s.config sends.0 (Unit {0}) (moments calls k) (device_ticks r.greatest d).controller.session.state n) (is ∙ at) (holds_then.1 so).1),
-      ),
-    ))
+    (ends_by late (k.greatest + whole late sends.0 c.busy_limit c) c sends.0 sends.1 calls k entry (well_call call b well) in_time
+    (λ j other. (has_one_exchange k (well_call call b well).sound).one j entry other out)
+    (stands_begun late c.busy_limit endless endless_ended call calls b entry well begun (inl (omega arith))))
 
 turns_take : (late : ℕ) (cost : ℕ) (calls : List Call) (b : BusState) → Well b → KeepsTime late calls b → exchange_of b late ≡ cost → TurnsTake (λ entry. cost) calls b
 turns_take late cost [] b well in_time same = tt

@@ -37,7 +37,7 @@ AtPlace entry Q ds = (d : Device) × (slice_get ds.entries entry ≡ Some d) × 
 pub one_device : (o : Option Device) (d e : Device) → o ≡ Some d → o ≡ Some e → d ≡ e
 one_device o d e is are = let both : Some d ≡ Some e = sym is ∙ are in cc
 
-in_front : (ds : List Device) (e : Device) (i : ℕ) (d : Device) → slice_get ds i ≡ Some d → slice_get (ds ++ e ∷ []) i ≡ Some d
+pub in_front : (ds : List Device) (e : Device) (i : ℕ) (d : Device) → slice_get ds i ≡ Some d → slice_get (ds ++ e ∷ []) i ≡ Some d
 in_front [] e i d at = absurd cc
 in_front (x ∷ ds) e zero d at = at
 in_front (x ∷ ds) e (suc i) d at = in_front ds e i d at
@@ -45,6 +45,64 @@ in_front (x ∷ ds) e (suc i) d at = in_front ds e i d at
 is_true : (b : Bool) → not b ≡ false → b ≡ true
 is_true true h = refl
 is_true false h = cc
+
+-- ---- calls of the user
+
+module _ (Q : Device → Type 0) (entry : ℕ) where
+  abbrev At : BusState → Type 0
+  At b = AtPlace entry Q b.devices
+
+  changed_by : (t : Bool) (change : Device → Device) (at : ℕ) (b : BusState) (f : Device) → nat_eq entry at ≡ t → device_of at b ≡ Some f
+      → (entry ≡ at → Q f → Q (change f)) → (e : Device) → device_of entry b ≡ Some e → Q e
+      → At (record b { devices = record b.devices { entries = slice_set b.devices.entries at (change f) } })
+  changed_by true change at b f same there changes e here is =
+      let place : entry ≡ at = eqb-true entry at same in
+      let one : e ≡ f = one_device (device_of at b) e f (sym (ap (λ n. device_of n b) place) ∙ here) there in (
+        change f,
+        ap (slice_get (slice_set b.devices.entries at (change f))) place ∙ set_here b.devices.entries at f (change f) there,
+        changes place (subst Q one is),
+      )
+  changed_by false change at b f other there changes e here is =
+      (e, set_other b.devices.entries at entry (change f) (eqb-false entry at other) ∙ here, is)
+
+  pub changed_place : (change : Device → Device) (at : ℕ) (b : BusState) → (entry ≡ at → (d : Device) → device_of at b ≡ Some d → Q d → Q (change d))
+      → At b → At (changes_device at change b)
+  changed_place change at b changes place = by_device (device_of at b) refl
+    where
+      by_device : (o : Option Device) → device_of at b ≡ o
+          → At (option_map_or (λ d. record b { devices = record b.devices { entries = slice_set b.devices.entries at (change d) } }) o b)
+      by_device None none = place
+      by_device (Some f) there =
+          changed_by (nat_eq entry at) change at b f refl there (λ same is. changes same f there is) place.0 place.1 place.2
+
+  pub unless_place : (f : Option BusFault) (b c : BusState) → At b → (f ≡ None → At c) → At (changed_unless f b c)
+  unless_place None b c place after = after refl
+  unless_place (Some fault) b c place after = place
+
+  -- the device of the entry is in a session
+  abbrev pub Lives : BusState → Type 0
+  Lives b = (d : Device) → device_of entry b ≡ Some d → is_closed d.controller.session.state ≡ false
+
+  pub begin_place : (at now : ℕ) (b : BusState) → Lives b → At b → begin_refusal_at at b ≡ None → At (after_begin_at at now b)
+  begin_place at now b lives place accepted =
+      changed_place (device_begins (max b.greatest now)) at (seen now b)
+      (λ same d there is. absurd (
+      let ok = map_none (begin_refusal d.controller) (sym (ap begin_refusal_of there) ∙ accepted) in
+      let closed = ap is_closed (was_closed d.controller.session.state ok) in
+      let stands = lives d (ap (λ n. device_of n b) same ∙ there) in
+      cc)) place
+
+  pub retarget_place : (at address : ℕ) (b : BusState) → Lives b → At b → retarget_refusal_at at address b ≡ None → At (after_retarget_at at address b)
+  retarget_place at address b lives place accepted =
+      changed_place (device_retargets address) at b
+      (λ same d there is. absurd (
+      let parts = or_none (option_map bus_fault (retarget_refusal address d.controller))
+      (is_taken_beside at address b.devices.entries || has_comset d.controller.waiting)
+      (sym (ap (λ o. retarget_refusal_of at address o b) there) ∙ accepted) in
+      let ok = no_device (refused_unless_closed d.controller.session.state) address (map_none (retarget_refusal address d.controller) parts.0) in
+      let closed = ap is_closed (was_closed d.controller.session.state ok) in
+      let stands = lives d (ap (λ n. device_of n b) same ∙ there) in
+      cc)) place
 
 module _ (g : ℕ) (Q : Device → Type 0) (heard : (p : Packet) (d : Device) → Q d → Q (device_hears p g d)) (entry : ℕ) where
   -- ---- what comes in
@@ -95,60 +153,6 @@ module _ (g : ℕ) (Q : Device → Type 0) (heard : (p : Packet) (d : Device) �
       let e = judged now b in
       items_place e.greatest false (e.held ++ (byte ∷ bytes)) e.devices (judged_moment now b is) (judged_place now b is place)
 
-  -- ---- calls of the user
-
-  changed_by : (t : Bool) (change : Device → Device) (at : ℕ) (b : BusState) (f : Device) → nat_eq entry at ≡ t → device_of at b ≡ Some f
-      → (entry ≡ at → Q f → Q (change f)) → (e : Device) → device_of entry b ≡ Some e → Q e
-      → Placed (record b { devices = record b.devices { entries = slice_set b.devices.entries at (change f) } })
-  changed_by true change at b f same there changes e here is =
-      let place : entry ≡ at = eqb-true entry at same in
-      let one : e ≡ f = one_device (device_of at b) e f (sym (ap (λ n. device_of n b) place) ∙ here) there in (
-        change f,
-        ap (slice_get (slice_set b.devices.entries at (change f))) place ∙ set_here b.devices.entries at f (change f) there,
-        changes place (subst Q one is),
-      )
-  changed_by false change at b f other there changes e here is =
-      (e, set_other b.devices.entries at entry (change f) (eqb-false entry at other) ∙ here, is)
-
-  changed_place : (change : Device → Device) (at : ℕ) (b : BusState) → (entry ≡ at → (d : Device) → device_of at b ≡ Some d → Q d → Q (change d))
-      → Placed b → Placed (changes_device at change b)
-  changed_place change at b changes place = by_device (device_of at b) refl
-    where
-      by_device : (o : Option Device) → device_of at b ≡ o
-          → Placed (option_map_or (λ d. record b { devices = record b.devices { entries = slice_set b.devices.entries at (change d) } }) o b)
-      by_device None none = place
-      by_device (Some f) there =
-          changed_by (nat_eq entry at) change at b f refl there (λ same is. changes same f there is) place.0 place.1 place.2
-
-  unless_place : (f : Option BusFault) (b c : BusState) → Placed b → (f ≡ None → Placed c) → Placed (changed_unless f b c)
-  unless_place None b c place after = after refl
-  unless_place (Some fault) b c place after = place
-
-  -- the device of the entry is in a session
-  abbrev Lives : BusState → Type 0
-  Lives b = (d : Device) → device_of entry b ≡ Some d → is_closed d.controller.session.state ≡ false
-
-  begin_place : (at now : ℕ) (b : BusState) → Lives b → Placed b → begin_refusal_at at b ≡ None → Placed (after_begin_at at now b)
-  begin_place at now b lives place accepted =
-      changed_place (device_begins (max b.greatest now)) at (seen now b)
-      (λ same d there is. absurd (
-      let ok = map_none (begin_refusal d.controller) (sym (ap begin_refusal_of there) ∙ accepted) in
-      let closed = ap is_closed (was_closed d.controller.session.state ok) in
-      let stands = lives d (ap (λ n. device_of n b) same ∙ there) in
-      cc)) place
-
-  retarget_place : (at address : ℕ) (b : BusState) → Lives b → Placed b → retarget_refusal_at at address b ≡ None → Placed (after_retarget_at at address b)
-  retarget_place at address b lives place accepted =
-      changed_place (device_retargets address) at b
-      (λ same d there is. absurd (
-      let parts = or_none (option_map bus_fault (retarget_refusal address d.controller))
-      (is_taken_beside at address b.devices.entries || has_comset d.controller.waiting)
-      (sym (ap (λ o. retarget_refusal_of at address o b) there) ∙ accepted) in
-      let ok = no_device (refused_unless_closed d.controller.session.state) address (map_none (retarget_refusal address d.controller) parts.0) in
-      let closed = ap is_closed (was_closed d.controller.session.state ok) in
-      let stands = lives d (ap (λ n. device_of n b) same ∙ there) in
-      cc)) place
-
   -- what an accepted order leaves
   abbrev pub Submitted : Call → BusState → Type 0
   Submitted call b = (at : ℕ) (command : Command) → call ≡ Submit at command → entry ≡ at → submit_refusal_at at command b ≡ None → (d : Device)
@@ -156,20 +160,20 @@ module _ (g : ℕ) (Q : Device → Type 0) (heard : (p : Packet) (d : Device) �
 
   module _ (withdrawn : (d : Device) → Q d → is_closed d.controller.session.state ≡ false → Q (device_withdraws d)) where
     -- a call that ends no duty: no tick, or one while a report waits
-    pub place_then : (call : Call) (b : BusState) → Submitted call b → ends_duty call b ≡ false → (after_call call b).greatest ≡ g → Lives b → Placed b
+    pub place_then : (call : Call) (b : BusState) → Submitted call b → ends_duty call b ≡ false → (after_call call b).greatest ≡ g → Lives Q entry b → Placed b
         → Placed (after_call call b)
     place_then (Add address) b submitted other moment lives place =
-        unless_place (add_refusal address b) b (after_add address b) place
+        unless_place Q entry (add_refusal address b) b (after_add address b) place
         (λ ok. (place.0, in_front b.devices.entries (new_device address b.config) entry place.0 place.1, place.2))
     place_then (Begin at now) b submitted other moment lives place =
-        unless_place (begin_refusal_at at b) b (after_begin_at at now b) place (begin_place at now b lives place)
+        unless_place Q entry (begin_refusal_at at b) b (after_begin_at at now b) place (begin_place Q entry at now b lives place)
     place_then (Submit at command) b submitted other moment lives place =
-        unless_place (submit_refusal_at at command b) b (after_submit_at at command b) place
-        (λ ok. changed_place (device_submits command) at b (λ same d there is. submitted at command refl same ok d there is) place)
+        unless_place Q entry (submit_refusal_at at command b) b (after_submit_at at command b) place
+        (λ ok. changed_place Q entry (device_submits command) at b (λ same d there is. submitted at command refl same ok d there is) place)
     place_then (Withdraw at) b submitted other moment lives place =
-        changed_place device_withdraws at b (λ same d there is. withdrawn d is (lives d (ap (λ n. device_of n b) same ∙ there))) place
+        changed_place Q entry device_withdraws at b (λ same d there is. withdrawn d is (lives d (ap (λ n. device_of n b) same ∙ there))) place
     place_then (Retarget at address) b submitted other moment lives place =
-        unless_place (retarget_refusal_at at address b) b (after_retarget_at at address b) place (retarget_place at address b lives place)
+        unless_place Q entry (retarget_refusal_at at address b) b (after_retarget_at at address b) place (retarget_place Q entry at address b lives place)
     place_then (OnBytes bytes now) b submitted other moment lives place =
         bytes_place bytes now b (sym ((moments_are_seen b).brought (OnBytes bytes now) now refl) ∙ moment) place
     place_then (OnSilence now) b submitted other moment lives place =
@@ -181,7 +185,7 @@ module _ (g : ℕ) (Q : Device → Type 0) (heard : (p : Packet) (d : Device) �
 
   module _ (submitted : (command : Command) (d : Device) → Q d → Q (device_submits command d))
       (withdrawn : (d : Device) → Q d → is_closed d.controller.session.state ≡ false → Q (device_withdraws d)) where
-    pub call_place : (call : Call) (b : BusState) → ends_duty call b ≡ false → (after_call call b).greatest ≡ g → Lives b → Placed b → Placed (after_call call b)
+    pub call_place : (call : Call) (b : BusState) → ends_duty call b ≡ false → (after_call call b).greatest ≡ g → Lives Q entry b → Placed b → Placed (after_call call b)
     call_place call b = place_then withdrawn call b (λ at command is same ok d there q. submitted command d q)
 
   -- ---- a tick while no report waits: an exchange begins; or the device doesn't tick, and holds the line only before it is due; or it holds the line, is due

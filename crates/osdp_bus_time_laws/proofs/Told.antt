@@ -18,8 +18,8 @@ use Rattle.osdp_bus_laws.proofs.Exchanging.{has_one_exchange}
 use Rattle.osdp_bus_laws.proofs.Fairness.{stands_after}
 use Rattle.osdp_bus_laws.proofs.Reserving.{keeps_reports}
 use Rattle.osdp_bus_time_laws.specs.Clock.{DoneBy, KeepsTime, ends_duty}
-use Rattle.osdp_bus_time_laws.specs.Telling.{IsLost, NeverAnswers, OpenAreAsked, ReportsAreTaken, SilenceIsTold, TakenBy, ToldBy}
-use Rattle.osdp_bus_time_laws.specs.Turns.{BeginsBy, EndsBy, NoneBegins, TurnsTake, others_of}
+use Rattle.osdp_bus_time_laws.specs.Telling.{IsIdle, IsLost, OpenAreAsked, ReportsAreTaken, TakenBy, ToldBy}
+use Rattle.osdp_bus_time_laws.specs.Turns.{BeginsBy, EndsBy, KeepsTurns, NoneBegins, others_of}
 use Rattle.osdp_bus_time_laws.proofs.Devices.{Well, well_call}
 use Rattle.osdp_bus_time_laws.proofs.Moments.{grows, within_limit}
 use Rattle.osdp_bus_time_laws.proofs.Ordered.{rest_due}
@@ -105,7 +105,20 @@ standing entry b = by_device (device_of entry b) refl
     by_device None none = inr (λ other. let both : Some other.device ≡ None = sym other.there ∙ none in cc)
     by_device (Some d) there = by_holds d there (holds d) refl
 
-module _ (late : ℕ) (time : ℕ → ℕ) (entry limit : ℕ) where
+-- while the exchange of an entry is outstanding none begins, and where it ends it is told lost
+abbrev pub NeverAnswers : ℕ → List Call → BusState → Type 0
+NeverAnswers entry [] b = Unit {0}
+NeverAnswers entry (call ∷ calls) b =
+    (IsOutstandingAt entry b → NoneBegins call b × ((IsOutstandingAt entry (after_call call b) → ⊥) → IsLost entry (after_call call b)))
+    × NeverAnswers entry calls (after_call call b)
+
+-- each exchange that the entry begins ends so long after its first frame at the most
+abbrev pub OwnTakes : ℕ → ℕ → List Call → BusState → Type 0
+OwnTakes own entry [] b = Unit {0}
+OwnTakes own entry (call ∷ calls) b =
+    (Begins call entry b → EndsBy ((after_call call b).greatest + own) calls (after_call call b)) × OwnTakes own entry calls (after_call call b)
+
+module _ (late own entry limit : ℕ) where
   -- it is told lost
   lost_told : (until : ℕ) (calls : List Call) (b : BusState) → Well b → until ≤ limit → IsLost entry b → TakenBy until calls b → ToldBy limit entry calls b
   lost_told until [] b well near lost taken_by = tt
@@ -123,17 +136,13 @@ module _ (late : ℕ) (time : ℕ → ℕ) (entry limit : ℕ) where
 
   -- its exchange is outstanding
   out_by : (e : ℕ) (call : Call) (calls : List Call) (b : BusState) → Well b → e + late ≤ limit → (after_call call b).greatest ≤ e
-      → (NoneBegins call b → EndsBy e calls (after_call call b)) → KeepsTime late calls (after_call call b) → (Begins call entry b → ⊥)
+      → EndsBy e calls (after_call call b) → KeepsTime late calls (after_call call b)
       → ((IsOutstandingAt entry (after_call call b) → ⊥) → IsLost entry (after_call call b))
-      → ((f : ℕ) → IsOutstandingAt entry (after_call call b) → EndsBy f calls (after_call call b) → f + late ≤ limit → ToldBy limit entry calls (after_call call b))
-      → (IsOutstandingAt entry (after_call call b)) ⊎ (IsOutstandingAt entry (after_call call b) → ⊥) → ((k : ℕ) × Begins call k b) ⊎ NoneBegins call b
-      → ToldBy limit entry calls (after_call call b)
-  out_by e call calls b well near soon ends in_time not lost on (inr free) decided =
+      → (IsOutstandingAt entry (after_call call b) → ToldBy limit entry calls (after_call call b))
+      → (IsOutstandingAt entry (after_call call b)) ⊎ (IsOutstandingAt entry (after_call call b) → ⊥) → ToldBy limit entry calls (after_call call b)
+  out_by e call calls b well near soon ends in_time lost on (inr free) =
       lost_from calls (after_call call b) (well_call call b well) (lost free) in_time (omega arith)
-  out_by e call calls b well near soon ends in_time not lost on (inl out) (inr none) = on e out (ends none) near
-  out_by e call calls b well near soon ends in_time not lost on (inl out) (inl (k, begun)) =
-      let one = (has_one_exchange (after_call call b) (well_call call b well).sound).one k entry (stands_after call k b begun) out in
-      absurd (not (subst (λ m. Begins call m b) one begun))
+  out_by e call calls b well near soon ends in_time lost on (inl out) = on out
 
   out_told : (e : ℕ) (calls : List Call) (b : BusState) → Well b → e + late ≤ limit → IsOutstandingAt entry b → EndsBy e calls b → KeepsTime late calls b
       → NeverAnswers entry calls b → ToldBy limit entry calls b
@@ -144,45 +153,48 @@ module _ (late : ℕ) (time : ℕ → ℕ) (entry limit : ℕ) where
       let silent = never.0 out in (
         omega arith,
         λ other.
-            out_by e call calls b well near soon now.1 in_time.1 silent.0 silent.1
-            (λ f out_then ends_then near_then. out_told f calls (after_call call b) (well_call call b well) near_then out_then ends_then in_time.1 never.1)
-            (standing entry (after_call call b)) (decide call b),
+            out_by e call calls b well near soon (now.1 silent.0) in_time.1 silent.1
+            (λ out_then. out_told e calls (after_call call b) (well_call call b well) near out_then (now.1 silent.0) in_time.1 never.1)
+            (standing entry (after_call call b)),
       )
 
   -- its next exchange begins
-  open_by : (m : ℕ) (call : Call) (calls : List Call) (b : BusState) → Well b → m + time entry + late ≤ limit → (after_call call b).greatest ≤ m
+  open_by : (m : ℕ) (call : Call) (calls : List Call) (b : BusState) → Well b → m + own + late ≤ limit → (after_call call b).greatest ≤ m
       → ((Begins call entry b → ⊥) → ToldBy limit entry calls (after_call call b)) → KeepsTime late calls (after_call call b)
-      → ((k : ℕ) → Begins call k b → EndsBy ((after_call call b).greatest + time k) calls (after_call call b)) → NeverAnswers entry calls (after_call call b)
+      → (Begins call entry b → EndsBy ((after_call call b).greatest + own) calls (after_call call b)) → NeverAnswers entry calls (after_call call b)
       → ((k : ℕ) × Begins call k b) ⊎ NoneBegins call b → ToldBy limit entry calls (after_call call b)
-  open_by m call calls b well near soon on in_time turns never (inr none) = on (none entry)
-  open_by m call calls b well near soon on in_time turns never (inl (k, begun)) = by_same (nat_eq k entry) refl
+  open_by m call calls b well near soon on in_time takes never (inr none) = on (none entry)
+  open_by m call calls b well near soon on in_time takes never (inl (k, begun)) = by_same (nat_eq k entry) refl
     where
       by_same : (t : Bool) → nat_eq k entry ≡ t → ToldBy limit entry calls (after_call call b)
       by_same true same =
           let mine : Begins call entry b = subst (λ m. Begins call m b) (eqb-true k entry same) begun in
-          out_told ((after_call call b).greatest + time entry) calls (after_call call b) (well_call call b well) (omega arith) (stands_after call entry b mine) (turns entry mine) in_time never
+          out_told ((after_call call b).greatest + own) calls (after_call call b) (well_call call b well) (omega arith) (stands_after call entry b mine) (takes mine) in_time never
       by_same false other =
           on (λ mine.
           let one = (has_one_exchange (after_call call b) (well_call call b well).sound).one k entry (stands_after call k b begun) (stands_after call entry b mine) in
           eqb-false k entry other one)
 
-  open_told : (m : ℕ) (calls : List Call) (b : BusState) → Well b → m + time entry + late ≤ limit → BeginsBy m entry calls b → KeepsTime late calls b
-      → TurnsTake time calls b → NeverAnswers entry calls b → ToldBy limit entry calls b
-  open_told m [] b well near begins in_time turns never = tt
-  open_told m (call ∷ calls) b well near begins in_time turns never =
+  open_told : (m : ℕ) (calls : List Call) (b : BusState) → Well b → m + own + late ≤ limit → BeginsBy m entry calls b → KeepsTime late calls b
+      → OwnTakes own entry calls b → NeverAnswers entry calls b → ToldBy limit entry calls b
+  open_told m [] b well near begins in_time takes never = tt
+  open_told m (call ∷ calls) b well near begins in_time takes never =
       let soon : (after_call call b).greatest ≤ m = begins.0 in (
         omega arith,
         λ other.
             open_by m call calls b well near soon
-            (λ not. open_told m calls (after_call call b) (well_call call b well) near (begins.1 not) in_time.1 turns.1 never.1)
-            in_time.1 turns.0 never.1 (decide call b),
+            (λ not. open_told m calls (after_call call b) (well_call call b well) near (begins.1 not) in_time.1 takes.1 never.1)
+            in_time.1 takes.0 never.1 (decide call b),
       )
 
-last_fits : (g first time late : ℕ) → (g + first) + time + late ≤ g + (first + (time + late))
-last_fits g first time late = omega arith
+last_fits : (g first own late : ℕ) → (g + first) + own + late ≤ g + (first + (own + late))
+last_fits g first own late = omega arith
 
-pub silence_is_told : (b : BusState) → Well b → SilenceIsTold b
-silence_is_told b well late time n entry calls idle keeps never =
+-- an idle entry that never answers, whose own exchange takes so long
+pub never_told : (late own : ℕ) (time : ℕ → ℕ) (n entry : ℕ) (calls : List Call) (b : BusState) → Well b → IsIdle entry b → KeepsTurns late time n calls b
+    → OwnTakes own entry calls b → NeverAnswers entry calls b
+    → ToldBy (b.greatest + (b.config.poll_interval + late + others_of time late n entry + (own + late))) entry calls b
+never_told late own time n entry calls b well idle keeps takes never =
     let first = b.config.poll_interval + late + others_of time late n entry in
-    open_told late time entry (b.greatest + (first + (time entry + late))) (b.greatest + first) calls b well (last_fits b.greatest first (time entry) late)
-    (open_are_asked b well late time n entry calls idle keeps) keeps.in_time keeps.turns never
+    open_told late own entry (b.greatest + (first + (own + late))) (b.greatest + first) calls b well (last_fits b.greatest first own late)
+    (open_are_asked b well late time n entry calls idle keeps) keeps.in_time takes never

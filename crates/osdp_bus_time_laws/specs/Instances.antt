@@ -13,6 +13,8 @@ use Rattle.osdp_bus_laws.specs.Calls.{Call, Add, Begin, NextReport, OnBytes, Sub
 use Rattle.osdp_bus_laws.specs.Exchanges.{IsOutstandingAt}
 use Rattle.osdp_bus_time_laws.specs.Clock.{KeepsTime}
 use Rattle.osdp_bus_time_laws.specs.Laws.{IsAccepted, exchange_of}
+use Rattle.osdp_bus_time_laws.specs.Reading.{NothingIsRead}
+use Rattle.osdp_bus_time_laws.specs.Telling.{IsIdle, IsLost, silence_bound}
 use Rattle.osdp_bus_time_laws.specs.Turns.{HasFew}
 
 -- one send of 3 ms, no BUSY, and 4 ms of quiet
@@ -95,3 +97,29 @@ pub record OrderIsReached : Type 0 where
   pub not_before : waiting_of 0 (after_calls before_order ordered) ≡ Id 0 ∷ []
   pub goes_out : asked_of 0 (after_calls order_calls ordered) ≡ Some (Id 0)
   pub moment : (after_calls order_calls ordered).greatest ≡ both_open.greatest + (0 + 1) * (2 * (exchange_of both_open 0 + 0))
+
+-- ---- a device of which nothing is read any more
+
+-- both sessions have just opened, and both POLLs are due 5 ms later
+abbrev pub both_idle : BusState
+both_idle =
+    after_calls
+    (Add 0 ∷ Add 1 ∷ Begin 0 0 ∷ Begin 1 0 ∷ Tick 4 ∷ OnBytes (pd_id_bytes 128 168) 4 ∷ NextReport ∷ Tick 4 ∷ OnBytes (pd_id_bytes 129 167) 4 ∷ NextReport
+    ∷ []) (new_bus short_line)
+
+-- the first has its turn, a millisecond late, and is told lost as late; then the second has its own
+abbrev pub before_taken : List Call
+before_taken = Tick 10 ∷ Tick 14 ∷ NextReport ∷ Tick 15 ∷ Tick 19 ∷ Tick 20 ∷ []
+
+abbrev pub silent_calls : List Call
+silent_calls = Tick 10 ∷ Tick 14 ∷ NextReport ∷ Tick 15 ∷ Tick 19 ∷ Tick 20 ∷ NextReport ∷ []
+
+-- that the second is lost is taken exactly when it has to be
+pub record SilenceIsReached : Type 0 where
+  pub config : IsBusConfig short_line
+  pub idle : IsIdle 1 both_idle
+  pub in_time : KeepsTime 1 silent_calls both_idle
+  pub few : HasFew 2 silent_calls both_idle
+  pub silent : NothingIsRead 1 silent_calls both_idle
+  pub lost : IsLost 1 (after_calls before_taken both_idle)
+  pub moment : (after_calls before_taken both_idle).greatest ≡ both_idle.greatest + silence_bound both_idle 1 2

@@ -1,16 +1,18 @@
 -- By when what is told is taken, and by when a device that falls silent is told lost.
-use Rattle.std.specs.Prelude.{◌≡◌, ℕ, ◌+◌, ◌≤◌, true, List, [], ◌∷◌, Option, Some}
+use Rattle.std.specs.Prelude.{◌≡◌, ℕ, ◌+◌, ◌-◌, ◌*◌, ◌≤◌, true, List, [], ◌∷◌, Option, Some}
 use Rattle.osdp_msg.specs.declared.command.Command.{Command}
 use Rattle.osdp_controller.specs.declared.report.LostCause.{LostCause}
 use Rattle.osdp_controller.specs.declared.report.Report.TheVariants.{Lost}
 use Rattle.osdp_controller.specs.States.{is_idle}
+use Rattle.osdp_time_laws.specs.Bounds.{round_time}
 use Rattle.osdp_bus.specs.declared.device.Device.{Device}
 use Rattle.osdp_bus.specs.Buses.{BusState, device_of, has_report}
+use Rattle.osdp_bus.specs.Settings.{controller_config}
 use Rattle.osdp_bus_laws.specs.Calls.{Call, NextReport, after_call}
-use Rattle.osdp_bus_laws.specs.Exchanges.{IsOutstandingAt}
-use Rattle.osdp_bus_laws.specs.Fairness.{Begins}
 use Rattle.osdp_bus_time_laws.specs.Clock.{KeepsTime}
-use Rattle.osdp_bus_time_laws.specs.Turns.{BeginsBy, KeepsTurns, others_of}
+use Rattle.osdp_bus_time_laws.specs.Laws.{exchange_of}
+use Rattle.osdp_bus_time_laws.specs.Reading.{NothingIsRead}
+use Rattle.osdp_bus_time_laws.specs.Turns.{BeginsBy, HasFew, KeepsTurns, others_of}
 
 -- the session of an entry is open, and no exchange of it is outstanding
 pub record IsIdle (entry : ℕ) (b : BusState) : Type 0 where
@@ -39,21 +41,26 @@ pub record IsLost (entry : ℕ) (b : BusState) : Type 0 where
   pub command : Option Command
   pub report : b.devices.report ≡ Some (entry, Lost cause command)
 
--- the device of an entry answers nothing: an exchange of it that ends in one of the calls is told lost
-abbrev pub NeverAnswers : ℕ → List Call → BusState → Type 0
-NeverAnswers entry [] b = Unit {0}
-NeverAnswers entry (call ∷ calls) b =
-    (IsOutstandingAt entry b → (Begins call entry b → ⊥) × ((IsOutstandingAt entry (after_call call b) → ⊥) → IsLost entry (after_call call b)))
-    × NeverAnswers entry calls (after_call call b)
-
 -- no call comes later than this moment before the entry has been told lost: the report is taken
 abbrev pub ToldBy : ℕ → ℕ → List Call → BusState → Type 0
 ToldBy limit entry [] b = Unit {0}
 ToldBy limit entry (call ∷ calls) b =
     ((after_call call b).greatest ≤ limit) × ((IsLost entry b → call ≡ NextReport → ⊥) → ToldBy limit entry calls (after_call call b))
 
--- a device that is silent after its last answer is told lost in time: the interval between POLLs, a late tick and a turn of each other entry, and then its own exchange, and the
--- report is taken so late at the most
+-- a round of sends, by the settings of a bus
+abbrev pub round_of : BusState → ℕ → ℕ
+round_of b late = round_time (controller_config 0 b.config) late
+
+-- a device of which nothing is read after the answer that ended its last exchange is told lost in time: the interval between POLLs, a late tick and a turn of
+-- each other entry, then a round of sends, and the report is taken so late at the most
 abbrev pub SilenceIsTold : BusState → Type 0
-SilenceIsTold b = (late : ℕ) (time : ℕ → ℕ) (n entry : ℕ) (calls : List Call) → IsIdle entry b → KeepsTurns late time n calls b → NeverAnswers entry calls b
-    → ToldBy (b.greatest + (b.config.poll_interval + late + others_of time late n entry + (time entry + late))) entry calls b
+SilenceIsTold b = (late : ℕ) (time : ℕ → ℕ) (n entry : ℕ) (calls : List Call) → IsIdle entry b → KeepsTurns late time n calls b → NothingIsRead entry calls b
+    → ToldBy (b.greatest + (b.config.poll_interval + late + others_of time late n entry + (round_of b late + late))) entry calls b
+
+-- whatever the line does: the turn of each other entry is as long as the settings allow
+abbrev pub silence_bound : BusState → ℕ → ℕ → ℕ
+silence_bound b late n = b.config.poll_interval + late + (n - 1) * (exchange_of b late + late) + (round_of b late + late)
+
+abbrev pub SilenceIsToldInTime : BusState → Type 0
+SilenceIsToldInTime b = (late n entry : ℕ) (calls : List Call) → IsIdle entry b → KeepsTime late calls b → HasFew n calls b → NothingIsRead entry calls b
+    → ToldBy (b.greatest + silence_bound b late n) entry calls b

@@ -5,9 +5,9 @@
 ghost use Rattle.std.specs.Prelude.{ℕ, List};
 ghost use Rattle.osdp_bus.specs.Buses.{BusState};
 ghost use Rattle.osdp_bus_laws.specs.Calls.{Always};
-ghost use Rattle.osdp_bus_time_laws.specs.Instances.{OpeningIsReached, OrderIsReached};
+ghost use Rattle.osdp_bus_time_laws.specs.Instances.{OpeningIsReached, OrderIsReached, SilenceIsReached};
 ghost use Rattle.osdp_bus_time_laws.specs.Laws.{ExchangesComeRound, ExchangesEnd, LinesAddUp, OpeningsBegin, OpeningsInTime, OrdersGoOut, OrdersInTime, PollsElse, TakesTheFront};
-ghost use Rattle.osdp_bus_time_laws.specs.Telling.{OpenAreAsked, ReportsAreTaken, SilenceIsTold};
+ghost use Rattle.osdp_bus_time_laws.specs.Telling.{OpenAreAsked, ReportsAreTaken, SilenceIsTold, SilenceIsToldInTime};
 
 /// Each exchange of the line ends within the longest that the settings allow, however its answers come. So does the one that is outstanding, from now on.
 pub fn exchanges_end()
@@ -46,9 +46,12 @@ pub fn reports_are_taken()
     ensures { Always ReportsAreTaken }
 {}
 
-/// A device that is silent after its last answer is told lost: once it has been asked in time, its own exchange has ended, and the report has been taken.
+/// A device of which nothing is read after the answer that ended its last exchange is told lost within the interval between POLLs, a late tick, a turn of each other
+/// entry, a round of sends, and the time in which the report is taken. Whatever the line does, the turn of another is the longest exchange that the settings allow, and a
+/// late tick.
 pub fn silence_is_told()
-    ensures { Always SilenceIsTold }
+    ensures turns { Always SilenceIsTold }
+    ensures whatever { Always SilenceIsToldInTime }
 {}
 
 /// Where a list says how long the exchange of each entry takes, the turns of these laws are those of the figures of a line.
@@ -56,9 +59,10 @@ pub fn lines_add_up()
     ensures { (late : ℕ) (exchanges : List ℕ) → LinesAddUp late exchanges }
 {}
 
-/// Two bounds are reached. A line of two entries whose devices answer nothing, and whose program is a millisecond late each time, takes exactly so long for an
-/// opening. One whose devices answer at the last moment, and whose program is on time, takes exactly so long for an order.
+/// Three bounds are reached. A line of two entries whose devices answer nothing, and whose program is a millisecond late each time, takes exactly so long for an
+/// opening, and until a device is told lost. One whose devices answer at the last moment, and whose program is on time, takes exactly so long for an order.
 pub fn bounds_are_reached()
     ensures opening { OpeningIsReached }
     ensures order { OrderIsReached }
+    ensures silence { SilenceIsReached }
 {}
