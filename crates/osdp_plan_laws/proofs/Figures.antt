@@ -6,19 +6,21 @@ use Rattle.osdp_bus.specs.Buses.{BusState}
 use Rattle.osdp_bus.specs.Settings.{controller_config}
 use Rattle.osdp_bus_laws.specs.Calls.{Submit, after_call}
 use Rattle.osdp_bus_time_laws.specs.Laws.{GoesOutBy, time_of}
+use Rattle.osdp_bus_time_laws.specs.Telling.{ToldBy, round_of}
 use Rattle.osdp_bus_time_laws.specs.Turns.{turns_of}
 use Rattle.osdp_bus_time_laws.proofs.Devices.{Well}
 use Rattle.osdp_bus_time_laws.proofs.InTime.{lines_add_up}
 use Rattle.osdp_bus_time_laws.proofs.Ordered.{orders_go_out}
+use Rattle.osdp_bus_time_laws.proofs.Silent.{silence_is_told}
 use Rattle.osdp_card_time_laws.specs.Cards.{KeepsServing, ReportedBy, to_offer_before}
 use Rattle.osdp_card_time_laws.proofs.Figures.{cards_by_figures}
-use Rattle.osdp_time_laws.specs.Lines.{card_time, line_order_time, turns_time}
+use Rattle.osdp_time_laws.specs.Lines.{card_time, line_order_time, line_silence_time, turns_time}
 use Rattle.osdp_plan.specs.declared.bounds.Others.{Others}
 use Rattle.osdp_plan.specs.declared.bounds.Others.TheVariants.{Answer, OneSilent, Hostile}
 use Rattle.osdp_plan.specs.declared.plan.Plan.{Plan}
-use Rattle.osdp_plan.specs.Figures.{card_wait, exchanges, order_between_time, order_wait, orders_before}
+use Rattle.osdp_plan.specs.Figures.{card_wait, exchanges, lost_wait, order_between_time, order_wait, orders_before}
 use Rattle.osdp_plan.specs.Plans.{IsPlan, config_of}
-use Rattle.osdp_plan_laws.specs.Figures.{CardsKeepToFigures, OrdersKeepToFigures, planned_time}
+use Rattle.osdp_plan_laws.specs.Figures.{CardsKeepToFigures, OrdersKeepToFigures, SilenceKeepsToFigures, planned_time}
 
 -- each reader has its exchange
 one_more : (n : ℕ) → 1 ≤ n → suc (n - 1) ≡ n
@@ -57,3 +59,11 @@ cards_by_plan p b well others entry place event q steps off next keeps =
     subst (λ (t : ℕ). ReportedBy (b.greatest + t) event place entry q steps b) is
     (cards_by_figures b well p.late entry place p.orders xs event q steps next.queued
     (subst (λ (n : ℕ). KeepsServing p.late (time_of xs) n entry p.orders q steps b) (sym (as_many others p next.planned.plan)) keeps))
+
+pub silence_by_plan : (p : Plan) (b : BusState) → Well b → SilenceKeepsToFigures p b
+silence_by_plan p b well others time entry calls planned turns idle keeps nothing =
+    let xs = exchanges others (p.readers - 1) p in
+    let is : line_silence_time (controller_config 0 b.config) p.late xs ≡ lost_wait others p = ap (λ c. line_silence_time c p.late xs) planned.config in
+    subst (λ (t : ℕ). ToldBy (b.greatest + t) entry calls b) is
+    (subst (λ (t : ℕ). ToldBy (b.greatest + (b.config.poll_interval + p.late + t + (round_of b p.late + p.late))) entry calls b) turns
+    (silence_is_told b well p.late time p.readers entry calls idle keeps nothing))

@@ -1,18 +1,21 @@
 -- What the figures of a plan say of a line that is as it was planned.
-use Rattle.std.specs.Prelude.{◌≡◌, ℕ, ◌+◌, false, List}
+use Rattle.std.specs.Prelude.{◌≡◌, ℕ, ◌+◌, ◌-◌, false, List}
 use Rattle.osdp_msg.specs.declared.command.Command.{Command}
 use Rattle.osdp_msg.specs.declared.event.Event.{Event}
 use Rattle.osdp_bus.specs.Buses.{BusState}
 use Rattle.osdp_bus.specs.Settings.{controller_config}
 use Rattle.osdp_bus_laws.specs.Calls.{Call, Submit, after_call}
 use Rattle.osdp_bus_time_laws.specs.Laws.{GoesOutBy, IsAccepted, time_of}
-use Rattle.osdp_bus_time_laws.specs.Turns.{KeepsTurns}
+use Rattle.osdp_bus_time_laws.specs.Reading.{NothingIsRead}
+use Rattle.osdp_bus_time_laws.specs.Telling.{IsIdle, ToldBy}
+use Rattle.osdp_bus_time_laws.specs.Turns.{KeepsTurns, others_of}
 use Rattle.osdp_card_time_laws.specs.Beside.{Step}
 use Rattle.osdp_card_time_laws.specs.Cards.{IsQueued, KeepsServing, ReportedBy, to_offer_before}
 use Rattle.osdp_reader.specs.Queue.{Queue}
+use Rattle.osdp_time_laws.specs.Lines.{turns_time}
 use Rattle.osdp_plan.specs.declared.bounds.Others.{Others}
 use Rattle.osdp_plan.specs.declared.plan.Plan.{Plan}
-use Rattle.osdp_plan.specs.Figures.{answered_time, card_wait, exchanges, order_wait}
+use Rattle.osdp_plan.specs.Figures.{answered_time, card_wait, exchanges, lost_wait, order_wait}
 use Rattle.osdp_plan.specs.Plans.{IsPlan, config_of}
 
 -- how long the exchange of each entry takes, as it was planned
@@ -42,3 +45,9 @@ abbrev pub CardsKeepToFigures : Plan → BusState → Type 0
 CardsKeepToFigures p b = (others : Others) (entry place : ℕ) (event : Event) (q : Queue) (steps : List Step) → p.between ≡ false
     → IsNextCard others p event place entry q b → KeepsServing p.late (planned_time others p) p.readers entry p.orders q steps b
     → ReportedBy (b.greatest + card_wait others p) event place entry q steps b
+
+-- a reader of which nothing is read any more, where the turns of the others take as long as was planned
+abbrev pub SilenceKeepsToFigures : Plan → BusState → Type 0
+SilenceKeepsToFigures p b = (others : Others) (time : ℕ → ℕ) (entry : ℕ) (calls : List Call) → IsAsPlanned p b
+    → others_of time p.late p.readers entry ≡ turns_time p.late (exchanges others (p.readers - 1) p) → IsIdle entry b → KeepsTurns p.late time p.readers calls b
+    → NothingIsRead entry calls b → ToldBy (b.greatest + lost_wait others p) entry calls b
