@@ -46,9 +46,9 @@ pub fn reports_are_taken()
     ensures { Always ReportsAreTaken }
 {}
 
-/// A device of which nothing is read after the answer that ended its last exchange is told lost within the interval between POLLs, a late tick, a turn of each other
-/// entry, a round of sends, and the time in which the report is taken. Whatever the line does, the turn of another is the longest exchange that the settings allow, and a
-/// late tick.
+/// A device of which nothing is read after its last answer is told lost within the interval between POLLs, a turn of each other entry, and a round of sends. A late
+/// tick comes with each of them, and the report is taken so late at the most. That answer ended its exchange: it was neither BUSY nor NAK 1. Whatever the line does, the
+/// turn of another is the longest exchange that the settings allow, and a late tick.
 pub fn silence_is_told()
     ensures turns { Always SilenceIsTold }
     ensures whatever { Always SilenceIsToldInTime }
