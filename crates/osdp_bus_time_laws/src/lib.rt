@@ -59,8 +59,8 @@ pub fn lines_add_up()
     ensures { (late : ℕ) (exchanges : List ℕ) → LinesAddUp late exchanges }
 {}
 
-/// Three bounds are reached. A line of two entries whose devices answer nothing, and whose program is a millisecond late each time, takes exactly so long for an
-/// opening, and until a device is told lost. One whose devices answer at the last moment, and whose program is on time, takes exactly so long for an order.
+/// The bounds of an opening, of an order and of a device that falls silent are reached to the millisecond, by lines of two entries. For the first and the last one
+/// the devices answer nothing, and the program is a millisecond late each time. For an order they answer at the last moment, and the program is on time.
 pub fn bounds_are_reached()
     ensures opening { OpeningIsReached }
     ensures order { OrderIsReached }
