@@ -1,0 +1,4 @@
+mod Unbegun
+mod Begun
+mod Barred
+mod Cards
