@@ -10,3 +10,4 @@ pub mod Holding
 pub mod Ruled
 pub mod Deciding
 pub mod Instance
+pub mod Reading

@@ -2,3 +2,4 @@ pub mod Moments
 pub mod Laws
 pub mod Deciding
 pub mod Instance
+pub mod Reading

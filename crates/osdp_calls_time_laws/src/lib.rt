@@ -5,6 +5,7 @@
 ghost use Rattle.osdp_calls_time_laws.specs.Deciding.{TimelyIsExact};
 ghost use Rattle.osdp_calls_time_laws.specs.Instance.{LongDayIsTimely, TwiceIsTooShort};
 ghost use Rattle.osdp_calls_time_laws.specs.Laws.{TimelyCallsOpenQuietly, TimelyLedgerHoldsOnce, TimelyRuledHoldsOnce};
+ghost use Rattle.osdp_calls_time_laws.specs.Reading.{ReadsAreHandedOver};
 
 use osdp_reader::Handler;
 
@@ -44,4 +45,10 @@ pub fn a_long_day_is_read_in_time<H: Handler>()
 /// A quiet wait of exactly 2w is too short: of one line with such a wait an opening isn't quiet. Each packet on it is read within w, and all else holds.
 pub fn twice_is_too_short<H: Handler>()
     ensures { (handler : H) → TwiceIsTooShort H.answer_of H.after handler }
+{}
+
+/// What a call reads by the laws in time of a bus is what it hands to its controllers. So a device of which nothing is read (law `silence_is_told`) is one whose controller
+/// is handed no reply.
+pub fn reads_are_handed_over()
+    ensures { ReadsAreHandedOver }
 {}
