@@ -18,7 +18,7 @@ use Rattle.osdp_orders_laws.proofs.Steps.{Gives, Owes, heard, listed, orders, ou
 
 -- ---- what the definitions say of an entry that there is, or isn't
 
-out_is : (entry : ℕ) (call : Call) (d e : Device) (x : PanelState) → device_of entry x.bus ≡ Some d → device_of entry (after_call call x).bus ≡ Some e
+pub out_is : (entry : ℕ) (call : Call) (d e : Device) (x : PanelState) → device_of entry x.bus ≡ Some d → device_of entry (after_call call x).bus ≡ Some e
     → goes_out entry call x ≡ out d e
 out_is entry call d e x at after =
     ap (λ o. if is_none (asked_of o) then asked_of (device_of entry (after_call call x).bus) else None) at
@@ -30,7 +30,7 @@ heard_is entry call d e x at after =
     ap (λ o. (polls_of o && not (polls_of (device_of entry (after_call call x).bus))) || is_closed_in (device_of entry (after_call call x).bus)) at
     ∙ ap (λ o. (polls_of (Some d) && not (polls_of o)) || is_closed_in o) after
 
-waiting_is : (entry : ℕ) (d : Device) (q : Queue) (x : PanelState) → At entry d q x → waiting_orders entry x ≡ orders d q
+pub waiting_is : (entry : ℕ) (d : Device) (q : Queue) (x : PanelState) → At entry d q x → waiting_orders entry x ≡ orders d q
 waiting_is entry d q x at = ap (λ o. in_controller o ++ held_in (queue_of entry x.orders)) at.device ∙ ap (λ o. in_controller (Some d) ++ held_in o) at.queue
 
 none_out : (entry : ℕ) (call : Call) (x : PanelState) → Nobody entry x → Nobody entry (after_call call x) ⊎ New entry (after_call call x) → goes_out entry call x ≡ None
@@ -143,7 +143,7 @@ none_back entry (OnSilence now) x none = refl
 none_back entry (Tick now) x none = refl
 none_back entry NextReport x none = refl
 
-one_place : (entry : ℕ) (call : Call) (x : PanelState) → Inv x → OrdersIt call
+pub one_place : (entry : ℕ) (call : Call) (x : PanelState) → Inv x → OrdersIt call
     → (listed (goes_out entry call x) ++ listed (taken_back_in entry call x)) ++ waiting_orders entry (after_call call x)
     ≡ waiting_orders entry x ++ listed (accepted_in entry call x)
 one_place entry call x inv written = by_device (device_of entry x.bus) refl

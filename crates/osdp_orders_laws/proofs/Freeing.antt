@@ -54,17 +54,17 @@ config_along [] b = refl
 config_along (call ∷ calls) b = config_along calls (after_bus_call call b) ∙ same_config call b
 
 -- a bus that comes of calls of a new one
-record Reached (config : BusConfig) (b : BusState) : Type 0 where
-  calls : List Call
-  is : b ≡ after_bus_calls calls (new_bus config)
+pub record Reached (config : BusConfig) (b : BusState) : Type 0 where
+  pub calls : List Call
+  pub is : b ≡ after_bus_calls calls (new_bus config)
 
-reached_after : (config : BusConfig) (call : Call) (b : BusState) → Reached config b → Reached config (after_bus_call call b)
+pub reached_after : (config : BusConfig) (call : Call) (b : BusState) → Reached config b → Reached config (after_bus_call call b)
 reached_after config call b r = record {
   calls = r.calls ++ call ∷ [];
   is = ap (after_bus_call call) r.is ∙ sym (more_calls r.calls (call ∷ []) (new_bus config));
 }
 
-reached_along : (config : BusConfig) (calls : List Call) (x : PanelState) → Reached config x.bus → Reached config (after_calls calls x).bus
+pub reached_along : (config : BusConfig) (calls : List Call) (x : PanelState) → Reached config x.bus → Reached config (after_calls calls x).bus
 reached_along config [] x r = r
 reached_along config (call ∷ calls) x r =
     reached_along config calls (after_call call x) (record {
@@ -72,11 +72,13 @@ reached_along config (call ∷ calls) x r =
       is = calls_of_the_bus x call ∙ ap (after_bus_calls (bus_calls call x)) r.is ∙ sym (more_calls r.calls (bus_calls call x) (new_bus config));
     })
 
+pub reached_config : (config : BusConfig) (b : BusState) → Reached config b → b.config ≡ config
+reached_config config b r = ap (λ (c : BusState). c.config) r.is ∙ config_along r.calls (new_bus config)
+
 room_at : (config : BusConfig) (entry : ℕ) (d : Device) (b : BusState) → Reached config b → device_of entry b ≡ Some d → d.controller.room ≡ config.room.bytes
 room_at config entry d b r at =
     let rooms : HasRooms b = subst HasRooms (sym r.is) (always_rooms config r.calls) in
-    let same : b.config ≡ config = ap (λ (c : BusState). c.config) r.is ∙ config_along r.calls (new_bus config) in
-    ap (λ (room : Room). room.bytes) (rooms entry d at) ∙ ap (λ (c : BusConfig). c.room.bytes) same
+    ap (λ (room : Room). room.bytes) (rooms entry d at) ∙ ap (λ (c : BusConfig). c.room.bytes) (reached_config config b r)
 
 -- ---- what is let go is in the controller
 
@@ -101,7 +103,7 @@ module _ (config : BusConfig) (entry : ℕ) (d : Device) (q : Queue) (x : PanelS
       one_waits entry (device_submits (command_kept bytes) d) (gone_to entry x.orders (goes_unless None entry (command_kept bytes) q x.bus))
       (changed_here entry (device_submits (command_kept bytes)) d x.bus at.device) (command_kept bytes) [] (ap (λ w. w ++ command_kept bytes ∷ []) empty)
 
-  good_goes : (bytes : List ℕ) (rest : List (List ℕ)) → waits d ≡ [] → q.held.items ≡ bytes ∷ rest → order_refusal_at entry (command_kept bytes) x.bus ≡ None
+  pub good_goes : (bytes : List ℕ) (rest : List (List ℕ)) → waits d ≡ [] → q.held.items ≡ bytes ∷ rest → order_refusal_at entry (command_kept bytes) x.bus ≡ None
   good_goes bytes rest empty items =
       let good = (subst (λ (l : List (List ℕ)). AreGood config.room.bytes l) items fits.good).0 in
       let capacity = (sound.devices.devices entry d at.device).machine.capacity in
@@ -151,7 +153,7 @@ polling_is (Some Opening) h = absurd cc
 polling_is (Some (Asking c)) h = absurd cc
 polling_is None h = absurd cc
 
-asked_entry : (entry : ℕ) (d : Device) (p : Packet) (b : BusState) → Sound b.devices → device_of entry b ≡ Some d → own_frame d ≡ Some p → polls d ≡ true
+pub asked_entry : (entry : ℕ) (d : Device) (p : Packet) (b : BusState) → Sound b.devices → device_of entry b ≡ Some d → own_frame d ≡ Some p → polls d ≡ true
     → polled_by (Some p) b ≡ Some entry
 asked_entry entry d p b sound at own polling =
     let s = d.controller.session in

@@ -48,7 +48,7 @@ changed_here entry change d b at =
     ap (λ o. device_of entry (option_map_or (λ d. record b { devices = record b.devices { entries = slice_set b.devices.entries entry (change d) } }) o b)) at
     ∙ set_same b.devices.entries entry d (change d) at
 
-changed_there : (entry other : ℕ) (change : Device → Device) (b : BusState) → (entry ≡ other → ⊥) → device_of entry (changes_device other change b) ≡ device_of entry b
+pub changed_there : (entry other : ℕ) (change : Device → Device) (b : BusState) → (entry ≡ other → ⊥) → device_of entry (changes_device other change b) ≡ device_of entry b
 changed_there entry other change b apart = by_device (device_of other b)
   where
     by_device : (o : Option Device)

@@ -11,3 +11,9 @@ mod Telling
 mod Without
 mod Fitting
 mod Freeing
+mod Onward
+mod Walking
+mod Shapes
+mod Polled
+mod Bounding
+mod Coming

@@ -3,3 +3,4 @@ pub mod Pacing
 pub mod Places
 pub mod Freeing
 pub mod OfTheBus
+pub mod InTime

@@ -8,6 +8,10 @@ ghost use Rattle.osdp_orders_laws.specs.OfTheBus.{AreCallsOfTheBus, WithoutTheSe
 ghost use Rattle.osdp_orders_laws.specs.Pacing.{PollsStandBetween};
 ghost use Rattle.osdp_orders_laws.specs.Places.{OrdersKeepTheirPlaces, TellAllThatWaits};
 
+mod in_time;
+
+pub use in_time::orders_between_polls_go_out;
+
 /// Between two orders of one entry a POLL of that entry is answered, or its session begins anew. So orders that come as fast as they go keep no card waiting without
 /// end: after each of them the device is asked for its events.
 pub fn polls_stand_between_orders()
