@@ -1,5 +1,1 @@
-pub mod Cuts
-pub mod Taken
-pub mod Sessions
-mod OneSession
-pub mod Counting
+pub mod Telling

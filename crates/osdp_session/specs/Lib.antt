@@ -1,5 +1,2 @@
 pub mod Runs
-pub mod Sessions
 pub mod SeveralReaders
-pub mod Taken
-pub mod Counts

@@ -17,19 +17,14 @@ use std::alloc::Global;
 /// - `room`: of the commands for it in the steps that were taken, POLL left out, some are accepted, each once and in their order. Where none is a
 ///   COMSET, and the bus has room for as many as may wait however long each is (`Room::of`), all are where they are at most as many as may wait;
 ///   else the first of them are, as many as may wait, and some of the others. So it is of its events, with the room that it has for them.
-/// - `ledger`: its account tells what the steps of its ledger come to, each of which may happen where it does: each accepted command is settled once with
-///   its answer, is told unsettled once, or is ahead; none is taken twice; events are reported in turn, and none is skipped.
-/// - `once`: where no session begins again, the commands that it has taken are a beginning of those issued to it. They hold each settled one, with
-///   the answer that it gave, and at most one that isn't settled. The events reported are a beginning of those queued at it, each once and in
-///   order.
-/// - `sessions`: where sessions begin again, that holds of each of them, at the places that `sessions` of the account gives. Over all sessions
-///   the commands taken are a beginning of those issued to it, with some of those told unsettled left out; so none is taken twice.
-/// - `begun`: its account has one session more than the steps taken had Reopens of it. The first began with nothing, and each other one after what the
-///   steps before its Reopen come to for it: the account keeps how long all its lists were then, and its commands and events begin with those that
-///   these steps had accepted.
-/// - `one_session`: what `once` says, where no step begins a session of this reader again, whatever the sessions of others do.
-///
-/// Each session of a reader ends at most once, and none ends because a number was refused.
+/// - `sessions`: its account tells what the steps of its ledger come to, each of which may happen where it does: each accepted command is settled once with
+///   its answer, is told unsettled once, or is ahead; none is taken twice; events are reported in turn, and none is skipped. Its account has one session more
+///   than the steps taken had Reopens of it. The first began with nothing, and each other one after what the steps before its Reopen come to for it: the
+///   account keeps how long all its lists were then, and its commands and events begin with those that these steps had accepted. Each of its sessions has
+///   ended, or each but the last, and none because a number was refused.
+/// - `once`: where no step begins its session again, whatever the sessions of others do, the commands that it has taken are a beginning of those issued to
+///   it. They hold each settled one, with the answer that it gave, and at most one that isn't settled. The events reported are a beginning of those queued
+///   at it, each once and in order.
 pub fn run_bus<H: Handler>(
     alloc: Global,
     config: &BusConfig,

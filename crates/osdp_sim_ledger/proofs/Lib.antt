@@ -1,4 +1,5 @@
 mod Plain
+mod Answered
 mod Telling
 mod Queued
 mod SeveralQueued

@@ -1,5 +1,5 @@
 -- The run over a bus, for each of its readers.
-use Rattle.std.proofs.Common.{◌≡◌, ◌++◌, ℕ, List, [], Some, refl, sym, ap, ◌∙◌}
+use Rattle.std.proofs.Common.{◌≡◌, ◌++◌, ℕ, true, List, [], ◌∷◌, Some, refl, subst, sym, ap, ◌∙◌}
 use Rattle.std.proofs.lemmas.Option.{slice_get-map}
 use Rattle.std.specs.Prelude.{option_map, slice_get}
 use Rattle.osdp_msg.specs.declared.command.Command.{Command}
@@ -10,36 +10,44 @@ use Rattle.osdp_bus_links.proofs.Keeping.{moves_usual}
 use Rattle.osdp_bus_links.proofs.Names.{are_steady}
 use Rattle.osdp_ledger.specs.Laws.{TellsInTurn}
 use Rattle.osdp_line_ledger.specs.Laws.{EachKeepsLedger}
+use Rattle.osdp_link_laws.specs.Link as link
+use Rattle.osdp_link_laws.specs.OneHandler.{AreItsAnswers, GivesItsAnswers}
 use Rattle.osdp_link_laws.specs.Sessions.{all_queued, all_submitted, queued}
 use Rattle.osdp_link_laws.proofs.Lines.{each_of}
 use Rattle.osdp_link_laws.proofs.OrdinaryRuns.{steady_ordinary}
 use Rattle.osdp_shared_line.specs.Addresses.{NobodyElseHears}
-use Rattle.osdp_shared_line.specs.Line.{run}
+use Rattle.osdp_shared_line.specs.Line.{Site, run}
 use Rattle.osdp_shared_line.specs.Runs as runs
-use Rattle.osdp_shared_line.specs.Runs.{EachHasSessionsInARow, EachHoldsOnce}
+use Rattle.osdp_shared_line.specs.Runs.{EachHasSessionsInARow, EachHoldsOnce, EachIsALink}
 use Rattle.osdp_shared_line.specs.Views.{EachMoveIsItsOwn, view}
 use Rattle.osdp_calls.proofs.Counting.{all_heard, in_link}
 use Rattle.osdp_calls.proofs.Holding.{events_counted}
 use Rattle.osdp_sim.specs.Account.{Account}
 use Rattle.osdp_sim.specs.declared.step.SimStep.{SimStep}
 use Rattle.osdp_sim_bus.specs.Runs as simulation
-use Rattle.osdp_sim_bus.specs.Runs.{steps_done}
+use Rattle.osdp_sim.proofs.Schedules.{holds_on, well_on}
+use Rattle.osdp_sim_bus.specs.Runs.{FitAlong, is_well, steps_done}
 use Rattle.osdp_sim_bus.specs.State.{Given, new_site, set_up}
+use Rattle.osdp_sim_bus.specs.Steps.{StepFits, after_step, fault_of}
 use Rattle.osdp_sim_bus_laws.specs.Moves.{SchedulesAreMoves, moves_of}
 use Rattle.osdp_sim_bus_laws.proofs.Beginning.{follows_first, has_site, is_set_up, none_is_kept}
 use Rattle.osdp_sim_bus_laws.proofs.Rows.{IsRun, account_at, answers, told_by}
 use Rattle.osdp_sim_ledger.specs.SeveralReaders.{BusRunKeepsLedgers, first_net, first_site, steps_of_reader}
 use Rattle.osdp_sim_ledger.specs.Telling.{TellsByLedger}
+use Rattle.osdp_sim_ledger.proofs.Answered.{keep_handler}
 use Rattle.osdp_sim_ledger.proofs.Plain.{link_plain}
 use Rattle.osdp_sim_ledger.proofs.SeveralQueued.{all_queue, site_of}
 use Rattle.osdp_sim_ledger.proofs.Telling.{tells_once}
 
+one_site : {H : Type 0} {s t : Site H} → Some s ≡ Some t → s ≡ t
+one_site is = cc
+
 module _ {H : Type 0} (answer_of : H → Command → Answer) (after : H → Command → H) (schedules : SchedulesAreMoves answer_of after)
-    (own : EachMoveIsItsOwn answer_of after) (nobody : NobodyElseHears answer_of after) (once : EachHoldsOnce answer_of after)
+    (own : EachMoveIsItsOwn answer_of after) (links : EachIsALink answer_of after) (gives : GivesItsAnswers answer_of after) (nobody : NobodyElseHears answer_of after) (once : EachHoldsOnce answer_of after)
     (rows : EachHasSessionsInARow answer_of after) (keeps : EachKeepsLedger answer_of after) (in_turn : TellsInTurn) where
   abbrev HasKept : ℕ → Given H → BusConfig → List (Given H) → List SimStep → List Account → Type 0
   HasKept k given config readers steps told =
-      (a : Account) × (slice_get told k ≡ Some a) × TellsByLedger a (steps_of_reader answer_of after k given config readers steps)
+      (a : Account) × (slice_get told k ≡ Some a) × TellsByLedger answer_of after given.0 given.2 a (steps_of_reader answer_of after k given config readers steps)
 
   one_reader : (config : BusConfig) (readers : List (Given H)) (steps : List SimStep) (k : ℕ) (given : Given H) → slice_get readers k ≡ Some given
       → IsRun answer_of after config readers steps → HasKept k given config readers steps (told_by answer_of after config readers steps)
@@ -63,11 +71,12 @@ module _ {H : Type 0} (answer_of : H → Command → Answer) (after : H → Comm
       let l = view k first n0 in
       let kept = keeps n0 moves up done.fits k first t.0 from t.1 in
       let row = rows n0 moves up done.fits k first t.0 from t.1 in
+      let its = links n0 moves up done.fits k first from in
       let heard = all_heard answer_of after nobody n0 up [] moves done.fits in
       let steady = are_steady mine (moves_usual answer_of after moves k n0 (each_of IsScheduled moves done.scheduled)) in (
         u.account,
         account_at k u s.sites found.1,
-        tells_once in_turn u.account (first.controller.waiting ++ all_submitted answer_of after mine l) (first.reader.queue.events ++ all_queued answer_of after mine l)
+        tells_once answer_of after in_turn given.0 given.2 u.account (first.controller.waiting ++ all_submitted answer_of after mine l) (first.reader.queue.events ++ all_queued answer_of after mine l)
             (view k t.0 last) (steps_of_reader answer_of after k given config readers steps) (record {
               allowed = kept.allowed;
               accounts = kept.accounts;
@@ -75,13 +84,31 @@ module _ {H : Type 0} (answer_of : H → Command → Answer) (after : H → Comm
               events = kept.events;
               plain = link_plain answer_of after mine l (steady_ordinary mine steady);
               once = once n0 moves up done.fits k first t.0 from t.1;
+              answers = subst (λ (v : Site H). AreItsAnswers answer_of after given.0 given.2 (v.account ∷ v.earlier)) (one_site (sym its.moved.there ∙ t.1))
+                  (subst (λ (v : link.Link H). AreItsAnswers answer_of after given.0 given.2 (v.account ∷ v.earlier)) (sym its.moved.moved)
+                  (gives l mine (up.begins k first from) its.fits (keep_handler answer_of after mine l steady)));
               lists = t.2.tells;
               issued = t.2.tells.issued ∙ sym row.commands;
               queued_so = found.2 ∙ sym (in_link answer_of after queued own k moves n0 first heard done.fits from) ∙ sym (events_counted answer_of after mine l);
             }),
       )
 
+  until : (config : BusConfig) (readers : List (Given H)) (steps before later : List SimStep) → steps ≡ before ++ later → IsRun answer_of after config readers steps
+      → IsRun answer_of after config readers before
+  until config readers steps before later same is =
+      let s = set_up config readers in
+      record {
+        settings = is.settings;
+        well = (well_on (after_step answer_of after) fault_of before later s (subst (λ xs. is_well answer_of after xs s ≡ true) same is.well)).0;
+        fits = (holds_on (after_step answer_of after) (StepFits answer_of after) before later s (subst (λ xs. FitAlong answer_of after xs s) same is.fits)).0;
+      }
+
   pub bus_run_keeps_ledgers : BusRunKeepsLedgers answer_of after
-  bus_run_keeps_ledgers config readers steps answer is was k given at =
-      answers answer_of after (HasKept k given config readers (steps_done steps answer)) config readers steps answer is was
-      (one_reader config readers (steps_done steps answer) k given at)
+  bus_run_keeps_ledgers config readers steps answer is was = record {
+    whole = λ k given at.
+        answers answer_of after (HasKept k given config readers (steps_done steps answer)) config readers steps answer is was
+        (one_reader config readers (steps_done steps answer) k given at);
+    until = λ before later same k given at.
+        answers answer_of after (λ told. HasKept k given config readers before (told_by answer_of after config readers before)) config readers steps answer is was
+        (λ done. one_reader config readers before k given at (until config readers (steps_done steps answer) before later same done));
+  }

@@ -1,21 +1,25 @@
 -- What the accounts of a link and its ledger say, the account of a run says too.
-use Rattle.std.proofs.Common.{◌≡◌, ℕ, List, [], ◌∷◌, ◌++◌, Contains, map, refl, sym, ap, ◌∙◌}
+use Rattle.std.proofs.Common.{◌≡◌, List, [], ◌∷◌, ◌++◌, map, refl, sym, ap, ◌∙◌}
 use Rattle.std.proofs.lemmas.List.{map-append}
 use Rattle.osdp_msg.specs.declared.command.Command.{Command}
 use Rattle.osdp_msg.specs.declared.event.Event.{Event}
 use Rattle.osdp_msg.specs.declared.reply.Reply.{Reply}
-use Rattle.osdp_ledger.specs.History.{AfterReport, AreAllowed, End, History, Left, new_history, runs}
+use Rattle.osdp_ledger.specs.History.{AfterReport, AreAllowed, End, Left, new_history, runs}
 use Rattle.osdp_ledger.specs.Laws.{EventsHold, OrdersHold, TellsInTurn}
 use Rattle.osdp_ledger.specs.Ledger.{Order, Step}
+use Rattle.osdp_reader.specs.declared.config.ReaderConfig.{ReaderConfig}
+use Rattle.osdp_reader.specs.declared.handler.Answer.{Answer}
 use Rattle.osdp_link_laws.specs.Headline.{EachIsOnce, asked}
 use Rattle.osdp_link_laws.specs.Link as link
 use Rattle.osdp_link_laws.specs.Link.{Link}
+use Rattle.osdp_link_laws.specs.OneHandler.{AreItsAnswers, with_answers}
 use Rattle.osdp_link_laws.proofs.Lines.{each_all}
 use Rattle.osdp_link_laws.proofs.Stages.{Each}
 use Rattle.osdp_link_ledger.specs.Accounts.{TellsAccounts, in_all}
 use Rattle.osdp_sim.specs.Account.{Account}
 use Rattle.osdp_sim_laws.specs.Accounts.{IsOf, all_in}
 use Rattle.osdp_sim_ledger.specs.Telling.{EndsTold, TellsByLedger}
+use Rattle.osdp_sim_ledger.proofs.Answered.{all_answers}
 use Rattle.osdp_sim_ledger.proofs.Plain.{IsPlain, runs_told}
 
 -- ---- lists of sessions
@@ -35,22 +39,23 @@ commands_acted (d ∷ ds) = ap (λ cs. d.0.command ∷ cs) (commands_acted ds)
 
 -- ---- the account of a run
 
-module _ {H : Type 0} where
+module _ {H : Type 0} (answer_of : H → Command → Answer) (after : H → Command → H) where
   -- what is known of the link of a reader whose steps these are
-  pub record IsKnown (a : Account) (accepted : List Command) (queued : List Event) (l : Link H) (steps : List Step) : Type 0 where
+  pub record IsKnown (config : ReaderConfig) (handler : H) (a : Account) (accepted : List Command) (queued : List Event) (l : Link H) (steps : List Step) : Type 0 where
     pub allowed : AreAllowed steps new_history
     pub accounts : TellsAccounts accepted queued l (runs steps new_history)
     pub orders : OrdersHold (runs steps new_history)
     pub events : EventsHold (runs steps new_history)
     pub plain : Each IsPlain steps
     pub once : EachIsOnce (l.account ∷ l.earlier)
+    pub answers : AreItsAnswers answer_of after config handler (l.account ∷ l.earlier)
     pub lists : IsOf a l.account l.earlier
     pub issued : a.issued ≡ accepted
     pub queued_so : a.queued ≡ queued
 
-  pub tells_once : TellsInTurn → (a : Account) (accepted : List Command) (queued : List Event) (l : Link H) (steps : List Step)
-      → IsKnown a accepted queued l steps → TellsByLedger a steps
-  tells_once in_turn a accepted queued l steps is =
+  pub tells_once : TellsInTurn → (config : ReaderConfig) (handler : H) (a : Account) (accepted : List Command) (queued : List Event) (l : Link H) (steps : List Step)
+      → IsKnown config handler a accepted queued l steps → TellsByLedger answer_of after config handler a steps
+  tells_once in_turn config handler a accepted queued l steps is =
       let h = runs steps new_history in
       let sessions = l.account ∷ l.earlier in
       let told = runs_told steps new_history is.plain (record { ended = tt; left = tt }) in
@@ -60,6 +65,8 @@ module _ {H : Type 0} where
           issued = is.issued ∙ sym is.accounts.orders;
           queued = is.queued_so ∙ sym is.accounts.cards;
           taken = is.lists.taken ∙ sym (sym (commands_acted h.acted) ∙ ap (map asked) is.accounts.acted ∙ taken_in sessions is.once);
+          answers = is.accounts.acted ∙ same_lists (λ t. t.given) sessions ∙ all_answers answer_of after config handler sessions is.answers
+              ∙ ap (with_answers answer_of after config handler) (sym is.lists.taken);
           settled = is.lists.settled ∙ sym (is.accounts.settled ∙ same_lists (λ t. t.settled) sessions);
           unsettled = is.lists.unsettled ∙ sym (is.accounts.in_doubt ∙ same_lists (λ t. t.unsettled) sessions);
           reported = is.lists.reported ∙ sym (is.accounts.reported ∙ same_lists (λ t. t.reported) sessions);

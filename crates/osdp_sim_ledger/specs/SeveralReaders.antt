@@ -1,5 +1,5 @@
 -- A run over a bus keeps the ledger of each reader. Its steps are those of the moves that the steps of the schedule are to the link of this reader.
-use Rattle.std.specs.Prelude.{◌≡◌, ℕ, List, [], map, None, Some, slice_get}
+use Rattle.std.specs.Prelude.{◌≡◌, ℕ, List, [], ◌++◌, map, None, Some, slice_get}
 use Rattle.osdp_msg.specs.declared.command.Command.{Command}
 use Rattle.osdp_bus.specs.declared.config.BusConfig.{BusConfig}
 use Rattle.osdp_reader.specs.State.{new_reader}
@@ -11,8 +11,8 @@ use Rattle.osdp_shared_line.specs.Line.{Net, Site}
 use Rattle.osdp_sim.specs.Account.{Account}
 use Rattle.osdp_sim.specs.State.{room_for}
 use Rattle.osdp_sim.specs.declared.step.SimStep.{SimStep}
-use Rattle.osdp_sim_bus.specs.Runs.{steps_done}
-use Rattle.osdp_sim_bus.specs.State.{Given, begun_device, set_up}
+use Rattle.osdp_sim_bus.specs.Runs.{run, steps_done}
+use Rattle.osdp_sim_bus.specs.State.{Given, accounts, begun_device, set_up}
 use Rattle.osdp_sim_bus_laws.specs.Accounts.{BusAnswer, IsAnswer, WasSetUp, accounts_in}
 use Rattle.osdp_sim_bus_laws.specs.Moves.{moves_of}
 use Rattle.osdp_sim_ledger.specs.Telling.{TellsByLedger}
@@ -41,10 +41,14 @@ module _ {H : Type 0} where
     -- after these steps each reader has an account, which tells what the steps of its ledger come to
     abbrev pub EachReaderKeepsLedger : BusConfig → List (Given H) → List SimStep → List Account → Type 0
     EachReaderKeepsLedger config readers steps told = (k : ℕ) (given : Given H) → slice_get readers k ≡ Some given
-        → (a : Account) × (slice_get told k ≡ Some a) × TellsByLedger a (steps_of_reader k given config readers steps)
+        → (a : Account) × (slice_get told k ≡ Some a) × TellsByLedger answer_of after given.0 given.2 a (steps_of_reader k given config readers steps)
 
-    -- of what `run_bus` answers, with a fault too: once the line was set up, for the steps that it took
+    -- of what `run_bus` answers, with a fault too: once the line was set up, for the steps that it took, and for each beginning of them
+    pub record BusRunKeeps (config : BusConfig) (readers : List (Given H)) (steps : List SimStep) (answer : BusAnswer) : Type 0 where
+      pub whole : EachReaderKeepsLedger config readers (steps_done steps answer) (accounts_in answer)
+      pub until : (before later : List SimStep) → steps_done steps answer ≡ before ++ later
+          → EachReaderKeepsLedger config readers before (accounts (run answer_of after before (set_up config readers)))
+
     abbrev pub BusRunKeepsLedgers : Type 0
     BusRunKeepsLedgers = (config : BusConfig) (readers : List (Given H)) (steps : List SimStep) (answer : BusAnswer)
-        → IsAnswer answer_of after config readers steps answer → WasSetUp answer
-        → EachReaderKeepsLedger config readers (steps_done steps answer) (accounts_in answer)
+        → IsAnswer answer_of after config readers steps answer → WasSetUp answer → BusRunKeeps config readers steps answer

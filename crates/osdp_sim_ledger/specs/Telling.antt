@@ -1,9 +1,13 @@
 -- What the account of a run tells of a reader is what the ledger of its steps says.
 use Rattle.std.specs.Prelude.{◌≡◌, ℕ, List, All, flat_map, map}
+use Rattle.osdp_msg.specs.declared.command.Command.{Command}
 use Rattle.osdp_msg.specs.declared.reply.Reply.{Reply}
+use Rattle.osdp_reader.specs.declared.config.ReaderConfig.{ReaderConfig}
+use Rattle.osdp_reader.specs.declared.handler.Answer.{Answer}
 use Rattle.osdp_ledger.specs.History.{AfterReport, AreAllowed, CutOff, End, Forgotten, GivenBack, History, InDoubt, Left, Settled, new_history, runs}
 use Rattle.osdp_ledger.specs.Laws.{EventsHold, IsOneUntold, OrdersHold}
 use Rattle.osdp_ledger.specs.Ledger.{Card, Order, Step}
+use Rattle.osdp_link_laws.specs.OneHandler.{with_answers}
 use Rattle.osdp_link_ledger.specs.Accounts.{doubted_as, settled_as}
 use Rattle.osdp_sim.specs.Account.{Account}
 
@@ -15,27 +19,29 @@ EndsTold GivenBack = ⊥
 EndsTold CutOff = ⊥
 EndsTold Forgotten = ⊥
 
--- of the commands that were accepted for a reader, and of the events that it accepted
-pub record TellsOnce (a : Account) (h : History) : Type 0 where
-  -- The ledger's orders and cards are these commands and events, in this order.
-  pub issued : a.issued ≡ map (λ (o : Order). o.command) h.accepted
-  pub queued : a.queued ≡ map (λ (c : Card). c.event) h.queued
-  -- The commands that it has taken are those acted on, in that order. Those settled, each with its answer, and those told unsettled are those that have ended
-  -- so. The events reported are the ledger's.
-  pub taken : a.taken ≡ map (λ (d : Order × Reply). d.0.command) h.acted
-  pub settled : a.settled ≡ flat_map (λ (e : Order × End). settled_as e.0 e.1) h.ended
-  pub unsettled : a.unsettled ≡ flat_map (λ (e : Order × End). doubted_as e.0 e.1) h.ended
-  pub reported : a.reported ≡ map (λ (told : ℕ × Card). told.1.event) h.reports
-  -- What the ledger promises of orders and cards holds of them.
-  pub orders : OrdersHold h
-  pub cards : EventsHold h
-  -- A command that has ended is settled or told unsettled. None of the events is skipped: what has left was reported.
-  pub ends : All (λ (e : Order × End). EndsTold e.1) h.ended
-  pub exits : All (λ (w : Left). w.why ≡ AfterReport) h.left
-  -- Of the last command acted on and the last event offered, at most one isn't told yet.
-  pub untold : IsOneUntold h.ledger
+module _ {H : Type 0} (answer_of : H → Command → Answer) (after : H → Command → H) where
+  -- of the commands that were accepted for a reader with these settings and this handler, and of the events that it accepted
+  pub record TellsOnce (config : ReaderConfig) (handler : H) (a : Account) (h : History) : Type 0 where
+    -- The ledger's orders and cards are these commands and events, in this order.
+    pub issued : a.issued ≡ map (λ (o : Order). o.command) h.accepted
+    pub queued : a.queued ≡ map (λ (c : Card). c.event) h.queued
+    -- The commands that it has taken are those acted on, in that order. Each has the answer that the reader gives to it after those before it. Those settled,
+    -- each with its answer, and those told unsettled are those that have ended so. The events reported are the ledger's.
+    pub taken : a.taken ≡ map (λ (d : Order × Reply). d.0.command) h.acted
+    pub answers : map (λ (d : Order × Reply). (d.0.command, d.1)) h.acted ≡ with_answers answer_of after config handler a.taken
+    pub settled : a.settled ≡ flat_map (λ (e : Order × End). settled_as e.0 e.1) h.ended
+    pub unsettled : a.unsettled ≡ flat_map (λ (e : Order × End). doubted_as e.0 e.1) h.ended
+    pub reported : a.reported ≡ map (λ (told : ℕ × Card). told.1.event) h.reports
+    -- What the ledger promises of orders and cards holds of them.
+    pub orders : OrdersHold h
+    pub cards : EventsHold h
+    -- A command that has ended is settled or told unsettled. None of the events is skipped: what has left was reported.
+    pub ends : All (λ (e : Order × End). EndsTold e.1) h.ended
+    pub exits : All (λ (w : Left). w.why ≡ AfterReport) h.left
+    -- Of the last command acted on and the last event offered, at most one isn't told yet.
+    pub untold : IsOneUntold h.ledger
 
--- each of these steps may happen where it does, and the account tells what they come to
-pub record TellsByLedger (a : Account) (steps : List Step) : Type 0 where
-  pub allowed : AreAllowed steps new_history
-  pub tells : TellsOnce a (runs steps new_history)
+  -- each of these steps may happen where it does, and the account tells what they come to
+  pub record TellsByLedger (config : ReaderConfig) (handler : H) (a : Account) (steps : List Step) : Type 0 where
+    pub allowed : AreAllowed steps new_history
+    pub tells : TellsOnce config handler a (runs steps new_history)

@@ -7,7 +7,7 @@ use Rattle.osdp_script.specs.declared.script.Script.{Script}
 use Rattle.osdp_script.specs.Script.{steps_of}
 use Rattle.osdp_script.specs.Handler.{handler_after, handler_answer}
 use Rattle.osdp_script.specs.declared.handler.ScriptReader.{ScriptReader}
-use Rattle.osdp_session.specs.Sessions.{HoldsInSessions}
+use Rattle.osdp_session.specs.SeveralReaders.{HoldsOfBusRun, OfEach, TellsSessions}
 use Rattle.osdp_sim.specs.declared.account.Account as declared
 use Rattle.osdp_sim.specs.declared.fault.Cause.{Cause}
 use Rattle.osdp_sim.specs.declared.fault.Cause.TheVariants as cause
@@ -15,10 +15,10 @@ use Rattle.osdp_sim.specs.declared.fault.Fault.{Fault}
 use Rattle.osdp_sim.specs.declared.step.SimStep.{SimStep}
 use Rattle.osdp_sim.specs.Account.{Account, lists_of}
 use Rattle.osdp_sim.specs.State.{room_for}
-use Rattle.osdp_sim_bus.specs.Runs.{RunEnds, Stops, StopsAt, lists_of_all, steps_done}
+use Rattle.osdp_sim_bus.specs.Runs.{RunEnds, Stops, StopsAt, lists_of_all}
 use Rattle.osdp_sim_bus.specs.State.{Given}
 use Rattle.osdp_sim_bus_laws.specs.Accepted.{AcceptsEach}
-use Rattle.osdp_sim_bus_laws.specs.Accounts.{EachMeets, accounts_in}
+use Rattle.osdp_sim_bus_laws.specs.Accounts.{BusAnswer}
 use Rattle.osdp_sim_bus.specs.State.{Given, accounts}
 use Rattle.osdp_sim_bus.specs.Steps.{after_step, fault_of}
 use Rattle.osdp_tool_streams.specs.declared.fault.ToolFault.{ToolFault}
@@ -28,45 +28,33 @@ use Rattle.osdp_tool_sim.specs.Steps.{EndsBy}
 use Rattle.osdp_tool_sim.specs.Told.{IsTextOfEach, TellsReaders}
 use Rattle.osdp_tool_sim.proofs.Stopped.{stop_is_told}
 
-abbrev pub Ends : Script → Result (Vec declared.Account) (Fault (Vec declared.Account)) → Type 0
-Ends script r =
-    RunEnds handler_answer handler_after (default_config script.check (room_for 64)) (readers_from 1 script.readers.items) (steps_of script) r
+abbrev pub config_of : Script → BusConfig
+config_of script = default_config script.check (room_for 64)
+
+abbrev pub readers_of : Script → List (Given ScriptReader)
+readers_of script = readers_from 1 script.readers.items
+
+abbrev pub Ends : Script → BusAnswer → Type 0
+Ends script r = RunEnds handler_answer handler_after (config_of script) (readers_of script) (steps_of script) r
+
+abbrev pub Holds : Script → BusAnswer → Type 0
+Holds script r = HoldsOfBusRun handler_answer handler_after (config_of script) (readers_of script) (steps_of script) r
 
 -- the settings, the readers and the steps, as they are called here
-pub bus_as : (script : Script) (config : BusConfig) (readers : List (Given ScriptReader)) (steps : List SimStep)
-    (r : Result (Vec declared.Account) (Fault (Vec declared.Account))) → config ≡ default_config script.check (room_for 64)
-    → readers ≡ readers_from 1 script.readers.items → steps ≡ steps_of script → RunEnds handler_answer handler_after config readers steps r
-    → Ends script r
-bus_as script config readers steps r e f g ends =
-    subst (λ (s : List SimStep). RunEnds handler_answer handler_after (default_config script.check (room_for 64)) (readers_from 1 script.readers.items) s r) g
-    (subst (λ (k : List (Given ScriptReader)). RunEnds handler_answer handler_after (default_config script.check (room_for 64)) k steps r) f
-    (subst (λ (c : BusConfig). RunEnds handler_answer handler_after c readers steps r) e ends))
+pub holds_as : (script : Script) (config : BusConfig) (readers : List (Given ScriptReader)) (steps : List SimStep) (r : BusAnswer)
+    → config ≡ config_of script → readers ≡ readers_of script → steps ≡ steps_of script
+    → HoldsOfBusRun handler_answer handler_after config readers steps r → Holds script r
+holds_as script config readers steps r e f g holds =
+    subst (λ (s : List SimStep). HoldsOfBusRun handler_answer handler_after (config_of script) (readers_of script) s r) g
+    (subst (λ (k : List (Given ScriptReader)). HoldsOfBusRun handler_answer handler_after (config_of script) k steps r) f
+    (subst (λ (c : BusConfig). HoldsOfBusRun handler_answer handler_after c readers steps r) e holds))
 
--- what holds of each reader of the script
-abbrev pub Holds : Script → List Account → Type 0
-Holds script told = EachMeets (HoldsInSessions handler_answer handler_after) (readers_from 1 script.readers.items) told
-
-pub each_as : (script : Script) (readers : List (Given ScriptReader)) (told : List Account) → readers ≡ readers_from 1 script.readers.items
-    → EachMeets (HoldsInSessions handler_answer handler_after) readers told → Holds script told
-each_as script readers told e holds =
-    subst (λ (k : List (Given ScriptReader)). EachMeets (HoldsInSessions handler_answer handler_after) k told) e holds
-
-abbrev pub Accepted : Script → Result (Vec declared.Account) (Fault (Vec declared.Account)) → Type 0
-Accepted script r =
-    AcceptsEach (default_config script.check (room_for 64)) (readers_from 1 script.readers.items) (steps_done (steps_of script) r) (accounts_in r)
-
-pub accepted_as : (script : Script) (config : BusConfig) (readers : List (Given ScriptReader)) (steps : List SimStep)
-    (r : Result (Vec declared.Account) (Fault (Vec declared.Account))) → config ≡ default_config script.check (room_for 64)
-    → readers ≡ readers_from 1 script.readers.items → steps ≡ steps_of script → AcceptsEach config readers (steps_done steps r) (accounts_in r)
-    → Accepted script r
-accepted_as script config readers steps r e f g accepts =
-    subst (λ (s : List SimStep). AcceptsEach (default_config script.check (room_for 64)) (readers_from 1 script.readers.items) (steps_done s r) (accounts_in r)) g
-    (subst (λ (k : List (Given ScriptReader)). AcceptsEach (default_config script.check (room_for 64)) k (steps_done steps r) (accounts_in r)) f
-    (subst (λ (c : BusConfig). AcceptsEach c readers (steps_done steps r) (accounts_in r)) e accepts))
-
-pub each_ok : (script : Script) (told : Vec declared.Account) → Ends script (Ok told) → Holds script (lists_of_all told.items)
-    → Accepted script (Ok told) → TellsEach script (lists_of_all told.items) (Ok tt)
-each_ok script told ends holds accepts = record { run_is = (ends.1, ends.2); sessions = holds; accepted = accepts }
+pub each_ok : (script : Script) (told : Vec declared.Account) → Holds script (Ok told) → TellsEach script (lists_of_all told.items) (Ok tt)
+each_ok script told holds = record {
+  run_is = (holds.run.ends.1, holds.run.ends.2);
+  sessions = holds.sessions tt;
+  accepted = holds.room tt;
+}
 
 -- a step was refused, and the bus and the readers were set up
 stopped_at : (script : Script) (why : Cause) (at : ℕ) (end : Result (Unit {0}) ToolFault) (told : List Account) → EndsBy why at end
@@ -78,18 +66,17 @@ stopped_at script cause.NoMemory zero end told is stops = absurd is
 stopped_at script cause.OutOfRange zero end told is stops = absurd is
 stopped_at script why (suc before) end told is stops = (omega arith, stops.1)
 
-pub each_stopped : (script : Script) (fault : Fault (Vec declared.Account)) (end : Result (Unit {0}) ToolFault) → Ends script (Err fault)
-    → (1 ≤ fault.step → Holds script (lists_of_all fault.account.items)) → (1 ≤ fault.step → Accepted script (Err fault))
+pub each_stopped : (script : Script) (fault : Fault (Vec declared.Account)) (end : Result (Unit {0}) ToolFault) → Holds script (Err fault)
     → EndsBy fault.cause fault.step end → TellsEach script (lists_of_all fault.account.items) end
-each_stopped script fault end ends holds accepts is =
+each_stopped script fault end holds is =
     let lists = lists_of_all fault.account.items in
-    let stops = stopped_at script fault.cause fault.step end lists is ends in
+    let stops = stopped_at script fault.cause fault.step end lists is holds.run.ends in
     let told = stop_is_told (after_step handler_answer handler_after) fault_of accounts fault.cause fault.step end lists (steps_of script) (line_of script) is stops in
     record {
       run_is = told.0;
-      sessions = holds stops.0;
-      accepted = subst (λ (taken : List SimStep). AcceptsEach (default_config script.check (room_for 64)) (readers_from 1 script.readers.items) taken lists) (sym told.1)
-          (accepts stops.0);
+      sessions = subst (λ (taken : List SimStep). OfEach (TellsSessions handler_answer handler_after (config_of script) (readers_of script) taken) (readers_of script) lists)
+          (sym told.1) (holds.sessions stops.0);
+      accepted = subst (λ (taken : List SimStep). AcceptsEach (config_of script) (readers_of script) taken lists) (sym told.1) (holds.room stops.0);
     }
 
 -- a script that hasn't one reader

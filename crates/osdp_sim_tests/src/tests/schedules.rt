@@ -181,9 +181,9 @@ fn accounts_hold_with_a_door(_rt: HostRuntime) {
     osdp_sim_laws::schedule_goes_in_turn::<Door>();
 }
 
-/// So does the headline, and a packet is read as it is spelled.
+/// So do those of its ledger, and a packet is read as it is spelled.
 #[test]
-fn sessions_hold_with_a_door(_rt: HostRuntime) {
+fn ledgers_hold_with_a_door(_rt: HostRuntime) {
     osdp_frame_laws::reads_packets();
-    osdp_session::holds_in_sessions::<Door>();
+    osdp_sim_ledger::run_keeps_ledger::<Door>();
 }

@@ -4,7 +4,7 @@ use Rattle.osdp_sim.specs.Account.{lists_of}
 use Rattle.osdp_sim.specs.declared.account.Account as declared
 use Rattle.osdp_tool_sim.specs.One.{TellsOne}
 use Rattle.osdp_tool_sim.specs.declared.told.Told.{Told}
-use Rattle.osdp_tool_sim.proofs.Running.{accepted_as, holds_as, run_as, told_ok, told_stopped}
+use Rattle.osdp_tool_sim.proofs.Running.{holds_as, told_ok, told_stopped}
 use Rattle.osdp_tool_sim.proofs.one.tell_one.Goals as goal
 use Rattle.osdp_tool_sim.proofs.one.tell_one.Goals.{in-Ok, in-Err+in_ok-told-in-Err}
 
@@ -20,10 +20,8 @@ returns-in-Ok-account_text-clause-told c =
       | in-Ok w ↦
           subst (λ (t : Told declared.Account). TellsOne script (address, events) (lists_of t.what) t.end) (sym w.told-is)
           (told_ok script address events w.in-Ok.what
-          (run_as script address events config.result c.new.result (steps_left c.schedule.result) (Ok w.in-Ok.what)
-          config.ensures c.new.ensures c.schedule.ensures w.in-Ok.ensures.run.ends)
-          (holds_as script address events config.result c.new.result (lists_of w.in-Ok.what) config.ensures c.new.ensures (w.in-Ok.ensures.sessions tt))
-          (accepted_as script address events config.result (steps_left c.schedule.result) (Ok w.in-Ok.what) config.ensures c.schedule.ensures w.in-Ok.ensures.room))
+          (holds_as script address events config.result c.new.result (steps_left c.schedule.result) (Ok w.in-Ok.what)
+          config.ensures c.new.ensures c.schedule.ensures w.in-Ok.ensures))
       | in-Err+in_ok-told-in-Err w ↦
           let fault = w.in-Err.fault in
           let told = w.in_ok-told-in-Err.told in
@@ -31,10 +29,8 @@ returns-in-Ok-account_text-clause-told c =
           subst (λ (t : Told declared.Account). TellsOne script (address, events) (lists_of t.what) t.end) (sym w.told-is)
           (subst (λ (a : declared.Account). TellsOne script (address, events) (lists_of a) told.end) (sym is.0)
           (told_stopped script address events fault told.end
-          (run_as script address events config.result c.new.result (steps_left c.schedule.result) (Err fault)
-          config.ensures c.new.ensures c.schedule.ensures w.in-Err.ensures.run.ends)
-          (λ some. holds_as script address events config.result c.new.result (lists_of fault.account) config.ensures c.new.ensures (w.in-Err.ensures.sessions some))
-          (accepted_as script address events config.result (steps_left c.schedule.result) (Err fault) config.ensures c.schedule.ensures w.in-Err.ensures.room)
+          (holds_as script address events config.result c.new.result (steps_left c.schedule.result) (Err fault)
+          config.ensures c.new.ensures c.schedule.ensures w.in-Err.ensures)
           is.1))
     ] in
     record { lists = lists_of joined.told.what; told = told; is = c.in-Ok-account_text.ensures }
