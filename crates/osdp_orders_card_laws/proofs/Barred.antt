@@ -30,10 +30,11 @@ use Rattle.osdp_orders.specs.declared.queue.Queue.{Queue}
 use Rattle.osdp_orders.specs.Orders.{PanelState, both, is_closed_in, is_empty_in, polled_by, queue_of}
 use Rattle.osdp_orders.specs.Queues.{first_held}
 use Rattle.osdp_orders_laws.specs.Calls.{Always, after_call, after_calls, new_panel}
+use Rattle.osdp_orders_laws.specs.InTime.{all_bus_calls}
 use Rattle.osdp_orders_laws.specs.OfTheBus.{begin_calls, bus_calls, first_calls, let_go_after, let_go_of, submit_calls, ticked_calls}
 use Rattle.osdp_orders_laws.specs.Pacing.{PollsStandBetween, asked_at, asked_of, goes_out, heard_along, is_closed_at, is_heard, is_polling, polls_at, polls_of}
 use Rattle.osdp_orders_laws.proofs.OfBus.{calls_of_the_bus, sound_after}
-use Rattle.osdp_orders_card_laws.specs.Calls.{AreCallsInARow, PollsComeBetween, bus_calls_in, may_ask}
+use Rattle.osdp_orders_card_laws.specs.Calls.{AreCallsInARow, PollsComeBetween, may_ask}
 use Rattle.osdp_orders_card_laws.proofs.Begun.{none_asked_before, opening_begins}
 use Rattle.osdp_orders_card_laws.proofs.Unbegun.{There, call_leaves, leaves_same, polls_in, state_of}
 
@@ -302,13 +303,13 @@ module _ (entry : ℕ) where
   BarsUnless may x = may ≡ false → Bars x
 
   abbrev On : List Call → PanelState → Type 0
-  On calls x = (may : Bool) → BarsUnless may x → PollsBetween may entry (bus_calls_in calls x) x.bus
+  On calls x = (may : Bool) → BarsUnless may x → PollsBetween may entry (all_bus_calls calls x) x.bus
 
   step_other : (call : Call) (calls : List Call) (x : PanelState) → Stands x → IsOther call → On calls (after_call call x) → On (call ∷ calls) x
   step_other call calls x stands other on may bars =
       let y = after_call call x in
-      pass_over entry may (bus_calls call x) (bus_calls_in calls y) x.bus (calls_other call x other)
-      (subst (PollsBetween may entry (bus_calls_in calls y)) (calls_of_the_bus x call)
+      pass_over entry may (bus_calls call x) (all_bus_calls calls y) x.bus (calls_other call x other)
+      (subst (PollsBetween may entry (all_bus_calls calls y)) (calls_of_the_bus x call)
       (on may (λ barred. bars_on call x stands.sound (λ begun. other_begins call entry x.bus other begun) (bars barred))))
 
   step_tick : (now : ℕ) (calls : List Call) (x : PanelState) → Stands x → On calls (after_call (Tick now) x) → On (Tick now ∷ calls) x
@@ -326,11 +327,11 @@ module _ (entry : ℕ) where
       asks : asked_at_bus entry t.bus ≡ asked_at entry y
       asks = asked_is t.bus ∙ sym (tick_asks now x)
 
-      then_on : (m : Bool) → BarsUnless m y → PollsBetween m entry (ticked_calls t x ++ bus_calls_in calls y) t.bus
+      then_on : (m : Bool) → BarsUnless m y → PollsBetween m entry (ticked_calls t x ++ all_bus_calls calls y) t.bus
       then_on m barred =
-          pass_over entry m (ticked_calls t x) (bus_calls_in calls y) t.bus
+          pass_over entry m (ticked_calls t x) (all_bus_calls calls y) t.bus
           (orders_are_other (ticked_calls t x) (orders_after (polled_by t.sent t.bus) (both x.orders t.bus)))
-          (subst (PollsBetween m entry (bus_calls_in calls y)) (calls_of_the_bus x (Tick now)) (on m barred))
+          (subst (PollsBetween m entry (all_bus_calls calls y)) (calls_of_the_bus x (Tick now)) (on m barred))
 
       as_it_may : Begins (Tick now) entry x.bus → (m : Bool) → BarsUnless m x → (o : Option Command) → asked_at_bus entry t.bus ≡ o → AsksAsItMay m o
       as_it_may begun true bars o is command some = refl
@@ -392,11 +393,11 @@ polls_come_between all config calls is entry next =
     let y = after_calls calls x in
     along entry next y (stands_along entry calls x stands) (may_ask entry y) (barred_along entry calls x stands (λ barred. absurd cc))
 
-in_a_row : (calls : List Call) (x : PanelState) → (after_calls calls x).bus ≡ after_bus_calls (bus_calls_in calls x) x.bus
+in_a_row : (calls : List Call) (x : PanelState) → (after_calls calls x).bus ≡ after_bus_calls (all_bus_calls calls x) x.bus
 in_a_row [] x = refl
 in_a_row (call ∷ calls) x =
     let y = after_call call x in
-    in_a_row calls y ∙ ap (after_bus_calls (bus_calls_in calls y)) (calls_of_the_bus x call) ∙ sym (after_both (bus_calls call x) (bus_calls_in calls y) x.bus)
+    in_a_row calls y ∙ ap (after_bus_calls (all_bus_calls calls y)) (calls_of_the_bus x call) ∙ sym (after_both (bus_calls call x) (all_bus_calls calls y) x.bus)
   where
     after_both : (first rest : List Call) (b : BusState) → after_bus_calls (first ++ rest) b ≡ after_bus_calls rest (after_bus_calls first b)
     after_both [] rest b = refl

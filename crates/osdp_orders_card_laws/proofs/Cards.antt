@@ -12,7 +12,8 @@ use Rattle.osdp_card_time_laws.specs.Cards.{ReportedBy, to_offer_before}
 use Rattle.osdp_card_time_laws.proofs.Among.{cards_among_orders}
 use Rattle.osdp_orders.specs.Orders.{PanelState}
 use Rattle.osdp_orders_laws.specs.Calls.{after_calls, new_panel}
-use Rattle.osdp_orders_card_laws.specs.Calls.{AreCallsInARow, PollsComeBetween, bus_calls_in, may_ask}
+use Rattle.osdp_orders_laws.specs.InTime.{all_bus_calls}
+use Rattle.osdp_orders_card_laws.specs.Calls.{AreCallsInARow, PollsComeBetween, may_ask}
 use Rattle.osdp_orders_card_laws.specs.Cards.{CardsComeAsAnswered, CardsComeInTime, orders_before}
 
 -- arithmetic on counts alone
@@ -43,4 +44,4 @@ module _ (x : PanelState) (well : Well x.bus) (between : PollsComeBetween x) whe
 
 pub well_panel : (config : BusConfig) (calls : List Call) → IsBusConfig config → AreCallsInARow (new_panel config) → Well (after_calls calls (new_panel config)).bus
 well_panel config calls is row =
-    let x = new_panel config in subst Well (sym (row calls)) (always_well config (bus_calls_in calls x) is)
+    let x = new_panel config in subst Well (sym (row calls)) (always_well config (all_bus_calls calls x) is)

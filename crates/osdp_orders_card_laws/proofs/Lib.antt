@@ -2,3 +2,4 @@ mod Unbegun
 mod Begun
 mod Barred
 mod Cards
+mod Instances

@@ -6,13 +6,14 @@ use Rattle.osdp_bus_time_laws.specs.Turns.{KeepsTurns, turns_of}
 use Rattle.osdp_card_time_laws.specs.Beside.{Serves, Step, calls_of}
 use Rattle.osdp_card_time_laws.specs.Cards.{IsQueued, ReportedBy, to_offer_before}
 use Rattle.osdp_orders.specs.Orders.{PanelState}
+use Rattle.osdp_orders_laws.specs.InTime.{all_bus_calls}
 use Rattle.osdp_reader.specs.Queue.{Queue}
-use Rattle.osdp_orders_card_laws.specs.Calls.{bus_calls_in, may_ask}
+use Rattle.osdp_orders_card_laws.specs.Calls.{may_ask}
 
 -- what happens: the calls of the bus are those of calls of orders, and between them a reader queues events. The reader serves, and each turn takes its time. Of the orders
 -- nothing is asked
 pub record KeepsServing (late : ℕ) (time : ℕ → ℕ) (n entry : ℕ) (q : Queue) (calls : List Call) (steps : List Step) (x : PanelState) : Type 0 where
-  pub orders : calls_of steps ≡ bus_calls_in calls x
+  pub orders : calls_of steps ≡ all_bus_calls calls x
   pub turns : KeepsTurns late time n (calls_of steps) x.bus
   pub serves : Serves entry q steps x.bus
 

@@ -3,6 +3,7 @@
 
 ghost use Rattle.osdp_orders_card_laws.specs.Calls.{AreCallsInARow, PollsComeBetween};
 ghost use Rattle.osdp_orders_card_laws.specs.Cards.{CardsComeAsAnswered, CardsComeInTime};
+ghost use Rattle.osdp_orders_card_laws.specs.Instances.{CardIsReached};
 ghost use Rattle.osdp_orders_laws.specs.Calls.{Always};
 
 /// Where orders wait for POLLs, a POLL of an entry goes out between any two of its orders, or the opening of its next session does. Calls of such orders are calls of
@@ -23,3 +24,9 @@ pub fn cards_come_in_time()
 {
     polls_come_between_orders();
 }
+
+/// The bound of a card among orders that wait for POLLs is reached: of two orders that come meanwhile, the first goes out before it. The second one is held back until the
+/// card's own POLL has gone out.
+pub fn bounds_are_reached()
+    ensures { CardIsReached }
+{}
