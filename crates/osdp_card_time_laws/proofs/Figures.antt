@@ -17,7 +17,7 @@ use Rattle.osdp_card_time_laws.proofs.Reported.{cards_are_reported}
 later : (g limit more : ℕ) → g ≤ limit → limit ≤ more → g ≤ more
 later g limit more near less = omega arith
 
-reported_later : (limit more : ℕ) → limit ≤ more → (event : Event) (place entry : ℕ) (q : Queue) (steps : List Step) (b : BusState)
+pub reported_later : (limit more : ℕ) → limit ≤ more → (event : Event) (place entry : ℕ) (q : Queue) (steps : List Step) (b : BusState)
     → ReportedBy limit event place entry q steps b → ReportedBy more event place entry q steps b
 reported_later limit more less event place entry q [] b by = tt
 reported_later limit more less event place entry q (Queues other ∷ steps) b by = reported_later limit more less event place entry (queued other q) steps b by

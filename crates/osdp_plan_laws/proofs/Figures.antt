@@ -1,7 +1,8 @@
 -- The figures of a plan are the bounds of the laws in time.
 use Rattle.std.specs.Prelude.{if◌then◌else◌, min}
-use Rattle.std.proofs.Common.{◌≡◌, ◌∙◌, ap, sym, subst, ℕ, suc, ◌+◌, ◌-◌, ◌*◌, ◌≤◌, length, arith}
+use Rattle.std.proofs.Common.{◌≡◌, ◌∙◌, ap, sym, subst, refl, ℕ, suc, ◌+◌, ◌-◌, ◌*◌, ◌≤◌, Bool, true, false, length, arith}
 use Rattle.std.proofs.lemmas.List.{length-replicate}
+use Rattle.std.proofs.Math.Nat.{mul-le-mul_left, mul-le-mul_right}
 use Rattle.osdp_bus.specs.Buses.{BusState}
 use Rattle.osdp_bus.specs.Settings.{controller_config}
 use Rattle.osdp_bus_laws.specs.Calls.{Submit, after_call}
@@ -13,14 +14,16 @@ use Rattle.osdp_bus_time_laws.proofs.InTime.{lines_add_up}
 use Rattle.osdp_bus_time_laws.proofs.Ordered.{orders_go_out}
 use Rattle.osdp_bus_time_laws.proofs.Silent.{silence_is_told}
 use Rattle.osdp_card_time_laws.specs.Cards.{KeepsServing, ReportedBy, to_offer_before}
-use Rattle.osdp_card_time_laws.proofs.Figures.{cards_by_figures}
+use Rattle.osdp_card_time_laws.proofs.Among.{cards_among_orders}
+use Rattle.osdp_card_time_laws.proofs.Figures.{cards_by_figures, reported_later}
+use Rattle.osdp_controller.specs.declared.config.ControllerConfig.{ControllerConfig}
 use Rattle.osdp_time_laws.specs.Lines.{card_time, line_order_time, line_silence_time, turns_time}
 use Rattle.osdp_plan.specs.declared.bounds.Others.{Others}
 use Rattle.osdp_plan.specs.declared.bounds.Others.TheVariants.{Answer, OneSilent, Hostile}
 use Rattle.osdp_plan.specs.declared.plan.Plan.{Plan}
-use Rattle.osdp_plan.specs.Figures.{card_wait, exchanges, lost_wait, order_between_time, order_wait, orders_before}
+use Rattle.osdp_plan.specs.Figures.{answered_time, card_wait, exchanges, lost_wait, order_between_time, order_wait, orders_before}
 use Rattle.osdp_plan.specs.Plans.{IsPlan, config_of}
-use Rattle.osdp_plan_laws.specs.Figures.{CardsKeepToFigures, OrdersKeepToFigures, SilenceKeepsToFigures, planned_time}
+use Rattle.osdp_plan_laws.specs.Figures.{CardsAmongOrdersKeepToFigures, CardsKeepToFigures, OrdersKeepToFigures, SilenceKeepsToFigures, planned_time}
 
 -- each reader has its exchange
 one_more : (n : ℕ) → 1 ≤ n → suc (n - 1) ≡ n
@@ -59,6 +62,46 @@ cards_by_plan p b well others entry place event q steps off next keeps =
     subst (λ (t : ℕ). ReportedBy (b.greatest + t) event place entry q steps b) is
     (cards_by_figures b well p.late entry place p.orders xs event q steps next.queued
     (subst (λ (n : ℕ). KeepsServing p.late (time_of xs) n entry p.orders q steps b) (sym (as_many others p next.planned.plan)) keeps))
+
+-- arithmetic on counts and moments alone
+abbrev one_if : Bool → ℕ
+one_if may = if may then 1 else 0
+
+as_planned : (may : Bool) (orders e : ℕ) → (may ≡ true → 1 ≤ orders) → e ≡ 0 → 2 * e + one_if may + 1 ≤ min orders 1 + 1
+as_planned true orders e one none = let some = one refl in omega (arith, some, none)
+as_planned false orders e one none = omega (arith, none)
+
+with_late : (interval late turns : ℕ) → interval + turns ≤ interval + late + turns
+with_late interval late turns = omega arith
+
+answer_after : (g rounds more answer : ℕ) → rounds ≤ more → g + (rounds + answer) ≤ g + (more + answer)
+answer_after g rounds more answer less = omega arith
+
+then_more : (a b c : ℕ) → a ≤ b → b ≤ c → a ≤ c
+then_more a b c less more = omega arith
+
+pub cards_between_by_plan : (p : Plan) (b : BusState) → Well b → CardsAmongOrdersKeepToFigures p b
+cards_between_by_plan p b well others entry place may event q steps on one next keeps =
+    let xs = exchanges others p.readers p in
+    let turns = turns_time p.late xs in
+    let interval = b.config.poll_interval in
+    let count = 2 * to_offer_before place q + one_if may + 1 in
+    let before : orders_before p ≡ min p.orders 1 = ap (λ t. if t then min p.orders 1 else p.orders) on in
+    let fewer : count ≤ orders_before p + 1 =
+    subst (λ (n : ℕ). count ≤ n + 1) (sym before) (as_planned may p.orders (to_offer_before place q) one next.first) in
+    let same : interval ≡ p.poll_interval = ap (λ (c : ControllerConfig). c.poll_interval) next.planned.config in
+    let answer = answered_time p in
+    let less : count * (interval + turns) ≤ (orders_before p + 1) * (p.poll_interval + p.late + turns) =
+    then_more (count * (interval + turns)) (count * (p.poll_interval + p.late + turns)) ((orders_before p + 1) * (p.poll_interval + p.late + turns))
+    (mul-le-mul_left count (subst (λ (i : ℕ). i + turns ≤ p.poll_interval + p.late + turns) (sym same) (with_late p.poll_interval p.late turns)))
+    (mul-le-mul_right (p.poll_interval + p.late + turns) fewer) in
+    reported_later (b.greatest + (count * (interval + turns) + answer)) (b.greatest + card_wait others p)
+    (answer_after b.greatest (count * (interval + turns)) ((orders_before p + 1) * (p.poll_interval + p.late + turns)) answer less)
+    event place entry q steps b
+    (subst (λ (a : ℕ). ReportedBy (b.greatest + (count * (interval + turns) + a)) event place entry q steps b) next.answers
+    (subst (λ (t : ℕ). ReportedBy (b.greatest + (count * (interval + t) + planned_time others p entry)) event place entry q steps b)
+    (turns_are others p next.planned.plan)
+    (cards_among_orders b well p.late (planned_time others p) p.readers entry place may event q steps next.queued keeps)))
 
 pub silence_by_plan : (p : Plan) (b : BusState) → Well b → SilenceKeepsToFigures p b
 silence_by_plan p b well others time entry calls planned turns idle keeps nothing =

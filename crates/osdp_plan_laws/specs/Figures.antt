@@ -1,5 +1,5 @@
 -- What the figures of a plan say of a line that is as it was planned.
-use Rattle.std.specs.Prelude.{◌≡◌, ℕ, ◌+◌, ◌-◌, false, List}
+use Rattle.std.specs.Prelude.{◌≡◌, ℕ, ◌+◌, ◌-◌, ◌≤◌, Bool, true, false, List}
 use Rattle.osdp_msg.specs.declared.command.Command.{Command}
 use Rattle.osdp_msg.specs.declared.event.Event.{Event}
 use Rattle.osdp_bus.specs.Buses.{BusState}
@@ -9,6 +9,7 @@ use Rattle.osdp_bus_time_laws.specs.Laws.{GoesOutBy, IsAccepted, time_of}
 use Rattle.osdp_bus_time_laws.specs.Reading.{NothingIsRead}
 use Rattle.osdp_bus_time_laws.specs.Telling.{IsIdle, ToldBy}
 use Rattle.osdp_bus_time_laws.specs.Turns.{KeepsTurns, others_of}
+use Rattle.osdp_card_time_laws.specs.Among.{KeepsBetween}
 use Rattle.osdp_card_time_laws.specs.Beside.{Step}
 use Rattle.osdp_card_time_laws.specs.Cards.{IsQueued, KeepsServing, ReportedBy, to_offer_before}
 use Rattle.osdp_reader.specs.Queue.{Queue}
@@ -44,6 +45,12 @@ pub record IsNextCard (others : Others) (p : Plan) (event : Event) (place entry 
 abbrev pub CardsKeepToFigures : Plan → BusState → Type 0
 CardsKeepToFigures p b = (others : Others) (entry place : ℕ) (event : Event) (q : Queue) (steps : List Step) → p.between ≡ false
     → IsNextCard others p event place entry q b → KeepsServing p.late (planned_time others p) p.readers entry p.orders q steps b
+    → ReportedBy (b.greatest + card_wait others p) event place entry q steps b
+
+-- .. a POLL comes between two, and an order may be asked before the card only where one was planned
+abbrev pub CardsAmongOrdersKeepToFigures : Plan → BusState → Type 0
+CardsAmongOrdersKeepToFigures p b = (others : Others) (entry place : ℕ) (may : Bool) (event : Event) (q : Queue) (steps : List Step) → p.between ≡ true
+    → (may ≡ true → 1 ≤ p.orders) → IsNextCard others p event place entry q b → KeepsBetween p.late (planned_time others p) p.readers entry may q steps b
     → ReportedBy (b.greatest + card_wait others p) event place entry q steps b
 
 -- a reader of which nothing is read any more, where the turns of the others take as long as was planned
