@@ -32,8 +32,8 @@ pub fn bounds_are_reached()
     ensures { BoundsAreReached }
 {}
 
-/// While a session goes on, an order that waits when an exchange begins has its first frame handed out within the longest exchange and a late
-/// tick, once for that exchange and once for each command before it.
+/// In a session that goes on an order goes out within the longest exchange and a late tick, once for each command before it and once more. The time counts from
+/// where an exchange begins while the order waits, and that exchange is the one more. What goes out is its first frame.
 pub fn orders_go_out()
     ensures { OrdersGoOut }
 {}
@@ -43,8 +43,8 @@ pub fn controllers_wait_their_time()
     ensures { StaysTimely }
 {}
 
-/// An order that is accepted while a session is under way has its first frame handed out within the longest exchange and a late tick, once for the
-/// exchange that may be outstanding and once for each command that waits before it, or its session has ended by then.
+/// An accepted order goes out within the longest exchange and a late tick, once for each command before it and once more, or its session has ended by then. It
+/// is accepted while a session is under way, and the one more is the exchange that may be outstanding.
 pub fn accepted_orders_go_out()
     ensures { AcceptedOrdersGoOut }
 {}
