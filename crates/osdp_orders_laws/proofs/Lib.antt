@@ -16,4 +16,5 @@ mod Walking
 mod Shapes
 mod Polled
 mod Bounding
-mod Coming
+pub mod Coming
+mod SlowOrder

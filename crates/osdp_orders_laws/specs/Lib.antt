@@ -4,3 +4,4 @@ pub mod Places
 pub mod Freeing
 pub mod OfTheBus
 pub mod InTime
+pub mod Instances

@@ -1,6 +1,7 @@
 //! By when an order has gone out, where the orders of its entry wait for POLLs.
 
 ghost use Rattle.osdp_orders_laws.specs.InTime.{AlwaysWritten, OrdersGoOut, OrdersInTime};
+ghost use Rattle.osdp_orders_laws.specs.Instances.{OrderIsReached};
 
 /// Where orders wait for POLLs, an order that is accepted in a session goes out in time, or that session has ended by then. Until its first packet is handed out the
 /// interval between POLLs and two turns of each entry pass at the most, for each order of its entry before it and for itself. A turn is an exchange and a late tick.
@@ -8,4 +9,10 @@ ghost use Rattle.osdp_orders_laws.specs.InTime.{AlwaysWritten, OrdersGoOut, Orde
 pub fn orders_between_polls_go_out()
     ensures turns { AlwaysWritten OrdersGoOut }
     ensures whatever { AlwaysWritten OrdersInTime }
+{}
+
+/// The bound of an order that waits for POLLs is reached. A line of two entries whose devices answer at the last moment, and whose program is on time, takes exactly so
+/// long for an order that is accepted as the one before it has just gone out.
+pub fn the_bound_of_an_order_is_reached()
+    ensures { OrderIsReached }
 {}

@@ -34,7 +34,7 @@ as_many Answer p plan = length-replicate p.readers _
 as_many Hostile p plan = length-replicate p.readers _
 as_many OneSilent p plan = ap suc (length-replicate (p.readers - 1) _) ∙ one_more p.readers plan.readers.0
 
-turns_are : (others : Others) (p : Plan) → IsPlan p → turns_of (planned_time others p) p.late p.readers ≡ turns_time p.late (exchanges others p.readers p)
+pub turns_are : (others : Others) (p : Plan) → IsPlan p → turns_of (planned_time others p) p.late p.readers ≡ turns_time p.late (exchanges others p.readers p)
 turns_are others p plan =
     let xs = exchanges others p.readers p in ap (turns_of (time_of xs) p.late) (sym (as_many others p plan)) ∙ (lines_add_up p.late xs).all
 

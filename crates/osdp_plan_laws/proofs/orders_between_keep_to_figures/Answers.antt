@@ -1,0 +1,5 @@
+use Rattle.osdp_plan_laws.proofs.Between.{orders_between_by_plan}
+use Rattle.osdp_plan_laws.proofs.orders_between_keep_to_figures.Goals as goal
+
+pub returns : goal.returns
+returns c = orders_between_by_plan
