@@ -3,9 +3,9 @@
 ghost use Rattle.osdp_orders_laws.specs.InTime.{AlwaysWritten, OrdersGoOut, OrdersInTime};
 ghost use Rattle.osdp_orders_laws.specs.Instances.{OrderIsReached};
 
-/// Where orders wait for POLLs, an order that is accepted in a session goes out in time, or that session has ended by then. Until its first packet is handed out the
-/// interval between POLLs and two turns of each entry pass at the most, for each order of its entry before it and for itself. A turn is an exchange and a late tick.
-/// Whatever the line does, an exchange is the longest that the settings allow.
+/// An order that waits for POLLs goes out within the interval between POLLs and two turns of each entry, for each order before it and for itself, or its session has
+/// ended by then. It is accepted while its session is under way, and what goes out is its first packet. Those before it wait in its controller or are held back. A turn
+/// is an exchange and a late tick. Whatever the line does, an exchange is the longest that the settings allow.
 pub fn orders_between_polls_go_out()
     ensures turns { AlwaysWritten OrdersGoOut }
     ensures whatever { AlwaysWritten OrdersInTime }
