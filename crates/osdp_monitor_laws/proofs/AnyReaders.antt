@@ -52,20 +52,20 @@ answer_fine own p q from answers =
 
 -- ---- what it does with a packet
 
-abbrev Stores : AnyReader → Type 0
+abbrev pub Stores : AnyReader → Type 0
 Stores r = (m : ℕ) → r.last ≡ Some m → m ≢ 0 → Keeps r.address r.stored m
 
-stores_none : (r : AnyReader) → r.last ≡ None → Stores r
+pub stores_none : (r : AnyReader) → r.last ≡ None → Stores r
 stores_none r none m is above = absurd (none_some m (sym none ∙ is))
 
 said_here : (own : ℕ) (p q : Packet) → IsFromIt own p q → IsSaid own q
 said_here own p q from = record { reply = from.reply; address = inl from.address_is }
 
 -- what it says and where it is then
-record Sends (r s : AnyReader) (o : Option Packet) : Type 0 where
-  sent : (q : Packet) → o ≡ Some q → IsSaid r.address q
-  stores : Stores s
-  place : (s.last ≡ None) ⊎ (s.address ≡ r.address)
+pub record Sends (r s : AnyReader) (o : Option Packet) : Type 0 where
+  pub sent : (q : Packet) → o ≡ Some q → IsSaid r.address q
+  pub stores : Stores s
+  pub place : (s.last ≡ None) ⊎ (s.address ≡ r.address)
 
 one_said : (own : ℕ) (x : Packet) → IsSaid own x → (q : Packet) → Some x ≡ Some q → IsSaid own q
 one_said own x is q same = subst (IsSaid own) (same_some x q same) is
@@ -86,10 +86,10 @@ place_of : (r s : AnyReader) (p q : Packet) → (s.last ≡ None) ⊎ ((s.addres
 place_of r s p q (inl none) = inl none
 place_of r s p q (inr ends) = inr ends.0
 
-same_stores : (r s : AnyReader) → s ≡ r → Stores r → Stores s
+pub same_stores : (r s : AnyReader) → s ≡ r → Stores r → Stores s
 same_stores r s same stores = subst Stores (sym same) stores
 
-goes_sends : (way : Way) (r : AnyReader) (p : Packet) (o : Option Packet) (s : AnyReader) → Stores r → Goes way r p o s → Sends r s o
+pub goes_sends : (way : Way) (r : AnyReader) (p : Packet) (o : Option Packet) (s : AnyReader) → Stores r → Goes way r p o s → Sends r s o
 goes_sends Acts r p (Some q) s stores goes = record {
   sent = one_said r.address q (said_here r.address p q goes.1);
   stores = acts_stores r p q s goes.1 goes.2 goes.3;
@@ -128,9 +128,9 @@ goes_sends Refuses r p None s stores goes = absurd goes
 goes_sends IsSilent r p (Some q) s stores goes = absurd goes
 
 -- .. beside what is known
-record Comes (k : Known) (p : Packet) (s : AnyReader) (o : Option Packet) : Type 0 where
-  lost : Agrees k s.last s.stored
-  comes : (q : Packet) → o ≡ Some q → Replies k p q s.last s.stored
+pub record Comes (k : Known) (p : Packet) (s : AnyReader) (o : Option Packet) : Type 0 where
+  pub lost : Agrees k s.last s.stored
+  pub comes : (q : Packet) → o ≡ Some q → Replies k p q s.last s.stored
 
 replies_so : (k : Known) (p q : Packet) (s : AnyReader) → Replies k p q s.last s.stored → Comes k p s (Some q)
 replies_so k p q s replies =
@@ -140,7 +140,7 @@ same_replies : (k : Known) (p q : Packet) (r s : AnyReader) → s ≡ r → Repl
 same_replies k p q r s same replies = subst (λ (t : AnyReader). Replies k p q t.last t.stored) (sym same) replies
 
 module _ (k : Known) (r : AnyReader) (p : Packet) (stores : Stores r) (is : IsAsked k p) (agrees : Agrees k r.last r.stored) (takes : TakesZero k) where
-  goes_comes : (way : Way) (o : Option Packet) (s : AnyReader) → Goes way r p o s → Comes k p s o
+  pub goes_comes : (way : Way) (o : Option Packet) (s : AnyReader) → Goes way r p o s → Comes k p s o
   goes_comes Acts (Some q) s goes =
       replies_so k p q s (settle k p q (Some p.sequence) (Some q) s.last s.stored
       (acting k p r.last r.stored is agrees takes q (Some q) goes.0 goes.2.says goes.2.number (answer_fine r.address p q goes.1 goes.2) (λ _. refl))

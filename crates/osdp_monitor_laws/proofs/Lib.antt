@@ -8,6 +8,7 @@ pub mod Saying
 pub mod Hearing
 pub mod ReaderLines
 pub mod AnyReaders
+pub mod LateReaders
 pub mod PanelFits
 pub mod PanelLines
 pub mod AnyPanels
@@ -16,6 +17,11 @@ pub mod Missing
 pub mod Telling
 pub mod Naming
 pub mod Seconds
+pub mod LateKnown
+pub mod LateOwn
+pub mod LateOlder
+pub mod LateLines
+pub mod LateAnswers
 pub mod Breaking
 pub mod Repeating
 pub mod Accusing

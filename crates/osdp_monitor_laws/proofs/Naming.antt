@@ -97,7 +97,7 @@ both_true : (x y : Bool) → (x && y) ≡ true → y ≡ true
 both_true true y is = is
 both_true false y is = absurd (false≢true is)
 
-repeat_taken : (k : Known) (p : Packet) → is_some (repeat_reply k p) ≡ true → k.taken ≡ Some p.sequence
+pub repeat_taken : (k : Known) (p : Packet) → is_some (repeat_reply k p) ≡ true → k.taken ≡ Some p.sequence
 repeat_taken k p =
     cond_both (not (eqb p.sequence 0) && is_number k.taken p.sequence) k.stored None (λ o. is_some o ≡ true → k.taken ≡ Some p.sequence)
     (λ both _. number_taken k.taken p.sequence (both_true (not (eqb p.sequence 0)) (is_number k.taken p.sequence) both))

@@ -87,7 +87,7 @@ numbered k p q number fine =
     cond-true (eqb q.sequence p.sequence) (turn_accused k.taken p q) (Some AnotherNumber) (eq-eqb q.sequence p.sequence number) ∙ fine
 
 -- a reply that takes the number
-taking_agrees : (k : Known) (p q : Packet) (stored : Option Packet) → (p.sequence ≢ 0 → stored ≡ Some q)
+pub taking_agrees : (k : Known) (p q : Packet) (stored : Option Packet) → (p.sequence ≢ 0 → stored ≡ Some q)
     → Agrees (after_answer false p.sequence k q) (Some p.sequence) stored
 taking_agrees k p q stored kept =
     by_number (λ j. Agrees j (Some p.sequence) stored) false p.sequence k q

@@ -23,20 +23,20 @@ use Rattle.osdp_monitor_laws.specs.Late.{HasItsNumber, IsCopyOrOther, IsNone, Le
 use Rattle.osdp_monitor_laws.specs.Misses.{Each, IsCopyOrReply, IsFrom, IsRemembered, IsTo, NothingForgotten}
 
 -- what no reply changes
-owing_by : (s : Said) (k : Known) (p x : Packet) → (after_reply_of s k p x).owing ≡ k.owing
+pub owing_by : (s : Said) (k : Known) (p x : Packet) → (after_reply_of s k p x).owing ≡ k.owing
 owing_by Busy k p x = refl
 owing_by Damage k p x = refl
 owing_by Refusal k p x = refl
 owing_by Answer k p x = by_number (λ j. j.owing ≡ k.owing) (is_some (repeat_reply k p)) p.sequence k x (λ _. refl) (λ _. refl)
 
-settled_by : (s : Said) (k : Known) (p x : Packet) → (after_reply_of s k p x).settled ≡ k.settled
+pub settled_by : (s : Said) (k : Known) (p x : Packet) → (after_reply_of s k p x).settled ≡ k.settled
 settled_by Busy k p x = refl
 settled_by Damage k p x = refl
 settled_by Refusal k p x = refl
 settled_by Answer k p x = by_number (λ j. j.settled ≡ k.settled) (is_some (repeat_reply k p)) p.sequence k x (λ _. refl) (λ _. refl)
 
 -- .. nor one with another number
-earlier_by : (s : Said) (k : Known) (p x : Packet) → x.sequence ≢ p.sequence → (after_reply_of s k p x).earlier ≡ k.earlier
+pub earlier_by : (s : Said) (k : Known) (p x : Packet) → x.sequence ≢ p.sequence → (after_reply_of s k p x).earlier ≡ k.earlier
 earlier_by Busy k p x other = refl
 earlier_by Damage k p x other = refl
 earlier_by Refusal k p x other = refl
@@ -166,7 +166,7 @@ late_accused k q r late =
     cond-true (is_doubtful k q r) None (cond (is_one_more k r && not (is_owed k)) (Some SecondReply) (reply_accused (said r) k q r))
     (or_left (is_late k q r || is_of_either k q r) (is_unheard k q r) (or_left (is_late k q r) (is_of_either k q r) late))
 
-late_told : (k : Known) (q r : Packet) (o : Option ℕ) → o ≡ None → is_late k q r ≡ true → k.settled ≡ true → reply_notice o k q r ≡ Some Late
+pub late_told : (k : Known) (q r : Packet) (o : Option ℕ) → o ≡ None → is_late k q r ≡ true → k.settled ≡ true → reply_notice o k q r ≡ Some Late
 late_told k q r (Some place) none late settled = cc
 late_told k q r None none late settled =
     cond-true (is_late k q r) (Some (late_notice k)) _ late ∙ ap Some (cond-true k.settled Late Unsure settled)

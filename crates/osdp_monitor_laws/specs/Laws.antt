@@ -1,6 +1,7 @@
 -- The statements of the laws, passed on from one place. Declares nothing.
 pub use Rattle.osdp_monitor_laws.specs.Misses.{MissesNoOtherPacket, MissesNoOtherReply, MissesNoUnanswered}
 pub use Rattle.osdp_monitor_laws.specs.AnyReader.{AccusesNoReaderByTheRules}
+pub use Rattle.osdp_monitor_laws.specs.LateReader.{AccusesNoLateReader, TellsLateReaders}
 pub use Rattle.osdp_monitor_laws.specs.AnyPanel.{AccusesNoPanelByTheRules}
 pub use Rattle.osdp_monitor_laws.specs.Late.{LeavesStrayBusy, TellsLateAnswers}
 pub use Rattle.osdp_monitor_laws.specs.Names.{MissesNoPacketOutOfTurn, NamesReaders, NamesSecondReplies}

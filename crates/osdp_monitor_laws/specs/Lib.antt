@@ -1,5 +1,6 @@
 pub mod ReaderLine
 pub mod AnyReader
+pub mod LateReader
 pub mod PanelLine
 pub mod AnyPanel
 pub mod Misses

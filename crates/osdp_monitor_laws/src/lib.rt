@@ -2,7 +2,7 @@
 //! their contracts are laws.
 #![tactic(auto)]
 
-ghost use Rattle.osdp_monitor_laws.specs.Laws.{AccusesNoPanel, AccusesNoPanelByTheRules, AccusesNoReader, AccusesNoReaderByTheRules, AccusesTheSender, LeavesStrayBusy, MissesNoOtherPacket, MissesNoOtherReply, MissesNoPacketOutOfTurn, MissesNoUnanswered, NamesAnswersToRepeats, NamesPanels, NamesReaders, NamesSecondReplies, SuspectsAfterDoubts, SuspectsForAWhile, TellsFirstDoubts, TellsLateAnswers, TellsNoAnswered, TellsReplies, TellsTooLittle, TellsUnanswered, TellsUnansweredOnce, TellsUnheard};
+ghost use Rattle.osdp_monitor_laws.specs.Laws.{AccusesNoLateReader, AccusesNoPanel, AccusesNoPanelByTheRules, AccusesNoReader, AccusesNoReaderByTheRules, AccusesTheSender, LeavesStrayBusy, MissesNoOtherPacket, MissesNoOtherReply, MissesNoPacketOutOfTurn, MissesNoUnanswered, NamesAnswersToRepeats, NamesPanels, NamesReaders, NamesSecondReplies, SuspectsAfterDoubts, SuspectsForAWhile, TellsFirstDoubts, TellsLateAnswers, TellsLateReaders, TellsNoAnswered, TellsReplies, TellsTooLittle, TellsUnanswered, TellsUnansweredOnce, TellsUnheard};
 
 use osdp_reader::Handler;
 
@@ -18,6 +18,17 @@ pub fn accuses_no_reader<H: Handler>()
 /// The same of any maker's reader that answers by the rules, before anybody speaks again: nothing that it answers is accused.
 pub fn accuses_no_reader_by_the_rules()
     ensures { AccusesNoReaderByTheRules }
+{}
+
+/// A reader of any maker that answers late is accused of nothing, where it and its panel keep the rules. Its answers may come after copies of their packet, and after one
+/// other packet. No BUSY with number 0 comes so late, since nobody can tell which packet it answers.
+pub fn accuses_no_late_reader()
+    ensures { AccusesNoLateReader }
+{}
+
+/// An answer of such a late reader that comes after the panel's next packet, which has another number, is told as late.
+pub fn tells_late_readers()
+    ensures { TellsLateReaders }
 {}
 
 /// Where no other panel speaks to its device, nothing that a panel sends is accused, whatever is called at whatever moments, whatever
