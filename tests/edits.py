@@ -5,7 +5,7 @@ import sys
 TOP = os.path.dirname(os.path.dirname(os.path.realpath(__file__)))
 sys.dont_write_bytecode = True
 sys.path.insert(0, f"{TOP}/tools")
-from operators import code_operators, definition_operators, definitions, items, spelling  # noqa: E402
+from operators import code_operators, code_special, definition_operators, definitions, donors, items, spelling  # noqa: E402
 from operators.facts import Facts  # noqa: E402
 
 CODE = """/// Whether a < b.
@@ -42,6 +42,14 @@ MADE_OF_DEFINITION = {
     ("an exists freed", "Fits a b = a ≤ b → (c : ℕ) × Unit {0}"), ("a comparison", "Fits a b = a < b → (c : ℕ) × (c ≡ a)"), ("a comparison", "Fits a b = a ≤ b → (c : ℕ) × (c ≤ a)"),
     ("a bound", "Fits a b = suc a ≤ b → (c : ℕ) × (c ≡ a)"), ("two operands turned", "Fits a b = b ≤ a → (c : ℕ) × (c ≡ a)"),
 }
+# what is made one after the other
+MADE_ONE_AFTER_THE_OTHER = {
+    ("a special case", "if (a < 3) && b == 17 {"), ("a special case", "if (a < 3) || a == 0 {"), ("a special case", "{ if a == 1 { return true; }"), ("a special case", "((b == 4) || b > 7) && a != 2"),
+    ("another expression", "if b == 4 {"), ("another expression", "return b == 4 && a != 2;"), ("another expression", "b == 4 && (a != 2 || a < 3)"), ("another statement", "return false; b == 4 && a != 2"),
+}
+MADE_WIDE = {
+    ("another number", "if a < 7 {"), ("a special case", "Fits a b = (b ≡ 0) × (a ≤ b → (c : ℕ) × (c ≡ a))"), ("a special case", "Fits a b = a ≡ 0"),
+}
 
 
 def lines_of(text, found):
@@ -70,13 +78,18 @@ def main():
     assert MADE_OF_CODE <= made, f"not made: {MADE_OF_CODE - made}"
     again = code_operators.Maker(file, file.units[0], Facts([file], [])).make()
     assert found == again, "another run makes other edits"
+    stream = [*code_special.Special(file, file.units[0], Facts([file], [])).make(), *donors.edits(file, file.units[0], (file,), True)]
+    assert MADE_ONE_AFTER_THE_OTHER <= (found := lines_of(CODE, stream)), f"not made: {MADE_ONE_AFTER_THE_OTHER - found}"
 
     file = definitions.File(DEFINITION)
     found = definition_operators.Maker(DEFINITION, file.units[0], file, definition_operators.Facts([file]), file.types).make()
     made = lines_of(DEFINITION, found)
     assert MADE_OF_DEFINITION <= made, f"not made: {MADE_OF_DEFINITION - made}"
+    made |= lines_of(CODE, again)
+    assert MADE_WIDE <= made, f"not made: {MADE_WIDE - made}"
 
     assert same("a < 1", "a == 0", "(a) <= 0") and same("let _ = a; f(b)", "f((b))") and same("!(a == b)", "b != a"), "one meaning has two forms"
+    assert same("a < 1 && b == 2", "b == 2 && a == 0") and not same("f(a) && g(b)", "g(b) && f(a)"), "the order tells where something is done, and there alone"
     assert not same("a < 1", "a < 2") and not same("f(a, b)", "f(b, a)") and not same("if a { f(); }", "f();"), "two meanings have one form"
     return 0
 

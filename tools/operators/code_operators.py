@@ -3,6 +3,7 @@ import re
 
 from .code import Node
 from .code_statements import Statements
+from .code_texts import Texts
 from .code_values import ARITHMETIC, COMPARISONS
 from .facts import INTEGERS, plain
 from .tokens import tokens
@@ -25,7 +26,7 @@ SEPARATORS = ("' '", r"'\t'", "':'", "';'", r"'\n'", r"'\r'")
 WITHOUT_VALUES = ("block", "if", "match", "statement", "let", "ghost", "arm", "named", "rest", "pattern", "if-let", "assign", "leave", "range", "closure", "for", "while", "loop")
 
 
-class Maker(Statements):
+class Maker(Statements, Texts):
     """Makes the edits of one unit: for each its operator, the places that it replaces, and the text there."""
 
     # ---- each kind of place
@@ -51,6 +52,7 @@ class Maker(Statements):
             for operator, new in self.values(node, kind):
                 if not (node.kind == "binary" and node.sign.text in ARITHMETIC and new in ("0", "1")):
                     self.replace(operator, node, new)
+            self.otherwise(node, kind)
         if how:
             how(node, kind)
         wanted = getattr(self, "wanted_" + node.kind.replace("-", "_"), None)
@@ -197,6 +199,7 @@ class Maker(Statements):
                 self.replace("a bound", node.index, new)
 
     def at_literal(self, node, kind):
+        self.other_literals(node)
         if node.is_number and kind not in INTEGERS and kind != "int":
             for operator, new in self.numbers(node, node.text):
                 self.replace(operator, node, new)

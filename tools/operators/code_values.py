@@ -92,6 +92,12 @@ class Values:
     def type_of_group(self, node):
         return self.type_of(node.parts[0])
 
+    def type_of_try(self, node):
+        kind = self.type_of(node.inner)
+        if kind.startswith("Option<"):
+            return kind[len("Option<"):-1]
+        return kind[len("Result<"):-1].rpartition(",")[0] if kind.startswith("Result<") else ""
+
     def type_of_struct(self, node):
         return self.unit.owner if node.text == "Self" else node.text
 

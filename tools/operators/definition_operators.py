@@ -1,5 +1,8 @@
 """The operators over definitions: each makes of one place of a clause or of a field another text, which means something else."""
+import re
 from collections import Counter
+
+from .definition_more import More
 
 OTHER_SIGNS = {
     "≡": ("≤", "≢"), "≢": ("≡",), "≤": ("<", "≡"), "<": ("≤", "≡"), "×": ("⊎",), "⊎": ("×",), "&&": ("||",), "||": ("&&",),
@@ -17,7 +20,8 @@ OTHER_WORDS = [("min", "max"), ("take", "drop"), ("All", "Any"), ("nat_lt", "nat
 class Facts:
     """What the definitions of a crate, and of those below it, declare."""
 
-    def __init__(self, files, code=None):
+    def __init__(self, files, code=None, modules=()):
+        self.modules = dict(modules)
         self.types, self.fields, self.constructors, self.code, self.files = {}, {}, {}, code, files
         for it in files:
             for name, kind in it.types.items():
@@ -48,11 +52,11 @@ class Facts:
         return [it for it, held in own.items() if held == kind and it != name]
 
 
-class Maker:
+class Maker(More):
     def __init__(self, text, unit, file, facts, own):
         self.text, self.unit, self.file, self.facts, self.own = text, unit, file, facts, own
         self.found = []
-        self.kinds = {}
+        self.kinds = self.parameters()
         signature = split_arrows(file.types.get(unit.name, ""))
         self.returns = unit.returns
         if unit.kind == "clause" and signature:
@@ -110,6 +114,7 @@ class Maker:
             self.replace("a conclusion dropped", node, NOTHING)
             self.replace("a false statement", node, "⊥")
             self.others(node)
+        self.one_value(node)
 
     def parts(self, node):
         if node.kind == "group":
@@ -192,7 +197,8 @@ class Maker:
         nothing = {"Bool": ["true", "false"], "ℕ": ["0"]}.get(held, ["[]"] if held.startswith("List") else ["None"] if held.startswith("Option") else [])
         for it, one in self.kinds.items():
             others += [f"{it}.{inner}" for inner, of in self.facts.fields.get(one.split(" ")[0], {}).items() if of == kind]
-        return [f"{it}.{name}" for it in others if it != self.said(node)] + nothing
+        found = [it for it, one in self.in_scope() if one == held and it != f"{self.said(node)}.{name}"]
+        return [f"{it}.{name}" for it in others if it != self.said(node)] + nothing + found
 
     def numbers(self, node):
         if node.kind == "literal":
@@ -213,6 +219,7 @@ class Maker:
             for operator, new in self.values(node, kind):
                 wraps = above.kind == "apply" and " " in new and not new.startswith("(")
                 self.replace(operator, node, f"({new})" if wraps else new)
+        self.twice(node, kind)
         wanted = getattr(self, "wanted_" + node.kind, None)
         for it in node.parts:
             self.visit(it, wanted(node, it, kind) if wanted else "", node)
@@ -241,11 +248,15 @@ class Maker:
         return "Bool" if part is node.condition else kind
 
     def wanted_named(self, node, part, kind):
-        return self.field_type(node.name)
+        return kind or self.field_type(node.name)
+
+    def wanted_record(self, node, part, kind):
+        owner = kind or (self.type_of(node.base) if node.base is not None else "")
+        return self.facts.fields.get(owner.split(" ")[0], {}).get(part.name, "") if part.kind == "named" else kind
 
     def wanted_apply(self, node, part, kind):
         head = node.head.text if node.head.kind == "name" else ""
-        kinds = [it for it in split_arrows(self.facts.types.get(head.rpartition(".")[2], "")) if not it.startswith("{")]
+        kinds = [it for it in split_arrows(self.type_named(head)) if not it.startswith("{")]
         explicit = [it for it in node.arguments if it.kind != "implicit"]
         if part not in explicit:
             return ""
@@ -257,7 +268,7 @@ class Maker:
 
     def field_type(self, name):
         """The type of a field: where several records have such a field, the one that most have."""
-        kinds = Counter(found[name] for found in self.facts.fields.values() if name in found)
+        kinds = Counter(found[name] for found in self.facts.fields.values() if name in found and not any(it in found[name] for it in ("≡", "→", "×")))
         return kinds.most_common(1)[0][0] if kinds else ""
 
     def type_of(self, node):
@@ -277,7 +288,7 @@ class Maker:
         if node.kind == "apply" and node.head.kind == "name":
             if node.head.text in ("length", "suc", "min", "max", "sum"):
                 return "ℕ"
-            kinds = split_arrows(self.facts.types.get(node.head.text.rpartition(".")[2], ""))
+            kinds = split_arrows(self.type_named(node.head.text))
             return kinds[-1] if kinds else ""
         return ""
 
@@ -327,6 +338,8 @@ class Maker:
             for name, held in self.facts.fields.get(kind.split(" ")[0], {}).items() if kind and self.type_of(it) == kind else ():
                 for new in self.kept_fields(node, kind, name, held):
                     self.replace("a field left as it was", node, f"record {self.operand(it)} {{ {name} = {new} }}")
+        self.elements(node)
+        self.nested(node)
         for i, one in enumerate(explicit):
             for other in explicit[i + 1:]:
                 self.put("two arguments turned", one.start, other.end, self.said(other) + self.text[one.end:other.start] + self.said(one))
@@ -381,6 +394,7 @@ class Maker:
             self.replace(operator, node, new)
 
     def at_record(self, node, kind):
+        self.field_more(node)
         if node.base is not None:
             self.replace("a statement left out", node, self.said(node.base))
             for it in node.fields:
@@ -413,7 +427,9 @@ def split_arrows(kind):
             one = []
         else:
             one.append(word)
-    return found + ([tidy(one)] if one else [])
+    found += [tidy(one)] if one else []
+    # several names of one type are several arguments
+    return [kind for it in found for kind in (re.sub(r"^\((?:[^\W\d][\w']* )+: (.*)\)$", r"\1", it),) * (len(it.partition(" : ")[0].split()) if re.match(r"\((?:[^\W\d][\w']* )+: ", it) else 1)]
 
 
 def tidy(words):

@@ -194,6 +194,7 @@ class File:
     def __init__(self, text):
         self.text, self.units, self.unread = text, [], []
         self.types, self.fields, self.constructors = {}, {}, {}
+        self.record_params, self.module_params = {}, {}
         self.record = None
         for start, end in self.entries():
             self.entry(start, end)
@@ -225,6 +226,8 @@ class File:
     def entry(self, start, end):
         text = self.text[start:end]
         words = text.split()
+        if words[0] == "module":
+            self.module_params.update(params_of(text))
         if words[0] in ("use", "module", "open", "unfolding"):
             return
         if "data" in words[:2]:
@@ -238,6 +241,7 @@ class File:
         if words[:2] == ["pub", "record"] or words[0] == "record" and "where" in words:
             self.record = words[words.index("record") + 1]
             self.fields.setdefault(self.record, {})
+            self.record_params[self.record] = params_of(text)
             return
         colon = re.match(r"(\s*)pub (\S+)((?: \S+)*?) : ", text)
         if colon and self.record:
@@ -286,6 +290,14 @@ def depth_of(text, found):
         return 0
     part = re.sub(r"--[^\n]*", "", text[found[-1][0]:found[-1][1]])
     return sum(part.count(it) for it in "({") - sum(part.count(it) for it in ")}")
+
+
+def params_of(text):
+    """Returns the parameters of the head of a record or a module, with their types."""
+    found = {}
+    for names, kind in re.findall(r"[({]([^(){}:]+) : ((?:[^(){}]|\([^()]*\))+)[)}]", text.partition(" where")[0]):
+        found.update({it: " ".join(kind.split()) for it in names.split()})
+    return found
 
 
 def plain_words(text):

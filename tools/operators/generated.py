@@ -5,7 +5,7 @@ import os
 import re
 
 from . import code, definitions, items
-from . import definition_operators, code_operators
+from . import definition_operators, code_operators, code_special, donors
 from .facts import Facts
 from .spelling import code_form, term_form
 
@@ -13,7 +13,9 @@ TOP = os.path.dirname(os.path.dirname(os.path.dirname(os.path.realpath(__file__)
 # what an edit of definitions may bring in that the file didn't use: words of the library's Prelude
 BROUGHT = {"≤": "◌≤◌", "<": "◌<◌", "≢": "◌≢◌", "⊎": "◌⊎◌", "+": "◌+◌", "-": "◌-◌", "*": "◌*◌", "/": "◌/◌", "%": "◌%◌", "||": "◌||◌", "≡": "◌≡◌", "&&": "◌&&◌"}
 # operators that make very many edits: names of the same type, fields that stay, other numbers
-WIDE = ("a name", "a field left as it was", "a constant", "a call left out", "a case more", "a case moved", "two statements turned", "what is written is lost", "a statement more", "a result passed over")
+WIDE = ("a name", "a field left as it was", "a constant", "a call left out", "a case more", "a case moved", "two statements turned", "what is written is lost", "a statement more", "a result passed over",
+        "a special case", "an operand twice", "a call twice", "an element more", "two calls turned", "a field more",
+        "another number", "another text", "a field otherwise")
 WORDS = ("suc", "true", "false", "[]", "None", "take", "drop", "not", "max", "min")
 
 
@@ -71,9 +73,12 @@ class Generated:
         text = text[:self.start] + self.new + text[self.end:]
         return bring_in(text, self.new) if self.is_definition() else text
 
+    def texts(self):
+        return {self.path: self.text()}
+
     def form(self):
         try:
-            return term_form(self.body()) if self.is_definition() else code_form(self.body(), self.unit, constants().items())
+            return term_form(self.body()) if self.is_definition() else code_form(self.body(), self.unit, constants().items(), reading())
         except (code.Unread, definitions.Unread, KeyError, RecursionError):
             return None
 
@@ -93,6 +98,17 @@ def constants():
             if len(said[name]) == 1 and re.fullmatch(r"[0-9a-fx +*()-]+", one) and "none" not in one:
                 found.setdefault(name, eval(one, {}))  # a sum of numbers, from the tree
     return found
+
+
+@functools.cache
+def reading():
+    """Returns the names of the functions and methods of the tree of which none changes what it is given."""
+    found = {}
+    for path in sorted(glob.glob(f"{TOP}/crates/*/src/**/*.rt", recursive=True)):
+        for it in parsed(os.path.relpath(path, TOP)).signatures:
+            changes = "mut" in it.takes_self.split(" ") or it.takes_self in ("self", "mut self") or any("mut" in kind.split(" ") for kind in it.params.values())
+            found[it.name] = found.get(it.name, True) and not changes
+    return frozenset(name for name, is_reading in found.items() if is_reading)
 
 
 def squeezed(text):
@@ -137,8 +153,9 @@ def code_facts(crate, below):
 
 @functools.cache
 def definition_facts(crate, below):
-    files = [parsed(it) for name in (crate, *reversed(below)) for it in paths_of(name, "specs")]
-    return definition_operators.Facts(files, code_facts(crate, below))
+    paths = [it for name in (crate, *reversed(below)) for it in paths_of(name, "specs")]
+    modules = {"Rattle." + it.removeprefix("crates/").removesuffix(".antt").replace("/", "."): parsed(it) for it in paths}
+    return definition_operators.Facts([parsed(it) for it in paths], code_facts(crate, below), modules)
 
 
 def is_law(unit):
@@ -160,6 +177,23 @@ def of_unit(path, unit, below):
         found = definition_operators.Maker(file.text, unit, file, definition_facts(crate, below), own).make()
     edits = {(start, end, new): Generated(path, unit, operator, start, end, new) for operator, start, end, new in reversed(found)}
     return sorted(edits.values(), key=lambda it: (it.start, it.end, it.new))
+
+
+def special_of_unit(path, unit, below, near=None, words=None):
+    """Yields the special cases of one unit of code."""
+    if path.endswith(".rt") and unit.tree is not None and not is_law(unit):
+        maker = code_special.Special(parsed(path), unit, code_facts(path.split("/")[1], below), near, words)
+        for operator, start, end, new in maker.make():
+            yield Generated(path, unit, operator, start, end, new)
+
+
+def donated_of_unit(path, unit, near=None, wanted=None):
+    """Yields what puts another expression or statement of the crate in a place of a unit."""
+    is_code = path.endswith(".rt")
+    if unit.tree is not None and not (is_code and is_law(unit)):
+        files = tuple(parsed(it) for it in paths_of(path.split("/")[1], "src" if is_code else "specs"))
+        for operator, start, end, new in donors.edits(parsed(path), unit, files, is_code, near, wanted):
+            yield Generated(path, unit, operator, start, end, new)
 
 
 def all_of(crate, below, is_wide=True):

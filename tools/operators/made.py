@@ -1,9 +1,11 @@
 """Which of the kept edits an operator makes."""
+import glob
+import itertools
 import os
 import re
-from collections import defaultdict
+from collections import Counter, defaultdict
 
-from . import code, definitions, generated, items
+from . import code, code_special, definitions, donors, generated, items, pairs
 from .spelling import code_form, term_form
 
 
@@ -20,8 +22,8 @@ def outside(text, file):
     return re.sub(r"\s+", "", text)
 
 
-def changed_unit(path, text, new):
-    """Returns the one unit that an edit of a file changes, and the unit's new text, or None."""
+def changed_units(path, text, new):
+    """Returns the units that an edit of a file changes, each with its new text, or None where it changes more."""
     parse = items.File if path.endswith(".rt") else definitions.File
     file = generated.parsed(path)
     try:
@@ -30,39 +32,95 @@ def changed_unit(path, text, new):
         return None
     if len(file.units) != len(other.units) or outside(text, file) != outside(new, other):
         return None
-    changed = [(one, new[two.start:two.end]) for one, two in zip(file.units, other.units) if text[one.start:one.end] != new[two.start:two.end]]
-    return changed[0] if len(changed) == 1 else None
+    return [(path, one, new[two.start:two.end]) for one, two in zip(file.units, other.units) if text[one.start:one.end] != new[two.start:two.end]]
+
+
+class Change:
+    """What a kept edit makes of one unit: its new text, the form of it, and the part of the file that is another."""
+
+    def __init__(self, path, unit, body):
+        self.path, self.unit, self.body, self.form = path, unit, body, form(path, unit, body)
+        old = generated.read(path)[unit.start:unit.end]
+        before = len(os.path.commonprefix([old, body]))
+        after = len(os.path.commonprefix([old[before:][::-1], body[before:][::-1]]))
+        self.first, self.last = unit.start + before, unit.end - after
+        self.place = path, unit.start
+
+    def words_gained(self):
+        return gained(self.body, generated.read(self.path)[self.unit.start:self.unit.end])
+
+    def is_near(self, edit):
+        return edit.start <= self.last + 2 and edit.end >= self.first - 2
+
+
+def gained(new, old):
+    """Returns how many of each word and sign a text has more than another, or less."""
+    found = Counter(re.findall(r"\w+|[^\w\s(){},;]", re.sub(r"(?<=\d)_(?=\d)", "", new)))
+    found.subtract(re.findall(r"\w+|[^\w\s(){},;]", re.sub(r"(?<=\d)_(?=\d)", "", old)))
+    return {it: count for it, count in found.items() if count}
+
+
+def changes(edit):
+    """Returns what a kept edit makes of each unit of code and of definitions, or None where it changes more."""
+    found = []
+    for path, new in edit.texts().items():
+        units = changed_units(path, generated.read(path), new) if re.search(r"/(src|specs)/", path) else None
+        if not units:
+            return None
+        found += [Change(*it) for it in units]
+    return found if all(it.form is not None for it in found) else None
 
 
 def form(path, unit, body):
     try:
-        return code_form(body, unit, generated.constants().items()) if path.endswith(".rt") else term_form(body)
+        return code_form(body, unit, generated.constants().items(), generated.reading()) if path.endswith(".rt") else term_form(body)
     except (code.Unread, definitions.Unread, KeyError, RecursionError):
         return None
 
 
 def made(edits, below):
-    """Yields each kept edit with the generated one that is the same, or with None. `below` tells the crates below one."""
-    waiting = defaultdict(list)
+    """Yields each kept edit with the generated one that is the same, or the pair of these, or None. `below` tells the crates below one."""
+    waiting, kept = defaultdict(list), []
     for edit in edits:
-        paths = {path for path, _, _ in edit.pairs}
-        found = None
-        if len(paths) == 1 and re.search(r"/(src|specs)/", path := paths.pop()):
-            text = generated.read(path)
-            found = changed_unit(path, text, edit.texts()[path])
-        if found is None or (wanted := form(path, *found)) is None:
+        found = changes(edit)
+        if found is None or any(it.form == generated.form_of(it.path, it.unit) for it in found):
             yield edit, None
-        else:
-            waiting[path, found[0].start].append((edit, found[0], wanted))
-    for (path, _), kept in waiting.items():
-        unit = kept[0][1]
-        forms = {}
-        for it in generated.of_unit(path, unit, tuple(below(path.split("/")[1]))):
-            if (one := it.form()) is not None:
-                forms.setdefault(one, it)
-        same = generated.form_of(path, unit)
-        for edit, _, wanted in kept:
-            yield edit, forms.get(wanted) if wanted != same else None
+            continue
+        kept.append((edit, found))
+        for it in found:
+            waiting[it.place].append(it)
+    made_of = defaultdict(list)
+    for place, found in sorted(waiting.items()):
+        crates = tuple(below(place[0].split("/")[1]))
+        for it in generated.of_unit(place[0], found[0].unit, crates):
+            near = [one for one in found if one.is_near(it)]
+            if near and (one := it.form()) in [wanted.form for wanted in near]:
+                made_of[place, one].append(it)
+        for it in found:
+            if (place, it.form) not in made_of:
+                made_of[place, it.form] += special(it, crates)
+    for edit, found in kept:
+        yield edit, chosen([made_of[it.place, it.form] for it in found])
+
+
+def special(change, below):
+    """Returns the special case, or what brings another expression of the crate, that is the same as a change."""
+    words, wanted = code_special.words_of(change.body), change.words_gained()
+    found = generated.special_of_unit(change.path, change.unit, below, (change.first, change.last), words)
+    found = list(itertools.islice((it for it in found if gained(it.new, generated.read(it.path)[it.start:it.end]) == wanted and it.form() == change.form), 1))
+    if found:
+        return found
+    wanted = donors.bare(change.body)
+    found = generated.donated_of_unit(change.path, change.unit, (change.first, change.last), wanted)
+    return list(itertools.islice((it for it in found if donors.bare(it.body()) == wanted and it.form() == change.form), 1))
+
+
+def chosen(found):
+    """Returns the generated edit of one unit, or the pair of those of several."""
+    if len(found) == 1:
+        return found[0][0] if found[0] else None
+    tried = itertools.islice(itertools.product(*found), 64)
+    return next((pairs.Pair(list(it)) for it in tried if pairs.is_pair(it)), None)
 
 
 def without_spaces(text):
@@ -72,7 +130,7 @@ def without_spaces(text):
 def remove(tools, words):
     """Prints the kept edits that operators make, each with the generated edit that is the same, and with `--remove` removes their files."""
     is_to_remove = "--remove" in words
-    crates = [it for it in words if it != "--remove"] or [it for it in tools.USES if os.path.isdir(f"{generated.TOP}/crates/{it}/planted")]
+    crates = [it for it in words if it != "--remove"] or [it for it in tools.USES if glob.glob(f"{generated.TOP}/crates/{it}/planted/*.edit")]
     kept, count, spelled, by_runs = [], 0, 0, 0
     for edit in [it for found in tools.wanted(crates).values() for it in found]:
         # what runs alone refuses isn't tried with what operators make
@@ -88,7 +146,7 @@ def remove(tools, words):
         if same is None:
             continue
         count += 1
-        is_same = without_spaces(edit.texts()[same.path]) == without_spaces(same.text())
+        is_same = all(without_spaces(it) == without_spaces(same.texts()[path]) for path, it in edit.texts().items())
         spelled += not is_same
         print(f"{edit.label()} {'=' if is_same else '~'} {same.name()}", flush=True)
         if is_to_remove:

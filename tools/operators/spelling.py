@@ -9,7 +9,7 @@ UNIT = "{}"
 TURNED = {">": "<", ">=": "<="}
 CONTRARY = {"==": "!=", "!=": "==", "<": ">=", ">=": "<", ">": "<=", "<=": ">"}
 # methods that only read
-READS = ("len", "is_empty", "records", "entries", "as_slice", "bytes", "get", "failed", "is_silent", "is_closed", "iter")
+READS = ("len", "is_empty", "records", "entries", "as_slice", "bytes", "get", "failed", "is_silent", "is_closed", "iter", "is_some", "is_none", "is_ok", "is_err", "first", "last")
 WIDTH = re.compile(r"(?<=[0-9a-fA-F])(?:[ui](?:8|16|32|64)|[ui]size)$")
 NAME = re.compile(r"[\w.*&()\[\] ]+")
 
@@ -53,8 +53,8 @@ class Form:
 
 
 class CodeForm(Form):
-    # constants by their values
-    known = {}
+    # constants by their values, and the functions and methods that change nothing
+    known, reads = {}, frozenset()
 
     def of_block(self, node):
         found = self.flat(node)
@@ -85,7 +85,15 @@ class CodeForm(Form):
         return [one] if one and one != UNIT else []
 
     def is_pure(self, node):
-        return node is not None and all(it.kind == "method" and not it.arguments and it.name.text in READS + ("unwrap",) or it.kind == "call" and self.text[it.callee.start:it.callee.end].endswith("::new") or it.kind in ("path", "field", "unary", "tuple", "group", "literal", "index", "range") for it in node.walk())
+        return node is not None and all(self.only_reads(it) for it in node.walk())
+
+    def only_reads(self, node):
+        if node.kind == "method":
+            return node.name.text in READS + ("unwrap",) and not node.arguments or node.name.text in self.reads
+        if node.kind == "call":
+            name = self.text[node.callee.start:node.callee.end]
+            return name.endswith("::new") or name.rpartition("::")[2] in self.reads
+        return node.kind in ("path", "field", "tuple", "group", "literal", "index", "range", "binary", "cast", "matches", "pattern") or node.kind == "unary" and node.sign.text != "&mut"
 
     def of_let(self, node):
         said = self.plain(node).removesuffix(" ;")
@@ -128,8 +136,13 @@ class CodeForm(Form):
                 return all_of
             if none in (left, right):
                 return right if left == none else left
+            found = self.operands(node.left, sign) + self.operands(node.right, sign)
+            return f" {sign} ".join(sorted(found) if self.is_pure(node) else found)
         if sign in ("<", "<=") and left == right:
             return "true" if sign == "<=" else "false"
+        if sign in ("<", "<=", "==", "!=") and left.isdigit() and right.isdigit():
+            one, other = int(left), int(right)
+            return "true" if {"<": one < other, "<=": one <= other, "==": one == other, "!=": one != other}[sign] else "false"
         if sign in ("-", "^") and left == right:
             return "0"
         if sign in ("+", "-", "*") and left.isdigit() and right.isdigit() and (sign != "-" or int(left) >= int(right)):
@@ -150,6 +163,13 @@ class CodeForm(Form):
         if sign in ("==", "!=") and left > right:
             left, right = right, left
         return f"{left} {sign} {right}"
+
+    def operands(self, node, sign):
+        """What a chain of one sign joins, in which the order doesn't tell."""
+        bare = self.bare(node)
+        if bare.kind == "binary" and bare.sign.text == sign:
+            return self.operands(bare.left, sign) + self.operands(bare.right, sign)
+        return [self.side(node, sign)]
 
     def side(self, node, sign, is_right=False):
         """A side of a sign, in brackets where they say something."""
@@ -280,14 +300,14 @@ class CodeForm(Form):
         return f"{node.word} {self.open(node.inner)}" if node.inner is not None else " ".join(self.words(node.start, node.end))
 
 
-def code_form(text, unit, known=()):
+def code_form(text, unit, known=(), reads=frozenset()):
     """Returns the form of a unit's body."""
     reader = code.Reader(text, 0, len(text))
     tree = reader.block() if unit.kind in ("fn", "macro") else reader.expression()
     if reader.at != len(reader.all):
         raise code.Unread("more")
     form = CodeForm(text, CODE)
-    form.root, form.known = tree.start, dict(known)
+    form.root, form.known, form.reads = tree.start, dict(known), reads
     return without_unused(form.of(tree), set(unit.params))
 
 
@@ -338,6 +358,8 @@ class TermForm(Form):
             return nothing
         if sign == "→" and left == nothing:
             return self.of(self.bare(node.right))
+        if sign == "×" and "⊥" in (left, right):
+            return "⊥"
         if sign == "×" and nothing in (left, right):
             return self.of(self.bare(node.right if left == nothing else node.left))
         if sign == "+" and "0" in (left, right) or sign == "-" and right == "0":
@@ -346,6 +368,8 @@ class TermForm(Form):
             return f"suc {left}"
         if sign == "++" and "[]" in (left, right):
             return right if left == "[]" else left
+        if sign in ("++", "×", "⊎") and (chain := self.chain(node, sign)):
+            return f" {sign} ".join(chain if sign == "++" else sorted(chain))
         if sign in ("&&", "||"):
             none, all_of = ("true", "false") if sign == "&&" else ("false", "true")
             if all_of in (left, right):
@@ -359,6 +383,14 @@ class TermForm(Form):
         if sign in ("≡", "≢") and left > right:
             left, right = right, left
         return f"{left} {sign} {right}"
+
+    def chain(self, node, sign):
+        """What a chain of one sign joins, if none of it is named for what follows."""
+        node = self.bare(node)
+        if node.kind != "binary" or node.sign.text != sign:
+            return [self.inner(node)] if not any(it.kind == "binder" for it in (node, *node.parts)) else []
+        left, right = self.chain(node.left, sign), self.chain(node.right, sign)
+        return left + right if left and right else []
 
     def of_apply(self, node):
         parts = [self.inner(it) for it in node.parts]
@@ -377,7 +409,8 @@ class TermForm(Form):
         return number(node.text)
 
     def of_name(self, node):
-        return {"zero": "0"}.get(node.text, node.text)
+        text = node.text.removeprefix("Rattle.std.specs.Prelude.")
+        return {"zero": "0"}.get(text, text)
 
     def of_lambda(self, node):
         return self.plain(node)
@@ -391,6 +424,12 @@ class TermForm(Form):
     def of_record(self, node):
         base = self.inner(node.base) if node.base is not None else ""
         fields = sorted(f"{it.name} = {self.of(it.value)} ;" for it in node.fields)
+        within = self.bare(node.base) if node.base is not None else None
+        if within is not None and within.kind == "record" and within.base is not None:
+            # what a record has otherwise, and then otherwise once more
+            own = {it.name for it in node.fields}
+            fields = sorted(fields + [f"{it.name} = {self.of(it.value)} ;" for it in within.fields if it.name not in own])
+            base = self.inner(within.base)
         fields = [it for it in fields if it != f"{it.split(' ')[0]} = {base}.{it.split(' ')[0]} ;"]
         if base and not fields:
             return base

@@ -12,7 +12,7 @@ import signal
 import subprocess
 import sys
 
-from . import generated
+from . import generated, pairs, streams
 
 ERROR = re.compile(r"^(?:\./)?(src/\S+?|specs/\S+?):(\d+):\d+: error(?:\[[\w-]+\])?: (.*)$", re.M)
 REFUSED, EQUAL, SURVIVED, NOT_TRIED, BY_CODE = "refused", "equal", "survived", "not tried", "refused by code alone"
@@ -121,6 +121,17 @@ class Trial:
         self.copy.put_back(self.crate)
         return said, places
 
+    def checked_alone(self, edit):
+        """Checks the crate with one edit, which may change several files."""
+        texts = edit.texts()
+        own = {path: text for path, text in texts.items() if os.path.isdir(f"{self.copy.root}/crates/{path.split('/')[1]}")}
+        self.copy.keep(self.crate)
+        self.copy.write(own)
+        said = ran(["rt", "check", "--jobs", "1"], self.copy.folder(self.crate), self.budget)
+        self.copy.restore(own)
+        self.copy.put_back(self.crate)
+        return said
+
     # ---- code
 
     def try_code(self, edits):
@@ -202,7 +213,7 @@ class Trial:
         return bool(told) and all(it == "proved" for it in told)
 
     def by_itself(self, edit):
-        said, places = self.checked([edit])
+        said = self.checked_alone(edit)
         if said is None:
             return
         if re.search(r"^logic=proved", said, re.M):
@@ -212,6 +223,9 @@ class Trial:
             why = self.tools.refusal(said, [edit.path.split("/", 2)[2]])
         except self.tools.Bad as it:
             self.say(edit, NOT_TRIED, str(it))
+            return
+        if edit.operator == pairs.OPERATOR and "laws" not in why:
+            self.say(edit, NOT_TRIED, f"the code isn't what the definition says then: {why}")
             return
         by_law = not edit.is_definition() or self.is_of_laws() or "laws" in why or not os.path.isfile(f"{generated.TOP}/crates/{self.crate}/src/laws.rt")
         self.say(edit, REFUSED if by_law else BY_CODE, why)
@@ -245,7 +259,7 @@ class Trial:
         """Returns the goals that refuse a definition in a crate above or on the way there, or nothing, or None at the end of the budget."""
         copy = self.tools.Copy({over, *self.tools.below(over)})
         try:
-            copy.write({edit.path: edit.text()})
+            copy.write(edit.texts())
             for name in [it for it in self.tools.USES if it in {over, *self.tools.below(over)} and (it == self.crate or self.crate in self.tools.below(it))]:
                 said = ran(["rt", "check", "--jobs", "1"], copy.folder(name), self.budget)
                 if said is None:
@@ -288,9 +302,12 @@ def chosen(crate, tools, most, seed, is_wide=True):
     return [it for it in edits if it not in same], same
 
 
-def try_crate(tools, crate, most, seed, budget, is_wide=True):
+def try_crate(tools, crate, most, seed, budget, is_wide=True, kind=None):
     """Tries edits of a crate, and returns how many of each result there were."""
-    edits, same = chosen(crate, tools, most, seed, is_wide)
+    if kind is None:
+        edits, same = chosen(crate, tools, most, seed, is_wide)
+    else:
+        edits, same = streams.some_of(streams.all_of(kind, crate, tuple(tools.below(crate)), is_wide), most, f"{seed} {crate}"), []
     copy = tools.Copy({crate, *tools.below(crate)})
     try:
         said = ran(["rt", "check", "--jobs", "1"], copy.folder(crate), budget)
@@ -362,18 +379,28 @@ def main(tools, words):
             del words[place:place + 2]
             most, seed = (int(value), seed) if name == "--most" else (most, value)
     only, is_wide = "--list" in words, "--wide" in words
-    words = [it.strip("/").removeprefix("crates/") for it in words if it not in ("--list", "--wide")]
+    kind = next((it for it in streams.KINDS if it in words), None)
+    words = [it.strip("/").removeprefix("crates/") for it in words if it not in ("--list", "--wide", *streams.KINDS)]
+    if kind and most is None and not only:
+        tools.stop(f"with {kind} so many are made that a sample alone is tried: say --most N")
     failed = 0
     for crate in words:
         if crate not in tools.USES:
             tools.stop(f"no crate of crates.txt: {crate}")
         if only:
-            edits, _ = chosen(crate, tools, most, seed, is_wide)
-            print("\n".join(it.name() for it in edits))
-            print(f"{crate}: {len(edits)} edits")
+            show(tools, crate, most, seed, is_wide, kind)
             continue
-        failed += try_crate(tools, crate, most, seed, Budget(None), is_wide).get(SURVIVED, 0)
+        failed += try_crate(tools, crate, most, seed, Budget(None), is_wide, kind).get(SURVIVED, 0)
     return 1 if failed else 0
+
+
+def show(tools, crate, most, seed, is_wide, kind):
+    """Prints the edits of a crate by their names, and how many they are."""
+    below, count = tuple(tools.below(crate)), 0
+    for it in streams.all_of(kind, crate, below, is_wide) if kind else chosen(crate, tools, most, seed, is_wide)[0]:
+        print(it.name())
+        count += 1
+    print(f"{crate}: {count} edits")
 
 
 if __name__ == "__main__":

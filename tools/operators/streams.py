@@ -1,0 +1,28 @@
+"""What operators make in so great a number that it is made one after the other: listed whole, and tried as a sample."""
+import random
+
+from . import generated, pairs
+
+KINDS = ("--pairs", "--special")
+
+
+def all_of(kind, crate, below, is_wide):
+    """Yields the edits of one of these kinds, of a crate."""
+    if kind == "--pairs":
+        yield from pairs.of_crate(crate, below, is_wide)
+        return
+    for path in [*generated.paths_of(crate, "src"), *generated.paths_of(crate, "specs")]:
+        for unit in generated.parsed(path).units:
+            yield from generated.special_of_unit(path, unit, below)
+            yield from generated.donated_of_unit(path, unit)
+
+
+def some_of(edits, most, seed):
+    """Takes so many of them, each as likely as each other."""
+    order, taken = random.Random(seed), []
+    for i, it in enumerate(edits):
+        if len(taken) < most:
+            taken.append(it)
+        elif (place := order.randrange(i + 1)) < most:
+            taken[place] = it
+    return taken
