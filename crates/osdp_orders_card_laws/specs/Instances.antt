@@ -1,5 +1,5 @@
 -- Two orders and a card that takes as long as its law allows, to the millisecond.
-use Rattle.std.specs.Prelude.{◌≡◌, ℕ, ◌+◌, ◌*◌, false, List, [], ◌∷◌, Some}
+use Rattle.std.specs.Prelude.{◌≡◌, ℕ, ◌+◌, ◌*◌, false, List, [], ◌∷◌, ◌++◌, Some}
 use Rattle.osdp_msg.specs.declared.command.Command.TheVariants.{Id}
 use Rattle.osdp_controller.specs.declared.report.Report.TheVariants as reports
 use Rattle.osdp_bus.specs.Buses.{has_report}
@@ -31,9 +31,7 @@ before_card =
     OnBytes (ack_bytes 128 229) 10 ∷ OnBytes [] 15 ∷ Submit 0 (Id 0) ∷ Tick 16 ∷ Submit 0 (Id 0) ∷ OnBytes order_answer 17 ∷ NextReport ∷ Tick 18 ∷ Tick 23 ∷ []
 
 abbrev pub panel_calls : List Call
-panel_calls =
-    OnBytes (ack_bytes 128 229) 10 ∷ OnBytes [] 15 ∷ Submit 0 (Id 0) ∷ Tick 16 ∷ Submit 0 (Id 0) ∷ OnBytes order_answer 17 ∷ NextReport ∷ Tick 18 ∷ Tick 23
-    ∷ OnBytes card_answer 24 ∷ []
+panel_calls = before_card ++ OnBytes card_answer 24 ∷ []
 
 -- what the bus is called with: the second order comes after the POLL
 abbrev pub bus_steps : List Step
