@@ -18,3 +18,4 @@ mod Polled
 mod Bounding
 pub mod Coming
 mod SlowOrder
+mod Ending

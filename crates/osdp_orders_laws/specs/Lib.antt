@@ -5,3 +5,4 @@ pub mod Freeing
 pub mod OfTheBus
 pub mod InTime
 pub mod Instances
+pub mod Ended

@@ -1,5 +1,7 @@
 //! By when an order has gone out, where the orders of its entry wait for POLLs.
 
+ghost use Rattle.osdp_orders_laws.specs.Calls.{Always};
+ghost use Rattle.osdp_orders_laws.specs.Ended.{BusesTellEnds, EndsAreTold};
 ghost use Rattle.osdp_orders_laws.specs.InTime.{AlwaysWritten, OrdersGoOut, OrdersInTime};
 ghost use Rattle.osdp_orders_laws.specs.Instances.{OrderIsReached};
 
@@ -15,4 +17,11 @@ pub fn orders_between_polls_go_out()
 /// long for an order that is accepted as the one before it has just gone out.
 pub fn the_bound_of_an_order_is_reached()
     ensures { OrderIsReached }
+{}
+
+/// A session that ends is told ended: where a call ends one that was under way, the report that waits after the call says so. So it is with a bus, and with a panel's
+/// orders beside it.
+pub fn ended_sessions_are_told()
+    ensures orders { Always EndsAreTold }
+    ensures bus { BusesTellEnds }
 {}

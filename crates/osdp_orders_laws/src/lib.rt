@@ -10,7 +10,9 @@ ghost use Rattle.osdp_orders_laws.specs.Places.{OrdersKeepTheirPlaces, TellAllTh
 
 mod in_time;
 
-pub use in_time::{orders_between_polls_go_out, the_bound_of_an_order_is_reached};
+pub use in_time::{
+    ended_sessions_are_told, orders_between_polls_go_out, the_bound_of_an_order_is_reached,
+};
 
 /// Between two orders of one entry a POLL of that entry is answered, or its session begins anew. So orders that come as fast as they go keep no card waiting without
 /// end: after each of them the device is asked for its events.
