@@ -24,8 +24,8 @@ send OUT 0:2:0
 send OUT 1
 expect ACK
 """
-WRONG = ("line 3, expcet ACK: no line begins with this word", "line 4, send OUT 0:2:0: no may above it allows this command",
-         "line 5, send OUT 1: other words stand after its first word", "line 6, expect ACK: nothing was sent above it")
+WRONG = ("line 3, expcet ACK: no line begins with expcet", "line 4, send OUT 0:2:0: no may above it allows this command",
+         "line 5, send OUT 1: word 3 cannot be 1", "line 6, expect ACK: nothing was sent above it")
 WORDS = ((["test", "script"], "word 4, script: device ADDRESS, as device 5, panel ADDRESS, or script FILE"), (["test", "script", "a", "b"], "word 6, b: nothing more stands there"),
          (["--may", "out:0", "test", "script", "a"], "--may is no option of test script: a line of the script says it"),
          (["--tap", "test", "script", "a"], "--tap is no option of test script: a line of the script says it"))

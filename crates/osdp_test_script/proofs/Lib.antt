@@ -1,4 +1,6 @@
 mod Chained
+mod LineRows
+mod OneAnswer
 mod Passing
 mod Rows
-mod OneAnswer
+mod WordTexts

@@ -19,7 +19,7 @@ use Rattle.osdp_test_script.specs.Answers.{IsAnswerIn}
 use Rattle.osdp_test_script.specs.Awaited.{awaited_code}
 use Rattle.osdp_test_script.specs.Permits.{is_allowed, new_permits, with_permit}
 use Rattle.osdp_test_script.specs.Seen.{counts_seen, expected_seen, is_code, kept_byte, reads_seen}
-use Rattle.osdp_test_script.specs.Texts.{expect_text, refusal_line, send_line, verdict_lines, wait_line}
+use Rattle.osdp_test_script.specs.Texts.{expect_text, refusal_line, refusal_text, send_line, verdict_lines, wait_line}
 use Rattle.osdp_test_script.specs.declared.awaited.Awaited.{Awaited}
 use Rattle.osdp_test_script.specs.declared.call.Permit.{Permit}
 use Rattle.osdp_test_script.specs.declared.call.Term.{Term}
@@ -112,8 +112,11 @@ abbrev pub first_refused : Option ℕ → ℕ → Option ℕ
 first_refused None line = Some line
 first_refused (Some first) line = Some first
 
+abbrev pub refuses_saying : List ℕ → ScriptRun → Called
+refuses_saying why s = record { text = refusal_line s.line why; run = record s { refused = first_refused s.refused s.line } }
+
 abbrev pub refuses : Refusal → ScriptRun → Called
-refuses why s = record { text = refusal_line s.line why; run = record s { refused = first_refused s.refused s.line } }
+refuses why s = refuses_saying (refusal_text why) s
 
 -- another device: nothing is known of it, and nothing may be done to it
 abbrev pub names : ℕ → ScriptRun → ScriptRun
@@ -336,9 +339,9 @@ Does (Heard moment delay list) s c =
 Does Ready s c = c ≡ is_ready s
 Does call s c = c ≡ then_does (says call) (settled s)
 
--- a line that is none
-abbrev pub refuses_line : Refusal → ScriptRun → Called
-refuses_line why s = then_does (refuses why) (settled s)
+-- a line that says nothing
+abbrev pub refuses_line : List ℕ → ScriptRun → Called
+refuses_line why s = then_does (refuses_saying why) (settled s)
 
 -- a blank line
 abbrev pub passes_line : ScriptRun → Called

@@ -1,5 +1,6 @@
 -- The lines that a run prints.
-use Rattle.std.specs.Prelude.{ℕ, List, [], ◌++◌, codes, Option, Some, None}
+use Rattle.std.specs.Prelude.{ℕ, ◌+◌, ◌==◌, List, [], ◌++◌, codes, Option, Some, None, option_map, if◌then◌else◌}
+use Rattle.std.specs.Borrow.{Bor}
 use Rattle.std.specs.Fmt.{decimal}
 use Rattle.osdp_frame.specs.Packet.{Packet}
 use Rattle.osdp_frame.specs.Spelling.{spelling}
@@ -9,22 +10,29 @@ use Rattle.osdp_test_script.specs.declared.awaited.Awaited.{Awaited}
 use Rattle.osdp_test_script.specs.declared.call.Term.{Term}
 use Rattle.osdp_test_script.specs.declared.call.Term.TheVariants.{Open, Within, FromUser}
 use Rattle.osdp_test_script.specs.declared.refusal.Refusal.{Refusal}
-use Rattle.osdp_test_script.specs.declared.refusal.Refusal.TheVariants.{NoName, NoFields, NoDevice, NotAllowed, NothingSent, NothingKept, NothingAwaited}
+use Rattle.osdp_test_script.specs.declared.refusal.Refusal.TheVariants.{NoDevice, NotAllowed, NothingSent, NothingKept, NothingAwaited}
 use Rattle.osdp_test_script.specs.declared.run.Exchange.{Exchange}
 use Rattle.osdp_test_script.specs.declared.seen.Seen.{Seen}
 use Rattle.osdp_test_script.specs.declared.seen.Seen.TheVariants.{Ok, Broken, Unclear}
 
 abbrev pub refusal_text : Refusal → List ℕ
-refusal_text NoName = codes "no line begins with this word"
-refusal_text NoFields = codes "other words stand after its first word"
 refusal_text NoDevice = codes "no line above it names the device"
 refusal_text NotAllowed = codes "no may above it allows this command"
 refusal_text NothingSent = codes "nothing was sent above it"
 refusal_text NothingKept = codes "nothing was kept above it"
 refusal_text NothingAwaited = codes "no answer is waited for"
 
-abbrev pub refusal_line : ℕ → Refusal → List ℕ
-refusal_line line why = codes "line " ++ (decimal line ++ (codes " refused: " ++ (refusal_text why ++ codes "\n")))
+abbrev pub text_in : Option (Bor (List ℕ)) → Option (List ℕ)
+text_in word = option_map (λ (w : Bor (List ℕ)). w.now) word
+
+-- which word of a line cannot stand where it is, by its place, counted from 0, or that none stands there
+abbrev pub wrong_word_text : ℕ → Option (List ℕ) → List ℕ
+wrong_word_text place None = codes "word " ++ (decimal (place + 1) ++ codes " is missing")
+wrong_word_text place (Some word) =
+    if place == 0 then codes "no line begins with " ++ word else codes "word " ++ (decimal (place + 1) ++ (codes " cannot be " ++ word))
+
+abbrev pub refusal_line : ℕ → List ℕ → List ℕ
+refusal_line line why = codes "line " ++ (decimal line ++ (codes " refused: " ++ (why ++ codes "\n")))
 
 -- the bytes that go out
 abbrev pub send_line : List ℕ → List ℕ

@@ -1,7 +1,9 @@
 //! A line in its turn.
 
-ghost use Rattle.std.specs.Prelude.{◌≡◌, ◌++◌, None, OnOk, string_bytes};
+ghost use Rattle.std.specs.Prelude.{◌≡◌, ◌≤◌, ◌++◌, None, OnOk, length, slice_get, string_bytes};
 ghost use Rattle.osdp_rules.specs.Known.{next_number};
+ghost use Rattle.osdp_words.specs.Word.{texts};
+ghost use Rattle.osdp_test_script.specs.Texts.{wrong_word_text};
 ghost use Rattle.osdp_test_script.specs.Runs.{Called, Comes, Does, allows, begins_line, counts_line, ends, goes_out, is_ready, packet_of, passes_line, refuses_line, repeats, says, sends, sends_to, settled, then_does};
 
 use crate::answers::answer_in;
@@ -164,18 +166,20 @@ impl ScriptRun {
         }
     }
 
-    /// Refuses a line that is none. An error is that of `answer`.
+    /// Refuses a line that says nothing, by the word at this place, or as none stands there. An error is that of `answer`.
     #[tactic(auto, using(crate::proofs::Chained::chained))]
     pub(crate) fn refuse_line(
         &mut self,
         alloc: Global,
-        why: Refusal,
+        place: usize,
+        words: &[&str],
         text: &mut String,
     ) -> Result<(), AllocError>
-        ensures { OnOk result (Comes (string_bytes text.old) (string_bytes text.new) self.new (refuses_line why self.old)) }
+        requires { place ≤ length (texts words.now) }
+        ensures { OnOk result (Comes (string_bytes text.old) (string_bytes text.new) self.new (refuses_line (wrong_word_text place (slice_get (texts words.now) place)) self.old)) }
     {
         self.begin_line(alloc, text)?;
-        self.refuse(why, text)
+        self.refuse_word(place, words, text)
     }
 
     /// Passes over a blank line. An error is that of `answer`.

@@ -1,9 +1,10 @@
 //! What a line of a script says.
 
 use crate::awaited::Awaited;
-use crate::kept::{KeptCommand, KeptReply};
+use crate::kept::KeptReply;
 use arrayvec::ArrayVec;
 use osdp_frame::{Address, CheckKind};
+use osdp_msg::KeptCommand;
 
 /// What a script may do only where a line of it says so.
 #[derive(Clone, Copy, Debug, PartialEq, Eq)]

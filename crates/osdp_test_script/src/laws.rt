@@ -1,5 +1,7 @@
 //! What verdicts come to, said apart from how they are given. The functions do nothing: their contracts are laws.
 
+ghost use Rattle.osdp_refused_words.specs.Laws.{OnePlace, StaysRefused, TellsMissingWords};
+ghost use Rattle.osdp_test_script.specs.Lines.{SaysLine};
 ghost use Rattle.osdp_test_script.specs.Laws.{MovesNothingUnsaid, OneAnswer, PutsOff, SeesItsReply, SeesTheSame, SilenceBreaksNothing};
 
 /// Silence breaks no expectation, and neither do BUSY and NAK 1 where a reply is expected.
@@ -26,4 +28,19 @@ pub fn moves_nothing_unsaid()
 /// Of what was heard one answer alone fits, or none.
 pub fn one_answer()
     ensures { OneAnswer }
+{}
+
+/// One word of a line, at most, is the first that cannot stand where it is.
+pub fn one_wrong_word()
+    ensures { OnePlace SaysLine }
+{}
+
+/// A line is refused by the same word whatever comes after it.
+pub fn stays_refused()
+    ensures { StaysRefused SaysLine }
+{}
+
+/// A line that says something has no refused word. One that says nothing, and has none, lacks a word after its last.
+pub fn tells_missing_words()
+    ensures { TellsMissingWords SaysLine }
 {}

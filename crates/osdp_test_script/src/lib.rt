@@ -18,10 +18,11 @@ mod run;
 mod say;
 mod seen;
 mod sending;
+mod stopping;
 
 pub use awaited::Awaited;
 pub use call::{Permit, ScriptCall, Term};
-pub use kept::{KeptCommand, KeptReply};
+pub use kept::KeptReply;
 pub use parse::parse_call;
 pub use permits::Permits;
 pub use refusal::Refusal;

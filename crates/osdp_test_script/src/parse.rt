@@ -14,9 +14,10 @@ ghost use Rattle.osdp_test_script.specs.declared.call.Term.{Term as Until};
 
 use crate::awaited::Awaited;
 use crate::call::{Permit, ScriptCall, Term};
-use crate::kept::{KeptCommand, KeptReply};
+use crate::kept::KeptReply;
 use arrayvec::ArrayVec;
 use osdp_frame::{Address, CheckKind, LONGEST_TIME};
+use osdp_msg::KeptCommand;
 use osdp_words::{byte_list, number_u8, number_u16, number_u32, number_u64};
 
 /// The address of a device.
@@ -47,7 +48,7 @@ fn parse_output(word: &str) -> Option<u8>
 }
 
 /// What may be done.
-fn parse_permit(word: &str) -> Option<Permit>
+pub(crate) fn parse_permit(word: &str) -> Option<Permit>
     ensures { Reads (λ permit. plain (permit_text permit)) PermitFits word.now result }
 {
     match word {

@@ -2,12 +2,12 @@
 
 ghost use Rattle.std.specs.Prelude.{◌≡◌, OnOk, string_bytes};
 ghost use Rattle.osdp_words.specs.Word.{texts};
-ghost use Rattle.osdp_test_script.specs.Lines.{IsAnswered, IsAnsweredBy, is_name, is_passed, refusal_of};
+ghost use Rattle.osdp_test_script.specs.Lines.{IsAnswered, IsAnsweredBy, is_passed};
 ghost use Rattle.osdp_test_script.specs.Runs.{Called, Comes};
 
 use crate::parse::parse_call;
-use crate::refusal::Refusal;
 use crate::run::ScriptRun;
+use crate::stopping::line_stop;
 use osdp_words::all_words_in;
 use std::alloc::{AllocError, Global};
 
@@ -21,42 +21,9 @@ fn is_passed(words: &[&str]) -> bool
     }
 }
 
-/// Whether lines of a script have this name.
-fn is_name(word: &str) -> bool
-    ensures { result ≡ is_name word.now }
-{
-    matches!(
-        word,
-        "device"
-            | "check"
-            | "may"
-            | "send"
-            | "repeat"
-            | "reopen"
-            | "lose"
-            | "damage"
-            | "wait"
-            | "expect"
-            | "reads"
-            | "keep"
-            | "counts"
-            | "heard"
-            | "ready"
-    )
-}
-
-/// Why words are no line.
-fn refusal_of(words: &[&str]) -> Refusal
-    ensures { result ≡ refusal_of (texts words.now) }
-{
-    match words {
-        [first, ..] if is_name(first) => Refusal::NoFields,
-        _ => Refusal::NoName,
-    }
-}
-
 impl ScriptRun {
     /// Does what these words say.
+    #[tactic(auto, using(crate::proofs::WordTexts::within))]
     fn take_words(
         &mut self,
         alloc: Global,
@@ -70,7 +37,10 @@ impl ScriptRun {
         }
         match parse_call(words) {
             Some(call) => self.answer(alloc, &call, text),
-            None => self.refuse_line(alloc, refusal_of(words), text),
+            None => {
+                let place = line_stop(words);
+                self.refuse_line(alloc, place, words, text)
+            }
         }
     }
 

@@ -1,15 +1,11 @@
-//! Why a line is refused.
+//! Why a line is refused that says something.
 
 ghost use Rattle.std.specs.Prelude.{◌≡◌};
 ghost use Rattle.osdp_test_script.specs.Texts.{refusal_text};
 
-/// Why a line is refused.
+/// Why a line is refused that says something.
 #[derive(Clone, Copy, Debug, PartialEq, Eq)]
 pub enum Refusal {
-    /// Its first word is the name of no line.
-    NoName,
-    /// The words after its name are not those that stand there.
-    NoFields,
     /// No device stands above it.
     NoDevice,
     /// Its command may not be sent.
@@ -28,8 +24,6 @@ impl Refusal {
         ensures { result.now ≡ refusal_text self }
     {
         match self {
-            Refusal::NoName => "no line begins with this word",
-            Refusal::NoFields => "other words stand after its first word",
             Refusal::NoDevice => "no line above it names the device",
             Refusal::NotAllowed => "no may above it allows this command",
             Refusal::NothingSent => "nothing was sent above it",

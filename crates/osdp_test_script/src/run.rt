@@ -1,12 +1,14 @@
 //! A script as far as it is run.
 
-ghost use Rattle.std.specs.Prelude.{◌≡◌, OnOk, string_bytes};
-ghost use Rattle.osdp_test_script.specs.Runs.{Comes, counted, is_accepted, names, new_run, one_more, refuses, waits};
+ghost use Rattle.std.specs.Prelude.{◌≡◌, ◌≤◌, [], OnOk, length, slice_get, string_bytes};
+ghost use Rattle.osdp_words.specs.Word.{texts};
+ghost use Rattle.osdp_test_script.specs.Texts.{wrong_word_text};
+ghost use Rattle.osdp_test_script.specs.Runs.{Comes, counted, is_accepted, names, new_run, one_more, refuses, refuses_saying, waits};
 
 use crate::awaited::Awaited;
 use crate::permits::Permits;
 use crate::refusal::Refusal;
-use crate::say::{push_refusal, push_wait};
+use crate::say::{push_refusal, push_wait, push_wrong_word};
 use crate::seen::Seen;
 use osdp_frame::{Address, CheckKind, Frame};
 use osdp_rules::Known;
@@ -191,14 +193,35 @@ impl ScriptRun {
         self.kept = None;
     }
 
-    /// Refuses the line.
-    pub(crate) fn refuse(&mut self, why: Refusal, text: &mut String) -> Result<(), AllocError>
-        ensures { OnOk result (Comes (string_bytes text.old) (string_bytes text.new) self.new (refuses why self.old)) }
+    /// This line was refused.
+    fn note_refused(&mut self)
+        ensures { self.new ≡ (refuses_saying [] self.old).run }
     {
         if self.refused.is_none() {
             self.refused = Some(self.line);
         }
+    }
+
+    /// Refuses a line that says something.
+    pub(crate) fn refuse(&mut self, why: Refusal, text: &mut String) -> Result<(), AllocError>
+        ensures { OnOk result (Comes (string_bytes text.old) (string_bytes text.new) self.new (refuses why self.old)) }
+    {
+        self.note_refused();
         push_refusal(text, self.line, why)
+    }
+
+    /// Refuses a line that says nothing, by the word at this place, or as none stands there.
+    pub(crate) fn refuse_word(
+        &mut self,
+        place: usize,
+        words: &[&str],
+        text: &mut String,
+    ) -> Result<(), AllocError>
+        requires { place ≤ length (texts words.now) }
+        ensures { OnOk result (Comes (string_bytes text.old) (string_bytes text.new) self.new (refuses_saying (wrong_word_text place (slice_get (texts words.now) place)) self.old)) }
+    {
+        self.note_refused();
+        push_wrong_word(text, self.line, place, words)
     }
 
     /// Nothing goes out for so long.

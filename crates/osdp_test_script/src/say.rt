@@ -1,9 +1,9 @@
 //! The lines that a run prints.
 
-ghost use Rattle.std.specs.Prelude.{◌≡◌, ◌++◌, OnOk, string_bytes};
+ghost use Rattle.std.specs.Prelude.{◌≡◌, ◌<◌, ◌≤◌, ◌^◌, ◌++◌, OnOk, length, slice_get, string_bytes};
 ghost use Rattle.osdp_frame.specs.Spelling.{spelling};
-ghost use Rattle.osdp_words.specs.Word.{bytes, printed};
-ghost use Rattle.osdp_test_script.specs.Texts.{broken_lines, exchange_lines, expect_text, heard_text, refusal_line, seen_name, send_line, term_text, verdict_lines, wait_line};
+ghost use Rattle.osdp_words.specs.Word.{bytes, printed, texts};
+ghost use Rattle.osdp_test_script.specs.Texts.{broken_lines, exchange_lines, expect_text, heard_text, refusal_line, refusal_text, seen_name, send_line, term_text, text_in, verdict_lines, wait_line, wrong_word_text};
 
 use crate::awaited::Awaited;
 use crate::call::Term;
@@ -14,12 +14,54 @@ use osdp_frame::{Burst, Frame};
 use osdp_words::ByteList;
 use std::alloc::AllocError;
 
-/// Writes why a line is refused.
+/// Writes why a line is refused that says something.
 pub(crate) fn push_refusal(text: &mut String, line: u64, why: Refusal) -> Result<(), AllocError>
-    ensures { OnOk result (string_bytes text.new ≡ string_bytes text.old ++ refusal_line line why) }
+    ensures { OnOk result (string_bytes text.new ≡ string_bytes text.old ++ refusal_line line (refusal_text why)) }
 {
     let why = why.text();
     writeln!(text, "line {line} refused: {why}")
+}
+
+/// Writes which word of a line cannot stand where it is: this one, or that none stands at this place.
+fn push_wrong(text: &mut String, place: usize, word: Option<&str>) -> Result<(), AllocError>
+    requires { place < 2 ^ 63 }
+    ensures { OnOk result (string_bytes text.new ≡ string_bytes text.old ++ wrong_word_text place (text_in word.entry)) }
+{
+    let number = place + 1;
+    match word {
+        None => write!(text, "word {number} is missing"),
+        Some(word) => {
+            if place == 0 {
+                return write!(text, "no line begins with {word}");
+            }
+            write!(text, "word {number} cannot be {word}")
+        }
+    }
+}
+
+/// The same of the word at this place.
+fn push_word_at(text: &mut String, place: usize, words: &[&str]) -> Result<(), AllocError>
+    requires { place ≤ length (texts words.now) }
+    ensures { OnOk result (string_bytes text.new ≡ string_bytes text.old ++ wrong_word_text place (slice_get (texts words.now) place)) }
+{
+    // The call brings in how many words there may be.
+    let _count = words.len();
+    push_wrong(text, place, words.get(place).copied())
+}
+
+/// Writes why a line is refused that says nothing.
+pub(crate) fn push_wrong_word(
+    text: &mut String,
+    line: u64,
+    place: usize,
+    words: &[&str],
+) -> Result<(), AllocError>
+    requires { place ≤ length (texts words.now) }
+    ensures { OnOk result (string_bytes text.new ≡ string_bytes text.old ++ refusal_line line (wrong_word_text place (slice_get (texts words.now) place))) }
+{
+    write!(text, "line {line} refused: ")?;
+    push_word_at(text, place, words)?;
+    text.push_str("\n")
 }
 
 /// Writes the bytes that go out.

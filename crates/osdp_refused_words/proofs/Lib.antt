@@ -1,0 +1,8 @@
+pub mod Stopping
+pub mod Filling
+mod Parts
+mod CommandRows
+mod ReplyRows
+mod RecordWords
+pub mod Places
+mod Taking

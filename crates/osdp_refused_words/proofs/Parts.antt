@@ -1,0 +1,16 @@
+-- Slots that several messages have.
+use Rattle.std.proofs.Common.{ℕ, ◌<◌, ◌≤◌, arith}
+use Rattle.osdp_refused_words.specs.declared.slot.Slot.{Slot}
+use Rattle.osdp_refused_words.specs.declared.slot.Slot.TheVariants.{Number, Bytes}
+
+abbrev pub byte : Slot
+byte = Number 0 255
+
+abbrev pub rate : Slot
+rate = Number 0 4294967295
+
+abbrev pub vendor : Slot
+vendor = Bytes 3 3
+
+pub byte_fits : (n : ℕ) → n < 256 → (0 ≤ n) × (n ≤ 255)
+byte_fits n h = (omega arith, omega (arith, h))

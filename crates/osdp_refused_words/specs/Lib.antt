@@ -1,0 +1,4 @@
+pub mod Laws
+pub mod Messages
+pub mod Slots
+pub mod Stops
