@@ -50,7 +50,7 @@ osdp-port PORT RATE test script FILE makes them.
   ready                        ready is printed
 
 An expectation is ok, broken or unclear. Silence and BUSY break none. The status is 1 where one isn't ok,
-and 2 where a line is refused.
+and 2 where a line is refused: by its first word that cannot stand there, or by the word that is missing.
 
 Examples:
 
