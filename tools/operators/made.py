@@ -5,7 +5,7 @@ import os
 import re
 from collections import Counter, defaultdict
 
-from . import code, code_special, definitions, donors, generated, items, pairs
+from . import code, code_special, definitions, donors, generated, items, pairs, shadows
 from .spelling import code_form, term_form
 
 
@@ -83,6 +83,9 @@ def made(edits, below):
     waiting, kept = defaultdict(list), []
     for edit in edits:
         found = changes(edit)
+        if found is None and (one := shadow(edit, below)) is not None:
+            yield edit, one
+            continue
         if found is None or any(it.form == generated.form_of(it.path, it.unit) for it in found):
             yield edit, None
             continue
@@ -101,6 +104,16 @@ def made(edits, below):
                 made_of[place, it.form] += special(it, crates)
     for edit, found in kept:
         yield edit, chosen([made_of[it.place, it.form] for it in found])
+
+
+def shadow(edit, below):
+    """Returns the definition taken otherwise that is the same as what a kept edit puts into a file of laws."""
+    texts = edit.texts()
+    path = next(iter(texts))
+    if len(texts) != 1 or not re.match(r"crates/\w+_laws/specs/", path):
+        return None
+    wanted = shadows.kept_as(path, texts[path])
+    return wanted and next((it for it in shadows.of_file(path, tuple(below(path.split("/")[1]))) if it.key() == wanted.key()), None)
 
 
 def special(change, below):

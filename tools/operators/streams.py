@@ -1,15 +1,19 @@
 """What operators make in so great a number that it is made one after the other: listed whole, and tried as a sample."""
 import random
 
-from . import generated, pairs
+from . import generated, pairs, shadows
 
-KINDS = ("--pairs", "--special")
+KINDS = ("--laws", "--pairs", "--special")
 
 
 def all_of(kind, crate, below, is_wide):
     """Yields the edits of one of these kinds, of a crate."""
     if kind == "--pairs":
         yield from pairs.of_crate(crate, below, is_wide)
+        return
+    if kind == "--laws":
+        for path in generated.paths_of(crate, "specs") if crate.endswith("_laws") else ():
+            yield from shadows.of_file(path, below)
         return
     for path in [*generated.paths_of(crate, "src"), *generated.paths_of(crate, "specs")]:
         for unit in generated.parsed(path).units:
