@@ -5,7 +5,7 @@ import sys
 TOP = os.path.dirname(os.path.dirname(os.path.realpath(__file__)))
 sys.dont_write_bytecode = True
 sys.path.insert(0, f"{TOP}/tools")
-from operators import code_operators, code_special, definition_operators, definitions, donors, items, spelling  # noqa: E402
+from operators import code_operators, code_special, definition_operators, definitions, donors, items, pairs, shadows, spelling  # noqa: E402
 from operators.facts import Facts  # noqa: E402
 
 CODE = """/// Whether a < b.
@@ -87,6 +87,12 @@ def main():
     assert MADE_OF_DEFINITION <= made, f"not made: {MADE_OF_DEFINITION - made}"
     made |= lines_of(CODE, again)
     assert MADE_WIDE <= made, f"not made: {MADE_WIDE - made}"
+
+    pair = next(pairs.of_crate("osdp_ring", (), False))
+    assert [it.is_definition() for it in pair.edits] == [True, False] and len(pair.texts()) == 2, "a pair is of a definition and of code"
+    path = "crates/osdp_reader_laws/specs/Steps.antt"
+    taken = next(it for it in shadows.of_file(path, ("osdp_reader", "osdp_msg", "osdp_frame")) if it.name_of == "hears" and it.case == "Taken")
+    assert "Table as otherwise\n" in taken.texts()[path] and "wrong Taken r p o = record o {" in taken.texts()[path], "laws take a definition otherwise"
 
     assert same("a < 1", "a == 0", "(a) <= 0") and same("let _ = a; f(b)", "f((b))") and same("!(a == b)", "b != a"), "one meaning has two forms"
     assert same("a < 1 && b == 2", "b == 2 && a == 0") and not same("f(a) && g(b)", "g(b) && f(a)"), "the order tells where something is done, and there alone"

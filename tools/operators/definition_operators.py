@@ -2,6 +2,7 @@
 import re
 from collections import Counter
 
+from .code_texts import other_numbers
 from .definition_more import More
 
 OTHER_SIGNS = {
@@ -206,6 +207,7 @@ class Maker(More):
             others = [int(it.text, 0) for it in self.unit.tree.walk() if it.kind == "literal"]
             yield from (("a constant", str(it)) for it in dict.fromkeys(others) if it != value)
             yield from (("a bound" if abs(it - value) == 1 else "a constant", str(it)) for it in dict.fromkeys((value + 1, value - 1, 0, value * 2)) if 0 <= it != value)
+            yield from (("another number", it) for it in other_numbers(node.text))
             return
         said = self.operand(node)
         yield from (("a bound", f"suc {said}"), ("a bound", f"({self.said(node)} - 1)"), ("a constant", "0"), ("a constant", "1"))

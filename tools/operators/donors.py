@@ -55,6 +55,9 @@ def edits(file, unit, files, is_code, near=None, wanted=None):
                     yield OPERATOR, node.start, node.end, text if is_code or " " not in text or text.startswith("(") else f"({text})"
         if is_code:
             yield from in_code(file, node, own, brought, more)
+        elif node.kind in ("apply", "binary", "name", "project"):
+            for text in brought:
+                yield from ((OPERATOR, node.start, node.end, f"({own} {new})") for new in (f"&& {text}", f"|| {text}", f"&& not ({text})", f"|| not ({text})", f"+ {text}", f"- {text}"))
 
 
 def plain_code(own):

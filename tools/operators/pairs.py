@@ -10,7 +10,8 @@ OPERATOR = "the same in both"
 # which operators make the same change, one in a definition and the other in code
 FAMILIES = [
     {"a case's value", "a case", "a constant", "a name", "a bound", "a case moved", "a sign", "a comparison", "two cases turned", "another expression", "another number", "another text"},
-    {"an operand left out", "a condition", "a call left out", "a statement left out", "what is written is lost", "a case left out", "a body left out", "a name", "a conclusion dropped", "a constant", "a case's value"},
+    {"an operand left out", "a condition", "a call left out", "a statement left out", "what is written is lost", "a case left out", "a body left out", "a name", "a conclusion dropped", "a constant", "a case's value", "two statements turned"},
+    {"two cases turned", "a sign"},
     {"a special case", "another expression", "another statement", "a field more", "a field otherwise", "a name", "a statement left out", "a condition"},
 ]
 
@@ -106,13 +107,21 @@ def plain_word(word):
     return word.replace("_", "").lower()
 
 
+def is_told_by(definition, code):
+    """Whether the contract of a function names the definition, or both have one name, or what has no contract is changed."""
+    text = generated.read(code.path)
+    contract = text[getattr(code.unit, "head", code.unit.start):code.unit.start]
+    names = {definition.unit.name.partition(".")[0], definition.unit.name.rpartition(".")[2]}
+    return bool(names & words_of(contract)) or code.unit.name in names or "ensures" not in contract
+
+
 def are_alike(definition, code):
-    """Whether both make the same change: by the same operator, or by those that do the same to words of which one is in both."""
-    if definition.operator == code.operator and not words_changed(definition) and not words_changed(code):
-        return True
-    if not words_changed(definition) & words_changed(code) and definition.operator != code.operator:
+    """Whether both make the same change: by the same operator, or by those that do the same, to words of which one is in both or where one tells the other."""
+    gone, come = words_changed(definition), words_changed(code)
+    is_near = definition.operator == code.operator or any(definition.operator in it and code.operator in it for it in FAMILIES)
+    if not is_near:
         return False
-    return definition.operator == code.operator or any(definition.operator in it and code.operator in it for it in FAMILIES)
+    return bool(gone & come) or definition.operator == code.operator and not gone and not come or is_told_by(definition, code)
 
 
 def is_pair(edits):
@@ -128,15 +137,15 @@ def is_pair(edits):
 def of_crate(crate, below, is_wide):
     """Yields the pairs of a definition's edit and one of code, both of a crate."""
     edits = generated.all_of(crate, below, is_wide)
-    by_word, by_operator = defaultdict(list), defaultdict(list)
+    by_unit = defaultdict(list)
     for it in edits:
         if not it.is_definition():
-            by_operator[it.operator].append(it)
-            for word in words_changed(it):
-                by_word[word].append(it)
-    for definition in edits:
-        if definition.is_definition():
-            near = [*by_operator[definition.operator], *(it for word in words_changed(definition) for it in by_word[word])]
-            for it in dict.fromkeys(near):
-                if are_alike(definition, it) and stands_over(definition, it):
-                    yield Pair([definition, it])
+            by_unit[it.path, it.unit.start].append(it)
+    definitions = defaultdict(list)
+    for it in edits:
+        if it.is_definition():
+            definitions[it.path, it.unit.start].append(it)
+    for one in definitions.values():
+        for other in by_unit.values():
+            if stands_over(one[0], other[0]):
+                yield from (Pair([it, code]) for it in one for code in other if are_alike(it, code))
