@@ -13,9 +13,9 @@ use Rattle.osdp_controller.specs.declared.session.Session.{Session}
 use Rattle.osdp_bus.specs.Buses.{Devices, device_of}
 use Rattle.osdp_bus.specs.Devices as devices
 use Rattle.osdp_bus.specs.Devices.{told_of}
-use Rattle.osdp_bus.specs.Hearing.{hears_packet}
+use Rattle.osdp_bus.specs.Hearing.{hears_at, hears_packet}
 use Rattle.osdp_bus.specs.declared.device.Device.{Device}
-use Rattle.osdp_bus_laws.specs.Reports.{told_at, told_by_item}
+use Rattle.osdp_bus_laws.specs.Reports.{told_at, told_by_entry, told_by_item}
 use Rattle.osdp_link_laws.specs.Link.{Repeated}
 use Rattle.osdp_link_laws.proofs.Lines.{each_map}
 use Rattle.osdp_link_laws.proofs.Stages.{Each}
@@ -29,7 +29,6 @@ use Rattle.osdp_shared_line.proofs.Sites.{at_changed, at_other, some_same}
 use Rattle.osdp_calls.specs.Calls.{all_hear, begun_of, change_at, changes_at, hears_of, last_of}
 use Rattle.osdp_calls.specs.Handing.{hears_all, told_by_all}
 use Rattle.osdp_calls.specs.Lines.{Burst, InUse, Station}
-use Rattle.osdp_calls.specs.Premises.{AreSaid}
 use Rattle.osdp_calls.specs.Programs.{noted_reports}
 use Rattle.osdp_calls.proofs.Along.{IsFree, Path, free_rule, heard_by_own, notes_along, path_on, still_along, still_free}
 use Rattle.osdp_calls.proofs.Controllers.{config_same, hears_same, ignored_quiet, waiting_same}
@@ -41,6 +40,7 @@ use Rattle.osdp_calls.proofs.Panel.{IsHeard, IsIgnored, IsRead, hears_one, panel
 use Rattle.osdp_calls.proofs.Runs.{NotPast}
 use Rattle.osdp_calls.proofs.Same.{Controls, IsNetOf, IsSame, IsToOpen}
 use Rattle.osdp_calls.proofs.Stations.{Sites}
+use Rattle.osdp_calls.proofs.Strangers.{IsElsewhere, Ordered, nobody_at, order_heard}
 
 equal_of : (a b : ℕ) → (a == b) ≡ true → a ≡ b
 equal_of a b is = elim (eqb_tells a b) [ inl same ↦ same.1 | inr other ↦ absurd (false_so (sym other.0 ∙ is)) ]
@@ -309,8 +309,21 @@ module _ {H : Type 0} where
     }
 
     module _ (suffices : RuleSuffices answer_of after) (nobody : NobodyElseHears answer_of after) (n0 : Net H) (up : IsSetUp n0) where
+      -- a packet that none of the controllers hears changes nothing
+      unread : (p : Packet) (ps : List Packet) (places : List ℕ) (l : InUse H) (notes : ℕ → Note) → IsElsewhere l.bus.devices.entries p
+          → Ruled n0 (reads_those ps places l) (told_notes l.bus.devices (told_by_all l.bus.greatest ps l.bus.devices) notes)
+          → Ruled n0 (reads_those (p ∷ ps) places l) (told_notes l.bus.devices (told_by_all l.bus.greatest (p ∷ ps) l.bus.devices) notes)
+      unread p ps places l notes off rest =
+          let told : Option ℕ → List (ℕ × Report) = λ o.
+          told_by_entry p l.bus.greatest o l.bus.devices ++ told_by_all l.bus.greatest ps (hears_at p l.bus.greatest o l.bus.devices) in
+          subst (λ o. Ruled n0 (record l {
+            bus = record l.bus { devices = hears_all l.bus.greatest ps (hears_at p l.bus.greatest o l.bus.devices) };
+            stations = all_hear (told o) l.stations;
+            place = last_of places l.place;
+          }) (told_notes l.bus.devices (told o) notes)) (sym (nobody_at p 0 l.bus.devices.entries off)) rest
+
       pub all_read : (ps : List Packet) (places : List ℕ) (l : InUse H) (n : Net H) (notes noted : ℕ → Note) → IsNetOf l n
-          → Path answer_of after n0 n noted → AreSaid l.said ps places l.place → Each (NotPast l) places → AllAgree l notes noted
+          → Path answer_of after n0 n noted → Ordered l ps places → Each (NotPast l) places → AllAgree l notes noted
           → Ruled n0 (reads_those ps places l) (told_notes l.bus.devices (told_by_all l.bus.greatest ps l.bus.devices) notes)
       all_read [] [] l n notes noted h path all past agree = record {
         net = n;
@@ -321,8 +334,11 @@ module _ {H : Type 0} where
             (sym (nothing_told k (slice_get l.bus.devices.entries k) (notes k))) (agree k d at);
       }
       all_read [] (i ∷ places) l n notes noted h path all past agree = absurd all
-      all_read (p ∷ ps) [] l n notes noted h path all past agree = absurd all
-      all_read (p ∷ ps) (i ∷ places) l n notes noted h path all past agree =
+      all_read (p ∷ ps) [] l n notes noted h path all past agree =
+          unread p ps [] l notes all.0 (all_read ps [] l n notes noted h path all.1 past agree)
+      all_read (p ∷ ps) (i ∷ places) l n notes noted h path (inr others) past agree =
+          unread p ps (i ∷ places) l notes others.0 (all_read ps (i ∷ places) l n notes noted h path others.1 past agree)
+      all_read (p ∷ ps) (i ∷ places) l n notes noted h path (inl all) past agree =
           let inside = place_within i all.0 l.said all.1 in
           let l1 = record l { place = i } in
           let l2 = hears_one answer_of after p l1 in
@@ -343,7 +359,7 @@ module _ {H : Type 0} where
           (free_rule answer_of after r.reached.moves o.net noted (read_free all.0 l1 o.net told r.reached.moves read.made) r.reached.fit) r.reached.run in
           let agree2 = one_read p all.0 l1 o.net o.same whole all.2 noted notes agree r.reached.moves read.made in
           let rest = all_read ps places l2 r.net (told_notes l.bus.devices told notes) (notes_along answer_of after r.reached.moves o.net noted)
-          r.same path2 all.4 past.1 agree2 in
+          r.same path2 (order_heard p g l.bus.devices l.said ps places i all.4) past.1 agree2 in
           subst (λ (q : List (Station H) × (ℕ → Note)). Ruled n0 (record l {
             bus = record l.bus { devices = hears_all g ps (hears_packet p g l.bus.devices) };
             stations = q.0;

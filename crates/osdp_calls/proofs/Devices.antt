@@ -30,6 +30,7 @@ use Rattle.osdp_calls.proofs.Nexts.{IsAnswered, IsNext, IsPassed, read_to, reads
 use Rattle.osdp_calls.proofs.Replying.{told_first, reader_with}
 use Rattle.osdp_calls.proofs.Same.{IsNetOf, read_so}
 use Rattle.osdp_calls.proofs.Stations.{Makes, Sites, both_change, make_none, makes_is, station_changes}
+use Rattle.osdp_calls.proofs.Strangers.{order_for_device}
 use Rattle.osdp_calls.proofs.Steps.{StepsTo, by_own, one_queue, queue_no_command, site_queues}
 
 module _ {H : Type 0} (answer_of : H → Command → Answer) (after : H → Command → H) where
@@ -117,13 +118,13 @@ module _ {H : Type 0} (answer_of : H → Command → Answer) (after : H → Comm
       subst (Each IsStill) (sym are) (each_append IsStill lost (ToReader k Repeated ∷ more) (each_map IsLoss IsStill loss_still lost losses)
       (tt, each_map IsLoss IsStill loss_still more after_it))
 
-  pub nexting : (k : ℕ) (places : List ℕ) (l : InUse H) (n : Net H) → IsNetOf l n → NextInOrder l.said places (site_at k l.stations)
+  pub nexting : (k : ℕ) (places : List ℕ) (l : InUse H) (n : Net H) → IsNetOf l n → NextInOrder l places (site_at k l.stations)
       → All (λ i. (b : Burst) → site_at i l.said ≡ Some b → is_past_for_device k l.openings i b ≡ false) places
       → NextInRange answer_of after (site_at k l.stations)
       → Makes answer_of after (IsNextOf k (site_at k l.stations) n) n (after_next answer_of after k places (site_at k l.stations) l)
   nexting k places l n h in_order quiet in_range = by_station (site_at k l.stations) refl in_order in_range
     where
-      by_station : (o : Option (Station H)) → site_at k l.stations ≡ o → NextInOrder l.said places o → NextInRange answer_of after o
+      by_station : (o : Option (Station H)) → site_at k l.stations ≡ o → NextInOrder l places o → NextInRange answer_of after o
           → Makes answer_of after (IsNextOf k o n) n (after_next answer_of after k places o l)
       by_station None none in_order in_range = make_none answer_of after (IsNextOf k None n) l n refl h
       by_station (Some t) is in_order in_range =
@@ -131,7 +132,7 @@ module _ {H : Type 0} (answer_of : H → Command → Answer) (after : H → Comm
           let ps = read_up_to t.reader parts in
           let o = first_answered t.reader ps in
           let told = next_told answer_of after t.reader t.line.held in
-          let first = reads_all answer_of after k ps places t l n h is (place_of k t l n h is) in_order
+          let first = reads_all answer_of after k ps places t l n h is (place_of k t l n h is) (order_for_device k t l is ps places in_order)
           (each_of (λ i. (b : Burst) → site_at i l.said ≡ Some b → is_past_for_device k l.openings i b ≡ false) places quiet)
           (each_of (λ p. IfSome (hears answer_of after t.reader p).said ReplyFits) ps in_range) in
           let l1 = read_to answer_of after k o (last_of places t.place) t l in

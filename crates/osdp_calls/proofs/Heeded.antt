@@ -38,6 +38,7 @@ use Rattle.osdp_calls.proofs.Panel.{at_seen, told_then}
 use Rattle.osdp_calls.proofs.Runs.{NotPast}
 use Rattle.osdp_calls.proofs.Same.{IsNetOf, IsRightly, IsSiteOf}
 use Rattle.osdp_calls.proofs.Steps.{StepsTo}
+use Rattle.osdp_calls.proofs.Strangers.{ordered}
 use Rattle.osdp_calls.proofs.Ticking.{ticks_entry}
 
 pub ticks_greatest : (o : Option ℕ) (b : BusState) → (ticks_at o b).bus.greatest ≡ b.greatest
@@ -168,7 +169,7 @@ module _ {H : Type 0} where
       reads_ruled call now places next order quiet e told mine =
           let l0 : InUse H = record l { bus = seen now l.bus } in
           let ps = read_by call l.bus in
-          let all = all_read answer_of after suffices nobody n0 up ps places l0 n notes noted (at_seen now l n h) path order (each_of (NotPast l) places quiet) agree in
+          let all = all_read answer_of after suffices nobody n0 up ps places l0 n notes noted (at_seen now l n h) path (ordered l ps places order) (each_of (NotPast l) places quiet) agree in
           ruled_as (reads_those answer_of after ps places l0) next (told_notes l.bus.devices (told_by_all (max l.bus.greatest now) ps l.bus.devices) notes)
           (notes_after (OfPanel call) l notes) e
           (λ i k. (ap (λ xs. told_note k (slice_get l.bus.devices.entries k) xs (notes k)) (sym told) ∙ noted_told call l notes k (mine k)) i) all
@@ -203,7 +204,7 @@ module _ {H : Type 0} where
           let o = asked_at now l.bus in
           let told = told_by_all (max l.bus.greatest now) ps l.bus.devices in
           let l1 = reads_those answer_of after ps places l0 in
-          let r = all_read answer_of after suffices nobody n0 up ps places l0 n notes noted (at_seen now l n h) path order (each_of (NotPast l) places quiet) agree in
+          let r = all_read answer_of after suffices nobody n0 up ps places l0 n notes noted (at_seen now l n h) path (ordered l ps places order) (each_of (NotPast l) places quiet) agree in
           let t = ticks_entry answer_of after o l1 r.net r.same in
           let moves = t.refines.reached.moves in
           let ticked : Ruled answer_of after n0 (ticks_to answer_of after o l1) (told_notes l.bus.devices told notes) = record {

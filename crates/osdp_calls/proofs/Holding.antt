@@ -25,7 +25,7 @@ use Rattle.osdp_shared_line.specs.Line.{Net, NetMove, RestartPanel, Site, after_
 use Rattle.osdp_shared_line.specs.Runs.{EachHasSessionsInARow, EachHoldsOnce, moves_of}
 use Rattle.osdp_shared_line.specs.Views.{EachMoveIsItsOwn, view}
 use Rattle.osdp_calls.specs.Accepted.{accepted_by, all_accepted, all_queued, queued_by}
-use Rattle.osdp_calls.specs.Calls.{Call, Next, NewDevice, NewPanel, OfPanel, Pending, SetBusy, SetHandler, Silence, Step, SubmitEvent, Take, TickDevice, after_call, after_calls, WithdrawEvent}
+use Rattle.osdp_calls.specs.Calls.{Call, Next, NewDevice, NewPanel, OfPanel, Pending, SetBusy, SetHandler, Silence, Step, SubmitEvent, Take, TickDevice, after_call, after_calls, read_by, WithdrawEvent}
 use Rattle.osdp_calls.specs.Lines.{InUse, Station}
 use Rattle.osdp_calls.specs.Premises.{Addresses, AllKeep, InOrder, InRange, IsSetUp, QuietOpening}
 use Rattle.osdp_calls.specs.Promises.{CallsHoldOnce, CallsKeepApart, link_of_entry, state_until}
@@ -39,6 +39,7 @@ use Rattle.osdp_calls.proofs.Runs.{NotPast, reads_bytes, reads_end}
 use Rattle.osdp_calls.proofs.Same.{Controls, IsNetOf}
 use Rattle.osdp_calls.proofs.Setting.{Starts, first_net, first_site, first_there, starts}
 use Rattle.osdp_calls.proofs.Stations.{Makes, busying, make_none, of_station}
+use Rattle.osdp_calls.proofs.Strangers.{ordered}
 use Rattle.osdp_calls.proofs.Steps.{IsOf, IsOfOne, Made, StepsTo, by_plain, queues_none, submits_none}
 use Rattle.osdp_calls.proofs.Ticks.{ticking}
 
@@ -67,15 +68,16 @@ module _ {H : Type 0} (answer_of : H → Command → Answer) (after : H → Comm
       reads (bus.Retarget entry address) [] l n (λ k. refl) (retargeting answer_of after entry address l n h addresses)
   panel_call (bus.Retarget entry address) (i ∷ places) l n h order past addresses range = absurd order
   panel_call (bus.OnBytes bytes now) places l n h order past addresses range =
-      reads (bus.OnBytes bytes now) places l n (λ k. refl) (record { refines = reads_bytes answer_of after bytes now places l n h order past; made = tt })
+      reads (bus.OnBytes bytes now) places l n (λ k. refl) (record { refines = reads_bytes answer_of after bytes now places l n h (ordered l (read_by (bus.OnBytes bytes now) l.bus) places order) past; made = tt })
   panel_call (bus.OnSilence now) places l n h order past addresses range =
       reads (bus.OnSilence now) places l n (λ k. refl)
       (record {
-        refines = reads_end answer_of after places (record l { bus = Rattle.osdp_bus.specs.Buses.seen now l.bus }) n (at_seen now l n h) order past;
+        refines = reads_end answer_of after places (record l { bus = Rattle.osdp_bus.specs.Buses.seen now l.bus }) n (at_seen now l n h)
+            (ordered l (read_by (bus.OnSilence now) l.bus) places order) past;
         made = tt;
       })
   panel_call (bus.Tick now) places l n h order past addresses range =
-      reads (bus.Tick now) places l n (λ k. refl) (record { refines = ticking answer_of after now places l n h order past; made = tt })
+      reads (bus.Tick now) places l n (λ k. refl) (record { refines = ticking answer_of after now places l n h (ordered l (read_by (bus.Tick now) l.bus) places order) past; made = tt })
   panel_call bus.NextReport [] l n h order past addresses range =
       reads bus.NextReport [] l n (λ k. refl) (make_none answer_of after (λ moves. Made (OfPanel bus.NextReport) l moves) (after_call answer_of after (OfPanel bus.NextReport) [] l) n refl
       (record { sites = h.sites; to_panel = h.to_panel; place = h.place; openings = h.openings; said = h.said }))

@@ -2,6 +2,7 @@ pub mod Losing
 pub mod Matching
 pub mod Same
 pub mod Stations
+pub mod Strangers
 pub mod Counting
 pub mod Steps
 pub mod Ahead

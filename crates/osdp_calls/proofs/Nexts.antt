@@ -1,5 +1,5 @@
 -- What a device reads: what stands before it is lost to it, and what it reads stays in front of it and may be read again.
-use Rattle.std.proofs.Common.{◌≡◌, ◌≤◌, ◌<◌, ℕ, zero, suc, ◌+◌, not, Bool, true, false, cond, List, [], ◌∷◌, ◌++◌, length, Option, Some, None, IfSome, refl, sym, subst, ap, ◌∙◌, arith, append-nil, append_assoc}
+use Rattle.std.proofs.Common.{◌≡◌, ◌≤◌, ◌<◌, ℕ, zero, suc, ◌+◌, not, Bool, true, false, cond, List, [], ◌∷◌, ◌++◌, length, Option, Some, None, IfSome, refl, sym, subst, ap, ◌∙◌, arith, append-nil, append_assoc, inl, inr}
 use Rattle.std.specs.Prelude.{option_to_list}
 use Rattle.osdp_frame.specs.Packet.{Packet}
 use Rattle.osdp_msg.specs.ReplyTable.{ReplyFits}
@@ -19,13 +19,14 @@ use Rattle.osdp_shared_line.specs.Line.{Net, NetMove, Site, ToReader, after_net,
 use Rattle.osdp_shared_line.proofs.Sites.{at_changed, some_same}
 use Rattle.osdp_calls.specs.Calls.{answers, by_device, first_answered, last_of, reply_to}
 use Rattle.osdp_calls.specs.Lines.{Burst, InUse, Opening, Station, ahead_of_device, is_past_for_device}
-use Rattle.osdp_calls.specs.Premises.{AreSaid}
+use Rattle.osdp_calls.specs.Premises.{AreInOrder}
 use Rattle.osdp_calls.proofs.Ahead.{AreWithin, device_front, device_further, device_told_device, device_told_panel, from_device}
 use Rattle.osdp_calls.proofs.Losing.{IsLoss, Loses, changed_twice, joins, lose_to_reader, run_then, then_reaches, with_coming}
 use Rattle.osdp_calls.proofs.Matching.{FoundAt, Nobody, Somebody, changed_same, found, matched, set_station}
 use Rattle.osdp_calls.proofs.Replying.{IsReply, hears_replies, reader_with, silent_to_replies}
 use Rattle.osdp_calls.proofs.Same.{IsNetOf, IsRightly, IsSiteOf, placed_so, read_so, sites_so}
 use Rattle.osdp_calls.proofs.Stations.{LosesTo, Makes, Refines, Sites, make_move, make_none}
+use Rattle.osdp_calls.proofs.Strangers.{IsUnanswered, unanswered_first}
 
 pub length_more : {A : Type 0} (xs : List A) (x : A) → length (xs ++ x ∷ []) ≡ length xs + 1
 length_more [] x = refl
@@ -194,17 +195,18 @@ module _ {H : Type 0} where
           made = subst (IsNext k o r n) (sym both.are) (passed_before k o r n x.net x.reached.moves y.reached.moves p.made x.reached.run q.made);
         }
 
-    last_within : (said : List Burst) (ps : List Packet) (places : List ℕ) (before : ℕ) → before ≤ length said → AreSaid said ps places before
-        → (before ≤ last_of places before) × (last_of places before ≤ length said)
-    last_within said [] [] before le all = (omega arith, le)
-    last_within said (p ∷ ps) (i ∷ places) before le all =
+    last_within : (Others : Packet → Type 0) (said : List Burst) (ps : List Packet) (places : List ℕ) (before : ℕ) → before ≤ length said
+        → AreInOrder Others said ps places before → (before ≤ last_of places before) × (last_of places before ≤ length said)
+    last_within Others said [] [] before le all = (omega arith, le)
+    last_within Others said (p ∷ ps) (i ∷ places) before le (inl all) =
         let within = place_within i all.0 said all.1 in
         let first = all.3 in
-        let rest = last_within said ps places i (omega (arith, within)) all.4 in
+        let rest = last_within Others said ps places i (omega (arith, within)) all.4 in
         let more = rest.0 in
         (omega (arith, first, more), rest.1)
-    last_within said [] (i ∷ places) before le all = absurd all
-    last_within said (p ∷ ps) [] before le all = absurd all
+    last_within Others said (p ∷ ps) (i ∷ places) before le (inr others) = last_within Others said ps (i ∷ places) before le others.1
+    last_within Others said [] (i ∷ places) before le all = absurd all
+    last_within Others said (p ∷ ps) [] before le all = last_within Others said ps [] before le all.1
 
     -- the station and what was said, where this is answered
     abbrev pub read_to : ℕ → Option Packet → ℕ → Station H → InUse H → InUse H
@@ -231,7 +233,7 @@ module _ {H : Type 0} where
             absurd (let e = sym silent ∙ speaks_so in cc)
 
     pub reads_all : (k : ℕ) (ps : List Packet) (places : List ℕ) (t : Station H) (l : InUse H) (n : Net H) → IsNetOf l n
-        → site_at k l.stations ≡ Some t → t.place ≤ length l.said → AreSaid l.said ps places t.place
+        → site_at k l.stations ≡ Some t → t.place ≤ length l.said → AreInOrder (IsUnanswered t.reader) l.said ps places t.place
         → Each (λ i. (b : Burst) → site_at i l.said ≡ Some b → is_past_for_device k l.openings i b ≡ false) places
         → Each (λ p. IfSome (hears answer_of after t.reader p).said ReplyFits) ps
         → Makes answer_of after (IsNext k (first_answered t.reader ps) t.reader n) n (read_to k (first_answered t.reader ps) (last_of places t.place) t l)
@@ -240,8 +242,13 @@ module _ {H : Type 0} where
         (subst (λ ts. Makes answer_of after (IsNext k None t.reader n) n (record l { stations = ts })) (sym (changed_same k t l.stations is))
         (make_none answer_of after (IsNext k None t.reader n) l n (IsPassed refl tt) h))
     reads_all k [] (i ∷ places) t l n h is within all past fits = absurd all
-    reads_all k (p ∷ ps) [] t l n h is within all past fits = absurd all
-    reads_all k (p ∷ ps) (i ∷ places) t l n h is within all past fits =
+    reads_all k (p ∷ ps) [] t l n h is within all past fits =
+        subst (λ o. Makes answer_of after (IsNext k o t.reader n) n (read_to k o t.place t l)) (sym (unanswered_first t.reader p ps all.0))
+        (reads_all k ps [] t l n h is within all.1 past fits.1)
+    reads_all k (p ∷ ps) (i ∷ places) t l n h is within (inr others) past fits =
+        subst (λ o. Makes answer_of after (IsNext k o t.reader n) n (read_to k o (last_of places i) t l)) (sym (unanswered_first t.reader p ps others.0))
+        (reads_all k ps (i ∷ places) t l n h is within others.1 past fits.1)
+    reads_all k (p ∷ ps) (i ∷ places) t l n h is within (inl all) past fits =
         let inside = place_within i all.0 l.said all.1 in
         let t1 = record t { place = i } in
         let l1 = with_station k t1 l in
@@ -256,7 +263,7 @@ module _ {H : Type 0} where
         let o = hears answer_of after t.reader p in
         let t2 = has_read p t1 in
         let l2 = device_says k (option_to_list o.reply) (with_station k t2 l1) in
-        let last = last_within l.said ps places i (omega (arith, inside)) all.4 in
+        let last = last_within (IsUnanswered t.reader) l.said ps places i (omega (arith, inside)) all.4 in
         let more : length l.said ≤ length (l.said ++ by_device k (option_to_list o.reply)) = longer l.said (by_device k (option_to_list o.reply)) in
         let least = last.0 in
         let most = last.1 in

@@ -13,7 +13,7 @@ use Rattle.osdp_controller.specs.declared.session.Session.{Session}
 use Rattle.osdp_controller.specs.declared.state.State.TheVariants.{Closed}
 use Rattle.osdp_bus.specs.Buses.{BusState, device_of, seen}
 use Rattle.osdp_bus.specs.Devices.{first_from, is_at, step_of}
-use Rattle.osdp_bus.specs.Hearing.{hears_packet}
+use Rattle.osdp_bus.specs.Hearing.{hears_at, hears_packet}
 use Rattle.osdp_bus.specs.declared.device.Device.{Device}
 use Rattle.osdp_bus_laws.specs.Calls as bus
 use Rattle.osdp_bus_laws.specs.Reports.{told_at, told_by_device, told_by_entry, told_by_ticking, told_in, told_with}
@@ -32,7 +32,6 @@ use Rattle.osdp_shared_line.proofs.Sites.{changed_from, some_same}
 use Rattle.osdp_calls.specs.Calls.{after_calls, all_hear, asked_at, change_at, changes_at, hears_of, read_by}
 use Rattle.osdp_calls.specs.Handing.{heard, told_by_all}
 use Rattle.osdp_calls.specs.Lines.{Burst, InUse, Station, is_past_for_panel}
-use Rattle.osdp_calls.specs.Premises.{AreSaid}
 use Rattle.osdp_calls.specs.Refusals.{CallsRefuseNoNumber}
 use Rattle.osdp_calls.proofs.Ahead.{panel_front}
 use Rattle.osdp_calls.proofs.Controllers.{hears_same, ignored_command, ignored_quiet}
@@ -45,6 +44,7 @@ use Rattle.osdp_calls.proofs.Runs.{NotPast}
 use Rattle.osdp_calls.proofs.Same.{Controls, IsNetOf, IsRightly, IsSame, IsToOpen}
 use Rattle.osdp_calls.proofs.Setting.{first_net, first_site, first_there}
 use Rattle.osdp_calls.proofs.Stations.{Sites}
+use Rattle.osdp_calls.proofs.Strangers.{IsElsewhere, Ordered, nobody_at, order_heard, ordered}
 
 -- ---- what a controller passes over tells nothing
 
@@ -215,12 +215,21 @@ module _ {H : Type 0} where
 
       -- ---- all that are read
 
-      all_tell : (ps : List Packet) (places : List ℕ) (l : InUse H) (n : Net H) → IsNetOf l n → Reached n0 n → AreSaid l.said ps places l.place
+      -- a packet that none of the controllers hears tells nothing
+      untold : (p : Packet) (ps : List Packet) (l : InUse H) → IsElsewhere l.bus.devices.entries p
+          → Each (Tells k) (told_by_all l.bus.greatest ps l.bus.devices) → Each (Tells k) (told_by_all l.bus.greatest (p ∷ ps) l.bus.devices)
+      untold p ps l off rest =
+          subst (λ o. Each (Tells k) (told_by_entry p l.bus.greatest o l.bus.devices ++ told_by_all l.bus.greatest ps (hears_at p l.bus.greatest o l.bus.devices)))
+          (sym (nobody_at p 0 l.bus.devices.entries off)) rest
+
+      all_tell : (ps : List Packet) (places : List ℕ) (l : InUse H) (n : Net H) → IsNetOf l n → Reached n0 n → Ordered l ps places
           → Each (NotPast l) places → Unbroken k l.stations
           → Each (Tells k) (told_by_all l.bus.greatest ps l.bus.devices)
       all_tell [] places l n h r all past unbroken = tt
-      all_tell (p ∷ ps) [] l n h r all past unbroken = absurd all
-      all_tell (p ∷ ps) (i ∷ places) l n h r all past unbroken =
+      all_tell (p ∷ ps) [] l n h r all past unbroken = untold p ps l all.0 (all_tell ps [] l n h r all.1 past unbroken)
+      all_tell (p ∷ ps) (i ∷ places) l n h r (inr others) past unbroken =
+          untold p ps l others.0 (all_tell ps (i ∷ places) l n h r others.1 past unbroken)
+      all_tell (p ∷ ps) (i ∷ places) l n h r (inl all) past unbroken =
           let inside = place_within i all.0 l.said all.1 in
           let l1 = record l { place = i } in
           let l2 = hears_one answer_of after p l1 in
@@ -231,12 +240,13 @@ module _ {H : Type 0} where
           each_append (Tells k) told
           (told_by_all l.bus.greatest ps (hears_packet p l.bus.greatest l.bus.devices))
           (one_tells p all.0 l1 on.net on.same r1 all.1 all.2 (past.0 all.0 all.1) unbroken)
-          (all_tell ps places l2 read.net read.same (reached_more n0 on.net read.net r1 read.reached) all.4 past.1 (all_unbroken k told l.stations unbroken))
+          (all_tell ps places l2 read.net read.same (reached_more n0 on.net read.net r1 read.reached) (order_heard p l.bus.greatest l.bus.devices l.said ps places i all.4)
+          past.1 (all_unbroken k told l.stations unbroken))
 
   -- of a call, where packets that it reads tell of none
   call_tells : (k : ℕ) (places : List ℕ) (l : InUse H)
-      → ((now : ℕ) (ps : List Packet) → AreSaid l.said ps places l.place → Each (Tells k) (told_by_all (max l.bus.greatest now) ps l.bus.devices))
-      → (call : bus.Call) → AreSaid l.said (read_by call l.bus) places l.place → Each (Tells k) (told_in call l.bus)
+      → ((now : ℕ) (ps : List Packet) → Ordered l ps places → Each (Tells k) (told_by_all (max l.bus.greatest now) ps l.bus.devices))
+      → (call : bus.Call) → Ordered l (read_by call l.bus) places → Each (Tells k) (told_in call l.bus)
   call_tells k places l reads (bus.OnBytes bytes now) order =
       subst (Each (Tells k)) (sym ((hands_over l.bus).bytes bytes now).1) (reads now (read_by (bus.OnBytes bytes now) l.bus) order)
   call_tells k places l reads (bus.OnSilence now) order =
@@ -267,4 +277,4 @@ module _ {H : Type 0} where
       (first_there c.start.config k first l.stations was) ps places (record ls { bus = seen now ls.bus }) c.came.net (at_seen now ls c.came.net c.came.same)
       (record { moves = RestartPanel c.start.settings ∷ c.came.moves; fit = (c.start.fits, c.came.fit); is = c.came.run }) order past
       (λ u there. ap (λ (x : Station H). x.account.restarts) (some_same u t (sym there ∙ is)) ∙ zero))
-      call keeps.in_order)
+      call (ordered ls (read_by call ls.bus) places keeps.in_order))

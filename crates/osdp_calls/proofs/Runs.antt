@@ -1,42 +1,67 @@
 -- Bytes, silences and the ends of runs: what a call of the panel reads, packet after packet.
-use Rattle.std.proofs.Common.{◌≡◌, ℕ, Bool, true, false, cond, List, [], ◌∷◌, ◌++◌, Some, refl, sym, subst, ap, ◌∙◌, arith}
+use Rattle.std.proofs.Common.{◌≡◌, ℕ, Bool, true, false, cond, List, [], ◌∷◌, ◌++◌, Some, refl, sym, subst, ap, ◌∙◌, arith, inl, inr}
 use Rattle.osdp_frame.specs.Items.{items, left_over, whole_packets}
 use Rattle.osdp_frame.specs.Packet.{Packet}
 use Rattle.osdp_frame.specs.Reading.{RunItem, PacketItem, SkippedItem, RefusedItem}
 use Rattle.osdp_msg.specs.declared.command.Command.{Command}
 use Rattle.osdp_bus.specs.Buses.{is_silent, seen}
-use Rattle.osdp_bus.specs.Hearing.{after_bytes, ends_run, ends_silent, hears_bytes, hears_item, hears_items}
-use Rattle.osdp_bus_laws.specs.Reports.{told_by_bytes, told_by_end, told_by_item, told_by_items, told_by_silence}
+use Rattle.osdp_bus.specs.Hearing.{after_bytes, ends_run, ends_silent, hears_at, hears_bytes, hears_item, hears_items}
+use Rattle.osdp_bus_laws.specs.Reports.{told_by_bytes, told_by_end, told_by_entry, told_by_item, told_by_items, told_by_silence}
 use Rattle.osdp_link_laws.proofs.Stages.{Each}
 use Rattle.osdp_reader.specs.declared.handler.Answer.{Answer}
 use Rattle.osdp_shared_line.specs.Line.{Net, site_at}
 use Rattle.osdp_calls.specs.Calls.{all_hear, last_of, read_at_end, read_at_silence, read_of_bytes}
 use Rattle.osdp_calls.specs.Lines.{Burst, InUse, is_past_for_panel}
-use Rattle.osdp_calls.specs.Premises.{AreSaid}
+use Rattle.osdp_calls.specs.Premises.{AreInOrder}
 use Rattle.osdp_calls.proofs.Nexts.{place_within, then_refines}
 use Rattle.osdp_calls.proofs.Panel.{at_seen, hears_one, panel_on, reads_here, told_then}
 use Rattle.osdp_calls.proofs.Same.{IsNetOf}
 use Rattle.osdp_calls.proofs.Stations.{Refines, by_none}
+use Rattle.osdp_calls.proofs.Strangers.{IsElsewhere, Ordered, nobody_at, order_heard, order_silent}
 
 -- ---- places, one part after the other
 
-pub record Split (said : List Burst) (ps qs : List Packet) (places : List ℕ) (before : ℕ) : Type 0 where
+pub record Split (Others : Packet → Type 0) (said : List Burst) (ps qs : List Packet) (places : List ℕ) (before : ℕ) : Type 0 where
   pub front : List ℕ
   pub back : List ℕ
   pub parts : places ≡ front ++ back
-  pub first : AreSaid said ps front before
-  pub second : AreSaid said qs back (last_of front before)
+  pub first : AreInOrder Others said ps front before
+  pub second : AreInOrder Others said qs back (last_of front before)
 
-pub split : (said : List Burst) (ps qs : List Packet) (places : List ℕ) (before : ℕ) → AreSaid said (ps ++ qs) places before → Split said ps qs places before
-split said [] qs places before all = record { front = []; back = places; parts = refl; first = tt; second = all }
-split said (p ∷ ps) qs [] before all = absurd all
-split said (p ∷ ps) qs (i ∷ places) before all =
-    let rest = split said ps qs places i all.4 in
+-- a packet of others, before two parts
+other_first : (Others : Packet → Type 0) (said : List Burst) (p : Packet) (ps : List Packet) (places : List ℕ) (before : ℕ) → Others p
+    → AreInOrder Others said ps places before → AreInOrder Others said (p ∷ ps) places before
+other_first Others said p ps [] before others order = (others, order)
+other_first Others said p ps (i ∷ places) before others order = inr (others, order)
+
+pub split : (Others : Packet → Type 0) (said : List Burst) (ps qs : List Packet) (places : List ℕ) (before : ℕ) → AreInOrder Others said (ps ++ qs) places before
+    → Split Others said ps qs places before
+split Others said [] qs places before all = record { front = []; back = places; parts = refl; first = tt; second = all }
+split Others said (p ∷ ps) qs [] before all =
+    let rest = split Others said ps qs [] before all.1 in
+    record {
+      front = rest.front;
+      back = rest.back;
+      parts = rest.parts;
+      first = other_first Others said p ps rest.front before all.0 rest.first;
+      second = rest.second;
+    }
+split Others said (p ∷ ps) qs (i ∷ places) before (inl ours) =
+    let rest = split Others said ps qs places i ours.4 in
     record {
       front = i ∷ rest.front;
       back = rest.back;
       parts = ap (λ l. i ∷ l) rest.parts;
-      first = (all.0, all.1, all.2, all.3, rest.first);
+      first = inl (ours.0, ours.1, ours.2, ours.3, rest.first);
+      second = rest.second;
+    }
+split Others said (p ∷ ps) qs (i ∷ places) before (inr others) =
+    let rest = split Others said ps qs (i ∷ places) before others.1 in
+    record {
+      front = rest.front;
+      back = rest.back;
+      parts = rest.parts;
+      first = other_first Others said p ps rest.front before others.0 rest.first;
       second = rest.second;
     }
 
@@ -65,14 +90,27 @@ module _ {H : Type 0} where
   }
 
   module _ (answer_of : H → Command → Answer) (after : H → Command → H) where
-    pub panel_reads : (parts : List RunItem) (places : List ℕ) (l : InUse H) (n : Net H) → IsNetOf l n → AreSaid l.said (whole_packets parts) places l.place
+    -- a packet that none of the controllers hears changes nothing
+    passed_by : (p : Packet) (parts : List RunItem) (places : List ℕ) (l : InUse H) (n : Net H) → IsElsewhere l.bus.devices.entries p
+        → Refines answer_of after n (reads_items parts places l) → Refines answer_of after n (reads_items (PacketItem p ∷ parts) places l)
+    passed_by p parts places l n off rest =
+        subst (λ o. Refines answer_of after n (record l {
+          bus = record l.bus { devices = hears_items l.bus.greatest parts (hears_at p l.bus.greatest o l.bus.devices) };
+          stations = all_hear (told_by_entry p l.bus.greatest o l.bus.devices
+              ++ told_by_items l.bus.greatest parts (hears_at p l.bus.greatest o l.bus.devices)) l.stations;
+          place = last_of places l.place;
+        })) (sym (nobody_at p 0 l.bus.devices.entries off)) rest
+
+    pub panel_reads : (parts : List RunItem) (places : List ℕ) (l : InUse H) (n : Net H) → IsNetOf l n → Ordered l (whole_packets parts) places
         → Each (NotPast l) places → Refines answer_of after n (reads_items parts places l)
     panel_reads [] [] l n h all past = by_none answer_of after l n h
     panel_reads [] (i ∷ places) l n h all past = absurd all
     panel_reads (SkippedItem byte ∷ parts) places l n h all past = panel_reads parts places l n h all past
     panel_reads (RefusedItem fault ∷ parts) places l n h all past = panel_reads parts places l n h all past
-    panel_reads (PacketItem p ∷ parts) [] l n h all past = absurd all
-    panel_reads (PacketItem p ∷ parts) (i ∷ places) l n h all past =
+    panel_reads (PacketItem p ∷ parts) [] l n h all past = passed_by p parts [] l n all.0 (panel_reads parts [] l n h all.1 past)
+    panel_reads (PacketItem p ∷ parts) (i ∷ places) l n h (inr others) past =
+        passed_by p parts (i ∷ places) l n others.0 (panel_reads parts (i ∷ places) l n h others.1 past)
+    panel_reads (PacketItem p ∷ parts) (i ∷ places) l n h (inl all) past =
         let inside = place_within i all.0 l.said all.1 in
         let l1 = record l { place = i } in
         let l2 = hears_one answer_of after p l1 in
@@ -85,7 +123,7 @@ module _ {H : Type 0} where
           stations = ts;
           place = last_of places i;
         })) (sym (told_then (told_by_item g (PacketItem p) ds) (told_by_items g parts (hears_item g (PacketItem p) ds)) l.stations))
-        (then_refines answer_of after n l2 (reads_items parts places l2) second (λ m h2. panel_reads parts places l2 m h2 all.4 past.1))
+        (then_refines answer_of after n l2 (reads_items parts places l2) second (λ m h2. panel_reads parts places l2 m h2 (order_heard p g ds l.said (whole_packets parts) places i all.4) past.1))
 
     -- what is held is nothing to the net
     pub then_is : (l m : InUse H) (n : Net H) → Refines answer_of after n l → ((k : Net H) → IsNetOf l k → IsNetOf m k) → Refines answer_of after n m
@@ -99,7 +137,7 @@ module _ {H : Type 0} where
     abbrev pub at_end : List ℕ → InUse H → InUse H
     at_end places l = record l { bus = ends_run l.bus; stations = all_hear (told_by_end l.bus) l.stations; place = last_of places l.place }
 
-    pub reads_end : (places : List ℕ) (l : InUse H) (n : Net H) → IsNetOf l n → AreSaid l.said (read_at_end l.bus) places l.place → Each (NotPast l) places
+    pub reads_end : (places : List ℕ) (l : InUse H) (n : Net H) → IsNetOf l n → Ordered l (read_at_end l.bus) places → Each (NotPast l) places
         → Refines answer_of after n (at_end places l)
     reads_end places l n h all past =
         then_is (reads_items (items true l.bus.held) places l) (at_end places l) n (panel_reads (items true l.bus.held) places l n h all past)
@@ -108,11 +146,11 @@ module _ {H : Type 0} where
     abbrev pub at_silence : List ℕ → InUse H → InUse H
     at_silence places l = record l { bus = ends_silent l.bus; stations = all_hear (told_by_silence l.bus) l.stations; place = last_of places l.place }
 
-    pub reads_silence : (places : List ℕ) (l : InUse H) (n : Net H) → IsNetOf l n → AreSaid l.said (read_at_silence l.bus) places l.place → Each (NotPast l) places
+    pub reads_silence : (places : List ℕ) (l : InUse H) (n : Net H) → IsNetOf l n → Ordered l (read_at_silence l.bus) places → Each (NotPast l) places
         → Refines answer_of after n (at_silence places l)
     reads_silence places l n h all past = by_test (is_silent l.bus) all
       where
-        by_test : (x : Bool) → AreSaid l.said (cond x (read_at_end l.bus) []) places l.place
+        by_test : (x : Bool) → Ordered l (cond x (read_at_end l.bus) []) places
             → Refines answer_of after n (record l {
               bus = cond x (ends_run l.bus) l.bus;
               stations = all_hear (cond x (told_by_end l.bus) []) l.stations;
@@ -121,7 +159,7 @@ module _ {H : Type 0} where
         by_test true all = reads_end places l n h all past
         by_test false all = nothing places all
           where
-            nothing : (places : List ℕ) → AreSaid l.said [] places l.place → Refines answer_of after n (record l { place = last_of places l.place })
+            nothing : (places : List ℕ) → Ordered l [] places → Refines answer_of after n (record l { place = last_of places l.place })
             nothing [] all = by_none answer_of after l n h
             nothing (i ∷ places) all = absurd all
 
@@ -135,7 +173,7 @@ module _ {H : Type 0} where
     }
 
     pub reads_bytes : (bytes : List ℕ) (now : ℕ) (places : List ℕ) (l : InUse H) (n : Net H) → IsNetOf l n
-        → AreSaid l.said (read_of_bytes bytes (seen now l.bus)) places l.place → Each (NotPast l) places → Refines answer_of after n (at_bytes bytes now places l)
+        → Ordered l (read_of_bytes bytes (seen now l.bus)) places → Each (NotPast l) places → Refines answer_of after n (at_bytes bytes now places l)
     reads_bytes [] now [] l n h all past = by_none answer_of after (record l { bus = seen now l.bus }) n (at_seen now l n h)
     reads_bytes [] now (i ∷ places) l n h all past = absurd all
     reads_bytes (byte ∷ bytes) now places l n h all past =
@@ -143,12 +181,13 @@ module _ {H : Type 0} where
         let given = byte ∷ bytes in
         let quiet = ends_silent l1.bus in
         let parts = items false (quiet.held ++ given) in
-        let s = split l.said (read_at_silence l1.bus) (whole_packets parts) places l.place all in
+        let s = split (IsElsewhere l.bus.devices.entries) l.said (read_at_silence l1.bus) (whole_packets parts) places l.place all in
         let past_parts : Each (NotPast l) (s.front ++ s.back) = subst (Each (NotPast l)) s.parts past in
         let l2 = at_silence s.front l1 in
         let first = reads_silence s.front l1 n (at_seen now l n h) s.first (each_first (NotPast l) s.front s.back past_parts) in
         let l3 = reads_items parts s.back l2 in
-        let second = then_refines answer_of after n l2 l3 first (λ m h2. panel_reads parts s.back l2 m h2 s.second (each_second (NotPast l) s.front s.back past_parts)) in
+        let second = then_refines answer_of after n l2 l3 first (λ m h2. panel_reads parts s.back l2 m h2
+        (order_silent l1.bus l.said (whole_packets parts) s.back (last_of s.front l.place) s.second) (each_second (NotPast l) s.front s.back past_parts)) in
         subst (λ i. Refines answer_of after n (record l {
           bus = hears_bytes given quiet;
           stations = all_hear (told_by_bytes given (seen now l.bus)) l.stations;

@@ -1,6 +1,7 @@
 pub mod Lines
 pub mod Calls
 pub mod Premises
+pub mod Strangers
 pub mod Promises
 pub mod Sayings
 pub mod Accepted

@@ -24,13 +24,14 @@ use Rattle.osdp_calls.specs.Lines.{Burst, InUse, Station, ahead_of_device, bus_w
 
 -- ---- 1. In order
 
--- each of these packets was said, at its place, and no place lies before the one before it
-abbrev pub AreSaid : List Burst → List Packet → List ℕ → ℕ → Type 0
-AreSaid said [] [] before = Unit {0}
-AreSaid said (p ∷ ps) (i ∷ places) before =
-    (b : Burst) × (site_at i said ≡ Some b) × (b.packet ≡ p) × (before ≤ i) × AreSaid said ps places i
-AreSaid said [] (i ∷ places) before = ⊥
-AreSaid said (p ∷ ps) [] before = ⊥
+-- Each of these packets was said, at its place, and no place lies before the one before it. But a packet of others needs no place.
+abbrev pub AreInOrder : (Packet → Type 0) → List Burst → List Packet → List ℕ → ℕ → Type 0
+AreInOrder Others said [] [] before = Unit {0}
+AreInOrder Others said [] (i ∷ places) before = ⊥
+AreInOrder Others said (p ∷ ps) [] before = Others p × AreInOrder Others said ps [] before
+AreInOrder Others said (p ∷ ps) (i ∷ places) before =
+    ((b : Burst) × (site_at i said ≡ Some b) × (b.packet ≡ p) × (before ≤ i) × AreInOrder Others said ps places i)
+    ⊎ (Others p × AreInOrder Others said ps (i ∷ places) before)
 
 -- ---- 2. Quiet opening
 
@@ -43,14 +44,30 @@ abbrev pub unended_of : Device → List Command
 unended_of d = asked_in d.controller.session.state ++ d.controller.waiting
 
 module _ {H : Type 0} where
-  -- What an end reads as packets was said by an end before, and no packet that it reads was said before one that it has read already.
-  abbrev pub NextInOrder : List Burst → List ℕ → Option (Station H) → Type 0
-  NextInOrder said places None = Unit {0}
-  NextInOrder said places (Some t) = AreSaid said (read_up_to t.reader (items_of t.line.held)) places t.place
+  -- where the device of an entry is, or where a COMSET that it has not read may take it: one that was submitted and has not ended, or one
+  -- that was said and that it may still read
+  pub data MayBeAt (address k : ℕ) (l : InUse H) : Type 0 where
+    IsThere : (t : Station H) → site_at k l.stations ≡ Some t → t.reader.config.address ≡ address → MayBeAt address k l
+    IsAsked : (d : Device) → device_of k l.bus ≡ Some d → Somewhere (Sets address) (unended_of d) → MayBeAt address k l
+    IsSaid : (t : Station H) → site_at k l.stations ≡ Some t
+        → Somewhere (λ (q : ℕ × Packet). (q.0 ≡ k) × SetsReader address q.1) (ahead_of_device k t.place l.openings l.said) → MayBeAt address k l
+
+  -- A packet of others: no entry is at the address that it is to or from, and no device of an entry is there, or may come there. What is to 127 is
+  -- to all.
+  pub record IsOfOthers (l : InUse H) (p : Packet) : Type 0 where
+    pub to_one : p.address ≢ 127
+    pub entries : (j : ℕ) (d : Device) → device_of j l.bus ≡ Some d → d.controller.session.config.address ≢ p.address
+    pub devices : (j : ℕ) → MayBeAt p.address j l → ⊥
+
+  -- What an end reads as packets was said by an end before, and no packet that it reads was said before one that it has read already. Nothing is
+  -- asked of packets of others.
+  abbrev pub NextInOrder : InUse H → List ℕ → Option (Station H) → Type 0
+  NextInOrder l places None = Unit {0}
+  NextInOrder l places (Some t) = AreInOrder (IsOfOthers l) l.said (read_up_to t.reader (items_of t.line.held)) places t.place
 
   abbrev pub InOrder : Call H → List ℕ → InUse H → Type 0
-  InOrder (OfPanel call) places l = AreSaid l.said (read_by call l.bus) places l.place
-  InOrder (Next k) places l = NextInOrder l.said places (site_at k l.stations)
+  InOrder (OfPanel call) places l = AreInOrder (IsOfOthers l) l.said (read_by call l.bus) places l.place
+  InOrder (Next k) places l = NextInOrder l places (site_at k l.stations)
   InOrder _ places l = Unit {0}
 
   -- Once the opening ID of a session has gone out for the first time, nothing said before, for or by its reader or to or from its address,
@@ -61,14 +78,6 @@ module _ {H : Type 0} where
   QuietOpening _ places l = Unit {0}
 
   -- ---- 3. Addresses
-
-  -- where the device of an entry is, or where a COMSET that it has not read may take it: one that was submitted and has not ended, or one
-  -- that was said and that it may still read
-  pub data MayBeAt (address k : ℕ) (l : InUse H) : Type 0 where
-    IsThere : (t : Station H) → site_at k l.stations ≡ Some t → t.reader.config.address ≡ address → MayBeAt address k l
-    IsAsked : (d : Device) → device_of k l.bus ≡ Some d → Somewhere (Sets address) (unended_of d) → MayBeAt address k l
-    IsSaid : (t : Station H) → site_at k l.stations ≡ Some t
-        → Somewhere (λ (q : ℕ × Packet). (q.0 ≡ k) × SetsReader address q.1) (ahead_of_device k t.place l.openings l.said) → MayBeAt address k l
 
   -- no other device is there, or may come there
   abbrev pub IsNoOthers : ℕ → ℕ → InUse H → Type 0

@@ -13,6 +13,7 @@ ghost use Rattle.osdp_calls.specs.Promises.{CallsHoldOnce, CallsKeepApart};
 ghost use Rattle.osdp_calls.specs.Refusals.{CallsRefuseNoNumber};
 ghost use Rattle.osdp_calls.specs.Restarts.{NewDeviceCosts, NewDeviceReportsNoMore, NewPanelCosts};
 ghost use Rattle.osdp_calls.specs.Sayings.{AddsMakeTheBus, SaysWhatGoesOut};
+ghost use Rattle.osdp_calls.specs.Strangers.{OthersArePassedOver};
 ghost use Rattle.osdp_calls.specs.Turning.{PanelTurnsByCalls, TurnsByCalls};
 ghost use Rattle.osdp_calls.specs.Undisturbed.{OrdinaryCallsDisturbNone};
 ghost use Rattle.osdp_device.specs.declared.program.ProgramAnswers.{ProgramAnswers};
@@ -32,7 +33,8 @@ use osdp_reader::Handler;
 ///
 /// The premises:
 ///
-/// - In order: what an end reads was said before, and nothing that it reads was said before what it has read already.
+/// - In order: what an end reads was said before, and nothing that it reads was said before what it has read already. Nothing is asked of packets of
+///   others: those to or from an address, other than 127, at which no entry is and no device of an entry is or may come.
 /// - Quiet opening: once the opening ID of a session has gone out, its reader and the panel read nothing more that was said before for or by this
 ///   reader, or to or from its address.
 /// - Addresses: no accepted call and no restart gives an entry an address where another entry's device is or may come. A device that comes back
@@ -70,6 +72,12 @@ pub fn calls_keep_apart<H: Handler>()
 {
     osdp_shared_line::nobody_else_hears::<H>();
 }
+
+/// A packet of others, at an address where no entry is and no device of an entry is or may come, is passed over. No controller changes by it or tells
+/// anything, and no device changes by it or says anything. 127 is everybody's address.
+pub fn others_are_passed_over<H: Handler>()
+    ensures { OthersArePassedOver H.answer_of H.after }
+{}
 
 /// What is said is what goes out: at a tick of the panel the frame that it gives, and at a `next` of a device the packet whose bytes the response
 /// has.

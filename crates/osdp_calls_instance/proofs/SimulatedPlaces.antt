@@ -17,7 +17,7 @@ use Rattle.osdp_shared_line.proofs.Sites.{at_changed, at_other, some_same}
 use Rattle.osdp_calls.specs.Calls.{Call, NewDevice, NewPanel, Next, OfPanel, Pending, SetBusy, SetHandler, Silence, Step, SubmitEvent, Take, TickDevice, after_call, after_calls, after_next, answers, by_device, changes_at, first_answered, last_of, nexts, on_station, queues, read_by, read_up_to, WithdrawEvent}
 use Rattle.osdp_calls.specs.Ends.{GoByTheirOwn, Held, device_after, held_by}
 use Rattle.osdp_calls.specs.Lines.{Burst, InUse, Opening, Station, is_before, is_past_for_device, is_past_for_panel}
-use Rattle.osdp_calls.specs.Premises.{AreNotPast, AreSaid, InOrder, NextInOrder, QuietOpening}
+use Rattle.osdp_calls.specs.Premises.{AreInOrder, AreNotPast, InOrder, IsOfOthers, NextInOrder, QuietOpening}
 use Rattle.osdp_calls_instance.proofs.OwnCalls.{of_device}
 use Rattle.osdp_calls_instance.proofs.SimulatedLists.{place_then, same_number}
 use Rattle.osdp_calls_instance.proofs.SimulatedReads.{CallGood, CallsGood, reads_good}
@@ -100,11 +100,11 @@ module _ {H : Type 0} where
   placed i call l = record { call = call; places = at_place i (reads_of call l) }
 
   said_so : (packets : List Packet) (i place : ℕ) (l : InUse H) (ps : List Packet) → Each (IsOneOf packets) ps → Source packets i l
-      → Since packets place i → AreSaid l.said ps (at_place i ps) place
+      → Since packets place i → AreInOrder (IsOfOthers l) l.said ps (at_place i ps) place
   said_so packets i place l [] ones source since = tt
   said_so [] i place l (p ∷ ps) ones source since = absurd ones.0
   said_so (q ∷ qs) i place l (p ∷ ps) ones source since =
-      (source.burst, source.at, source.is ∙ sym ones.0, since, said_so (q ∷ qs) i i l ps ones.1 source (omega arith))
+      inl (source.burst, source.at, source.is ∙ sym ones.0, since, said_so (q ∷ qs) i i l ps ones.1 source (omega arith))
 
   fresh_so : (is_past : ℕ → Burst → Bool) (packets : List Packet) (i : ℕ) (l : InUse H) (ps : List Packet)
       → ((b : Burst) → is_past_for_panel l.openings i b ≡ false → is_past i b ≡ false) → Each (IsOneOf packets) ps → Source packets i l
@@ -135,9 +135,9 @@ module _ {H : Type 0} where
 
   next_ordered : (packets : List Packet) (i k : ℕ) (l : InUse H) (o : Option (Station H)) (t : Station H) → o ≡ Some t
       → Each (IsOneOf packets) (read_up_to t.reader (items_of t.line.held)) → Source packets i l → Since packets t.place i
-      → NextInOrder l.said (at_place i (next_reads o)) o × AreNotPast (is_past_for_device k l.openings) l.said (at_place i (next_reads o))
+      → NextInOrder l (at_place i (next_reads o)) o × AreNotPast (is_past_for_device k l.openings) l.said (at_place i (next_reads o))
   next_ordered packets i k l o t is ones source since =
-      subst (λ x. NextInOrder l.said (at_place i (next_reads x)) x × AreNotPast (is_past_for_device k l.openings) l.said (at_place i (next_reads x))) (sym is) (
+      subst (λ x. NextInOrder l (at_place i (next_reads x)) x × AreNotPast (is_past_for_device k l.openings) l.said (at_place i (next_reads x))) (sym is) (
         said_so packets i t.place l (read_up_to t.reader (items_of t.line.held)) ones source since,
         fresh_so (is_past_for_device k l.openings) packets i l (read_up_to t.reader (items_of t.line.held)) (λ b fresh. not_past k i b l.openings fresh) ones source,
       )

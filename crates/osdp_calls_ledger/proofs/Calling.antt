@@ -32,6 +32,7 @@ use Rattle.osdp_calls.proofs.Panel.{at_seen, told_then}
 use Rattle.osdp_calls.proofs.Runs.{NotPast}
 use Rattle.osdp_calls.proofs.Same.{IsNetOf}
 use Rattle.osdp_calls.proofs.Steps.{Made, StepsTo, device_moves}
+use Rattle.osdp_calls.proofs.Strangers.{ordered}
 use Rattle.osdp_calls_ledger.specs.Steps.{device_steps, opening, reported, steps_at, steps_of}
 use Rattle.osdp_calls_ledger.proofs.Nexting.{next_of_shows}
 use Rattle.osdp_calls_ledger.proofs.Own.{no_steps, none_back, of_device, of_power, of_submit, of_withdraw}
@@ -69,7 +70,7 @@ module _ {H : Type 0} (answer_of : H → Command → Answer) (after : H → Comm
     reads_call call now places next order quiet e told =
         let l0 : InUse H = record l { bus = seen_by_bus now l.bus } in
         let ps = read_by call l.bus in
-        let read = reads_show answer_of after ps places l0 n (at_seen now l n h) order (each_of (NotPast l) places quiet) in
+        let read = reads_show answer_of after ps places l0 n (at_seen now l n h) (ordered l ps places order) (each_of (NotPast l) places quiet) in
         shows_line answer_of after (λ k. reported k (told_in call l.bus)) n (reads_those answer_of after ps places l0) next
         (λ q same. net_as (reads_those answer_of after ps places l0) next q e same)
         (shows_as answer_of after (reads_shown answer_of after ps l0) (λ k. reported k (told_in call l.bus)) n (reads_those answer_of after ps places l0)
@@ -85,7 +86,7 @@ module _ {H : Type 0} (answer_of : H → Command → Answer) (after : H → Comm
         let told = told_by_all (max l.bus.greatest now) ps l.bus.devices in
         let l1 = reads_those answer_of after ps places l0 in
         let ticked = told_by_ticking o l1.bus in
-        let first = reads_show answer_of after ps places l0 n (at_seen now l n h) order (each_of (NotPast l) places quiet) in
+        let first = reads_show answer_of after ps places l0 n (at_seen now l n h) (ordered l ps places order) (each_of (NotPast l) places quiet) in
         let both = then_shows answer_of after (reads_shown answer_of after ps l0) (tick_shown answer_of after o l1) n l1 (ticks_to answer_of after o l1) first
         (λ m h1. ticks_show answer_of after o l1 m h1) in
         let hands = (hands_over l.bus).tick now in

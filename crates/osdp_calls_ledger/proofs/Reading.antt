@@ -14,7 +14,7 @@ use Rattle.osdp_controller.specs.declared.state.State.{State}
 use Rattle.osdp_controller.specs.declared.state.State.TheVariants.{Closed}
 use Rattle.osdp_bus.specs.Devices as devices
 use Rattle.osdp_bus.specs.Devices.{first_from, is_at, told_of}
-use Rattle.osdp_bus.specs.Hearing.{hears_packet}
+use Rattle.osdp_bus.specs.Hearing.{hears_at, hears_packet}
 use Rattle.osdp_bus.specs.declared.device.Device.{Device}
 use Rattle.osdp_bus_laws.specs.Reports.{told_at, told_by_entry, told_by_item, told_with}
 use Rattle.osdp_reader.specs.declared.handler.Answer.{Answer}
@@ -28,10 +28,9 @@ use Rattle.osdp_link_ledger.specs.Steps.{after_steps, all_steps, opens, ticked, 
 use Rattle.osdp_shared_line.specs.Line.{Net, NetMove, Site, ToPanel, address_of, link_of, site_at}
 use Rattle.osdp_shared_line.specs.Views.{HeardByOwn, front_to_panel, other_reply, own, own_reply}
 use Rattle.osdp_shared_line.proofs.Hearing.{closed_hears}
-use Rattle.osdp_calls.specs.Calls.{last_of}
+use Rattle.osdp_calls.specs.Calls.{all_hear, last_of}
 use Rattle.osdp_calls.specs.Handing.{told_by_all}
 use Rattle.osdp_calls.specs.Lines.{Burst, InUse, Station}
-use Rattle.osdp_calls.specs.Premises.{AreSaid}
 use Rattle.osdp_calls.proofs.Agreeing.{address_same, at_entry, reads_those}
 use Rattle.osdp_calls.proofs.Controllers.{hears_same, ignored_quiet}
 use Rattle.osdp_calls.proofs.Counting.{AllHeard}
@@ -42,6 +41,7 @@ use Rattle.osdp_calls.proofs.Panel.{IsHeard, IsIgnored, IsRead, hears_one, panel
 use Rattle.osdp_calls.proofs.Runs.{NotPast}
 use Rattle.osdp_calls.proofs.Same.{Controls, IsNetOf, IsToOpen}
 use Rattle.osdp_calls.proofs.Stations.{Sites}
+use Rattle.osdp_calls.proofs.Strangers.{IsElsewhere, Ordered, nobody_at, order_heard}
 use Rattle.osdp_calls_ledger.specs.Steps.{reported}
 use Rattle.osdp_calls_ledger.proofs.Own.{seen_one}
 use Rattle.osdp_calls_ledger.proofs.Seen.{in_turn, seen, seen_at}
@@ -211,12 +211,27 @@ module _ {H : Type 0} where
     abbrev pub reads_shown : List Packet → InUse H → Shown
     reads_shown ps l k = reported k (told_by_all l.bus.greatest ps l.bus.devices)
 
-    pub reads_show : (ps : List Packet) (places : List ℕ) (l : InUse H) (n : Net H) → IsNetOf l n → AreSaid l.said ps places l.place → Each (NotPast l) places
+    -- a packet that none of the controllers hears shows nothing
+    unread_shows : (p : Packet) (ps : List Packet) (places : List ℕ) (l : InUse H) (n : Net H) → IsElsewhere l.bus.devices.entries p
+        → Shows answer_of after (reads_shown ps l) n (reads_those answer_of after ps places l)
+        → Shows answer_of after (reads_shown (p ∷ ps) l) n (reads_those answer_of after (p ∷ ps) places l)
+    unread_shows p ps places l n off rest =
+        let told : Option ℕ → List (ℕ × Report) = λ o.
+        told_by_entry p l.bus.greatest o l.bus.devices ++ told_by_all l.bus.greatest ps (hears_at p l.bus.greatest o l.bus.devices) in
+        subst (λ o. Shows answer_of after (λ k. reported k (told o)) n (record l {
+          bus = record l.bus { devices = Rattle.osdp_calls.specs.Handing.hears_all l.bus.greatest ps (hears_at p l.bus.greatest o l.bus.devices) };
+          stations = all_hear (told o) l.stations;
+          place = last_of places l.place;
+        })) (sym (nobody_at p 0 l.bus.devices.entries off)) rest
+
+    pub reads_show : (ps : List Packet) (places : List ℕ) (l : InUse H) (n : Net H) → IsNetOf l n → Ordered l ps places → Each (NotPast l) places
         → Shows answer_of after (reads_shown ps l) n (reads_those answer_of after ps places l)
     reads_show [] [] l n h all past = record { net = n; moves = []; fit = tt; run = refl; same = h; shows = λ heard k g. refl }
     reads_show [] (i ∷ places) l n h all past = absurd all
-    reads_show (p ∷ ps) [] l n h all past = absurd all
-    reads_show (p ∷ ps) (i ∷ places) l n h all past =
+    reads_show (p ∷ ps) [] l n h all past = unread_shows p ps [] l n all.0 (reads_show ps [] l n h all.1 past)
+    reads_show (p ∷ ps) (i ∷ places) l n h (inr others) past =
+        unread_shows p ps (i ∷ places) l n others.0 (reads_show ps (i ∷ places) l n h others.1 past)
+    reads_show (p ∷ ps) (i ∷ places) l n h (inl all) past =
         let inside = place_within i all.0 l.said all.1 in
         let l1 = record l { place = i } in
         let l2 = hears_one answer_of after p l1 in
@@ -231,7 +246,7 @@ module _ {H : Type 0} where
         whole_of moves all.0 l1 m told_here read k q heard (λ whole. shown_read p all.0 l1 m h1 all.2 whole moves read k q))
         (reads_here answer_of after p all.0 l1 m h1 all.1 all.2 (past.0 all.0 all.1))) in
         let third = then_shows answer_of after (both_shown none_shown here) rest n l2 (reads_those answer_of after ps places l2) second
-        (λ m h2. reads_show ps places l2 m h2 all.4 past.1) in
+        (λ m h2. reads_show ps places l2 m h2 (order_heard p g l.bus.devices l.said ps places i all.4) past.1) in
         shows_as answer_of after (both_shown (both_shown none_shown here) rest) (reads_shown (p ∷ ps) l) n (reads_those answer_of after (p ∷ ps) (i ∷ places) l)
         (λ k q. sym (reported_more k told_here more q))
         (subst (λ ts. Shows answer_of after (both_shown (both_shown none_shown here) rest) n (record l {

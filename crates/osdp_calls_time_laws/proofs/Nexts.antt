@@ -20,12 +20,13 @@ use Rattle.osdp_shared_line.proofs.Readers.{StoresOwn, reads_well}
 use Rattle.osdp_shared_line.proofs.Sites.{some_same}
 use Rattle.osdp_calls.specs.Calls.{answers, begun_of, by_device, after_next, first_answered, nexts, read_up_to, reply_to}
 use Rattle.osdp_calls.specs.Lines.{Burst, InUse, Station, concerns, is_ahead_of_device, is_past_for_device, those}
-use Rattle.osdp_calls.specs.Premises.{AreSaid, NextInOrder}
+use Rattle.osdp_calls.specs.Premises.{AreInOrder, NextInOrder}
 use Rattle.osdp_calls.proofs.Agreeing.{begun_changed}
 use Rattle.osdp_calls.proofs.Nexts.{each_at, place_within}
 use Rattle.osdp_calls.proofs.Replying.{silent_to_replies}
 use Rattle.osdp_calls.proofs.Same.{IsNetOf, IsRightly}
 use Rattle.osdp_calls.proofs.Stations.{of_station}
+use Rattle.osdp_calls.proofs.Strangers.{IsUnanswered, order_for_device, unanswered_first}
 use Rattle.osdp_calls_time_laws.specs.Moments.{Clock, Timed, clock_after}
 use Rattle.osdp_calls_time_laws.proofs.Quiet.{ReadAt, device_not_past}
 use Rattle.osdp_calls_time_laws.proofs.Stamps.{there_is}
@@ -84,11 +85,13 @@ module _ {H : Type 0} where
     holds : P place
     answered : speaks (kind_of r p) ≡ true
 
-  answered_at : (P : ℕ → Type 0) (r : ReaderState H) (said : List Burst) (ps : List Packet) (places : List ℕ) (before : ℕ) (p : Packet) → AreSaid said ps places before
-      → Each P places → first_answered r ps ≡ Some p → IsAnswered P r said p before
+  answered_at : (P : ℕ → Type 0) (r : ReaderState H) (said : List Burst) (ps : List Packet) (places : List ℕ) (before : ℕ) (p : Packet)
+      → AreInOrder (IsUnanswered r) said ps places before → Each P places → first_answered r ps ≡ Some p → IsAnswered P r said p before
   answered_at P r said [] places before p all each is = absurd (let e = is in cc)
-  answered_at P r said (x ∷ ps) [] before p all each is = absurd all
-  answered_at P r said (x ∷ ps) (i ∷ places) before p all each is = by_test (speaks (kind_of r x)) refl (λ rest. answered_at P r said ps places i p all.4 each.1 rest) is
+  answered_at P r said (x ∷ ps) [] before p all each is = answered_at P r said ps [] before p all.1 each (sym (unanswered_first r x ps all.0) ∙ is)
+  answered_at P r said (x ∷ ps) (i ∷ places) before p (inr others) each is =
+      answered_at P r said ps (i ∷ places) before p others.1 each (sym (unanswered_first r x ps others.0) ∙ is)
+  answered_at P r said (x ∷ ps) (i ∷ places) before p (inl all) each is = by_test (speaks (kind_of r x)) refl (λ rest. answered_at P r said ps places i p all.4 each.1 rest) is
     where
       by_test : (c : Bool) → speaks (kind_of r x) ≡ c → (first_answered r ps ≡ Some p → IsAnswered P r said p i) → cond c (Some x) (first_answered r ps) ≡ Some p
           → IsAnswered P r said p before
@@ -129,7 +132,7 @@ module _ {H : Type 0} where
       address : p.address ≡ u.reader.config.address
       stored : StoresOwn u.reader
 
-    is_own : (k : ℕ) (u : Station H) (p : Packet) (ps : List Packet) (places : List ℕ) → site_at k l.stations ≡ Some u → AreSaid l.said ps places u.place
+    is_own : (k : ℕ) (u : Station H) (p : Packet) (ps : List Packet) (places : List ℕ) → site_at k l.stations ≡ Some u → AreInOrder (IsUnanswered u.reader) l.said ps places u.place
         → Each (ReadAt w t.at c.said) places → first_answered u.reader ps ≡ Some p → IsOwn k u p
     is_own k u p ps places at all read first =
         let x = answered_at (ReadAt w t.at c.said) u.reader l.said ps places u.place p all read first in
@@ -174,7 +177,7 @@ module _ {H : Type 0} where
             ap (λ y. y && (nat_le from i && not past)) by ∙ ap (λ y. y && not past) (le-leb from i le) ∙ ap not none
 
     -- so its answer is in time
-    in_time : (k : ℕ) (u : Station H) (ps : List Packet) (places : List ℕ) → site_at k l.stations ≡ Some u → AreSaid l.said ps places u.place
+    in_time : (k : ℕ) (u : Station H) (ps : List Packet) (places : List ℕ) → site_at k l.stations ≡ Some u → AreInOrder (IsUnanswered u.reader) l.said ps places u.place
         → Each (ReadAt w t.at c.said) places → (o : Option Packet) → first_answered u.reader ps ≡ o → (e : ℕ) (d : Device) (began : ℕ)
         → slice_get l.bus.devices.entries e ≡ Some d → begun_of (site_at e l.stations) ≡ Some began
         → (j : ℕ) (b : Burst) → site_at j (by_device k (reply_to answer_of after o u.reader)) ≡ Some b → concerns (of_entry e (address_of d)) b ≡ true
@@ -207,7 +210,7 @@ module _ {H : Type 0} where
     answers_begun None u = refl
     answers_begun (Some p) u = refl
 
-    pub runs_next : (k : ℕ) (places : List ℕ) (o : Option (Station H)) → site_at k l.stations ≡ o → NextInOrder l.said places o → Each (ReadAt w t.at c.said) places
+    pub runs_next : (k : ℕ) (places : List ℕ) (o : Option (Station H)) → site_at k l.stations ≡ o → NextInOrder l places o → Each (ReadAt w t.at c.said) places
         → IsKept w t.start t.at l.bus → (quiet : Runs w (clock_after t c l) l) → Runs w (clock_after t c (after_next answer_of after k places o l)) (after_next answer_of after k places o l)
     runs_next k places None at order read kept quiet = quiet
     runs_next k places (Some u) at order read kept quiet =
@@ -221,5 +224,5 @@ module _ {H : Type 0} where
         let was : begun_of (site_at e l.stations) ≡ Some began = sym (begun e) ∙ is in
         still_waits w t.at l.said new c.said e (address_of d) (t.start + began) r.stamps
         (subst (λ s. Waits w l.said c.said e (address_of d) (s + began)) (sym start) (r.waits e d began entry was))
-        (λ j b there con. in_time k u ps places at order read o refl e d began entry was j b there con))
+        (λ j b there con. in_time k u ps places at (order_for_device k u l at ps places order) read o refl e d began entry was j b there con))
         (still_past w t.at c.now l.said new c.said l.openings r.stamps h.openings later r.opened)

@@ -42,6 +42,7 @@ use Rattle.osdp_calls.proofs.Panel.{at_seen, told_then}
 use Rattle.osdp_calls.proofs.Runs.{NotPast}
 use Rattle.osdp_calls.proofs.Same.{Controls, IsNetOf, IsToOpen}
 use Rattle.osdp_calls.proofs.Stations.{of_station}
+use Rattle.osdp_calls.proofs.Strangers.{ordered}
 use Rattle.osdp_calls_time_laws.proofs.Handed.{reads_net}
 use Rattle.osdp_calls_time_laws.specs.Moments.{Clock, Timed, clock_after, stamped}
 use Rattle.osdp_calls_time_laws.proofs.Devices.{InTime, kept_bus, quiet_heard}
@@ -295,7 +296,7 @@ module _ {H : Type 0} where
         let o = asked_at now l.bus in
         let told = told_by_all (max l.bus.greatest now) ps l.bus.devices in
         let l1 = reads_those answer_of after ps places l0 in
-        let read = reads_net answer_of after ps places l0 n (at_seen now l n h) order (each_of (NotPast l) places quiet) in
+        let read = reads_net answer_of after ps places l0 n (at_seen now l n h) (ordered l ps places order) (each_of (NotPast l) places quiet) in
         let apart1 : Apart read.net = subst Apart read.reached.run (apart_all answer_of after reads read.reached.moves n read.reached.fit apart) in
         let hands = (hands_over l.bus).tick now in
         let greatest : (ticks_at o l1.bus).bus.greatest ≡ (bus_ticks now l.bus).bus.greatest =

@@ -14,9 +14,9 @@ use Rattle.osdp_reader.specs.Table.{command_in, new_address}
 use Rattle.osdp_shared_line.specs.Addresses.{Sets, SetsReader, Somewhere, address_in}
 use Rattle.osdp_shared_line.specs.Line.{site_at}
 use Rattle.osdp_calls.specs.Lines.{InUse, Station, ahead_of_device}
-use Rattle.osdp_calls.specs.Premises.{IsAsked, IsFreeFor, IsNoOthers, IsSaid, IsThere, MayBeAt, PanelAddresses, PanelIsApart, unended_of}
-use Rattle.osdp_premises.specs.Deciding.{address_asked, count_of, differ, each_below, each_of, each_other, gives_no_others, if_there, is_apart_from, is_asked_to, is_entry_at, is_free_for, is_no_others, is_sent_to, is_there_with, may_be_at, panel_addresses, panel_is_apart, sets, sets_reader, stands_at}
-use Rattle.osdp_premises.proofs.Deciding.{always, below_decides, each_decides, get_below, if_decides, other_decides, site_below, some_decides, there_decides}
+use Rattle.osdp_calls.specs.Premises.{IsAsked, IsFreeFor, IsNoOthers, IsOfOthers, IsSaid, IsThere, MayBeAt, PanelAddresses, PanelIsApart, unended_of}
+use Rattle.osdp_premises.specs.Deciding.{address_asked, count_of, differ, each_below, each_of, each_other, gives_no_others, if_there, is_apart_from, is_asked_to, is_entry_at, is_free_for, is_no_others, is_of_others, is_sent_to, is_there_with, may_be_at, panel_addresses, panel_is_apart, sets, sets_reader, stands_at}
+use Rattle.osdp_premises.proofs.Deciding.{always, below_decides, each_decides, every_decides, get_below, if_decides, other_decides, site_below, some_decides, there_decides}
 
 -- that number is there
 number_decides : (a : ℕ) (o : Option ℕ) → Decides (is_there_with (λ to. to == a) o) (o ≡ Some a)
@@ -100,6 +100,25 @@ module _ {H : Type 0} where
   no_others_decides k a l =
       other_decides k (count_of l) (λ j. not (may_be_at a j l)) (λ j. MayBeAt a j l → ⊥)
       (λ j. Decides-not (may_be_at a j l) (may_decides a j l)) (λ j above. nobody_past a l j above)
+
+  pub others_decides : (l : InUse H) (p : Packet) → Decides (is_of_others l p) (IsOfOthers l p)
+  others_decides l p =
+      let a = p.address in
+      let entries = each_below (λ j. not (is_there_with (is_entry_at a) (device_of j l.bus))) (length l.bus.devices.entries) in
+      let devices = each_below (λ j. not (may_be_at a j l)) (count_of l) in
+      Decides-like (not (a == 127) && (entries && devices))
+      (λ h. record { to_one = h.0; entries = λ j d at same. h.1.0 j (d, at, same); devices = h.1.1 })
+      (λ (r : IsOfOthers l p). (r.to_one, ((λ j held. r.entries j held.0 held.1 held.2), r.devices)))
+      (Decides-and (not (a == 127)) (entries && devices) (Decides-not (a == 127) (Decides-eqb a 127))
+      (Decides-and entries devices
+      (every_decides (length l.bus.devices.entries) (λ j. not (is_there_with (is_entry_at a) (device_of j l.bus)))
+      (λ j. ((d : Device) × (device_of j l.bus ≡ Some d) × (d.controller.session.config.address ≡ a)) → ⊥)
+      (λ j. Decides-not (is_there_with (is_entry_at a) (device_of j l.bus))
+      (there_decides (is_entry_at a) (λ (d : Device). d.controller.session.config.address ≡ a)
+      (λ d. Decides-eqb d.controller.session.config.address a) (device_of j l.bus)))
+      (λ j above held. let below = get_below j l.bus.devices.entries held.0 held.1 in absurd (omega (arith, above, below))))
+      (every_decides (count_of l) (λ j. not (may_be_at a j l)) (λ j. MayBeAt a j l → ⊥)
+      (λ j. Decides-not (may_be_at a j l) (may_decides a j l)) (λ j above. nobody_past a l j above))))
 
   gives_decides : (k : ℕ) (refused : Option BusFault) (asked : Option Communication) (l : InUse H)
       → Decides (gives_no_others k refused (address_asked asked) l)

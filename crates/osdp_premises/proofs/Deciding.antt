@@ -14,8 +14,8 @@ use Rattle.osdp_frame.proofs.Spelled.{same_packet}
 use Rattle.osdp_shared_line.specs.Addresses.{Somewhere}
 use Rattle.osdp_shared_line.specs.Line.{site_at}
 use Rattle.osdp_calls.specs.Lines.{Burst}
-use Rattle.osdp_calls.specs.Premises.{AreNotPast, AreSaid}
-use Rattle.osdp_premises.specs.Deciding.{are_not_past, are_said, each_below, each_of, each_other, if_there, is_check, is_packet, is_there_with, some_of}
+use Rattle.osdp_calls.specs.Premises.{AreInOrder, AreNotPast}
+use Rattle.osdp_premises.specs.Deciding.{are_in_order, are_not_past, each_below, each_of, each_other, if_there, is_check, is_packet, is_there_with, some_of}
 
 pub always : {P : Type 0} → P → Decides true P
 always p = (λ e. p, λ q. refl)
@@ -65,6 +65,13 @@ get_below k [] x none = absurd (let e = none in cc)
 get_below zero (y ∷ ys) x is = omega arith
 get_below (suc k) (y ∷ ys) x is = let below = get_below k ys x is in omega (arith, below)
 
+-- of each number, where it holds past another
+pub every_decides : (n : ℕ) (p : ℕ → Bool) (P : ℕ → Type 0) → ((j : ℕ) → Decides (p j) (P j)) → ((j : ℕ) → n ≤ j → P j)
+    → Decides (each_below p n) ((j : ℕ) → P j)
+every_decides n p P each past =
+    Decides-like (each_below p n) (λ all j. ⊎_elim (λ below. all j below) (λ above. past j above) (cases_lt j n)) (λ all j below. all j)
+    (below_decides p P each n)
+
 -- of each number but one, below a number past which there is nothing
 pub other_decides : (k n : ℕ) (p : ℕ → Bool) (P : ℕ → Type 0) → ((j : ℕ) → Decides (p j) (P j)) → ((j : ℕ) → n ≤ j → P j)
     → Decides (each_other k n p) ((j : ℕ) → j ≢ k → P j)
@@ -111,19 +118,33 @@ packet_decides p q = Decides-like (is_packet p q)
 
 -- ---- what is read
 
-pub said_decides : (said : List Burst) (ps : List Packet) (places : List ℕ) (before : ℕ) → Decides (are_said said ps places before) (AreSaid said ps places before)
-said_decides said [] [] before = always tt
-said_decides said [] (i ∷ places) before = never (λ h. h)
-said_decides said (p ∷ ps) [] before = never (λ h. h)
-said_decides said (p ∷ ps) (i ∷ places) before =
+-- the next packet was said, at this place
+here_decides : (Others : Packet → Type 0) (said : List Burst) (p : Packet) (ps : List Packet) (i : ℕ) (places : List ℕ) (before : ℕ) (rest : Bool)
+    → Decides rest (AreInOrder Others said ps places i)
+    → Decides (is_there_with (λ (b : Burst). is_packet b.packet p) (site_at i said) && (leb before i && rest))
+    ((b : Burst) × (site_at i said ≡ Some b) × (b.packet ≡ p) × (before ≤ i) × AreInOrder Others said ps places i)
+here_decides Others said p ps i places before rest decides =
     let there = is_there_with (λ (b : Burst). is_packet b.packet p) (site_at i said) in
-    let rest = leb before i && are_said said ps places i in
-    Decides-like (there && rest)
+    Decides-like (there && (leb before i && rest))
     (λ h. (h.0.0, h.0.1, h.0.2, h.1.0, h.1.1))
     (λ h. ((h.0, h.1, h.2), (h.3, h.4)))
-    (Decides-and there rest
+    (Decides-and there (leb before i && rest)
     (there_decides (λ (b : Burst). is_packet b.packet p) (λ (b : Burst). b.packet ≡ p) (λ b. packet_decides b.packet p) (site_at i said))
-    (Decides-and (leb before i) (are_said said ps places i) (leb_decides before i) (said_decides said ps places i)))
+    (Decides-and (leb before i) rest (leb_decides before i) decides))
+
+pub said_decides : (others : Packet → Bool) (Others : Packet → Type 0) → ((p : Packet) → Decides (others p) (Others p)) → (said : List Burst)
+    (ps : List Packet) (places : List ℕ) (before : ℕ) → Decides (are_in_order others said ps places before) (AreInOrder Others said ps places before)
+said_decides others Others each said [] [] before = always tt
+said_decides others Others each said [] (i ∷ places) before = never (λ h. h)
+said_decides others Others each said (p ∷ ps) [] before =
+    Decides-and (others p) (are_in_order others said ps [] before) (each p) (said_decides others Others each said ps [] before)
+said_decides others Others each said (p ∷ ps) (i ∷ places) before =
+    let rest = are_in_order others said ps places i in
+    let there = is_there_with (λ (b : Burst). is_packet b.packet p) (site_at i said) && (leb before i && rest) in
+    let other = are_in_order others said ps (i ∷ places) before in
+    Decides-or there (others p && other)
+    (here_decides Others said p ps i places before rest (said_decides others Others each said ps places i))
+    (Decides-and (others p) other (each p) (said_decides others Others each said ps (i ∷ places) before))
 
 not_decides : (b : Bool) → Decides (not b) (b ≡ false)
 not_decides true = never (λ e. false≢true (sym e))

@@ -7,22 +7,23 @@ use Rattle.osdp_device.specs.Telling.{items_of}
 use Rattle.osdp_reader.specs.declared.handler.Answer.{Answer}
 use Rattle.osdp_shared_line.specs.Line.{site_at}
 use Rattle.osdp_calls.specs.Calls.{Call, NewDevice, NewPanel, Next, OfPanel, Pending, SetBusy, SetHandler, Silence, Step, SubmitEvent, Take, TickDevice, WithdrawEvent, after_call, read_by, read_up_to}
-use Rattle.osdp_calls.specs.Lines.{Burst, InUse, Station, is_past_for_device, is_past_for_panel}
-use Rattle.osdp_calls.specs.Premises.{Addresses, InOrder, IsFreeFor, NextInOrder, QuietOpening}
-use Rattle.osdp_premises.specs.Deciding.{are_fair, are_said, has_addresses, if_there, is_fair, is_free_for, is_in_order, is_quiet, stands_at}
+use Rattle.osdp_calls.specs.Lines.{InUse, Station, is_past_for_device, is_past_for_panel}
+use Rattle.osdp_calls.specs.Premises.{Addresses, InOrder, IsFreeFor, IsOfOthers, NextInOrder, QuietOpening}
+use Rattle.osdp_premises.specs.Deciding.{are_fair, are_in_order, has_addresses, if_there, is_fair, is_free_for, is_in_order, is_of_others, is_quiet, stands_at}
 use Rattle.osdp_premises.specs.Exactly.{FairCallsKeep, PremisesAreExact}
-use Rattle.osdp_premises.proofs.Addresses.{apart_decides, free_decides, panel_decides}
+use Rattle.osdp_premises.proofs.Addresses.{apart_decides, free_decides, others_decides, panel_decides}
 use Rattle.osdp_premises.proofs.Deciding.{always, if_decides, past_decides, said_decides}
 
 module _ {H : Type 0} where
-  next_decides : (said : List Burst) (places : List ℕ) (o : Option (Station H))
-      → Decides (if_there (λ (t : Station H). are_said said (read_up_to t.reader (items_of t.line.held)) places t.place) o) (NextInOrder said places o)
-  next_decides said places None = always tt
-  next_decides said places (Some t) = said_decides said (read_up_to t.reader (items_of t.line.held)) places t.place
+  next_decides : (l : InUse H) (places : List ℕ) (o : Option (Station H))
+      → Decides (if_there (λ (t : Station H). are_in_order (is_of_others l) l.said (read_up_to t.reader (items_of t.line.held)) places t.place) o) (NextInOrder l places o)
+  next_decides l places None = always tt
+  next_decides l places (Some t) =
+      said_decides (is_of_others l) (IsOfOthers l) (others_decides l) l.said (read_up_to t.reader (items_of t.line.held)) places t.place
 
   order_decides : (call : Call H) (places : List ℕ) (l : InUse H) → Decides (is_in_order call places l) (InOrder call places l)
-  order_decides (OfPanel call) places l = said_decides l.said (read_by call l.bus) places l.place
-  order_decides (Next k) places l = next_decides l.said places (site_at k l.stations)
+  order_decides (OfPanel call) places l = said_decides (is_of_others l) (IsOfOthers l) (others_decides l) l.said (read_by call l.bus) places l.place
+  order_decides (Next k) places l = next_decides l places (site_at k l.stations)
   order_decides (SubmitEvent k event) places l = always tt
   order_decides (SetBusy k busy) places l = always tt
   order_decides (SetHandler k handler) places l = always tt

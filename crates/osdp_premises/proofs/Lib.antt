@@ -4,3 +4,4 @@ pub mod Exactly
 pub mod Ruling
 pub mod Leaving
 pub mod LongDay
+pub mod Strangers

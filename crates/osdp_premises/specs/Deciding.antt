@@ -62,12 +62,14 @@ is_packet p q =
 
 -- ---- 1. In order
 
-abbrev pub are_said : List Burst → List Packet → List ℕ → ℕ → Bool
-are_said said [] [] before = true
-are_said said [] (i ∷ places) before = false
-are_said said (p ∷ ps) [] before = false
-are_said said (p ∷ ps) (i ∷ places) before =
-    is_there_with (λ (b : Burst). is_packet b.packet p) (site_at i said) && (nat_le before i && are_said said ps places i)
+-- a packet of others needs no place
+abbrev pub are_in_order : (Packet → Bool) → List Burst → List Packet → List ℕ → ℕ → Bool
+are_in_order others said [] [] before = true
+are_in_order others said [] (i ∷ places) before = false
+are_in_order others said (p ∷ ps) [] before = others p && are_in_order others said ps [] before
+are_in_order others said (p ∷ ps) (i ∷ places) before =
+    (is_there_with (λ (b : Burst). is_packet b.packet p) (site_at i said) && (nat_le before i && are_in_order others said ps places i))
+    || (others p && are_in_order others said ps (i ∷ places) before)
 
 -- ---- 2. Quiet opening
 
@@ -100,10 +102,34 @@ abbrev pub differ : Option ℕ → Option ℕ → Bool
 differ a b = if_there (λ x. if_there (λ y. not (x == y)) b) a
 
 module _ {H : Type 0} where
+  -- a device of this entry is there, or may come there: by a COMSET that has not ended, or by one that was said
+  abbrev pub stands_at : ℕ → Station H → Bool
+  stands_at address t = t.reader.config.address == address
+
+  abbrev pub is_sent_to : ℕ → ℕ → InUse H → Station H → Bool
+  is_sent_to address k l t =
+      some_of (λ (q : ℕ × Packet). (q.0 == k) && sets_reader address q.1) (ahead_of_device k t.place l.openings l.said)
+
+  abbrev pub may_be_at : ℕ → ℕ → InUse H → Bool
+  may_be_at address k l =
+      is_there_with (stands_at address) (site_at k l.stations)
+      || (is_there_with (is_asked_to address) (device_of k l.bus) || is_there_with (is_sent_to address k l) (site_at k l.stations))
+
+  -- so many entries and devices at most
+  abbrev pub count_of : InUse H → ℕ
+  count_of l = length l.stations + length l.bus.devices.entries
+
+  -- no entry is at its address, and no device of an entry is or may come there
+  abbrev pub is_of_others : InUse H → Packet → Bool
+  is_of_others l p =
+      not (p.address == 127)
+      && (each_below (λ j. not (is_there_with (is_entry_at p.address) (device_of j l.bus))) (length l.bus.devices.entries)
+      && each_below (λ j. not (may_be_at p.address j l)) (count_of l))
+
   abbrev pub is_in_order : Call H → List ℕ → InUse H → Bool
-  is_in_order (OfPanel call) places l = are_said l.said (read_by call l.bus) places l.place
+  is_in_order (OfPanel call) places l = are_in_order (is_of_others l) l.said (read_by call l.bus) places l.place
   is_in_order (Next k) places l =
-      if_there (λ (t : Station H). are_said l.said (read_up_to t.reader (items_of t.line.held)) places t.place) (site_at k l.stations)
+      if_there (λ (t : Station H). are_in_order (is_of_others l) l.said (read_up_to t.reader (items_of t.line.held)) places t.place) (site_at k l.stations)
   is_in_order (SubmitEvent k event) places l = true
   is_in_order (SetBusy k busy) places l = true
   is_in_order (SetHandler k handler) places l = true
@@ -128,23 +154,6 @@ module _ {H : Type 0} where
   is_quiet (Pending k) places l = true
   is_quiet (NewDevice k address handler room gap) places l = true
   is_quiet (NewPanel config addresses) places l = true
-
-  -- a device of this entry is there, or may come there: by a COMSET that has not ended, or by one that was said
-  abbrev pub stands_at : ℕ → Station H → Bool
-  stands_at address t = t.reader.config.address == address
-
-  abbrev pub is_sent_to : ℕ → ℕ → InUse H → Station H → Bool
-  is_sent_to address k l t =
-      some_of (λ (q : ℕ × Packet). (q.0 == k) && sets_reader address q.1) (ahead_of_device k t.place l.openings l.said)
-
-  abbrev pub may_be_at : ℕ → ℕ → InUse H → Bool
-  may_be_at address k l =
-      is_there_with (stands_at address) (site_at k l.stations)
-      || (is_there_with (is_asked_to address) (device_of k l.bus) || is_there_with (is_sent_to address k l) (site_at k l.stations))
-
-  -- so many entries and devices at most
-  abbrev pub count_of : InUse H → ℕ
-  count_of l = length l.stations + length l.bus.devices.entries
 
   abbrev pub is_no_others : ℕ → ℕ → InUse H → Bool
   is_no_others k address l = each_other k (count_of l) (λ j. not (may_be_at address j l))

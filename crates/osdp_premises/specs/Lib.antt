@@ -2,4 +2,5 @@ pub mod Deciding
 pub mod Exactly
 pub mod Ruling
 pub mod Leaving
+pub mod Strangers
 pub mod LongDay

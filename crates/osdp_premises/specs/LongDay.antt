@@ -1,6 +1,6 @@
 -- A list of calls in which all of it happens that a line knows: two devices, bytes in pieces, damage, lost packets and repeated ones, a packet that is
 -- read twice, a busy device, an event that is told again, orders and events that are taken back, another handler, a COMSET that is settled and one
--- that is in doubt, devices that restart where they are and elsewhere, and a panel that restarts.
+-- that is in doubt, devices that restart where they are and elsewhere, a panel that restarts, and packets of other makers' machines.
 use Rattle.std.specs.Prelude.{◌≡◌, ℕ, true, false, All, List, [], ◌∷◌, ◌++◌, map, length, take, drop, Option, Some, None}
 use Rattle.osdp_frame.specs.Packed.{packed}
 use Rattle.osdp_frame.specs.Receiving.{new_line}
@@ -272,6 +272,21 @@ module _ {H : Type 0} where
       ∷ calls (Pending 0) []
       ∷ []
 
+  -- Another panel asks a reader of another make, at 20. The panel and the devices hear both, and pass them over: alone, and in one burst with a packet of
+  -- their own.
+  abbrev pub strangers : H → H → List (Step H)
+  strangers handler other =
+      calls (OfPanel (bus.OnBytes (asks 20 0 (97 ∷ 0 ∷ [])) 4110)) []
+      ∷ calls (Take 1 (asks 20 0 (97 ∷ 0 ∷ [])) 4110) []
+      ∷ calls (Next 1) []
+      ∷ calls (OfPanel (bus.OnBytes (answers 20 0 (64 ∷ [])) 4112)) []
+      ∷ calls (OfPanel (bus.Tick 4153)) []
+      ∷ calls (Take 0 (asks 20 0 (97 ∷ 0 ∷ []) ++ answers 20 0 (64 ∷ []) ++ asks 9 1 (96 ∷ [])) 4154) []
+      ∷ calls (Next 0) (41 ∷ [])
+      ∷ calls (OfPanel (bus.OnBytes (asks 20 1 (96 ∷ []) ++ answers 20 1 (64 ∷ []) ++ answers 9 1 (64 ∷ [])) 4156)) (42 ∷ [])
+      ∷ calls (OfPanel bus.NextReport) []
+      ∷ []
+
   abbrev pub long_day : H → H → List (Step H)
   long_day handler other =
       opening handler other
@@ -285,6 +300,7 @@ module _ {H : Type 0} where
       ++ doubt handler other
       ++ elsewhere handler other
       ++ panel_restart handler other
+      ++ strangers handler other
 
   -- the accounts of the sessions of an entry, the last of them first
   abbrev pub sessions_of : Option (Station H) → List Account
@@ -313,6 +329,8 @@ module _ {H : Type 0} where
       pub in_doubt : map (λ (a : Account). a.unsettled) (first_sessions handler other) ≡ [] ∷ [] ∷ [] ∷ (away 7 ∷ []) ∷ [] ∷ [] ∷ [] ∷ []
       pub forgotten : map (λ (a : Account). a.forgotten) (first_sessions handler other) ≡ [] ∷ (Cap 0 ∷ []) ∷ [] ∷ [] ∷ [] ∷ [] ∷ [] ∷ []
       pub reported : map (λ (a : Account). a.reported) (first_sessions handler other) ≡ [] ∷ [] ∷ [] ∷ [] ∷ (key ∷ []) ∷ (key ∷ []) ∷ [] ∷ []
+      -- what others said is not among this
+      pub said : length (line_at_night handler other).said ≡ 43
       pub withdrawn : map (λ (a : Account). a.withdrawn) (first_sessions handler other) ≡ [] ∷ [] ∷ [] ∷ [] ∷ [] ∷ (key ∷ []) ∷ [] ∷ []
 
     -- a call of that list that makes an end of an entry anew, after so many: what restarts cost speaks of the entry before it and after it

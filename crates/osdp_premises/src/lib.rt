@@ -6,6 +6,7 @@ ghost use Rattle.osdp_premises.specs.Exactly.{FairCallsKeep, PremisesAreExact};
 ghost use Rattle.osdp_premises.specs.Leaving.{LeavingIsExact};
 ghost use Rattle.osdp_premises.specs.LongDay.{LongDayKeeps, RestartsHappen};
 ghost use Rattle.osdp_premises.specs.Ruling.{RuleIsExact, RuledCallsKeep};
+ghost use Rattle.osdp_premises.specs.Strangers.{SparesOthers};
 
 use osdp_reader::Handler;
 
@@ -14,6 +15,12 @@ use osdp_reader::Handler;
 pub fn premises_are_exact<H: Handler>()
     ensures exact { PremisesAreExact H }
     ensures suffice { FairCallsKeep H.answer_of H.after }
+{}
+
+/// The premise on order asks nothing of packets of others, and of all other packets what it asks of a line without them. A call that reads nothing but what
+/// was said, in order, keeps it. Where no packet that it reads is of others, no other call keeps it. A call that reads packets of others alone keeps it.
+pub fn order_spares_others<H: Handler>()
+    ensures { SparesOthers H }
 {}
 
 /// The rule for programs, which may stand for the premise on addresses, holds of a call exactly where a test says so. The test computes it of the call, the
@@ -32,8 +39,8 @@ pub fn leaving_is_exact<H: Handler>()
 
 /// One list of calls in which all of it happens that a line knows keeps all premises, whatever the devices' handlers answer. It has bytes in pieces,
 /// damage, a lost packet and a repeated one, a packet that is read twice, a busy device, an event that is told again, an order and an event that are taken
-/// back, another handler, a COMSET that is settled and one that is in doubt, a device that restarts where it is and one that comes back elsewhere, and a
-/// panel that restarts.
+/// back, another handler, a COMSET that is settled and one that is in doubt, a device that restarts where it is and one that comes back elsewhere, a panel
+/// that restarts, and packets of other makers' machines.
 pub fn a_long_day_keeps_the_premises<H: Handler>()
     ensures keeps { (handler other : H) → LongDayKeeps H.answer_of H.after handler other }
     ensures restarts { (handler other : H) → RestartsHappen H.answer_of H.after handler other }

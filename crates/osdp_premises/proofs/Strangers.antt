@@ -1,0 +1,94 @@
+-- Order where others speak, too.
+use Rattle.std.proofs.Common.{ℕ, List, [], ◌∷◌, Option, Some, None, inl, inr}
+use Rattle.osdp_frame.specs.Packet.{Packet}
+use Rattle.osdp_device.specs.Telling.{items_of}
+use Rattle.osdp_link_laws.proofs.Lines.{each_of}
+use Rattle.osdp_link_laws.proofs.Stages.{Each}
+use Rattle.osdp_shared_line.specs.Line.{site_at}
+use Rattle.osdp_calls.specs.Calls.{Call, NewDevice, NewPanel, Next, OfPanel, Pending, SetBusy, SetHandler, Silence, SubmitEvent, Take, TickDevice, WithdrawEvent, read_by, read_up_to}
+use Rattle.osdp_calls.specs.Lines.{Burst, InUse, Station}
+use Rattle.osdp_calls.specs.Premises.{AreInOrder, InOrder, IsOfOthers, NextInOrder}
+use Rattle.osdp_premises.specs.Strangers.{AllIsSaid, AreSaid, NextIsSaid, SparesOthers, read_in, read_next}
+
+module _ (Others : Packet → Type 0) (said : List Burst) where
+  said_order : (ps : List Packet) (places : List ℕ) (before : ℕ) → AreSaid said ps places before → AreInOrder Others said ps places before
+  said_order [] [] before all = tt
+  said_order [] (i ∷ places) before all = absurd all
+  said_order (p ∷ ps) [] before all = absurd all
+  said_order (p ∷ ps) (i ∷ places) before all = inl (all.0, all.1, all.2, all.3, said_order ps places i all.4)
+
+  order_said : (ps : List Packet) (places : List ℕ) (before : ℕ) → Each (λ p. Others p → ⊥) ps → AreInOrder Others said ps places before
+      → AreSaid said ps places before
+  order_said [] [] before none order = tt
+  order_said [] (i ∷ places) before none order = absurd order
+  order_said (p ∷ ps) [] before none order = absurd (none.0 order.0)
+  order_said (p ∷ ps) (i ∷ places) before none (inl ours) = (ours.0, ours.1, ours.2, ours.3, order_said ps places i none.1 ours.4)
+  order_said (p ∷ ps) (i ∷ places) before none (inr others) = absurd (none.0 others.0)
+
+  others_order : (ps : List Packet) (before : ℕ) → Each Others ps → AreInOrder Others said ps [] before
+  others_order [] before all = tt
+  others_order (p ∷ ps) before all = (all.0, others_order ps before all.1)
+
+module _ {H : Type 0} where
+  next_said : (places : List ℕ) (l : InUse H) (o : Option (Station H)) → NextIsSaid l.said places o → NextInOrder l places o
+  next_said places l None all = tt
+  next_said places l (Some t) all = said_order (IsOfOthers l) l.said (read_up_to t.reader (items_of t.line.held)) places t.place all
+
+  next_ours : (places : List ℕ) (l : InUse H) (o : Option (Station H)) → Each (λ p. IsOfOthers l p → ⊥) (read_next o) → NextInOrder l places o
+      → NextIsSaid l.said places o
+  next_ours places l None none order = tt
+  next_ours places l (Some t) none order = order_said (IsOfOthers l) l.said (read_up_to t.reader (items_of t.line.held)) places t.place none order
+
+  next_others : (l : InUse H) (o : Option (Station H)) → Each (IsOfOthers l) (read_next o) → NextInOrder l [] o
+  next_others l None all = tt
+  next_others l (Some t) all = others_order (IsOfOthers l) l.said (read_up_to t.reader (items_of t.line.held)) t.place all
+
+  all_said : (call : Call H) (places : List ℕ) (l : InUse H) → AllIsSaid call places l → InOrder call places l
+  all_said (OfPanel call) places l all = said_order (IsOfOthers l) l.said (read_by call l.bus) places l.place all
+  all_said (Next k) places l all = next_said places l (site_at k l.stations) all
+  all_said (SubmitEvent k event) places l all = tt
+  all_said (SetBusy k busy) places l all = tt
+  all_said (SetHandler k handler) places l all = tt
+  all_said (WithdrawEvent k) places l all = tt
+  all_said (Take k bytes now) places l all = tt
+  all_said (TickDevice k now) places l all = tt
+  all_said (Silence k now) places l all = tt
+  all_said (Pending k) places l all = tt
+  all_said (NewDevice k address handler room gap) places l all = tt
+  all_said (NewPanel config addresses) places l all = tt
+
+  all_ours : (call : Call H) (places : List ℕ) (l : InUse H) → Each (λ p. IsOfOthers l p → ⊥) (read_in call l) → InOrder call places l
+      → AllIsSaid call places l
+  all_ours (OfPanel call) places l none order = order_said (IsOfOthers l) l.said (read_by call l.bus) places l.place none order
+  all_ours (Next k) places l none order = next_ours places l (site_at k l.stations) none order
+  all_ours (SubmitEvent k event) places l none order = tt
+  all_ours (SetBusy k busy) places l none order = tt
+  all_ours (SetHandler k handler) places l none order = tt
+  all_ours (WithdrawEvent k) places l none order = tt
+  all_ours (Take k bytes now) places l none order = tt
+  all_ours (TickDevice k now) places l none order = tt
+  all_ours (Silence k now) places l none order = tt
+  all_ours (Pending k) places l none order = tt
+  all_ours (NewDevice k address handler room gap) places l none order = tt
+  all_ours (NewPanel config addresses) places l none order = tt
+
+  all_others : (call : Call H) (l : InUse H) → Each (IsOfOthers l) (read_in call l) → InOrder call [] l
+  all_others (OfPanel call) l all = others_order (IsOfOthers l) l.said (read_by call l.bus) l.place all
+  all_others (Next k) l all = next_others l (site_at k l.stations) all
+  all_others (SubmitEvent k event) l all = tt
+  all_others (SetBusy k busy) l all = tt
+  all_others (SetHandler k handler) l all = tt
+  all_others (WithdrawEvent k) l all = tt
+  all_others (Take k bytes now) l all = tt
+  all_others (TickDevice k now) l all = tt
+  all_others (Silence k now) l all = tt
+  all_others (Pending k) l all = tt
+  all_others (NewDevice k address handler room gap) l all = tt
+  all_others (NewPanel config addresses) l all = tt
+
+  pub spares_others : SparesOthers H
+  spares_others = record {
+    all_said = all_said;
+    none_of_others = λ (call : Call H) (places : List ℕ) (l : InUse H) none order. all_ours call places l (each_of (λ p. IsOfOthers l p → ⊥) (read_in call l) none) order;
+    others_alone = λ (call : Call H) (l : InUse H) all. all_others call l (each_of (IsOfOthers l) (read_in call l) all);
+  }
