@@ -4,4 +4,5 @@ pub mod Exactly
 pub mod Ruling
 pub mod Leaving
 pub mod LongDay
+pub mod SharedAddress
 pub mod Strangers

@@ -107,7 +107,7 @@ module _ {H : Type 0} where
       let both = and_parts (keeps_panel step.call) (each_of (λ (s : Step H). keeps_panel s.call) steps) is in
       (leaving_exact.stands step.call ((leaving_exact.panel step.call).0 both.0), still steps both.1)
 
-  is_set_up : (handler : H) → IsSetUp (first_line handler)
+  pub is_set_up : (handler : H) → IsSetUp (first_line handler)
   is_set_up handler = record {
     config = twice;
     settings = twice_fits;

@@ -4,3 +4,4 @@ pub mod Ruling
 pub mod Leaving
 pub mod Strangers
 pub mod LongDay
+pub mod SharedAddress

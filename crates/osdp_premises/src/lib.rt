@@ -6,6 +6,7 @@ ghost use Rattle.osdp_premises.specs.Exactly.{FairCallsKeep, PremisesAreExact};
 ghost use Rattle.osdp_premises.specs.Leaving.{LeavingIsExact};
 ghost use Rattle.osdp_premises.specs.LongDay.{LongDayKeeps, RestartsHappen};
 ghost use Rattle.osdp_premises.specs.Ruling.{RuleIsExact, RuledCallsKeep};
+ghost use Rattle.osdp_premises.specs.SharedAddress.{SharedAddressBreaksOrder};
 ghost use Rattle.osdp_premises.specs.Strangers.{SparesOthers};
 
 use osdp_reader::Handler;
@@ -21,6 +22,12 @@ pub fn premises_are_exact<H: Handler>()
 /// was said, in order, keeps it. Where no packet that it reads is of others, no other call keeps it. A call that reads packets of others alone keeps it.
 pub fn order_spares_others<H: Handler>()
     ensures { SparesOthers H }
+{}
+
+/// Where another maker's machine answers from the address of our device, the panel may tell an order settled that the device never had. One list of calls shows
+/// it, which keeps all other premises. So packets at addresses of ours are none of others.
+pub fn a_shared_address_breaks_order<H: Handler>()
+    ensures { (handler : H) → SharedAddressBreaksOrder H.answer_of H.after handler }
 {}
 
 /// The rule for programs, which may stand for the premise on addresses, holds of a call exactly where a test says so. The test computes it of the call, the
