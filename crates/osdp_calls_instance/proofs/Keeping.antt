@@ -118,11 +118,11 @@ module _ {H : Type 0} (answer_of : H → Command → Answer) (after : H → Comm
             (
               record { in_order = tt; quiet_opening = tt; addresses = tt; in_range = tt },
               (
-                record { in_order = (record { by_panel = true; entry = 0; packet = packed false 0 0 Sum false 0 (97 ∷ 0 ∷ []) }, refl, refl, omega arith, tt); quiet_opening = one_read (is_past_for_device 0 (line_after answer_of after 5 handler).openings) (line_after answer_of after 5 handler).said 0 (λ b. refl); addresses = tt; in_range = one_fits (λ p. IfSome (hears answer_of after (new_reader device handler four) p).said ReplyFits) (packed false 0 0 Sum false 0 (97 ∷ 0 ∷ [])) id_fits },
+                record { in_order = inl (record { by_panel = true; entry = 0; packet = packed false 0 0 Sum false 0 (97 ∷ 0 ∷ []) }, refl, refl, omega arith, tt); quiet_opening = one_read (is_past_for_device 0 (line_after answer_of after 5 handler).openings) (line_after answer_of after 5 handler).said 0 (λ b. refl); addresses = tt; in_range = one_fits (λ p. IfSome (hears answer_of after (new_reader device handler four) p).said ReplyFits) (packed false 0 0 Sum false 0 (97 ∷ 0 ∷ [])) id_fits },
                 (
                   record { in_order = tt; quiet_opening = none_read (is_past_for_panel (line_after answer_of after 6 handler).openings) (line_after answer_of after 6 handler).said; addresses = tt; in_range = tt },
                   (
-                    record { in_order = (record { by_panel = false; entry = 0; packet = packed true 0 0 Sum false 0 (69 ∷ 1 ∷ 2 ∷ 3 ∷ 4 ∷ 5 ∷ 6 ∷ 0 ∷ 0 ∷ 0 ∷ 7 ∷ 8 ∷ 9 ∷ []) }, refl, refl, omega arith, tt); quiet_opening = one_read (is_past_for_panel (line_after answer_of after 7 handler).openings) (line_after answer_of after 7 handler).said 1 (λ b. refl); addresses = tt; in_range = tt },
+                    record { in_order = inl (record { by_panel = false; entry = 0; packet = packed true 0 0 Sum false 0 (69 ∷ 1 ∷ 2 ∷ 3 ∷ 4 ∷ 5 ∷ 6 ∷ 0 ∷ 0 ∷ 0 ∷ 7 ∷ 8 ∷ 9 ∷ []) }, refl, refl, omega arith, tt); quiet_opening = one_read (is_past_for_panel (line_after answer_of after 7 handler).openings) (line_after answer_of after 7 handler).said 1 (λ b. refl); addresses = tt; in_range = tt },
                     (
                       record { in_order = tt; quiet_opening = none_read (is_past_for_panel (line_after answer_of after 8 handler).openings) (line_after answer_of after 8 handler).said; addresses = tt; in_range = tt },
                       (

@@ -128,13 +128,13 @@ module _ {H : Type 0} (answer_of : H → Command → Answer) (after : H → Comm
         (
           record { in_order = tt; quiet_opening = tt; addresses = tt; in_range = tt },
           (
-            record { in_order = (record { by_panel = true; entry = 0; packet = (packed false 0 0 Sum false 0 (97 ∷ 0 ∷ [])) }, refl, refl, omega arith, tt); quiet_opening = one_read (is_past_for_device 0 (two_after answer_of after 3 handler).openings) (two_after answer_of after 3 handler).said 0 (λ b. refl); addresses = tt; in_range = one_fits (λ p. IfSome (hears answer_of after (first_station (two_after answer_of after 3 handler).stations handler).reader p).said ReplyFits) (packed false 0 0 Sum false 0 (97 ∷ 0 ∷ [])) id_fits },
+            record { in_order = inl (record { by_panel = true; entry = 0; packet = (packed false 0 0 Sum false 0 (97 ∷ 0 ∷ [])) }, refl, refl, omega arith, tt); quiet_opening = one_read (is_past_for_device 0 (two_after answer_of after 3 handler).openings) (two_after answer_of after 3 handler).said 0 (λ b. refl); addresses = tt; in_range = one_fits (λ p. IfSome (hears answer_of after (first_station (two_after answer_of after 3 handler).stations handler).reader p).said ReplyFits) (packed false 0 0 Sum false 0 (97 ∷ 0 ∷ [])) id_fits },
             (
               record { in_order = tt; quiet_opening = tt; addresses = tt; in_range = tt },
               (
-                record { in_order = (record { by_panel = true; entry = 0; packet = (packed false 0 0 Sum false 0 (97 ∷ 0 ∷ [])) }, refl, refl, omega arith, tt); quiet_opening = one_read (is_past_for_device 1 (two_after answer_of after 5 handler).openings) (two_after answer_of after 5 handler).said 0 (λ b. refl); addresses = tt; in_range = one_fits (λ p. IfSome (hears answer_of after (second_station (two_after answer_of after 5 handler).stations handler).reader p).said ReplyFits) (packed false 0 0 Sum false 0 (97 ∷ 0 ∷ [])) tt },
+                record { in_order = inl (record { by_panel = true; entry = 0; packet = (packed false 0 0 Sum false 0 (97 ∷ 0 ∷ [])) }, refl, refl, omega arith, tt); quiet_opening = one_read (is_past_for_device 1 (two_after answer_of after 5 handler).openings) (two_after answer_of after 5 handler).said 0 (λ b. refl); addresses = tt; in_range = one_fits (λ p. IfSome (hears answer_of after (second_station (two_after answer_of after 5 handler).stations handler).reader p).said ReplyFits) (packed false 0 0 Sum false 0 (97 ∷ 0 ∷ [])) tt },
                 (
-                  record { in_order = (record { by_panel = false; entry = 0; packet = (packed true 0 0 Sum false 0 (69 ∷ 1 ∷ 2 ∷ 3 ∷ 4 ∷ 5 ∷ 6 ∷ 0 ∷ 0 ∷ 0 ∷ 7 ∷ 8 ∷ 9 ∷ [])) }, refl, refl, omega arith, tt); quiet_opening = one_read (is_past_for_panel (two_after answer_of after 6 handler).openings) (two_after answer_of after 6 handler).said 1 (λ b. refl); addresses = tt; in_range = tt },
+                  record { in_order = inl (record { by_panel = false; entry = 0; packet = (packed true 0 0 Sum false 0 (69 ∷ 1 ∷ 2 ∷ 3 ∷ 4 ∷ 5 ∷ 6 ∷ 0 ∷ 0 ∷ 0 ∷ 7 ∷ 8 ∷ 9 ∷ [])) }, refl, refl, omega arith, tt); quiet_opening = one_read (is_past_for_panel (two_after answer_of after 6 handler).openings) (two_after answer_of after 6 handler).said 1 (λ b. refl); addresses = tt; in_range = tt },
                   (
                     record { in_order = tt; quiet_opening = none_read (is_past_for_panel (two_after answer_of after 7 handler).openings) (two_after answer_of after 7 handler).said; addresses = tt; in_range = tt },
                     (
@@ -144,9 +144,9 @@ module _ {H : Type 0} (answer_of : H → Command → Answer) (after : H → Comm
                         (
                           record { in_order = tt; quiet_opening = tt; addresses = tt; in_range = tt },
                           (
-                            record { in_order = (record { by_panel = true; entry = 0; packet = (packed false 0 1 Sum false 0 (98 ∷ 0 ∷ [])) }, refl, refl, omega arith, tt); quiet_opening = one_read (is_past_for_device 0 (two_after answer_of after 11 handler).openings) (two_after answer_of after 11 handler).said 2 (λ b. refl); addresses = tt; in_range = one_fits (λ p. IfSome (hears answer_of after (first_station (two_after answer_of after 11 handler).stations handler).reader p).said ReplyFits) (packed false 0 1 Sum false 0 (98 ∷ 0 ∷ [])) (omega arith, each_all CapabilityFits [] tt) },
+                            record { in_order = inl (record { by_panel = true; entry = 0; packet = (packed false 0 1 Sum false 0 (98 ∷ 0 ∷ [])) }, refl, refl, omega arith, tt); quiet_opening = one_read (is_past_for_device 0 (two_after answer_of after 11 handler).openings) (two_after answer_of after 11 handler).said 2 (λ b. refl); addresses = tt; in_range = one_fits (λ p. IfSome (hears answer_of after (first_station (two_after answer_of after 11 handler).stations handler).reader p).said ReplyFits) (packed false 0 1 Sum false 0 (98 ∷ 0 ∷ [])) (omega arith, each_all CapabilityFits [] tt) },
                             (
-                              record { in_order = (record { by_panel = false; entry = 0; packet = (packed true 0 1 Sum false 0 (70 ∷ [])) }, refl, refl, omega arith, tt); quiet_opening = one_read (is_past_for_panel (two_after answer_of after 12 handler).openings) (two_after answer_of after 12 handler).said 3 (λ b. refl); addresses = tt; in_range = tt },
+                              record { in_order = inl (record { by_panel = false; entry = 0; packet = (packed true 0 1 Sum false 0 (70 ∷ [])) }, refl, refl, omega arith, tt); quiet_opening = one_read (is_past_for_panel (two_after answer_of after 12 handler).openings) (two_after answer_of after 12 handler).said 3 (λ b. refl); addresses = tt; in_range = tt },
                               (
                                 record { in_order = tt; quiet_opening = none_read (is_past_for_panel (two_after answer_of after 13 handler).openings) (two_after answer_of after 13 handler).said; addresses = tt; in_range = tt },
                                 (
@@ -168,9 +168,9 @@ module _ {H : Type 0} (answer_of : H → Command → Answer) (after : H → Comm
                                                 (
                                                   record { in_order = tt; quiet_opening = tt; addresses = tt; in_range = tt },
                                                   (
-                                                    record { in_order = (record { by_panel = true; entry = 0; packet = (packed false 0 0 Sum false 0 (97 ∷ 0 ∷ [])) }, refl, refl, omega arith, tt); quiet_opening = one_read (is_past_for_device 0 (two_after answer_of after 23 handler).openings) (two_after answer_of after 23 handler).said 5 (λ b. refl); addresses = tt; in_range = one_fits (λ p. IfSome (hears answer_of after (first_station (two_after answer_of after 23 handler).stations handler).reader p).said ReplyFits) (packed false 0 0 Sum false 0 (97 ∷ 0 ∷ [])) id_fits },
+                                                    record { in_order = inl (record { by_panel = true; entry = 0; packet = (packed false 0 0 Sum false 0 (97 ∷ 0 ∷ [])) }, refl, refl, omega arith, tt); quiet_opening = one_read (is_past_for_device 0 (two_after answer_of after 23 handler).openings) (two_after answer_of after 23 handler).said 5 (λ b. refl); addresses = tt; in_range = one_fits (λ p. IfSome (hears answer_of after (first_station (two_after answer_of after 23 handler).stations handler).reader p).said ReplyFits) (packed false 0 0 Sum false 0 (97 ∷ 0 ∷ [])) id_fits },
                                                     (
-                                                      record { in_order = (record { by_panel = false; entry = 0; packet = (packed true 0 0 Sum false 0 (69 ∷ 1 ∷ 2 ∷ 3 ∷ 4 ∷ 5 ∷ 6 ∷ 0 ∷ 0 ∷ 0 ∷ 7 ∷ 8 ∷ 9 ∷ [])) }, refl, refl, omega arith, tt); quiet_opening = one_read (is_past_for_panel (two_after answer_of after 24 handler).openings) (two_after answer_of after 24 handler).said 6 (λ b. refl); addresses = tt; in_range = tt },
+                                                      record { in_order = inl (record { by_panel = false; entry = 0; packet = (packed true 0 0 Sum false 0 (69 ∷ 1 ∷ 2 ∷ 3 ∷ 4 ∷ 5 ∷ 6 ∷ 0 ∷ 0 ∷ 0 ∷ 7 ∷ 8 ∷ 9 ∷ [])) }, refl, refl, omega arith, tt); quiet_opening = one_read (is_past_for_panel (two_after answer_of after 24 handler).openings) (two_after answer_of after 24 handler).said 6 (λ b. refl); addresses = tt; in_range = tt },
                                                       (
                                                         record { in_order = tt; quiet_opening = none_read (is_past_for_panel (two_after answer_of after 25 handler).openings) (two_after answer_of after 25 handler).said; addresses = tt; in_range = tt },
                                                         (
@@ -180,9 +180,9 @@ module _ {H : Type 0} (answer_of : H → Command → Answer) (after : H → Comm
                                                             (
                                                               record { in_order = tt; quiet_opening = tt; addresses = tt; in_range = tt },
                                                               (
-                                                                record { in_order = (record { by_panel = true; entry = 1; packet = (packed false 1 0 Sum false 0 (97 ∷ 0 ∷ [])) }, refl, refl, omega arith, tt); quiet_opening = one_read (is_past_for_device 1 (two_after answer_of after 29 handler).openings) (two_after answer_of after 29 handler).said 7 (λ b. refl); addresses = tt; in_range = one_fits (λ p. IfSome (hears answer_of after (second_station (two_after answer_of after 29 handler).stations handler).reader p).said ReplyFits) (packed false 1 0 Sum false 0 (97 ∷ 0 ∷ [])) id_fits },
+                                                                record { in_order = inl (record { by_panel = true; entry = 1; packet = (packed false 1 0 Sum false 0 (97 ∷ 0 ∷ [])) }, refl, refl, omega arith, tt); quiet_opening = one_read (is_past_for_device 1 (two_after answer_of after 29 handler).openings) (two_after answer_of after 29 handler).said 7 (λ b. refl); addresses = tt; in_range = one_fits (λ p. IfSome (hears answer_of after (second_station (two_after answer_of after 29 handler).stations handler).reader p).said ReplyFits) (packed false 1 0 Sum false 0 (97 ∷ 0 ∷ [])) id_fits },
                                                                 (
-                                                                  record { in_order = (record { by_panel = false; entry = 1; packet = (packed true 1 0 Sum false 0 (69 ∷ 1 ∷ 2 ∷ 3 ∷ 4 ∷ 5 ∷ 6 ∷ 0 ∷ 0 ∷ 0 ∷ 7 ∷ 8 ∷ 9 ∷ [])) }, refl, refl, omega arith, tt); quiet_opening = one_read (is_past_for_panel (two_after answer_of after 30 handler).openings) (two_after answer_of after 30 handler).said 8 (λ b. refl); addresses = tt; in_range = tt },
+                                                                  record { in_order = inl (record { by_panel = false; entry = 1; packet = (packed true 1 0 Sum false 0 (69 ∷ 1 ∷ 2 ∷ 3 ∷ 4 ∷ 5 ∷ 6 ∷ 0 ∷ 0 ∷ 0 ∷ 7 ∷ 8 ∷ 9 ∷ [])) }, refl, refl, omega arith, tt); quiet_opening = one_read (is_past_for_panel (two_after answer_of after 30 handler).openings) (two_after answer_of after 30 handler).said 8 (λ b. refl); addresses = tt; in_range = tt },
                                                                   tt,
                                                                 ),
                                                               ),
