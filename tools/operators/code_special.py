@@ -43,6 +43,8 @@ class Special(Values):
                 continue
             if node.kind == "block":
                 yield from self.statements(node)
+            if node.kind in ("path", "call", "method", "binary", "field", "group"):
+                yield from self.chosen_values(node)
             if node.kind in ("if", "while") and node.condition.kind != "if-let":
                 yield from self.conditions(node.condition)
             if node.kind == "if" and node.condition.kind == "if-let":
@@ -89,13 +91,25 @@ class Special(Values):
                 yield OPERATOR, arm.pattern.end, arm.pattern.end, f" if {atom}"
 
     def statements(self, node):
+        """A statement that is done for one value alone, or before or after which one leaves for it."""
+        leaves = ["return;", "continue;", "break;", *(f"return {it};" for it in self.simple(plain(self.unit.returns), 1))]
         for it in node.parts:
-            if it.kind != "statement" or not self.is_near(it.start, it.end):
+            if not self.is_near(it.start, it.end):
                 continue
             said = self.said(it)
-            said = said if said.endswith(";") or it.inner.kind in ("if", "match", "for", "while", "loop", "block") else said + ";"
-            for atom in self.atoms():
-                yield OPERATOR, it.start, it.end, f"if {atom} {{ {said} }}"
+            if it.kind in ("statement", "let"):
+                for atom in self.atoms():
+                    yield from ((OPERATOR, place, place, f" if {atom} {{ {leave} }} ") for place in (it.start, it.end) for leave in leaves)
+            if it.kind == "statement":
+                said = said if said.endswith(";") or it.inner.kind in ("if", "match", "for", "while", "loop", "block") else said + ";"
+                yield from ((OPERATOR, it.start, it.end, f"if {atom} {{ {said} }}") for atom in self.atoms())
+
+    def chosen_values(self, node):
+        """Another value for one value of what is in scope."""
+        kind = self.type_of(node)
+        values = [*self.simple(kind, 1), *(str(it) for it in NUMBERS[:6]), "u64::MAX"] if kind in INTEGERS or not kind else self.simple(kind, 1)
+        for atom in self.atoms():
+            yield from ((OPERATOR, node.start, node.end, f"if {atom} {{ {value} }} else {{ {self.said(node)} }}") for value in values)
 
     def returns(self, tree):
         """An answer at the head for one value."""
@@ -130,7 +144,8 @@ class Special(Values):
 
     def standing(self):
         """The values that stand in the body, and whose type no signature tells."""
-        found = [self.said(it) for it in self.unit.tree.walk() if it.kind in ("path", "field") or it.kind == "method" and not it.arguments]
+        called = [it.callee for it in self.unit.tree.walk() if it.kind == "call"]
+        found = [self.said(it) for it in self.unit.tree.walk() if it.kind in ("path", "field") and it not in called or it.kind == "method" and not it.arguments]
         return dict.fromkeys(it for it in found if len(it) < 60 and it[:1].islower())
 
     def inner(self, path, kind, depth):

@@ -83,6 +83,9 @@ def in_code(file, node, own, brought, more):
     if node.kind in ("call", "method", "binary", "unary", "matches", "path", "field"):
         for text in brought:
             yield from ((OPERATOR, node.start, node.end, f"({own} {sign} {text})") for sign in ("&&", "||", "&& !", "|| !", "+", "-"))
+    if node.kind in ("call", "method", "try", "path"):
+        for text in [*brought, "0", "None", "true", "false", "()"]:
+            yield OPERATOR, node.start, node.end, f"{{ let _ = {own}; {text} }}"
     if node.kind == "arm" and len(node.pattern.alternatives) > 1:
         for i, (start, end) in enumerate(node.pattern.alternatives):
             rest = " | ".join(file.text[one:to] for j, (one, to) in enumerate(node.pattern.alternatives) if j != i)
