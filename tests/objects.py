@@ -37,10 +37,11 @@ def line_of(told, is_timed):
         return f"{stamp}{told['run']}:{told['place']} {party}{told['text']}{basis}"
     if kind in ("expected", "seen"):
         return f"     {kind:<8} {told['packet']}"
-    if kind == "device":
-        return f"{told['address']:<6}" + "".join(f" {told[name]:>{room}}" for name, room in ROOMS.items())
-    if kind == "line":
-        return " ".join(f"{name} {told[name]}" for name in COUNTS)
+    if kind in ("device", "window"):
+        address = f"+{told['address']}" if kind == "window" else f"{told['address']}"
+        return f"{address:<6}" + "".join(f" {told[name]:>{room}}" for name, room in ROOMS.items())
+    if kind in ("line", "window_line"):
+        return ("+" if kind == "window_line" else "") + " ".join(f"{name} {told[name]}" for name in COUNTS)
     if kind == "times":
         return f"times: {told['address']} answered {told['answers']} in {told['least']} to {told['most']} ms, half below {told['half_below']}, 95 of 100 below {told['most_below']}"
     if kind == "late":
@@ -72,7 +73,7 @@ def compare(what, words, data):
             tell(f"{what}: the form of a line", fault.message, line)
         lines.append(line_of(told, "--times" in words and "--raw" not in words))  # raw bytes have no stamps
         objects += 1
-    wanted = [line for line in plain.split("\n")[:-1] if line != HEAD]
+    wanted = [line for line in plain.split("\n")[:-1] if line not in (HEAD, HEAD.replace("device", "window"))]
     if lines != wanted:
         tell(what, "\n".join(wanted), "\n".join(lines))
 

@@ -9,12 +9,14 @@ row. Then, in any order:
     < TEXT      a line of input        > TEXT   a line of standard output
     <- TEXT     without a line's end   ! TEXT   a line of standard error
     <x FF 53    bytes of input         = 1      the status, where it is not 0
+    <. 1500     milliseconds that pass before the rest of the input
 
 Files are named from the top of the repository. {1432*FF} stands for FF 1,432 times; in input \\t, \\r and \\x00 are the bytes. Lines that begin with # are comments."""
 import re
 import shlex
 import subprocess
 import sys
+import time
 from pathlib import Path
 
 TOP = Path(__file__).resolve().parent.parent
@@ -24,6 +26,7 @@ class Row:
     def __init__(self, place):
         self.place, self.words = place, []
         self.input = self.output = self.errors = b""
+        self.pauses = []  # how much of the input has come, and how long nothing more does
         self.status = 0
         self.is_begun = False
 
@@ -62,6 +65,8 @@ def rows_of(path):
                 row.input += typed(text)
             elif sign == "<x":
                 row.input += bytes.fromhex(repeated(text))
+            elif sign == "<.":
+                row.pauses.append((len(row.input), int(text) / 1000))
             elif sign == ">":
                 row.output += repeated(text).encode() + b"\n"
             elif sign == "!":
@@ -73,9 +78,21 @@ def rows_of(path):
     return rows
 
 
+def output_of(program, row, words):
+    """Runs the program on the input, whose parts come after their pauses."""
+    with subprocess.Popen([program, *words], stdin=subprocess.PIPE, stdout=subprocess.PIPE, stderr=subprocess.PIPE, cwd=TOP) as process:
+        given = 0
+        for size, pause in row.pauses:
+            process.stdin.write(row.input[given:size])
+            process.stdin.flush()
+            given = size
+            time.sleep(pause)
+        output, errors = process.communicate(row.input[given:])
+    return output, errors, process.returncode
+
+
 def is_right(program, row, words):
-    done = subprocess.run([program, *words], input=row.input, capture_output=True, cwd=TOP)
-    got = (done.stdout, done.stderr, done.returncode)
+    got = output_of(program, row, words)
     wanted = (row.output, row.errors, row.status)
     if got == wanted:
         return True

@@ -46,7 +46,7 @@ class Monitor(Stream):
 
     def prints(self, line):
         """Prints a line; one of another device is left out."""
-        is_table = line.startswith(HEADS) or re.match(r"\d+ ", line)
+        is_table = line.startswith(HEADS) or re.match(r"\+?\d+ ", line)
         if is_other(line, self.address):
             return
         if is_table or line.startswith(" "):

@@ -9,8 +9,8 @@ from collections import deque
 from .console import stamp, write_all
 from .program import Stream
 
-HEADS = ("device  ", "runs ")  # of a table
-OF_DEVICE = re.compile(r"^(?:\d+:\d+ )?(?:(?:device|panel to|reader) )?(\d+)\b")
+HEADS = ("device  ", "runs ", "window  ", "+runs ")  # of a table, and of what came since the last one
+OF_DEVICE = re.compile(r"^(?:\d+:\d+ )?\+?(?:(?:device|panel to|reader) )?(\d+)\b")
 COUNTS = re.compile(r"(\w+) (\d+)")
 NAMES = "asked polls repeats answered busy nak events opened moved judged forgot accused".split()
 BITS = 10  # of a byte on the line: a start bit, eight bits and a stop bit
@@ -34,38 +34,32 @@ def share(count, all_of):
 
 
 class Table:
-    """A table as the program told it, with the moment and how many bytes had come."""
+    """A table as the program told it, with what came since the one before, the moment, and how many bytes had come."""
 
-    def __init__(self, moment, size, lines):
+    def __init__(self, moment, size, window, lines):
         self.moment, self.size, self.lines = moment, size, lines
-        self.devices, self.line = {}, {}
-        for line in lines:
-            if line.startswith("runs "):
+        self.addresses = sorted(int(line.split()[0]) for line in lines if line[:1].isdigit())
+        self.came, self.line = {}, {}
+        for line in window:
+            if line.startswith("+runs "):
                 self.line = {name: int(count) for name, count in COUNTS.findall(line)}
-            elif line[:1].isdigit():
-                address, *counts = (int(word) for word in line.split())
-                self.devices[address] = dict(zip(NAMES, counts))
-
-    def lost(self, address):
-        """Packets to a device that had no reply."""
-        row = self.devices.get(address, {})
-        return max(0, row.get("asked", 0) - row.get("answered", 0) - row.get("busy", 0) - row.get("nak", 0))
+            else:
+                address, *counts = (int(word) for word in line[1:].split())
+                self.came[address] = dict(zip(NAMES, counts))
 
 
-def since(old, new, rate):
-    """The lines on what came between two tables: of the whole line, and of each device."""
+def since(tables, rate):
+    """The lines on what came after the first of these tables, as the program counts it from each to the next: of the whole line, and of each device."""
+    old, new, windows = tables[0], tables[-1], list(tables)[1:]
     seconds = max(new.moment - old.moment, 0.001)
-    packets = new.line.get("packets", 0) - old.line.get("packets", 0)
-    damaged = new.line.get("refused", 0) - old.line.get("refused", 0)
+    packets, damaged = (sum(table.line.get(name, 0) for table in windows) for name in ("packets", "refused"))
     rows, turns = [], []
-    for address, row in sorted(new.devices.items()):
-        before = old.devices.get(address, {})
-        asked, repeats = row["asked"] - before.get("asked", 0), row["repeats"] - before.get("repeats", 0)
-        lost = max(0, new.lost(address) - old.lost(address))  # the answer to a packet of the table before may come now
+    for address in new.addresses:
+        asked, repeats, *replies = (sum(table.came.get(address, {}).get(name, 0) for table in windows) for name in ("asked", "repeats", "answered", "busy", "nak"))
+        lost = max(0, asked - sum(replies))  # the answer to a packet of the first table may come after it
         if asked:
             turns.append(asked - repeats)
-        heard = row["answered"] + row["busy"] + row["nak"] > sum(before.get(name, 0) for name in ("answered", "busy", "nak"))
-        state = "online" if heard else "no answer" if asked else "not asked"
+        state = "online" if sum(replies) else "no answer" if asked else "not asked"
         rows.append(f"{address:<6} {asked:>6} {share(repeats, asked):>8.1f}% {share(lost, asked):>8.1f}%  {state}")
     use = share((new.size - old.size) * BITS, rate * seconds)
     line = f"last {seconds:.0f} s: {min(use, 100):.0f}% of the time in use; a second {packets / seconds:.1f} packets, {damaged / seconds:.1f} damaged, " \
@@ -79,7 +73,7 @@ class Live(Stream):
     def __init__(self, words, console, osdp, title):
         self.rate, self.title, self.address = words.rate, title, words.get("--address")
         self.tables, self.told = deque(), deque(maxlen=200)
-        self.part, self.in_table = [], False
+        self.window, self.part, self.in_table = [], [], False
         self.size, self.came, self.drawn = 0, None, 0.0
         self.lock = threading.Lock()
         write_all(1, (HIDE + CLEAR).encode())
@@ -97,12 +91,16 @@ class Live(Stream):
         if is_other(line, self.address):
             return
         with self.lock:
+            if line.startswith(("window  ", "+")):
+                self.window = [*self.window, line] if line.startswith("+") else []
+                return
             if line.startswith(HEADS[0]):
                 self.in_table, self.part = True, []
             if self.in_table and (line.startswith((*HEADS, "diagnosis: ", "nothing was judged")) or re.match(r"\d+ ", line)):
                 self.part.append(line)
                 if line.startswith("runs "):
-                    self.keep(Table(time.monotonic(), self.size, self.part))
+                    self.keep(Table(time.monotonic(), self.size, self.window, self.part))
+                    self.window = []
             else:
                 self.in_table = False
                 self.told.append(line if line.startswith(" ") else f"{stamp()} {line.partition(' ')[2] if re.match(r'[0-9]+:', line) else line}")
@@ -122,7 +120,7 @@ class Live(Stream):
             if self.tables:
                 lines += self.tables[-1].lines
                 if len(self.tables) > 1:
-                    lines += ["", *since(self.tables[0], self.tables[-1], self.rate)]
+                    lines += ["", *since(self.tables, self.rate)]
             room = height - len(lines) - 2
             lines += ["", *list(self.told)[-room:]] if room > 0 else []
         return [line[:width] for line in lines[:height - 1]]

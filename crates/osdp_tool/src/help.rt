@@ -98,7 +98,8 @@ usage: osdp monitor [FORM] [OPTION]... [FILE]...
   --times    put its run's moment and way before each line, and tell how long each device takes to answer
   --json     print an object of JSON in place of each line
   --gap N    a run of bytes is over N milliseconds after its last ones, 1 to 3600000; else 20
-  --every N  print the table again N seconds after the last one, 1 to 3600000, as bytes come
+  --every N  print the table again N seconds after the last one, 1 to 3600000, as bytes come; from
+             the second one on, what came since the last one stands before it
 
 Input: that of show: lines of digits, each of which is a run, or what one of the first four options says. The
 table comes where the input ends: end the program that gives the bytes. Ctrl-C ends this one, and no table is

@@ -3,3 +3,4 @@ pub mod Stamps
 pub mod Held
 pub mod Fronts
 pub mod Hearing
+pub mod Timed

@@ -1,6 +1,6 @@
 //! What the crate's definitions say, in the subject's words. A law has no code: it holds for all values, and its proof is the law's.
 
-ghost use Rattle.osdp_tool_inputs.specs.Laws.{StampsOneRun, TellsInOrder, TimesByRuns};
+ghost use Rattle.osdp_tool_inputs.specs.Laws.{MomentsLeaveLines, StampsOneRun, TellsInOrder, TimesByRuns};
 
 /// The moments that the runtime's clock tells are in order.
 pub fn tells_in_order()
@@ -15,4 +15,9 @@ pub fn stamps_one_run()
 /// A line of `show` that begins with the number of a run stands after the stamp of that run.
 pub fn times_by_runs()
     ensures { TimesByRuns }
+{}
+
+/// With the moments of a capture the monitor tells the lines that it tells without, each after the moment and the way of its run: none is left out, none comes to them.
+pub fn moments_leave_lines()
+    ensures { MomentsLeaveLines }
 {}

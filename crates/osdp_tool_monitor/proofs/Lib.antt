@@ -1,6 +1,7 @@
 pub mod Spelling
 pub mod ByCode
 pub mod Rows
+pub mod Windows
 pub mod Diagnosing
 pub mod Items
 pub mod OpenRuns

@@ -16,8 +16,8 @@ use Rattle.osdp_tool_show.proofs.Taking.{Taking, next_bytes, taken_all, taking_s
 use Rattle.osdp_tool_show.specs.declared.detail.Detail.{Detail}
 use Rattle.osdp_tool_monitor.specs.declared.listener.Listener.{Listener}
 use Rattle.osdp_tool_monitor.specs.declared.open_line.OpenLine.{OpenLine}
-use Rattle.osdp_tool_monitor.specs.Hearing.{Come, Drained, Hearing, Hears, HearsItems, IsOpen, LineEvent, RunEnds, TableDue, after_event, after_events, event_report, events_report, hearing_of, load, line_detail}
-use Rattle.osdp_tool_monitor.specs.Listening.{HearsItem, Listening, ended, heard_item, heard_items, item_report, items_report, listening_of, table, detail_of}
+use Rattle.osdp_tool_monitor.specs.Hearing.{Come, Drained, Hearing, Hears, HearsItems, IsOpen, LineEvent, RunEnds, TableDue, TableTold, after_event, after_events, event_report, events_report, hearing_of, load, line_detail}
+use Rattle.osdp_tool_monitor.specs.Listening.{HearsItem, Listening, after_table, ended, heard_item, heard_items, item_report, items_report, listening_of, table, detail_of}
 use Rattle.osdp_tool_monitor.specs.InTurn.{after_all, report_of_all}
 
 pub on_both : {T E : Type 0} {A B C : Type 0} (r : Result T E) → (A → B → C) → OnOk r A → OnOk r B → OnOk r C
@@ -259,6 +259,13 @@ hears_then xs ys old mid new before middle after a b =
 -- the table
 pub table_told : (l : OpenLine) (before after : List ℕ) → IsOpen l → after ≡ before ++ table (listening_of l.listener) → Hears (TableDue ∷ []) l l before after
 table_told l before after is_open text = hears_event TableDue l l before after refl refl text is_open
+
+-- .. has been told
+pub after_table_is : (old : OpenLine) (new : Listener) (text : List ℕ) → IsOpen old → detail_of new ≡ detail_of old.listener
+    → listening_of new ≡ after_table (listening_of old.listener) → Hears (TableTold ∷ []) old (record old { listener = new }) text text
+after_table_is old new text is_open tells heard =
+    hears_event TableTold old (record old { listener = new }) text text tells (ap (λ l. hearing l old.framer.bytes) heard) (sym (append-nil text))
+    (record { bytes = is_open.bytes; goes_on = is_open.goes_on; none = is_open.none })
 
 -- a whole run, where none was held
 pub run_heard : (run : List ℕ) (old new : OpenLine) (before after : List ℕ) → old.framer.bytes ≡ [] → new.framer ≡ old.framer → IsOpen old

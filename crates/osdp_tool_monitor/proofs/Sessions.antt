@@ -9,7 +9,7 @@ use Rattle.osdp_tool_streams.proofs.CutLemmas.{ended_after-feed, ended_after-lin
 use Rattle.osdp_tool_streams.proofs.FormLemmas.{kept-append}
 use Rattle.osdp_tool_streams.proofs.RunsLemmas.{bad_line-append, good_front-append}
 use Rattle.osdp_tool_monitor.specs.declared.open_line.OpenLine.{OpenLine}
-use Rattle.osdp_tool_monitor.specs.Hearing.{Come, Hearing, Hears, IsOpen, LineEvent, RunEnds, TableDue, after_events, hearing_of}
+use Rattle.osdp_tool_monitor.specs.Hearing.{Come, Hearing, Hears, IsOpen, LineEvent, RunEnds, TableDue, TableTold, after_events, hearing_of}
 use Rattle.osdp_tool_monitor.proofs.OpenRuns.{hears_nothing, hears_then}
 use Rattle.osdp_tool_monitor.specs.declared.mode.MonitorMode.{MonitorMode}
 use Rattle.osdp_tool_monitor.specs.declared.session.Session.{Session}
@@ -42,10 +42,6 @@ goes_open events s l before after ready bytes hears = record {
     no_hex : (b : Bool) → b ≡ false → b ≡ true → ⊥
     no_hex b e f = cc
 
-pub goes_table : (events : List LineEvent) (s : Session) (before after : List ℕ) → IsReady s → Hears events s.line s.line before after
-    → Goes events (cut_of s) s s before after
-goes_table events s before after ready hears = record { mode = refl; cut = refl; hears = hears; ready = ready }
-
 pub gap_none : (over : Bool) (s : Session) (text : List ℕ) → over ≡ false → IsReady s → Goes (gap_events over) (cut_of s) s s text text
 gap_none over s text is ready = subst (λ b. Goes (gap_events b) (cut_of s) s s text text) (sym is) (goes_none s text ready)
 
@@ -57,9 +53,28 @@ gap_ends over s l before after is ready bytes hears =
 pub table_none : (due : Bool) (s : Session) (text : List ℕ) → due ≡ false → IsReady s → Goes (table_events due) (cut_of s) s s text text
 table_none due s text is ready = subst (λ b. Goes (table_events b) (cut_of s) s s text text) (sym is) (goes_none s text ready)
 
-pub table_tells : (due : Bool) (s : Session) (before after : List ℕ) → due ≡ true → IsReady s → Hears (TableDue ∷ []) s.line s.line before after
-    → Goes (table_events due) (cut_of s) s s before after
-table_tells due s before after is ready hears = subst (λ b. Goes (table_events b) (cut_of s) s s before after) (sym is) (goes_table (TableDue ∷ []) s before after ready hears)
+pub table_tells : (due : Bool) (s : Session) (l : OpenLine) (before after : List ℕ) → due ≡ true → IsReady s → Hears (TableDue ∷ []) s.line s.line before after
+    → l.framer.bytes ≡ s.line.framer.bytes → ((text : List ℕ) → Hears (TableTold ∷ []) s.line l text text)
+    → Goes (table_events due) (cut_of s) s (record s { line = l }) before after
+table_tells due s l before after is ready hears none told =
+    subst (λ b. Goes (table_events b) (cut_of s) s (record s { line = l }) before after) (sym is) (record {
+      mode = refl;
+      cut = refl;
+      hears = hears_then (TableDue ∷ []) (TableTold ∷ []) s.line s.line l before after after hears (told after);
+      ready = record { is_open = (told after).is_open; counts = ready.counts; none = λ hex. none ∙ ready.none hex };
+    })
+
+-- a moment is kept, and that of the last table
+pub table_went : (due now : Bool) (last tabled kept : Option ℕ) (old mid : Session) (before after : List ℕ) → due ≡ now → tabled ≡ kept
+    → Goes (table_events due) (cut_of old) old mid before after
+    → Goes (table_events now) (record (cut_of old) { last = last; tabled = kept }) old (record mid { last = last; tabled = tabled }) before after
+table_went due now last tabled kept old mid before after is same g =
+    subst (λ b. Goes (table_events b) (record (cut_of old) { last = last; tabled = kept }) old (record mid { last = last; tabled = tabled }) before after) is (record {
+      mode = g.mode;
+      cut = ap (λ (c : Cut). record c { last = last; tabled = tabled }) g.cut ∙ ap (λ t. record (cut_of old) { last = last; tabled = t }) same;
+      hears = g.hears;
+      ready = record { is_open = g.ready.is_open; counts = g.ready.counts; none = g.ready.none };
+    })
 
 -- bytes, after the end of a run where it is over
 pub bytes_came : (over : Bool) (bytes : List ℕ) (old mid : Session) (l : OpenLine) (before middle after : List ℕ) → old.mode.hex ≡ false

@@ -4,7 +4,7 @@ use Rattle.osdp_frame.specs.Silence.{is_silent_for}
 use Rattle.osdp_tool_streams.specs.Cut.{ended_after, unended_after}
 use Rattle.osdp_tool_streams.specs.Line.{kept}
 use Rattle.osdp_tool_streams.specs.Runs.{bad_line, good_front}
-use Rattle.osdp_tool_monitor.specs.Hearing.{Come, LineEvent, RunEnds, TableDue}
+use Rattle.osdp_tool_monitor.specs.Hearing.{Come, LineEvent, RunEnds, TableDue, TableTold}
 use Rattle.osdp_tool_monitor.specs.declared.mode.MonitorMode.{MonitorMode}
 
 -- what one read gave, and the moment after it
@@ -55,7 +55,7 @@ is_due None tabled now = false
 is_due (Some every) tabled now = is_over (1000 * every) tabled now
 
 abbrev pub table_events : Bool → List LineEvent
-table_events due = if due then TableDue ∷ [] else []
+table_events due = if due then TableDue ∷ TableTold ∷ [] else []
 
 abbrev pub tabled_after : Bool → Option ℕ → ℕ → Option ℕ
 tabled_after due None now = Some now

@@ -9,7 +9,7 @@ use Rattle.osdp_tool_show.specs.declared.detail.Detail.{Detail}
 use Rattle.osdp_tool_monitor.specs.declared.listener.Listener.{Listener}
 use Rattle.osdp_tool_monitor.specs.declared.open_line.OpenLine.{OpenLine}
 use Rattle.osdp_tool_monitor.specs.InTurn.{after_all, report_of_all}
-use Rattle.osdp_tool_monitor.specs.Listening.{Listening, ended, heard_items, items_report, listening_of, nothing_heard, table, detail_of}
+use Rattle.osdp_tool_monitor.specs.Listening.{Listening, ended, heard_items, items_report, listening_of, nothing_heard, table, after_table, detail_of}
 
 pub record Hearing : Type 0 where
   -- what has been heard of the items that its bytes decide
@@ -20,23 +20,26 @@ pub record Hearing : Type 0 where
 abbrev pub nothing_yet : Bool → Hearing
 nothing_yet standard = record { heard = nothing_heard standard; held = [] }
 
--- what happens: bytes come, the run ends after these bytes, or the table is due
+-- what happens: bytes come, the run ends after these bytes, the table is due, or it has been told, and another one will come
 pub data LineEvent : Type 0 where
   Come : List ℕ → LineEvent
   RunEnds : List ℕ → LineEvent
   TableDue : LineEvent
+  TableTold : LineEvent
 
 abbrev pub after_event : Hearing → LineEvent → Hearing
 after_event h (Come bytes) =
     record { heard = heard_items h.heard (items false (h.held ++ bytes)); held = left_over (h.held ++ bytes) }
 after_event h (RunEnds bytes) = record { heard = ended (heard_items h.heard (items true (h.held ++ bytes))); held = [] }
 after_event h TableDue = h
+after_event h TableTold = record h { heard = after_table h.heard }
 
 -- what is printed: of the items that bytes decide, at once; and the table
 abbrev pub event_report : Detail → Hearing → LineEvent → List ℕ
 event_report detail h (Come bytes) = items_report detail h.heard (items false (h.held ++ bytes))
 event_report detail h (RunEnds bytes) = items_report detail h.heard (items true (h.held ++ bytes))
 event_report detail h TableDue = table h.heard
+event_report detail h TableTold = []
 
 -- one after the other
 abbrev pub after_events : Hearing → List LineEvent → Hearing
@@ -50,6 +53,7 @@ abbrev pub event_size : LineEvent → ℕ
 event_size (Come bytes) = length bytes
 event_size (RunEnds bytes) = length bytes
 event_size TableDue = 0
+event_size TableTold = 0
 
 unfoldable pub events_size : List LineEvent → ℕ
 events_size [] = 0

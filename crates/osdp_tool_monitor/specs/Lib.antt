@@ -1,5 +1,6 @@
 pub mod Text
 pub mod Counts
+pub mod Windows
 pub mod Trail
 pub mod Diagnoses
 pub mod Talk

@@ -1,5 +1,5 @@
 -- What has been heard of a line so far, and what is printed of it, item by item.
-use Rattle.std.specs.Prelude.{◌≡◌, ℕ, ◌+◌, ◌^◌, ◌≤◌, ◌==◌, not, ◌&&◌, ◌||◌, Bool, is_some, List, [], ◌++◌, replicate}
+use Rattle.std.specs.Prelude.{◌≡◌, ℕ, ◌+◌, ◌^◌, ◌≤◌, ◌==◌, not, ◌&&◌, ◌||◌, Bool, is_some, List, [], ◌++◌, replicate, Option, None, Some}
 use Rattle.osdp_frame.specs.Items.{reading}
 use Rattle.osdp_frame.specs.Reading.{RunItem, PacketItem, SkippedItem, RefusedItem, Stands, item_size}
 use Rattle.osdp_monitor.specs.Monitors.{knowledge_of}
@@ -17,6 +17,7 @@ use Rattle.osdp_tool_monitor.specs.Diagnoses.{diagnoses_text}
 use Rattle.osdp_tool_monitor.specs.Talk.{talk_line}
 use Rattle.osdp_tool_monitor.specs.Trail.{after_bad, detail_after, hit_by, is_clean, no_trail, trail_after}
 use Rattle.osdp_tool_monitor.specs.declared.trail.Trail.{Trail}
+use Rattle.osdp_tool_monitor.specs.Windows.{Tabled, window_text}
 use Rattle.osdp_tool_monitor.specs.InTurn.{after_all, report_of_all}
 use Rattle.osdp_frame.specs.Packet.{Packet}
 use Rattle.osdp_monitor.specs.declared.found.Found.{Found}
@@ -36,10 +37,12 @@ pub record Listening : Type 0 where
   pub accused : ℕ
   -- whether accusations by the profile alone are left out
   pub standard : Bool
+  -- what had been counted at the last table, where there was one
+  pub tabled : Option Tabled
 
 abbrev pub nothing_heard : Bool → Listening
 nothing_heard standard =
-    record { knowledge = no_knowledge; tally = no_tally; trail = no_trail; counts = replicate 128 no_counts; judged = 0; accused = 0; standard = standard }
+    record { knowledge = no_knowledge; tally = no_tally; trail = no_trail; counts = replicate 128 no_counts; judged = 0; accused = 0; standard = standard; tabled = None }
 
 -- what is told of a packet, after what has been heard
 abbrev pub told_in : Listening → Packet → Found
@@ -71,6 +74,7 @@ heard_item l part = record {
   judged = judged_of l part;
   accused = accused_of l part;
   standard = l.standard;
+  tabled = l.tabled;
 }
 
 -- what is found in an item
@@ -103,8 +107,19 @@ heard_run l run = ended (heard_items l (reading run))
 abbrev pub run_report : Detail → Listening → List ℕ → List ℕ
 run_report detail l run = items_report detail l (reading run)
 
+-- what came since the last table, and what came since the start
 abbrev pub table : Listening → List ℕ
-table l = table_of l.tally l.counts l.judged l.accused ++ diagnoses_text l.tally l.counts
+table l =
+    window_text l.tabled l.tally l.counts l.judged l.accused
+    ++ (table_of l.tally l.counts l.judged l.accused ++ diagnoses_text l.tally l.counts)
+
+-- what has been counted
+abbrev pub tabled_now : Listening → Tabled
+tabled_now l = record { tally = l.tally; counts = l.counts; judged = l.judged; accused = l.accused }
+
+-- the table has been told: the next one tells what came since, too
+abbrev pub after_table : Listening → Listening
+after_table l = record l { tabled = Some (tabled_now l) }
 
 -- somebody was accused, something refused, or of all packets none was judged
 abbrev pub is_wrong : Listening → Bool
@@ -119,7 +134,7 @@ IsLineFault count fault = ⊥
 -- ---- a listener
 
 abbrev pub listening_of : Listener → Listening
-listening_of l = record { knowledge = knowledge_of l.monitor; tally = l.tally; trail = l.trail; counts = l.counts.items; judged = l.judged; accused = l.accused; standard = l.standard }
+listening_of l = record { knowledge = knowledge_of l.monitor; tally = l.tally; trail = l.trail; counts = l.counts.items; judged = l.judged; accused = l.accused; standard = l.standard; tabled = l.last_table }
 
 -- which items are printed
 abbrev pub detail_of : Listener → Detail

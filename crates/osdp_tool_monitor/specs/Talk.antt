@@ -1,7 +1,6 @@
 -- What is printed of a NAK beside its line, where orders and their answers are printed: what it refuses, and the reason in words.
-use Rattle.std.specs.Prelude.{ℕ, ◌==◌, ◌&&◌, not, Bool, true, false, if◌then◌else◌, List, [], ◌++◌, codes, Option, None, Some, Result, Ok, Err}
-use Rattle.osdp_frame.specs.Packet.{Packet}
-use Rattle.osdp_frame.specs.Reading.{RunItem, PacketItem, SkippedItem, RefusedItem}
+use Rattle.std.specs.Prelude.{ℕ, ◌==◌, ◌&&◌, not, Bool, false, if◌then◌else◌, List, [], ◌++◌, codes, Option, None, Some, Result, Ok}
+use Rattle.osdp_frame.specs.Reading.{RunItem, PacketItem}
 use Rattle.osdp_monitor.specs.Saying.{reply_told}
 use Rattle.osdp_msg.specs.declared.fault.MsgFault.{MsgFault}
 use Rattle.osdp_msg.specs.declared.nak.NakReason.{NakReason}
@@ -9,7 +8,7 @@ use Rattle.osdp_msg.specs.declared.nak.NakReason.TheVariants.{CheckCharacters, C
 use Rattle.osdp_msg.specs.declared.reply.Reply.{Reply}
 use Rattle.osdp_msg.specs.declared.reply.Reply.TheVariants.{Nak}
 use Rattle.osdp_tool_show.specs.declared.detail.Detail.{Detail}
-use Rattle.osdp_tool_show.specs.declared.detail.Detail.TheVariants.{Full, Refusals, Filtered}
+use Rattle.osdp_tool_show.specs.declared.detail.Detail.TheVariants.{Filtered}
 use Rattle.osdp_tool_monitor.specs.Text.{address_line}
 use Rattle.osdp_tool_monitor.specs.declared.trail.Trail.{Trail}
 

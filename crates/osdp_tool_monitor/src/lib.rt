@@ -16,6 +16,7 @@ mod table;
 mod talk;
 mod text;
 mod trail;
+mod window;
 
 pub use command::monitor;
 pub use counts::Counts;

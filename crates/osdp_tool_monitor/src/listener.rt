@@ -12,6 +12,7 @@ use crate::table::{is_unjudged, push_table};
 use crate::talk::push_talk;
 use crate::text::{push_found, told};
 use crate::trail::Trail;
+use crate::window::{LastTable, push_window};
 use osdp_frame::{Burst, FrameView, Item, ReadItem, read_at, whole_item};
 use osdp_monitor::Monitor;
 use osdp_tool_show::{Detail, Tally, tell};
@@ -38,6 +39,7 @@ pub struct Listener {
     judged: u64,
     accused: u64,
     standard: bool,
+    last_table: Option<LastTable>,
     expected: Burst,
     ghost addresses: { length counts.items ≡ 128 },
 }
@@ -47,7 +49,7 @@ impl Listener {
     ghost use Rattle.osdp_monitor.specs.Monitors.{knowledge_of};
     ghost use Rattle.osdp_tool_monitor.specs.Counts.{counts_after, counts_after_damage, more_if};
     ghost use Rattle.osdp_tool_monitor.specs.Trail.{hit_by, is_clean, trail_after_packet};
-    ghost use Rattle.osdp_tool_monitor.specs.Listening.{HearsFirst, HearsItem, HearsRun, IsLineFault, ended, is_wrong, listening_of, nothing_heard, table, told_in, detail_of};
+    ghost use Rattle.osdp_tool_monitor.specs.Listening.{HearsFirst, HearsItem, HearsRun, IsLineFault, ended, is_wrong, listening_of, nothing_heard, table, after_table, told_in, detail_of};
     ghost use Rattle.osdp_tool_monitor.specs.Text.{expected_bytes, found_text};
 
     /// A listener that has heard nothing. It prints each item of the line, or refusals and what it finds alone. With `standard` it leaves out what only
@@ -68,6 +70,7 @@ impl Listener {
             judged: 0,
             accused: 0,
             standard,
+            last_table: None,
             expected: Burst::new(),
         })
     }
@@ -90,6 +93,7 @@ impl Listener {
         ensures judged { OnOk result (self.new.judged ≡ more_if (told_in (listening_of self.old) packet.now).judged self.old.judged) }
         ensures accused { OnOk result (self.new.accused ≡ more_if (is_some (told_in (listening_of self.old) packet.now).accusation) self.old.accused) }
         ensures standard { OnOk result (self.new.standard ≡ self.old.standard) }
+        ensures last_table { OnOk result (self.new.last_table ≡ self.old.last_table) }
         ensures text { OnOk result (string_bytes text.new
             ≡ string_bytes text.old ++ found_text run place packet.now (told_in (listening_of self.old) packet.now) (expected_bytes (expected_in (knowledge_of self.old.monitor) packet.now))) }
     {
@@ -120,6 +124,7 @@ impl Listener {
         ensures judged { self.new.judged ≡ self.old.judged }
         ensures accused { self.new.accused ≡ self.old.accused }
         ensures standard { self.new.standard ≡ self.old.standard }
+        ensures last_table { self.new.last_table ≡ self.old.last_table }
     {
         if let Some(address) = self.trail.hit_by(bad) {
             self.counts[usize::from(address.get())].count_damage();
@@ -229,13 +234,34 @@ impl Listener {
         Ok(())
     }
 
-    /// Writes the table of what was heard.
+    /// Writes the table of what was heard: what came since the last table, where there was one, and what came since the start.
     pub fn push_table(&self, text: &mut String) -> Result<(), ToolFault>
         ensures text { OnOk result (string_bytes text.new ≡ string_bytes text.old ++ table (listening_of self.now)) }
         ensures fault { IfErr result (λ fault. fault ≡ ToolFault.NoMemory) }
     {
+        let counts = &self.counts;
+        or_fault(push_window(
+            text,
+            &self.last_table,
+            &self.tally,
+            counts,
+            self.judged,
+            self.accused,
+        ))?;
         or_fault(push_table(text, &self.tally, &self.counts, self.judged, self.accused))?;
         or_fault(push_diagnoses(text, &self.tally, &self.counts))
+    }
+
+    /// The table has been told: the next one tells what comes from now on, too.
+    pub fn end_table(&mut self) -> Result<(), ToolFault>
+        ensures tells { OnOk result (detail_of self.new ≡ detail_of self.old) }
+        ensures heard { OnOk result (listening_of self.new ≡ after_table (listening_of self.old)) }
+        ensures fault { IfErr result (λ fault. fault ≡ ToolFault.NoMemory) }
+    {
+        let alloc = *self.counts.allocator();
+        let told = LastTable::new(alloc, self.tally, &self.counts, self.judged, self.accused);
+        self.last_table = Some(or_fault(told)?);
+        Ok(())
     }
 
     /// Whether somebody was accused, something refused, or of all packets none was judged.

@@ -1,6 +1,6 @@
 //! A line whose run goes on.
 
-ghost use Rattle.std.specs.Prelude.{◌≡◌, ◌+◌, ◌*◌, ◌<◌, ◌≤◌, [], ◌∷◌, true, length, take, IfErr, IfOk, OnOk, string_bytes};
+ghost use Rattle.std.specs.Prelude.{◌≡◌, List, ℕ, ◌+◌, ◌*◌, ◌<◌, ◌≤◌, [], ◌∷◌, true, length, take, IfErr, IfOk, OnOk, string_bytes};
 ghost use Rattle.osdp_frame.specs.Bytes.{AreBytes};
 ghost use Rattle.osdp_tool_show.specs.Tally.{counted};
 
@@ -18,7 +18,7 @@ pub struct OpenLine {
 }
 
 impl OpenLine {
-    ghost use Rattle.osdp_tool_monitor.specs.Hearing.{Come, Drained, Hears, IsOpen, RunEnds, TableDue, hearing_of, load, nothing_yet, line_detail};
+    ghost use Rattle.osdp_tool_monitor.specs.Hearing.{Come, Drained, Hears, IsOpen, RunEnds, TableDue, TableTold, hearing_of, load, nothing_yet, line_detail};
     ghost use Rattle.osdp_tool_monitor.specs.Listening.{IsLineFault, is_wrong, listening_of};
 
     /// A line of which nothing was heard. It prints each item, or refusals and what it finds alone.
@@ -104,13 +104,24 @@ impl OpenLine {
         self.listener.hear_run(run, text)
     }
 
-    /// Writes the table of what was heard.
+    /// Writes the table of what was heard: what came since the last table, where there was one, and what came since the start.
     pub fn push_table(&self, text: &mut String) -> Result<(), ToolFault>
         requires { IsOpen self.now }
         ensures hears { OnOk result (Hears (TableDue ∷ []) self.now self.now (string_bytes text.old) (string_bytes text.new)) }
         ensures fault { IfErr result (λ fault. fault ≡ ToolFault.NoMemory) }
     {
         self.listener.push_table(text)
+    }
+
+    /// The table has been told: the next one tells what comes from now on, too.
+    pub fn end_table(&mut self) -> Result<(), ToolFault>
+        requires { IsOpen self.old }
+        ensures hears { OnOk result ((text : List ℕ) → Hears (TableTold ∷ []) self.old self.new text text) }
+        ensures load { OnOk result (load (hearing_of self.new) ≡ load (hearing_of self.old)) }
+        ensures none { OnOk result (self.new.framer.bytes ≡ self.old.framer.bytes) }
+        ensures fault { IfErr result (λ fault. fault ≡ ToolFault.NoMemory) }
+    {
+        self.listener.end_table()
     }
 
     /// Whether somebody was accused, or something refused.

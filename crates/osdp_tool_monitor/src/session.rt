@@ -206,15 +206,17 @@ impl Session {
     }
 
     /// The table is told, where it is due.
-    fn tell_if(&self, due: bool, text: &mut String) -> Result<(), ToolFault>
-        requires ready { IsReady self.now }
-        ensures goes { OnOk result (Goes (table_events due) (cut_of self.now) self.now self.now (string_bytes text.old) (string_bytes text.new)) }
+    fn tell_if(&mut self, due: bool, text: &mut String) -> Result<(), ToolFault>
+        requires ready { IsReady self.old }
+        ensures goes { OnOk result (Goes (table_events due) (cut_of self.old) self.old self.new (string_bytes text.old) (string_bytes text.new)) }
+        ensures weighs { OnOk result (weight self.new ≡ weight self.old) }
         ensures fault { IfErr result (λ fault. fault ≡ ToolFault.NoMemory) }
     {
         if !due {
             return Ok(());
         }
-        self.line.push_table(text)
+        self.line.push_table(text)?;
+        self.line.end_table()
     }
 
     /// A piece has come at this moment: the table is told where it is due.
@@ -227,8 +229,9 @@ impl Session {
         ensures fault { IfErr result (λ fault. fault ≡ ToolFault.NoMemory) }
     {
         let due = is_due(self.mode.every, self.tabled, now);
+        let tabled = tabled_after(due, self.tabled, now);
         self.tell_if(due, text)?;
-        self.tabled = tabled_after(due, self.tabled, now);
+        self.tabled = tabled;
         self.last = Some(now);
         Ok(())
     }

@@ -9,7 +9,7 @@ use osdp_tool_show::{Tally, push_counts};
 use std::alloc::AllocError;
 
 /// Writes so many spaces.
-fn push_spaces(text: &mut String, count: usize) -> Result<(), AllocError>
+pub(crate) fn push_spaces(text: &mut String, count: usize) -> Result<(), AllocError>
     ensures { OnOk result (string_bytes text.new ≡ string_bytes text.old ++ replicate count 32) }
 {
     'spaces: for _ in 0..count {
@@ -51,7 +51,7 @@ fn push_columns(text: &mut String, numbers: &[(usize, u64)]) -> Result<(), Alloc
 }
 
 /// Writes what was counted of an address: what was asked of it, what it answered, and what was found of it.
-fn push_counted(text: &mut String, counts: &Counts) -> Result<(), AllocError>
+pub(crate) fn push_counted(text: &mut String, counts: &Counts) -> Result<(), AllocError>
     ensures { OnOk result (string_bytes text.new ≡ string_bytes text.old ++ columns (counted_columns counts.now)) }
 {
     let counted = [
@@ -111,7 +111,7 @@ pub(crate) fn push_rows(text: &mut String, counts: &[Counts]) -> Result<(), Allo
 }
 
 /// Writes the line of counts.
-fn push_counts_line(
+pub(crate) fn push_counts_line(
     text: &mut String,
     tally: &Tally,
     judged: u64,

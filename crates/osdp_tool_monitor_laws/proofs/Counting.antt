@@ -40,7 +40,7 @@ from_none : (n : ℕ) → 0 + n ≡ n
 from_none n = omega arith
 
 -- damage leaves the rows
-kept_long : {a : ℕ} (o : Option ℕ) (cs : List Counts) → a < length cs → a < length (counts_after_damage o cs)
+pub kept_long : {a : ℕ} (o : Option ℕ) (cs : List Counts) → a < length cs → a < length (counts_after_damage o cs)
 kept_long None cs within = within
 kept_long {a} (Some b) cs within = subst (λ m. a < m) (sym (length-set cs b (after_damage (get_or cs b no_counts)))) within
 
@@ -52,7 +52,7 @@ module _ (f : Counts → ℕ) (adds : Entry → Counts → Bool) (a : ℕ)
   abbrev at : List Counts → ℕ
   at cs = f (get_or cs a no_counts)
 
-  damaged : (o : Option ℕ) (cs : List Counts) → a < length cs → at (counts_after_damage o cs) ≡ at cs
+  pub damaged : (o : Option ℕ) (cs : List Counts) → a < length cs → at (counts_after_damage o cs) ≡ at cs
   damaged None cs within = refl
   damaged (Some b) cs within = elim (cases_Bool (eqb a b)) [
     | inl same ↦ subst (λ x. at (set cs x (after_damage (get_or cs x no_counts))) ≡ at cs) (eqb-true a b same)
@@ -60,7 +60,7 @@ module _ (f : Counts → ℕ) (adds : Entry → Counts → Bool) (a : ℕ)
     | inr other ↦ ap f (get_or-set_other cs b a (after_damage (get_or cs b no_counts)) no_counts (eqb-false a b other))
   ]
 
-  taken : (p : Packet) (clean copy : Bool) (found : Found) (cs : List Counts) → a < length cs
+  pub taken : (p : Packet) (clean copy : Bool) (found : Found) (cs : List Counts) → a < length cs
       → at (counts_after p clean copy found cs) ≡ more_if (eqb p.address a && adds (record { packet = p; copy = copy; found = found }) (get_or cs a no_counts)) (at cs)
   taken p clean copy found cs within = elim (cases_Bool (eqb p.address a)) [
     | inl same ↦
@@ -77,7 +77,7 @@ module _ (f : Counts → ℕ) (adds : Entry → Counts → Bool) (a : ℕ)
 abbrev entry_of : Listening → Packet → Entry
 entry_of l p = record { packet = p; copy = copies_last l.knowledge p; found = told_in l p }
 
-long_after : (a : ℕ) (l : Listening) (p : Packet) → a < length l.counts → a < length (heard_item l (PacketItem p)).counts
+pub long_after : (a : ℕ) (l : Listening) (p : Packet) → a < length l.counts → a < length (heard_item l (PacketItem p)).counts
 long_after a l p within =
     subst (λ m. a < m)
     (sym (length-set l.counts p.address (after_packet p (is_clean l.trail.bad) (copies_last l.knowledge p) (told_in l p) (get_or l.counts p.address no_counts)))) within
@@ -171,52 +171,52 @@ module _ (p : Packet) (clean copy : Bool) (found : Found) (c : Counts) where
   abbrev then_or : Bool → Counts
   then_or b = cond b (after_reply (kind_of_reply (reply_told p)) found before) (after_sent p copy found before)
 
-  asked_step : (then_or p.reply).asked ≡ more_if (not p.reply) c.asked
+  pub asked_step : (then_or p.reply).asked ≡ more_if (not p.reply) c.asked
   asked_step = by_reply (λ b. (then_or b).asked ≡ more_if (not b) c.asked) refl refl p.reply
 
-  polls_step : (then_or p.reply).polls ≡ more_if (not p.reply && is_poll (asked p)) c.polls
+  pub polls_step : (then_or p.reply).polls ≡ more_if (not p.reply && is_poll (asked p)) c.polls
   polls_step =
       by_reply (λ b. (then_or b).polls ≡ more_if (not b && is_poll (asked p)) c.polls) refl (ap (λ t. more_if t c.polls) (poll_same (asked p))) p.reply
 
-  repeats_step : (then_or p.reply).repeats ≡ more_if (not p.reply && copy) c.repeats
+  pub repeats_step : (then_or p.reply).repeats ≡ more_if (not p.reply && copy) c.repeats
   repeats_step = by_reply (λ b. (then_or b).repeats ≡ more_if (not b && copy) c.repeats) refl refl p.reply
 
-  answered_step : (then_or p.reply).answered ≡ more_if (p.reply && (not (is_busy (reply_told p)) && not (is_nak (reply_told p)))) c.answered
+  pub answered_step : (then_or p.reply).answered ≡ more_if (p.reply && (not (is_busy (reply_told p)) && not (is_nak (reply_told p)))) c.answered
   answered_step =
       by_reply (λ b. (then_or b).answered ≡ more_if (b && (not (is_busy (reply_told p)) && not (is_nak (reply_told p)))) c.answered)
       (ap (λ t. more_if (not t && not (counts.is_refused (kind_of_reply (reply_told p)))) c.answered) (busy_same (reply_told p))
       ∙ ap (λ t. more_if (not (is_busy (reply_told p)) && not t) c.answered) (nak_same (reply_told p))) refl p.reply
 
-  busy_step : (then_or p.reply).busy ≡ more_if (p.reply && is_busy (reply_told p)) c.busy
+  pub busy_step : (then_or p.reply).busy ≡ more_if (p.reply && is_busy (reply_told p)) c.busy
   busy_step =
       by_reply (λ b. (then_or b).busy ≡ more_if (b && is_busy (reply_told p)) c.busy) (ap (λ t. more_if t c.busy) (busy_same (reply_told p))) refl p.reply
 
-  nak_step : (then_or p.reply).nak ≡ more_if (p.reply && is_nak (reply_told p)) c.nak
+  pub nak_step : (then_or p.reply).nak ≡ more_if (p.reply && is_nak (reply_told p)) c.nak
   nak_step =
       by_reply (λ b. (then_or b).nak ≡ more_if (b && is_nak (reply_told p)) c.nak) (ap (λ t. more_if t c.nak) (nak_same (reply_told p))) refl p.reply
 
-  events_step : (then_or p.reply).events ≡ more_if (p.reply && is_event (reply_told p)) c.events
+  pub events_step : (then_or p.reply).events ≡ more_if (p.reply && is_event (reply_told p)) c.events
   events_step =
       by_reply (λ b. (then_or b).events ≡ more_if (b && is_event (reply_told p)) c.events) (ap (λ t. more_if t c.events) (event_same (reply_told p))) refl
       p.reply
 
-  opened_step : (then_or p.reply).opened ≡ more_if (p.reply && is_opened found.notice) c.opened
+  pub opened_step : (then_or p.reply).opened ≡ more_if (p.reply && is_opened found.notice) c.opened
   opened_step =
       by_reply (λ b. (then_or b).opened ≡ more_if (b && is_opened found.notice) c.opened) (ap (λ t. more_if t c.opened) (opened_same found.notice)) refl
       p.reply
 
-  moved_step : (then_or p.reply).moved ≡ more_if (p.reply && is_moved found.notice) c.moved
+  pub moved_step : (then_or p.reply).moved ≡ more_if (p.reply && is_moved found.notice) c.moved
   moved_step =
       by_reply (λ b. (then_or b).moved ≡ more_if (b && is_moved found.notice) c.moved) (ap (λ t. more_if t c.moved) (moved_same found.notice)) refl
       p.reply
 
-  judged_step : (then_or p.reply).judged ≡ more_if found.judged c.judged
+  pub judged_step : (then_or p.reply).judged ≡ more_if found.judged c.judged
   judged_step = by_reply (λ b. (then_or b).judged ≡ more_if found.judged c.judged) refl refl p.reply
 
-  accused_step : (then_or p.reply).accused ≡ more_if (is_some found.accusation) c.accused
+  pub accused_step : (then_or p.reply).accused ≡ more_if (is_some found.accusation) c.accused
   accused_step = by_reply (λ b. (then_or b).accused ≡ more_if (is_some found.accusation) c.accused) refl refl p.reply
 
-  forgot_step : (then_or p.reply).forgot ≡ more_if (not p.reply && (not found.judged && not (eqb c.asked 0))) c.forgot
+  pub forgot_step : (then_or p.reply).forgot ≡ more_if (not p.reply && (not found.judged && not (eqb c.asked 0))) c.forgot
   forgot_step = by_reply (λ b. (then_or b).forgot ≡ more_if (not b && (not found.judged && not (eqb c.asked 0))) c.forgot) refl refl p.reply
 
 pub counts_each_kind : CountsEachKind

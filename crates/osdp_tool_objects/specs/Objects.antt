@@ -16,13 +16,19 @@ is_decimal b = nat_le 48 b && nat_le b 57
 abbrev pub numbered_kind : List ℕ → Kind
 numbered_kind line = if has 58 line then kind.Run else kind.Row
 
+-- what came since the last table stands after a plus
+abbrev pub windowed_kind : List ℕ → Kind
+windowed_kind line =
+    if begins_so line (codes "+runs ") then kind.WindowCounts
+    else (if begins_so line (codes "+") then kind.WindowRow else (if begins_so line (codes "window ") then kind.Heading else kind.Note))
+
 abbrev pub worded_kind : List ℕ → Kind
 worded_kind line =
     if begins_so line (codes "     expected ") then kind.Expected
     else (if begins_so line (codes "     seen     ") then kind.Seen
     else (if begins_so line (codes "runs ") then kind.Counts
     else (if begins_so line (codes "diagnosis: ") then kind.Diagnosis
-    else (if begins_so line (codes "device ") then kind.Heading else kind.Note))))
+    else (if begins_so line (codes "device ") then kind.Heading else windowed_kind line))))
 
 abbrev pub kind_of : List ℕ → Kind
 kind_of line = if is_decimal (get_or line 0 0) then numbered_kind line else worded_kind line
@@ -82,11 +88,11 @@ column_names =
 abbrev pub columns_object : List ℕ → List (List ℕ) → List ℕ
 columns_object start numbers = start ++ (columns column_names numbers ++ codes "}\n")
 
-abbrev pub row_object : List ℕ → List ℕ
-row_object line = columns_object (codes "{\"kind\":\"device\"") (words_in (utf8_lossy line))
+abbrev pub row_object : List ℕ → List ℕ → List ℕ
+row_object start line = columns_object start (words_in (utf8_lossy line))
 
-abbrev pub counts_object : List ℕ → List ℕ
-counts_object line = codes "{\"kind\":\"line\"" ++ (counts (words_in (utf8_lossy line)) ++ codes "}\n")
+abbrev pub counts_object : List ℕ → List ℕ → List ℕ
+counts_object start line = start ++ (counts (words_in (utf8_lossy line)) ++ codes "}\n")
 
 -- ---- words alone
 
@@ -97,13 +103,15 @@ words_object start words = start ++ (text_of words ++ codes "}\n")
 
 abbrev pub kind_object : Kind → List ℕ → List ℕ → List ℕ
 kind_object kind.Run stamp line = run_object stamp line
-kind_object kind.Row stamp line = row_object line
-kind_object kind.Counts stamp line = counts_object line
+kind_object kind.Row stamp line = row_object (codes "{\"kind\":\"device\"") line
+kind_object kind.Counts stamp line = counts_object (codes "{\"kind\":\"line\"") line
+kind_object kind.WindowRow stamp line = row_object (codes "{\"kind\":\"window\"") (drop 1 line)
+kind_object kind.WindowCounts stamp line = counts_object (codes "{\"kind\":\"window_line\"") (drop 1 line)
 kind_object kind.Diagnosis stamp line = words_object (codes "{\"kind\":\"diagnosis\",\"text\":") (drop 11 line)
 kind_object kind.Expected stamp line = words_object (codes "{\"kind\":\"expected\",\"packet\":") (drop 14 line)
 kind_object kind.Seen stamp line = words_object (codes "{\"kind\":\"seen\",\"packet\":") (drop 14 line)
 kind_object kind.Note stamp line = words_object (codes "{\"kind\":\"note\",\"text\":") line
--- the head of the table has none: its names are those of the members
+-- the head of a table has none: its names are those of the members
 kind_object kind.Heading stamp line = []
 
 abbrev pub object_of : List ℕ → List ℕ → List ℕ

@@ -1,7 +1,7 @@
 //! The lines that `monitor` tells.
 
 ghost use Rattle.std.specs.Prelude.{◌≡◌, ◌≤◌, length};
-ghost use Rattle.osdp_tool_objects.specs.Objects.{basis_length, kind_of, numbered_kind, party_length, worded_kind};
+ghost use Rattle.osdp_tool_objects.specs.Objects.{basis_length, kind_of, numbered_kind, party_length, windowed_kind, worded_kind};
 
 use crate::cuts::has;
 
@@ -14,13 +14,17 @@ pub(crate) enum Kind {
     Row,
     /// What was counted of the whole line.
     Counts,
+    /// A row of what came since the last table.
+    WindowRow,
+    /// What was counted of the whole line since then.
+    WindowCounts,
     /// What the table comes to.
     Diagnosis,
     /// The packet that had to come.
     Expected,
     /// The packet that came.
     Seen,
-    /// The head of the table.
+    /// The head of a table.
     Heading,
     /// Anything else.
     Note,
@@ -34,6 +38,21 @@ fn numbered_kind(line: &[u8]) -> Kind
         Kind::Run
     } else {
         Kind::Row
+    }
+}
+
+/// The kind of a line of what came since the last table, or of any other.
+fn windowed_kind(line: &[u8]) -> Kind
+    ensures { result ≡ windowed_kind line.now }
+{
+    if line.starts_with(b"+runs ") {
+        Kind::WindowCounts
+    } else if line.starts_with(b"+") {
+        Kind::WindowRow
+    } else if line.starts_with(b"window ") {
+        Kind::Heading
+    } else {
+        Kind::Note
     }
 }
 
@@ -52,7 +71,7 @@ fn worded_kind(line: &[u8]) -> Kind
     } else if line.starts_with(b"device ") {
         Kind::Heading
     } else {
-        Kind::Note
+        windowed_kind(line)
     }
 }
 

@@ -138,21 +138,31 @@ fn push_columns_object(
     object.extend_from_slice(b"}\n")
 }
 
-/// Adds the object of a row of the table.
-fn push_row(alloc: Global, object: &mut Vec<u8>, line: &[u8]) -> Result<(), AllocError>
-    ensures { OnOk result (object.new.items ≡ object.old.items ++ row_object line.now) }
+/// Adds the object of a row of a table, which begins so.
+fn push_row(
+    alloc: Global,
+    object: &mut Vec<u8>,
+    start: &[u8],
+    line: &[u8],
+) -> Result<(), AllocError>
+    ensures { OnOk result (object.new.items ≡ object.old.items ++ row_object start.now line.now) }
 {
     let line = String::from_utf8_lossy(alloc, line)?;
     let mut numbers = Fields::of_line(line.as_str());
-    push_columns_object(object, b"{\"kind\":\"device\"", &mut numbers)
+    push_columns_object(object, start, &mut numbers)
 }
 
-/// Adds the object of the counts of the whole line.
-fn push_line(alloc: Global, object: &mut Vec<u8>, line: &[u8]) -> Result<(), AllocError>
-    ensures { OnOk result (object.new.items ≡ object.old.items ++ counts_object line.now) }
+/// Adds the object of the counts of the whole line, which begins so.
+fn push_line(
+    alloc: Global,
+    object: &mut Vec<u8>,
+    start: &[u8],
+    line: &[u8],
+) -> Result<(), AllocError>
+    ensures { OnOk result (object.new.items ≡ object.old.items ++ counts_object start.now line.now) }
 {
     let line = String::from_utf8_lossy(alloc, line)?;
-    object.extend_from_slice(b"{\"kind\":\"line\"")?;
+    object.extend_from_slice(start)?;
     push_counts(object, &mut Fields::of_line(line.as_str()))?;
     object.extend_from_slice(b"}\n")
 }
@@ -188,10 +198,13 @@ fn push_kind(
 ) -> Result<(), AllocError>
     ensures { OnOk result (object.new.items ≡ object.old.items ++ kind_object kind stamp.now line.now) }
 {
+    let counted = from_place(1, line);
     match kind {
         Kind::Run => push_run(alloc, object, stamp, line),
-        Kind::Row => push_row(alloc, object, line),
-        Kind::Counts => push_line(alloc, object, line),
+        Kind::Row => push_row(alloc, object, b"{\"kind\":\"device\"", line),
+        Kind::Counts => push_line(alloc, object, b"{\"kind\":\"line\"", line),
+        Kind::WindowRow => push_row(alloc, object, b"{\"kind\":\"window\"", counted),
+        Kind::WindowCounts => push_line(alloc, object, b"{\"kind\":\"window_line\"", counted),
         Kind::Diagnosis => push_words_alone(
             alloc,
             object,
@@ -215,7 +228,7 @@ fn push_kind(
     }
 }
 
-/// Adds the object of a line that `monitor` tells, with the stamp of its run, where it has one. The head of the table has none.
+/// Adds the object of a line that `monitor` tells, with the stamp of its run, where it has one. The head of a table has none.
 pub fn push_object(
     alloc: Global,
     object: &mut Vec<u8>,

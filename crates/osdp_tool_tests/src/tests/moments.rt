@@ -33,18 +33,26 @@ nothing was judged
 ";
 
 /// A table at the third packet, a second after the first; at the fourth; at the sixth, a second after that table; and at the end. Of the runs those are
-/// counted that are over.
+/// counted that are over. From the second table on, what came since the last one stands before it.
 const TABLES: &str = "\
 2:0 device 5: opened
 device  asked  polls repeats  answered  busy  nak  events  opened  moved  judged  forgot  accused
 5           2      2       0         1     0    0       0       1      0       1       0        0
 runs 1 packets 3 skipped 0 refused 0 judged 1 accused 0
+window  asked  polls repeats  answered  busy  nak  events  opened  moved  judged  forgot  accused
++5          0      0       0         1     0    0       0       0      0       1       0        0
++runs 1 packets 1 skipped 0 refused 0 judged 1 accused 0
 device  asked  polls repeats  answered  busy  nak  events  opened  moved  judged  forgot  accused
 5           2      2       0         2     0    0       0       1      0       2       0        0
 runs 2 packets 4 skipped 0 refused 0 judged 2 accused 0
+window  asked  polls repeats  answered  busy  nak  events  opened  moved  judged  forgot  accused
++5          1      1       0         1     0    0       0       0      0       2       0        0
++runs 1 packets 2 skipped 0 refused 0 judged 2 accused 0
 device  asked  polls repeats  answered  busy  nak  events  opened  moved  judged  forgot  accused
 5           3      3       0         3     0    0       0       1      0       4       0        0
 runs 3 packets 6 skipped 0 refused 0 judged 4 accused 0
+window  asked  polls repeats  answered  busy  nak  events  opened  moved  judged  forgot  accused
++runs 1 packets 0 skipped 0 refused 0 judged 0 accused 0
 device  asked  polls repeats  answered  busy  nak  events  opened  moved  judged  forgot  accused
 5           3      3       0         3     0    0       0       1      0       4       0        0
 runs 4 packets 6 skipped 0 refused 0 judged 4 accused 0
