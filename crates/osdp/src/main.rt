@@ -14,7 +14,7 @@ use osdp_tool_plan::{plan, planned};
 use osdp_tool_script::script;
 use osdp_tool_sim::sim;
 use osdp_tool_streams::{ToolFault, Watched, flush_out, write_out};
-use osdp_tool_test::test;
+use osdp_tool_test::{form_stop, test};
 use osdp_tool_test_panel::test_panel;
 use std::process::ExitCode;
 
@@ -125,6 +125,24 @@ fn tell_wrong_plan(rt: &HostRuntime, words: &[&str]) {
     }
 }
 
+/// The first of the words after `test` that cannot stand there.
+fn wrong_test_word<'a>(words: &'a [&'a str]) -> Option<&'a str> {
+    match words {
+        ["script", rest @ ..] => rest.first().copied(),
+        ["panel", rest @ ..] => rest.get(form_stop(rest)).copied(),
+        _ => words.get(form_stop(words)).copied(),
+    }
+}
+
+/// Says which word of a test cannot stand where it is.
+fn tell_wrong_test(rt: &HostRuntime, words: &[&str]) {
+    if choose(words) == Choice::Test {
+        if let Some(word) = wrong_test_word(after_name(words)) {
+            let _ = eprintln!(rt; "osdp: no word of test: {word}; try: osdp help test");
+        }
+    }
+}
+
 /// Says which word names no command, and which words are no settings, where some aren't.
 fn tell_wrong(rt: &HostRuntime, words: &[&str]) {
     if let Some(word) = unknown_command(words) {
@@ -134,6 +152,7 @@ fn tell_wrong(rt: &HostRuntime, words: &[&str]) {
         let _ = eprintln!(rt; "{wrong}");
     }
     tell_wrong_plan(rt, words);
+    tell_wrong_test(rt, words);
 }
 
 /// Says more of bad words, after it was said that they are bad.

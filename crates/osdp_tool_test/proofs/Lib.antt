@@ -6,3 +6,4 @@ pub mod Judged
 pub mod Device
 pub mod Rows
 pub mod Parts
+mod FormWords

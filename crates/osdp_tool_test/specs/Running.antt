@@ -11,6 +11,10 @@ abbrev pub asking_words : Form → List (List ℕ)
 asking_words Plain = []
 asking_words Tap = codes "--tap" ∷ []
 
+-- words that ask for a form
+abbrev pub AsksForm : List (List ℕ) → Type 0
+AsksForm words = (form : Form) × (words ≡ asking_words form)
+
 abbrev pub AsksNone : List (List ℕ) → Type 0
 AsksNone words = (form : Form) → words ≡ asking_words form → ⊥
 

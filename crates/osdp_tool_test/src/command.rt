@@ -2,9 +2,10 @@
 
 ghost use Rattle.std.specs.Prelude.{◌≡◌, List, MatchOption};
 ghost use Rattle.osdp_tool_streams.specs.Watched.{inner_of, has_failed};
+ghost use Rattle.osdp_refused_words.specs.Stops.{StopsAt};
 ghost use Rattle.osdp_words.specs.Word.{texts};
 ghost use Rattle.osdp_tool_test.specs.Ending.{Ends};
-ghost use Rattle.osdp_tool_test.specs.Running.{AsksNone, IsRefused, RunsBy, asking_words};
+ghost use Rattle.osdp_tool_test.specs.Running.{AsksForm, AsksNone, IsRefused, RunsBy, asking_words};
 ghost use Rattle.osdp_tool_test.specs.Table.{AreDeviceRules};
 ghost use Rattle.osdp_tool_test.specs.declared.rules.Rule.{Rule as RuleOf};
 ghost use Rattle.osdp_tool_test.specs.Tests.{DeviceFinds, DeviceStops, Refuses, Takes, all_entries, model};
@@ -15,6 +16,7 @@ use crate::judging::{LineTest, judge_lines};
 use crate::report::Form;
 use crate::rules::{RULES, Rule};
 use crate::tested::Tested;
+use osdp_refused_words::{Slot, slots_stop};
 use osdp_tool_streams::{LIMIT, ToolFault, Watched};
 use std::alloc::{AllocError, Global};
 use std::io::{Read, Write};
@@ -53,6 +55,13 @@ pub fn form_of(words: &[&str]) -> Option<Form>
         ["--tap"] => Some(Form::Tap),
         _ => None,
     }
+}
+
+/// The place of the first of the words after the command's name that cannot stand there; as many as there are words, where each may.
+pub fn form_stop(words: &[&str]) -> usize
+    ensures { StopsAt AsksForm (texts words.now) result }
+{
+    slots_stop(&[Slot::Text("--tap")], words)
 }
 
 /// Reads the lines of a test, and judges by these rules.

@@ -13,7 +13,7 @@ mod runs;
 mod tested;
 mod times;
 
-pub use command::{form_of, test};
+pub use command::{form_of, form_stop, test};
 pub use entry::{Entry, Outcome};
 pub use exchange::{Bytes, heard_in, sent_in};
 pub use fault::mark;
