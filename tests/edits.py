@@ -42,6 +42,14 @@ MADE_OF_DEFINITION = {
     ("an exists freed", "Fits a b = a ≤ b → (c : ℕ) × Unit {0}"), ("a comparison", "Fits a b = a < b → (c : ℕ) × (c ≡ a)"), ("a comparison", "Fits a b = a ≤ b → (c : ℕ) × (c ≤ a)"),
     ("a bound", "Fits a b = suc a ≤ b → (c : ℕ) × (c ≡ a)"), ("two operands turned", "Fits a b = b ≤ a → (c : ℕ) × (c ≡ a)"),
 }
+CHANGING = """pub struct Box { left: u8 }
+impl Box {
+    fn take(&mut self) { self.left = 1; }
+    fn step(&mut self) {
+        self.left = 2;
+    }
+}
+"""
 # what is made one after the other
 MADE_ONE_AFTER_THE_OTHER = {
     ("a special case", "if (a < 3) && b == 17 {"), ("a special case", "if (a < 3) || a == 0 {"), ("a special case", "{ if a == 1 { return true; }"), ("a special case", "((b == 4) || b > 7) && a != 2"),
@@ -88,6 +96,9 @@ def main():
     made |= lines_of(CODE, again)
     assert MADE_WIDE <= made, f"not made: {MADE_WIDE - made}"
 
+    file = items.File(CHANGING)
+    made = lines_of(CHANGING, [*code_special.Special(file, file.units[1], Facts([file], [])).make()])
+    assert {("a special case", "self.left = 2; self.take();"), ("a special case", "if self.left > 7 { return; } self.left = 2;")} <= made, "a call more isn't made"
     pair = next(pairs.of_crate("osdp_ring", (), False))
     assert [it.is_definition() for it in pair.edits] == [True, False] and len(pair.texts()) == 2, "a pair is of a definition and of code"
     path = "crates/osdp_reader_laws/specs/Steps.antt"

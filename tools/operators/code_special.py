@@ -43,6 +43,7 @@ class Special(Values):
                 continue
             if node.kind == "block":
                 yield from self.statements(node)
+                yield from self.done_too(node)
             if node.kind in ("path", "call", "method", "binary", "field", "group"):
                 yield from self.chosen_values(node)
             if node.kind in ("if", "while") and node.condition.kind != "if-let":
@@ -103,6 +104,34 @@ class Special(Values):
             if it.kind == "statement":
                 said = said if said.endswith(";") or it.inner.kind in ("if", "match", "for", "while", "loop", "block") else said + ";"
                 yield from ((OPERATOR, it.start, it.end, f"if {atom} {{ {said} }}") for atom in self.atoms())
+
+    def done_too(self, node):
+        """A call more that changes what is in scope, or a field of it set, before or after each statement and before the answer."""
+        places = [place for it in node.parts if it.kind in ("statement", "let") for place in (it.start, it.end)] + ([node.tail.start] if node.tail is not None else [node.end - 1])
+        near = [it for it in dict.fromkeys(places) if self.is_near(it, it)]
+        if near:
+            yield from ((OPERATOR, place, place, f" {text} ") for text in self.changing() for place in near)
+
+    def changing(self):
+        """The statements that change what is in scope: calls of methods that do, and fields that are set."""
+        for path, kind in [("self", self.unit.owner), *self.paths()]:
+            struct = kind.partition("<")[0]
+            found = [f"{path}.clear();", f"let _ = {path}.pop();"] if struct in GROWING else []
+            for name, signatures in self.facts.methods.items():
+                for it in signatures:
+                    if it.owner == struct and "mut" in it.takes_self.split(" ") and name != self.unit.name:
+                        found += [f"{mark}{path}.{name}({', '.join(given)});" for given in self.arguments(it) for mark in ("", "let _ = ")]
+            for name, held in self.facts.fields.get(struct, {}).items():
+                found += [f"{path}.{name} = {value};" for value in [*self.simple(plain(held), 1), *(["&[]"] if plain(held).startswith("[") else [])]]
+            yield from (it for it in found if self.words is None or words_of(it) <= self.words)
+
+    def arguments(self, signature):
+        """What a method may be given: plain values, and what is in scope."""
+        found = [[]]
+        for kind in signature.params.values():
+            values = self.simple(plain(kind), 1) + [name for name, held in self.locals.items() if held == plain(kind)]
+            found = [[*one, value] for one in found for value in values]
+        return found[:24]
 
     def chosen_values(self, node):
         """Another value for one value of what is in scope."""
