@@ -22,7 +22,7 @@
  * Heap.       `osdp_panel_new` takes 6,872 bytes in three blocks, and `osdp_panel_add` 3,056, and 1,435 for each command that may
  *             wait, in four. `osdp_device_new` takes 13,872 bytes, and 1,443 for each event that may wait, in four. With a room in
  *             bytes it is 2 for each command and 10 for each event, and the room. `free` gives all back. No other call of a panel and of a
- *             device takes memory. `osdp_monitor_new` takes 26,248 bytes in three, and the calls of a monitor that hear take 2,928 for each
+ *             device takes memory. `osdp_monitor_new` takes 26,336 bytes in three, and the calls of a monitor that hear take 2,928 for each
  *             address, and its text. Where there is none, a call says so, and nothing has changed but a monitor, which stops.
  * Stack.      Each call takes at most 4 KiB of stack, but `osdp_command_text` and `osdp_reply_text` 6, `osdp_monitor_new` 5,
  *             `osdp_monitor_bytes` and `osdp_monitor_silence` 11 and `osdp_device_new` 17, as measured and counted on 64-bit x86.
