@@ -99,7 +99,9 @@ def main():
     file = items.File(CHANGING)
     made = lines_of(CHANGING, [*code_special.Special(file, file.units[1], Facts([file], [])).make()])
     assert {("a special case", "self.left = 2; self.take();"), ("a special case", "if self.left > 7 { return; } self.left = 2;")} <= made, "a call more isn't made"
-    pair = next(pairs.of_crate("osdp_ring", (), False))
+    found = list(pairs.of_crate("osdp_ring", (), False))
+    assert any(all(it.is_definition() for it in one.edits) for one in found), "two clauses of a definition are a pair"
+    pair = next(it for it in found if not all(one.is_definition() for one in it.edits))
     assert [it.is_definition() for it in pair.edits] == [True, False] and len(pair.texts()) == 2, "a pair is of a definition and of code"
     path = "crates/osdp_reader_laws/specs/Steps.antt"
     taken = next(it for it in shadows.of_file(path, ("osdp_reader", "osdp_msg", "osdp_frame")) if it.name_of == "hears" and it.case == "Taken")

@@ -132,6 +132,10 @@ def chosen(found):
     """Returns the generated edit of one unit, or the pair of those of several."""
     if len(found) == 1:
         return found[0][0] if found[0] else None
+    # more than two, and with a part that is made one after the other, are in no list
+    found = [[it for it in part if it.operator not in (donors.OPERATOR, donors.STATEMENT) and (it.is_definition() or it.operator != code_special.OPERATOR)] for part in found]
+    if len(found) != 2:
+        return None
     tried = itertools.islice(itertools.product(*found), 64)
     return next((pairs.Pair(list(it)) for it in tried if pairs.is_pair(it)), None)
 

@@ -135,7 +135,7 @@ def is_pair(edits):
 
 
 def of_crate(crate, below, is_wide):
-    """Yields the pairs of a definition's edit and one of code, both of a crate."""
+    """Yields the pairs of a crate: of two clauses of a definition, and of a definition's edit and one of code."""
     edits = generated.all_of(crate, below, is_wide)
     by_unit = defaultdict(list)
     for it in edits:
@@ -145,7 +145,18 @@ def of_crate(crate, below, is_wide):
     for it in edits:
         if it.is_definition():
             definitions[it.path, it.unit.start].append(it)
+    yield from of_clauses(definitions)
     for one in definitions.values():
         for other in by_unit.values():
             if stands_over(one[0], other[0]):
                 yield from (Pair([it, code]) for it in one for code in other if are_alike(it, code))
+
+
+def of_clauses(definitions):
+    """Yields the pairs of two clauses of one definition that the same operator changes."""
+    places = sorted(definitions)
+    for i, one in enumerate(places):
+        for other in places[i + 1:]:
+            first, second = definitions[one], definitions[other]
+            if one[0] == other[0] and first[0].unit.name == second[0].unit.name:
+                yield from (Pair([it, more]) for it in first for more in second if it.operator == more.operator)
