@@ -2,6 +2,7 @@
 always or in one case that another definition of its module tells. The code below isn't asked, so a law must refuse."""
 import functools
 import re
+from types import SimpleNamespace
 
 from . import definitions, generated
 from .definition_more import empty_of
@@ -17,6 +18,7 @@ class Shadow:
 
     def __init__(self, path, name, case, fields):
         self.path, self.name_of, self.case, self.fields, self.operator = path, name, case, tuple(sorted(fields)), OPERATOR
+        self.unit = SimpleNamespace(name=name)
 
     def key(self):
         return self.path, self.name_of, self.case, self.fields

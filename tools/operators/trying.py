@@ -12,7 +12,7 @@ import signal
 import subprocess
 import sys
 
-from . import generated, pairs, streams
+from . import generated, pairs, shadows, streams
 
 ERROR = re.compile(r"^(?:\./)?(src/\S+?|specs/\S+?):(\d+):\d+: error(?:\[[\w-]+\])?: (.*)$", re.M)
 REFUSED, EQUAL, SURVIVED, NOT_TRIED, BY_CODE = "refused", "equal", "survived", "not tried", "refused by code alone"
@@ -238,7 +238,7 @@ class Trial:
 
     def above(self, edit):
         """A definition that its own crate lets through is asked of the crates above that cite it, those of laws first."""
-        if not edit.is_definition():
+        if not edit.is_definition() or edit.operator == shadows.OPERATOR:
             self.say(edit, SURVIVED)
             return
         module = edit.path.split("/specs/")[1].removesuffix(".antt").replace("/", ".")
