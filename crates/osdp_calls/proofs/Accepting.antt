@@ -1,5 +1,5 @@
 -- From the rule for programs, as it is said of a line in use, follows the rule on its net's moves, and so the premise on addresses.
-use Rattle.std.proofs.Common.{◌≡◌, ◌≢◌, ◌<◌, ◌||◌, ℕ, zero, suc, true, false, not, List, [], ◌∷◌, ◌++◌, All, length, Option, Some, None, refl, sym, subst, ap, ◌∙◌, arith, inl, inr}
+use Rattle.std.proofs.Common.{◌≡◌, ◌≢◌, ◌<◌, ◌||◌, ℕ, true, false, not, List, ◌++◌, All, length, Option, Some, None, sym, subst, ap, ◌∙◌, arith, inl, inr, ◌≤◌}
 use Rattle.std.specs.Prelude.{is_some}
 use Rattle.osdp_msg.specs.declared.limits.Room.{Room}
 use Rattle.osdp_frame.specs.Packet.{Packet}
@@ -40,15 +40,10 @@ use Rattle.osdp_calls.proofs.Controllers.{closed_of, config_same, waiting_same}
 use Rattle.osdp_calls.proofs.Matching.{FoundAt, Nobody, Somebody, found}
 use Rattle.osdp_calls.proofs.Nexts.{each_at}
 use Rattle.osdp_calls.proofs.Noticing.{Agrees}
-use Rattle.osdp_calls.proofs.Orders.{asked_same, beside_same, no_device_none, not_begun, or_taken_none, refused_same, refusal_same, unrefused}
-use Rattle.osdp_calls.proofs.Powers.{address_at, are_settings, as_many, settings_of, there_is, within}
+use Rattle.osdp_calls.proofs.Orders.{asked_same, beside_free, no_device_none, not_begun, or_parts, or_taken_none, refused_free, refusal_same, unrefused}
+use Rattle.osdp_calls.proofs.Powers.{address_at, are_settings, settings_of, there_is, within}
 use Rattle.osdp_calls.proofs.Same.{Controls, IsNetOf, IsSame}
 use Rattle.osdp_calls.proofs.Stations.{Sites, of_site, of_station}
-
-some_at : {A : Type 0} (k : ℕ) (xs : List A) → k < length xs → (x : A) × (site_at k xs ≡ Some x)
-some_at k [] lt = absurd (omega (arith, lt))
-some_at zero (x ∷ xs) lt = (x, refl)
-some_at (suc k) (x ∷ xs) lt = some_at k xs (omega (arith, lt))
 
 module _ {H : Type 0} where
   -- ---- the same addresses are known
@@ -73,7 +68,7 @@ module _ {H : Type 0} where
     command_accepted k command d t s l n h a has none =
         let accepted = unrefused answer_of after (bus.is_comset_refused (comset_of command) k d l.bus) (submit_refusal command d.controller)
         (sym (ap (λ o. bus.submit_refusal_of k command o l.bus) a) ∙ none) in
-        let unrefused_too : line.is_comset_refused k (comset_of command) s n.sites ≡ false = refused_same answer_of after (comset_of command) k d t s l n h has ∙ accepted.0 in
+        let unrefused_too : line.is_comset_refused k (comset_of command) s n.sites ≡ false = refused_free answer_of after (comset_of command) k d t s l n h has accepted.0 in
         let same : submit_refusal command s.controller ≡ None = refusal_same answer_of after command t.begun l.bus.greatest d.controller s.controller has.controller ∙ accepted.1 in
         (λ i. not (unrefused_too i || is_some (same i)))
 
@@ -88,7 +83,8 @@ module _ {H : Type 0} where
         let control : IsSame l.bus.greatest d.controller s.controller = subst (λ o. Controls o l.bus.greatest d.controller s.controller) begun has.controller in
         let same : retarget_refusal address s.controller ≡ None = ap (retarget_refusal address) control.same ∙ accepted.0 in
         let untaken : line.is_retarget_refused k address s n.sites ≡ false =
-        (λ i. sym (beside_same k address l n h) i || has_comset (ap (λ (x : Machine). x.waiting) control.same i)) ∙ accepted.1 in
+        (let free = or_parts (devices.is_taken_beside k address l.bus.devices.entries) (has_comset d.controller.waiting) accepted.1 in
+        (λ i. beside_free k address l n h free.0 i || (ap (λ (x : Machine). has_comset x.waiting) control.same ∙ free.1) i)) in
         (λ i. not (untaken i || is_some (same i)))
 
   -- ---- no other device is there
@@ -97,8 +93,8 @@ module _ {H : Type 0} where
   no_others k address l n h none j other (IsThere t at is) =
       let e = of_station j t l n h at in
       none j e.site other e.at (addresses.IsThere (ap (λ (r : ReaderState H). r.config.address) e.is.reader ∙ is))
-  no_others k address l n h none j other (IsAsked d at asked) =
-      let e = at_entry j d l n h at in
+  no_others k address l n h none j other (IsAsked t d there at asked) =
+      let e = at_entry j d l n h (ap is_some there) at in
       let control = e.is.controller in
       none j e.site other e.at (addresses.IsAsked (subst (Somewhere (Sets address))
       (λ i. sym (asked_same e.station.begun l.bus.greatest d.controller e.site.controller control) i
@@ -115,17 +111,17 @@ module _ {H : Type 0} where
       let it = of_site j u l n h there in
       rule none asked asks j it.device other it.entry
       (from_site j asked.address it.device it.station u l (begun_of (site_at j l.stations)) it.device.controller.session.state
-      (notes j) (noted j) it.is (agree j it.device it.entry) known)
+      (notes j) (noted j) it.is (agree j it.device (ap is_some it.there) it.entry) known)
 
   pub retarget_rule : (k address : ℕ) (l : InUse H) (n : Net H) (notes noted : ℕ → Note) → IsNetOf l n → AllAgree l notes noted
       → PanelKeepsRule (panel.Retarget k address) l.bus notes → bus.retarget_refusal_at k address l.bus ≡ None → programs.KeepsRule (Retarget k address) n noted
   retarget_rule k address l n notes noted h agree rule none s at accepted =
       let it = of_site k s l n h at in
       to_site k address it.device it.station s l (begun_of (site_at k l.stations)) it.device.controller.session.state
-      (notes k) (noted k) it.is (agree k it.device it.entry) (rule none it.device it.entry)
+      (notes k) (noted k) it.is (agree k it.device (ap is_some it.there) it.entry) (rule none it.device it.entry)
 
   pub panel_rule : (config : BusConfig) (xs : List ℕ) (settings : ℕ → ControllerConfig × Room) (l : InUse H) (n : Net H) (notes noted : ℕ → Note) → IsNetOf l n
-      → AllAgree l notes noted → KeepsRule (NewPanel config xs) l notes → length xs ≡ length l.stations
+      → AllAgree l notes noted → KeepsRule (NewPanel config xs) l notes → length l.stations ≤ length xs
       → ((k a : ℕ) → site_at k xs ≡ Some a → (settings k).0.address ≡ a) → programs.KeepsRule (RestartPanel settings) n noted
   panel_rule config xs settings l n notes noted h agree rule many set k s at =
       let it = of_site k s l n h at in
@@ -133,34 +129,34 @@ module _ {H : Type 0} where
       let here = there_is k xs (omega (arith, less, many)) in
       subst (λ a. programs.IsKnown a s (noted k)) (sym (set k (address_at k xs) here))
       (to_site k (address_at k xs) it.device it.station s l (begun_of (site_at k l.stations))
-      it.device.controller.session.state (notes k) (noted k) it.is (agree k it.device it.entry) (rule k (address_at k xs) it.device here it.entry))
+      it.device.controller.session.state (notes k) (noted k) it.is (agree k it.device (ap is_some it.there) it.entry) (rule k (address_at k xs) it.device here it.entry))
 
   -- ---- the premise
 
   module _ (answer_of : H → Command → Answer) (after : H → Command → H) (suffices : RuleSuffices answer_of after) (n0 : Net H) (up : IsSetUp n0)
       (l : InUse H) (n : Net H) (notes noted : ℕ → Note) (h : IsNetOf l n) (path : Path answer_of after n0 n noted) (agree : AllAgree l notes noted) where
     pub submit_premise : (k : ℕ) (command : Command) → CommandFits command → PanelKeepsRule (panel.Submit k command) l.bus notes
-        → bus.submit_refusal_at k command l.bus ≡ None → (asked : Communication) → comset_of command ≡ Some asked → IsNoOthers k asked.address l
-    submit_premise k command range rule none asked asks =
+        → (u : Station H) → site_at k l.stations ≡ Some u → bus.submit_refusal_at k command l.bus ≡ None → (asked : Communication) → comset_of command ≡ Some asked → IsNoOthers k asked.address l
+    submit_premise k command range rule u there none asked asks =
         by_found (found (Sites l) k l.bus.devices.entries l.stations n.sites h.sites)
       where
         by_found : FoundAt (Sites l) k k l.bus.devices.entries l.stations n.sites → IsNoOthers k asked.address l
-        by_found (Nobody a b c) = absurd (let e = sym (ap (λ o. bus.submit_refusal_of k command o l.bus) a) ∙ none in cc)
+        by_found (Nobody o a b c) = absurd (let e = sym b ∙ there in cc)
         by_found (Somebody d t s a b c has) =
             let fits = next_fits answer_of after suffices n0 up n noted path (Submit k command) range (submit_rule k command l n notes noted h agree rule none) in
             no_others k asked.address l n h (fits.1 s asked c (command_accepted answer_of after k command d t s l n h a has none) asks)
 
     pub retarget_premise : (k address : ℕ) → PanelKeepsRule (panel.Retarget k address) l.bus notes
-        → bus.retarget_refusal_at k address l.bus ≡ None → IsNoOthers k address l
-    retarget_premise k address rule none = by_found (found (Sites l) k l.bus.devices.entries l.stations n.sites h.sites)
+        → (u : Station H) → site_at k l.stations ≡ Some u → bus.retarget_refusal_at k address l.bus ≡ None → IsNoOthers k address l
+    retarget_premise k address rule u there none = by_found (found (Sites l) k l.bus.devices.entries l.stations n.sites h.sites)
       where
         by_found : FoundAt (Sites l) k k l.bus.devices.entries l.stations n.sites → IsNoOthers k address l
-        by_found (Nobody a b c) = absurd (let e = sym (ap (λ o. bus.retarget_refusal_of k address o l.bus) a) ∙ none in cc)
+        by_found (Nobody o a b c) = absurd (let e = sym b ∙ there in cc)
         by_found (Somebody d t s a b c has) =
             let fits = next_fits answer_of after suffices n0 up n noted path (Retarget k address) tt (retarget_rule k address l n notes noted h agree rule none) in
             no_others k address l n h (fits s c (retarget_accepted answer_of after k address d t s l n h a has none))
 
-    panel_fits : (config : BusConfig) (xs : List ℕ) → IsBusConfig config × All (λ a. a < 127) xs × (length xs ≡ length l.stations)
+    panel_fits : (config : BusConfig) (xs : List ℕ) → IsBusConfig config × All (λ a. a < 127) xs × (length l.stations ≤ length xs)
         → KeepsRule (NewPanel config xs) l notes → NetMoveFits answer_of after (RestartPanel (settings_of config xs)) n
     panel_fits config xs range rule =
         next_fits answer_of after suffices n0 up n noted path (RestartPanel (settings_of config xs))
@@ -173,22 +169,22 @@ module _ {H : Type 0} where
         (panel_rule config xs (settings_of config xs) l n notes noted h agree rule range.2
         (λ k a is. some_same (address_at k xs) a (sym (there_is k xs (within k a xs is)) ∙ is)))
 
-    pub panel_premise : (config : BusConfig) (xs : List ℕ) → IsBusConfig config × All (λ a. a < 127) xs × (length xs ≡ length l.stations)
+    pub panel_premise : (config : BusConfig) (xs : List ℕ) → IsBusConfig config × All (λ a. a < 127) xs × (length l.stations ≤ length xs)
         → KeepsRule (NewPanel config xs) l notes → PanelIsApart xs l
     panel_premise config xs range rule = record {
-      own = λ j k a b other at there e.
-          let s = site_of j a at in
-          let u = site_of k b there in
-          apart j k s.0 u.0 other s.1 u.1 (inl (address_is j a at ∙ e ∙ sym (address_is k b there)));
-      there = λ j k a t other at there e.
+      own = λ j k a b t v other at there tj vk e.
+          let s = of_station j t l n h tj in
+          let u = of_station k v l n h vk in
+          apart j k s.site u.site other s.at u.at (inl (address_is j a at ∙ e ∙ sym (address_is k b there)));
+      there = λ j k a t v other at there vk e.
           let it = of_station j t l n h there in
-          let u = site_of k a at in
-          apart j k it.site u.0 other it.at u.1
+          let u = of_station k v l n h vk in
+          apart j k it.site u.site other it.at u.at
           (inr (addresses.IsThere (ap (λ (r : ReaderState H). r.config.address) it.is.reader ∙ e ∙ sym (address_is k a at))));
-      said = λ j k a t other at there said.
+      said = λ j k a t v other at there vk said.
           let it = of_station j t l n h there in
-          let u = site_of k a at in
-          apart j k it.site u.0 other it.at u.1
+          let u = of_station k v l n h vk in
+          apart j k it.site u.site other it.at u.at
           (inr (addresses.IsSaid (subst (λ to. Somewhere (λ (q : ℕ × Packet). (q.0 ≡ j) × addresses.SetsReader to q.1) it.site.coming) (sym (address_is k a at))
           (subst (Somewhere (λ (q : ℕ × Packet). (q.0 ≡ j) × addresses.SetsReader a q.1)) (sym it.is.coming) said))));
     }
@@ -199,10 +195,3 @@ module _ {H : Type 0} where
 
         address_is : (k a : ℕ) → site_at k xs ≡ Some a → address_at k xs ≡ a
         address_is k a is = some_same (address_at k xs) a (sym (there_is k xs (within k a xs is)) ∙ is)
-
-        site_of : (k a : ℕ) → site_at k xs ≡ Some a → (s : Site H) × (site_at k n.sites ≡ Some s)
-        site_of k a is =
-            let less = within k a xs is in
-            let many = as_many (Sites l) 0 l.bus.devices.entries l.stations n.sites h.sites in
-            let same = range.2 in
-            some_at k n.sites (omega (arith, less, many, same))

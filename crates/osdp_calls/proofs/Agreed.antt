@@ -1,7 +1,7 @@
 -- What is noted of the entries of a line in use agrees with what is noted along the moves of its net, as a controller ticks.
 use Rattle.std.proofs.Common.{◌≡◌, ◌≢◌, ◌⊎◌, ℕ, Bool, true, false, cond, List, [], ◌∷◌, ◌++◌, Option, Some, None, refl, sym, subst, ap, ◌∙◌, inl, inr}
 use Rattle.std.proofs.lemmas.Bool.Decides.{eqb_tells}
-use Rattle.std.specs.Prelude.{◌==◌, ◌&&◌, slice_get}
+use Rattle.std.specs.Prelude.{◌==◌, ◌&&◌, is_some, slice_get}
 use Rattle.osdp_frame.specs.Packet.{Packet}
 use Rattle.osdp_msg.specs.declared.command.Command.{Command}
 use Rattle.osdp_controller.specs.Sessions as clocks
@@ -26,9 +26,11 @@ use Rattle.osdp_calls.specs.Lines.{InUse, Station}
 use Rattle.osdp_calls.specs.Programs.{noted_report, noted_reports}
 use Rattle.osdp_calls.proofs.Agreeing.{AllAgree, begun_heard, told_note}
 use Rattle.osdp_calls.proofs.Along.{IsFree, along_then, notes_along, still_along, still_free}
+use Rattle.osdp_calls.proofs.Lasting.{heard_keeps, says_keep}
 use Rattle.osdp_calls.proofs.Losing.{IsLoss, IsStill, loss_still}
+use Rattle.osdp_calls.proofs.Matching.{IsOurs}
 use Rattle.osdp_calls.proofs.Noticing.{Agrees, agrees_next, got_new, got_other, same_begun, ticked_closed, ticked_next}
-use Rattle.osdp_calls.proofs.Ticking.{GoesOn, IsTicked, Opens, Rests}
+use Rattle.osdp_calls.proofs.Ticking.{GoesOn, IsOfOther, IsTicked, Opens, Rests}
 
 -- ---- a tick tells of no session that has opened
 
@@ -133,6 +135,7 @@ module _ {H : Type 0} where
   module _ (answer_of : H → Command → Answer) (after : H → Command → H) where
     pub ticked_free : (o : Option ℕ) (l : InUse H) (n : Net H) (moves : List (NetMove H)) → IsTicked answer_of after o l n moves → Each IsFree moves
     ticked_free o l n moves (Rests are told sent) = subst (Each IsFree) (sym are) tt
+    ticked_free o l n moves (IsOfOther k is none are) = subst (Each IsFree) (sym are) tt
     ticked_free o l n moves (GoesOn k is begun are) = subst (Each IsFree) (sym are) (tt, tt)
     ticked_free o l n moves (Opens k began p s mid lost is begun sent told losses runs there closed opening are) =
         subst (Each IsFree) (sym are) (each_append IsFree lost (Reopen k began ∷ Tick k l.bus.greatest ∷ [])
@@ -156,17 +159,18 @@ module _ {H : Type 0} where
       Ticked = record l { bus = (ticks_at (Some e) l.bus).bus; stations = all_hear (told_by_ticking (Some e) l.bus) l.stations }
 
       -- of another entry
-      of_other : (k : ℕ) (d : Device) → k ≢ e → device_of k l.bus ≡ Some d → (moves : List (NetMove H)) → IsTicked answer_of after (Some e) l n moves
+      of_other : (k : ℕ) (d : Device) → k ≢ e → IsOurs k l.stations → device_of k l.bus ≡ Some d → (moves : List (NetMove H)) → IsTicked answer_of after (Some e) l n moves
           → Agrees (begun_of (site_at k (ticks_to (Some e) l).stations)) d.controller.session.state (notes k) (notes_along answer_of after moves n noted k)
-      of_other k d other was moves ticked =
+      of_other k d other own was moves ticked =
           subst (λ (q : Option ℕ × Note). Agrees q.0 d.controller.session.state (notes k) q.1)
           (λ i. (
             sym (says_other k e (ticks_at (Some e) l.bus).sent Ticked other ∙ begun_heard k (told_by_ticking (Some e) l.bus) l.stations) i,
             sym (by_moves ticked) i,
-          )) (agree k d was)
+          )) (agree k d own was)
         where
           by_moves : IsTicked answer_of after (Some e) l n moves → notes_along answer_of after moves n noted k ≡ noted k
           by_moves (Rests are told sent) = ap (λ ms. notes_along answer_of after ms n noted k) are
+          by_moves (IsOfOther j is none are) = ap (λ ms. notes_along answer_of after ms n noted k) are
           by_moves (GoesOn j is begun are) = (λ i. still_along answer_of after moves n noted (subst (Each IsStill) (sym are) (tt, tt)) i k)
           by_moves (Opens j began p s mid lost is begun sent told losses runs there closed opening are) =
               let mine : e ≡ j = some_same e j is in
@@ -174,16 +178,16 @@ module _ {H : Type 0} where
               ∙ reopened_other k j began (site_at k mid.sites) mid (noted k) (λ f. other (sym (mine ∙ f)))
 
       -- of the one that ticks, where no session begins
-      it_goes_on : ReadsWhatIsAsked → (d : Device) → device_of e l.bus ≡ Some d → (moves : List (NetMove H)) → Each IsStill moves
+      it_goes_on : ReadsWhatIsAsked → (d : Device) → IsOurs e l.stations → device_of e l.bus ≡ Some d → (moves : List (NetMove H)) → Each IsStill moves
           → (begun_of (site_at e l.stations) ≡ None) ⊎ ((ticks_at (Some e) l.bus).sent ≡ None)
           → Agrees (begun_of (site_at e (ticks_to (Some e) l).stations)) (device_ticks l.bus.greatest d).controller.session.state (notes e)
           (notes_along answer_of after moves n noted e)
-      it_goes_on reads d was moves still why =
+      it_goes_on reads d own was moves still why =
           subst (λ (q : Option ℕ × Note). Agrees q.0 (device_ticks l.bus.greatest d).controller.session.state (notes e) q.1)
           (λ i. (sym begun i, sym (λ j. still_along answer_of after moves n noted still j e) i))
           (agrees_next (begun_of (site_at e l.stations)) d.controller.session.state (device_ticks l.bus.greatest d).controller.session.state (notes e) (noted e)
           (ticked_closed l.bus.greatest d.controller.session d.controller.waiting)
-          (ticked_next reads l.bus.greatest d.controller.session d.controller.waiting) (agree e d was))
+          (ticked_next reads l.bus.greatest d.controller.session d.controller.waiting) (agree e d own was))
         where
           begun : begun_of (site_at e (ticks_to (Some e) l).stations) ≡ begun_of (site_at e l.stations)
           begun = elim why [
@@ -193,18 +197,20 @@ module _ {H : Type 0} where
           ]
 
       -- .. or one does
-      of_it : ReadsWhatIsAsked → (d : Device) → device_of e l.bus ≡ Some d → (moves : List (NetMove H)) → IsTicked answer_of after (Some e) l n moves
+      of_it : ReadsWhatIsAsked → (d : Device) → IsOurs e l.stations → device_of e l.bus ≡ Some d → (moves : List (NetMove H)) → IsTicked answer_of after (Some e) l n moves
           → Agrees (begun_of (site_at e (ticks_to (Some e) l).stations)) (device_ticks l.bus.greatest d).controller.session.state (notes e)
           (notes_along answer_of after moves n noted e)
-      of_it reads d was moves (Rests are told sent) =
-          it_goes_on reads d was moves (subst (Each IsStill) (sym are) tt) (inr sent)
-      of_it reads d was moves (GoesOn j is begun are) =
-          it_goes_on reads d was moves (subst (Each IsStill) (sym are) (tt, tt))
+      of_it reads d own was moves (IsOfOther j is none are) =
+          absurd (let f = sym (ap is_some (subst (λ i. site_at i l.stations ≡ None) (sym (some_same e j is)) none)) ∙ own in cc)
+      of_it reads d own was moves (Rests are told sent) =
+          it_goes_on reads d own was moves (subst (Each IsStill) (sym are) tt) (inr sent)
+      of_it reads d own was moves (GoesOn j is begun are) =
+          it_goes_on reads d own was moves (subst (Each IsStill) (sym are) (tt, tt))
           (inl (subst (λ i. begun_of (site_at i l.stations) ≡ None) (sym (some_same e j is)) begun))
-      of_it reads d was moves (Opens j began p s mid lost is begun sent told losses runs there closed opening are) =
+      of_it reads d own was moves (Opens j began p s mid lost is begun sent told losses runs there closed opening are) =
           let mine : j ≡ e = sym (some_same e j is) in
           let to_begin : begun_of (site_at e l.stations) ≡ Some began = subst (λ i. begun_of (site_at i l.stations) ≡ Some began) mine begun in
-          let old = subst (λ o. Agrees o d.controller.session.state (notes e) (noted e)) to_begin (agree e d was) in
+          let old = subst (λ o. Agrees o d.controller.session.state (notes e) (noted e)) to_begin (agree e d own was) in
           let opened : begun_of (site_at e (ticks_to (Some e) l).stations) ≡ None =
           ap (λ q. begun_of (site_at e (panel_says (Some e) q Ticked).stations)) sent
           ∙ says_opening e began p Ticked (begun_heard e (told_by_ticking (Some e) l.bus) l.stations ∙ to_begin) in
@@ -222,23 +228,29 @@ module _ {H : Type 0} where
 
     pub all_ticked : ReadsWhatIsAsked → (o : Option ℕ) (l : InUse H) (n : Net H) (notes noted : ℕ → Note) → AllAgree l notes noted
         → (moves : List (NetMove H)) → IsTicked answer_of after o l n moves → AllAgree (ticks_to o l) notes (notes_along answer_of after moves n noted)
-    all_ticked reads None l n notes noted agree moves (Rests are told sent) k next at =
-        (subst (λ ms. AllAgree l notes (notes_along answer_of after ms n noted)) (sym are) agree) k next at
-    all_ticked reads None l n notes noted agree moves (GoesOn j is begun are) k next at = absurd (let f = is in cc)
-    all_ticked reads None l n notes noted agree moves (Opens j began p s mid lost is begun sent told losses runs there closed opening are) k next at =
+    all_ticked reads None l n notes noted agree moves (Rests are told sent) k next still at =
+        (subst (λ ms. AllAgree l notes (notes_along answer_of after ms n noted)) (sym are) agree) k next still at
+    all_ticked reads None l n notes noted agree moves (IsOfOther j is none are) k next still at = absurd (let f = is in cc)
+    all_ticked reads None l n notes noted agree moves (GoesOn j is begun are) k next still at = absurd (let f = is in cc)
+    all_ticked reads None l n notes noted agree moves (Opens j began p s mid lost is begun sent told losses runs there closed opening are) k next still at =
         absurd (let f = is in cc)
-    all_ticked reads (Some e) l n notes noted agree moves ticked k next at = by_entry (ticked_at e k l.bus next at_bus)
+    all_ticked reads (Some e) l n notes noted agree moves ticked k next still at = by_entry (ticked_at e k l.bus next at_bus)
       where
         at_bus : slice_get (ticks_at (Some e) l.bus).bus.devices.entries k ≡ Some next
         at_bus = ap (λ b. device_of k b) (sym (says_bus (Some e) (ticks_at (Some e) l.bus).sent
             (record l { bus = (ticks_at (Some e) l.bus).bus; stations = all_hear (told_by_ticking (Some e) l.bus) l.stations }))) ∙ at
 
+        own : IsOurs k l.stations
+        own = sym (says_keep k (Some e) (ticks_at (Some e) l.bus).sent
+            (record l { bus = (ticks_at (Some e) l.bus).bus; stations = all_hear (told_by_ticking (Some e) l.bus) l.stations })
+            ∙ heard_keeps k (told_by_ticking (Some e) l.bus) l.stations) ∙ still
+
         by_entry : TickedAt e k l.bus next
             → Agrees (begun_of (site_at k (ticks_to (Some e) l).stations)) next.controller.session.state (notes k) (notes_along answer_of after moves n noted k)
-        by_entry (OtherThere other was) = of_other e l n notes noted agree k next other was moves ticked
+        by_entry (OtherThere other was) = of_other e l n notes noted agree k next other own was moves ticked
         by_entry (ItTicks same d was becomes) =
             subst (λ i. Agrees (begun_of (site_at i (ticks_to (Some e) l).stations)) next.controller.session.state (notes i)
             (notes_along answer_of after moves n noted i)) (sym same)
             (subst (λ (f : Device). Agrees (begun_of (site_at e (ticks_to (Some e) l).stations)) f.controller.session.state (notes e)
             (notes_along answer_of after moves n noted e)) becomes
-            (of_it e l n notes noted agree reads d (subst (λ i. device_of i l.bus ≡ Some d) same was) moves ticked))
+            (of_it e l n notes noted agree reads d (subst (λ i. IsOurs i l.stations) same own) (subst (λ i. device_of i l.bus ≡ Some d) same was) moves ticked))

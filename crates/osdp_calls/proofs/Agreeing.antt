@@ -1,7 +1,7 @@
 -- What is noted of the entries of a line in use agrees with what is noted along the moves of its net, as the panel reads.
-use Rattle.std.proofs.Common.{◌≡◌, ◌≢◌, ℕ, Bool, true, false, cond, List, [], ◌∷◌, ◌++◌, Option, Some, None, refl, sym, subst, ap, ◌∙◌, arith, inl, inr}
+use Rattle.std.proofs.Common.{◌≡◌, ◌≢◌, ◌≤◌, ℕ, Bool, true, false, cond, List, [], ◌∷◌, ◌++◌, length, Option, Some, None, refl, sym, subst, ap, ◌∙◌, arith, inl, inr}
 use Rattle.std.proofs.lemmas.Bool.Decides.{eqb_tells}
-use Rattle.std.specs.Prelude.{◌==◌, ◌&&◌, slice_get}
+use Rattle.std.specs.Prelude.{◌==◌, ◌&&◌, is_some, slice_get}
 use Rattle.osdp_frame.specs.Packet.{Packet}
 use Rattle.osdp_frame.specs.Reading.{PacketItem}
 use Rattle.osdp_msg.specs.declared.command.Command.{Command}
@@ -13,9 +13,9 @@ use Rattle.osdp_controller.specs.declared.session.Session.{Session}
 use Rattle.osdp_bus.specs.Buses.{Devices, device_of}
 use Rattle.osdp_bus.specs.Devices as devices
 use Rattle.osdp_bus.specs.Devices.{told_of}
-use Rattle.osdp_bus.specs.Hearing.{hears_at, hears_packet}
+use Rattle.osdp_bus.specs.Hearing.{hears_packet}
 use Rattle.osdp_bus.specs.declared.device.Device.{Device}
-use Rattle.osdp_bus_laws.specs.Reports.{told_at, told_by_entry, told_by_item}
+use Rattle.osdp_bus_laws.specs.Reports.{told_at, told_by_item}
 use Rattle.osdp_link_laws.specs.Link.{Repeated}
 use Rattle.osdp_link_laws.proofs.Lines.{each_map}
 use Rattle.osdp_link_laws.proofs.Stages.{Each}
@@ -33,21 +33,23 @@ use Rattle.osdp_calls.specs.Programs.{noted_reports}
 use Rattle.osdp_calls.proofs.Along.{IsFree, Path, free_rule, heard_by_own, notes_along, path_on, still_along, still_free}
 use Rattle.osdp_calls.proofs.Controllers.{config_same, hears_same, ignored_quiet, waiting_same}
 use Rattle.osdp_calls.proofs.Losing.{IsLoss, IsStill, loss_still}
-use Rattle.osdp_calls.proofs.Matching.{FoundAt, Nobody, Somebody, found}
+use Rattle.osdp_calls.proofs.Lasting.{heard_keeps}
+use Rattle.osdp_calls.proofs.Matching.{FoundAt, IsOurs, Nobody, Somebody, found, ours_below}
 use Rattle.osdp_calls.proofs.Nexts.{place_within}
 use Rattle.osdp_calls.proofs.Noticing.{Agrees, HeardAt, Touched, Untouched, address_stays, begun_before, chosen, false_so, heard_at, reports_then, same_reports, touched}
 use Rattle.osdp_calls.proofs.Panel.{IsHeard, IsIgnored, IsRead, hears_one, panel_on, reads_here, told_then}
-use Rattle.osdp_calls.proofs.Runs.{NotPast}
+use Rattle.osdp_calls.proofs.Runs.{NotPast, unheard}
 use Rattle.osdp_calls.proofs.Same.{Controls, IsNetOf, IsSame, IsToOpen}
 use Rattle.osdp_calls.proofs.Stations.{Sites}
-use Rattle.osdp_calls.proofs.Strangers.{IsElsewhere, Ordered, nobody_at, order_heard}
+use Rattle.osdp_calls.proofs.Strangers.{AreOfOthers, IsElsewhere, Ordered, ordered_heard, others_hear}
 
 equal_of : (a b : ℕ) → (a == b) ≡ true → a ≡ b
 equal_of a b is = elim (eqb_tells a b) [ inl same ↦ same.1 | inr other ↦ absurd (false_so (sym other.0 ∙ is)) ]
 
-none_told : (k : ℕ) (r : Option Report) → told_at k r ≡ [] → is_opened r ≡ false
-none_told k None is = refl
-none_told k (Some r) is = absurd (let e = is in cc)
+-- of an entry with a station nothing is told where only others are told of
+none_told : {H : Type 0} (k : ℕ) (r : Option Report) (ts : List (Station H)) → IsOurs k ts → AreOfOthers (told_at k r) ts → is_opened r ≡ false
+none_told k None ts own is = refl
+none_told k (Some r) ts own is = absurd (let e = sym (ap is_some is.0) ∙ own in cc)
 
 ignored_opens : (h : Heard) (s : Session) → h ≡ ignores s → is_opened h.report ≡ false
 ignored_opens h s is = ap (λ (x : Heard). is_opened x.report) is
@@ -97,7 +99,7 @@ module _ {H : Type 0} where
   -- ---- of all entries
 
   abbrev pub AllAgree : InUse H → (ℕ → Note) → (ℕ → Note) → Type 0
-  AllAgree l notes noted = (k : ℕ) (d : Device) → device_of k l.bus ≡ Some d
+  AllAgree l notes noted = (k : ℕ) (d : Device) → IsOurs k l.stations → device_of k l.bus ≡ Some d
       → Agrees (begun_of (site_at k l.stations)) d.controller.session.state (notes k) (noted k)
 
   -- the station and the site of an entry
@@ -108,11 +110,11 @@ module _ {H : Type 0} where
     pub at : site_at k n.sites ≡ Some site
     pub is : Sites l k d station site
 
-  pub at_entry : (k : ℕ) (d : Device) (l : InUse H) (n : Net H) → IsNetOf l n → device_of k l.bus ≡ Some d → AtEntry k d l n
-  at_entry k d l n h is = by_found (found (Sites l) k l.bus.devices.entries l.stations n.sites h.sites)
+  pub at_entry : (k : ℕ) (d : Device) (l : InUse H) (n : Net H) → IsNetOf l n → IsOurs k l.stations → device_of k l.bus ≡ Some d → AtEntry k d l n
+  at_entry k d l n h own is = by_found (found (Sites l) k l.bus.devices.entries l.stations n.sites h.sites)
     where
       by_found : FoundAt (Sites l) k k l.bus.devices.entries l.stations n.sites → AtEntry k d l n
-      by_found (Nobody a b c) = absurd (let e = sym a ∙ is in cc)
+      by_found (Nobody o a b c) = absurd (let e = sym (ap is_some b) ∙ own in cc)
       by_found (Somebody d1 t s a b c has) = record {
         station = t;
         site = s;
@@ -136,10 +138,10 @@ module _ {H : Type 0} where
             (closed_hears p l.bus.greatest s.controller.session (ap (λ (m : Machine). m.session.state) control.same)),
       )
 
-  quiet_of : (p : Packet) (k : ℕ) (d : Device) (l : InUse H) (n : Net H) → IsNetOf l n → device_of k l.bus ≡ Some d → (began : ℕ)
+  quiet_of : (p : Packet) (k : ℕ) (d : Device) (l : InUse H) (n : Net H) → IsNetOf l n → IsOurs k l.stations → device_of k l.bus ≡ Some d → (began : ℕ)
       → begun_of (site_at k l.stations) ≡ Some began → is_opened (hears p l.bus.greatest d.controller.session).report ≡ false
-  quiet_of p k d l n h is began begun =
-      let e = at_entry k d l n h is in (to_begin p k began d l e.station e.site e.is (sym (ap begun_of e.there) ∙ begun)).0
+  quiet_of p k d l n h own is began begun =
+      let e = at_entry k d l n h own is in (to_begin p k began d l e.station e.site e.is (sym (ap begun_of e.there) ∙ begun)).0
 
   -- ---- the note of a site to which the packet in front is delivered
 
@@ -187,40 +189,40 @@ module _ {H : Type 0} where
           ∙ ap (λ q. noted_opened q l.bus.greatest s (noted k)) same
 
       -- of an entry that the packet does not reach
-      left : (k : ℕ) (d : Device) → device_of k l.bus ≡ Some d
+      left : (k : ℕ) (d : Device) → IsOurs k l.stations → device_of k l.bus ≡ Some d
           → ((devices.address_of d == p.address) ≡ true
-          → (j : ℕ) × (e : Device) × (j ≢ k) × (slice_get l.bus.devices.entries j ≡ Some e) × ((devices.address_of e == p.address) ≡ true))
+          → (j : ℕ) × (e : Device) × (j ≢ k) × (slice_get l.bus.devices.entries j ≡ Some e) × ((devices.address_of e == p.address) ≡ true) × (j ≤ k))
           → (moves : List (NetMove H)) → IsRead answer_of after b l n (told_by_item l.bus.greatest (PacketItem p) l.bus.devices) moves
           → notes_along answer_of after moves n noted k ≡ noted k
-      left k d is other moves (IsIgnored none are) = ap (λ ms. notes_along answer_of after ms n noted k) are
-      left k d is other moves (IsHeard rest front are) =
-          let mine = at_entry k d l n h is in
+      left k d own is other moves (IsIgnored none are) = ap (λ ms. notes_along answer_of after ms n noted k) are
+      left k d own is other moves (IsHeard rest front are) =
+          let mine = at_entry k d l n h own is in
           ap (λ ms. notes_along answer_of after ms n noted k) are
           ∙ in_front rest front k mine.site mine.at
           ∙ passes_over p l.bus.greatest mine.site (noted k) (by_test (address_of mine.site == p.address) refl)
         where
-          by_test : (x : Bool) → (address_of (at_entry k d l n h is).site == p.address) ≡ x → (address_of (at_entry k d l n h is).site == p.address) ≡ false
+          by_test : (x : Bool) → (address_of (at_entry k d l n h own is).site == p.address) ≡ x → (address_of (at_entry k d l n h own is).site == p.address) ≡ false
           by_test false e = e
           by_test true e =
-              let me = at_entry k d l n h is in
+              let me = at_entry k d l n h own is in
               let address = address_same k d l me.station me.site me.is in
               let o = other (sym (ap (λ a. a == p.address) address) ∙ e) in
-              let it = at_entry o.0 o.1 l n h o.3 in
+              let it = at_entry o.0 o.1 l n h (ours_below o.0 k l.stations o.5 own) o.3 in
               absurd (whole.addresses o.0 k it.site me.site o.2 it.at me.at
               (address_same o.0 o.1 l it.station it.site it.is ∙ equal_of (devices.address_of o.1) p.address o.4 ∙ sym (equal_of (address_of me.site) p.address e)))
 
       -- .. and of the one that it reaches
-      taken : (k : ℕ) (d : Device) → device_of k l.bus ≡ Some d → (devices.address_of d == p.address) ≡ true
+      taken : (k : ℕ) (d : Device) → IsOurs k l.stations → device_of k l.bus ≡ Some d → (devices.address_of d == p.address) ≡ true
           → told_by_item l.bus.greatest (PacketItem p) l.bus.devices ≡ told_at k (told_of p l.bus.greatest d)
           → (moves : List (NetMove H)) → IsRead answer_of after b l n (told_by_item l.bus.greatest (PacketItem p) l.bus.devices) moves
           → notes_along answer_of after moves n noted k
           ≡ chosen (is_opened (hears p l.bus.greatest d.controller.session).report && (noted k).begun) (devices.address_of d) d.controller.waiting (noted k)
-      taken k d is here told moves (IsIgnored none are) =
+      taken k d own is here told moves (IsIgnored none are) =
           ap (λ ms. notes_along answer_of after ms n noted k) are
           ∙ sym (ap (λ b. chosen (b && (noted k).begun) (devices.address_of d) d.controller.waiting (noted k))
-          (none_told k (told_of p l.bus.greatest d) (sym told ∙ none)))
-      taken k d is here told moves (IsHeard rest front are) =
-          let me = at_entry k d l n h is in
+          (none_told k (told_of p l.bus.greatest d) l.stations own (subst (λ xs. AreOfOthers xs l.stations) told none)))
+      taken k d own is here told moves (IsHeard rest front are) =
+          let me = at_entry k d l n h own is in
           ap (λ ms. notes_along answer_of after ms n noted k) are
           ∙ in_front rest front k me.site me.at
           ∙ takes_so p k d l me.station me.site (noted k) me.is here
@@ -229,13 +231,16 @@ module _ {H : Type 0} where
           → IsRead answer_of after b l n (told_by_item l.bus.greatest (PacketItem p) l.bus.devices) moves
           → AllAgree (hears_one answer_of after p l) (told_notes l.bus.devices (told_by_item l.bus.greatest (PacketItem p) l.bus.devices) notes)
           (notes_along answer_of after moves n noted)
-      one_read notes agree moves read k e at =
+      one_read notes agree moves read k e still at =
           subst (λ o. Agrees o e.controller.session.state
           (told_note k (slice_get l.bus.devices.entries k) (told_by_item l.bus.greatest (PacketItem p) l.bus.devices) (notes k))
           (notes_along answer_of after moves n noted k))
           (sym (begun_heard k (told_by_item l.bus.greatest (PacketItem p) l.bus.devices) l.stations))
           (by_entry (heard_at p l.bus.greatest k l.bus.devices))
         where
+          own : IsOurs k l.stations
+          own = sym (heard_keeps k (told_by_item l.bus.greatest (PacketItem p) l.bus.devices) l.stations) ∙ still
+
           by_entry : HeardAt p l.bus.greatest k l.bus.devices
               → Agrees (begun_of (site_at k l.stations)) e.controller.session.state
               (told_note k (slice_get l.bus.devices.entries k) (told_by_item l.bus.greatest (PacketItem p) l.bus.devices) (notes k))
@@ -245,9 +250,9 @@ module _ {H : Type 0} where
               subst (λ (q : Note × Note). Agrees (begun_of (site_at k l.stations)) e.controller.session.state q.0 q.1)
               (λ i. (
                 sym (ap (λ o. told_note k o (told_by_item l.bus.greatest (PacketItem p) l.bus.devices) (notes k)) was ∙ none e (notes k)) i,
-                sym (left k e was (other e was) moves read) i,
+                sym (left k e own was (other e was) moves read) i,
               ))
-              (agree k e was)
+              (agree k e own was)
           by_entry (Touched d was here becomes told) =
               let same_one : devices.device_hears p l.bus.greatest d ≡ e = some_same (devices.device_hears p l.bus.greatest d) e (sym becomes ∙ at) in
               subst (λ (q : Device × Note × Note). Agrees (begun_of (site_at k l.stations)) q.0.controller.session.state q.1 q.2)
@@ -255,17 +260,17 @@ module _ {H : Type 0} where
                 same_one i,
                 sym (ap (λ o. told_note k o (told_by_item l.bus.greatest (PacketItem p) l.bus.devices) (notes k)) was
                     ∙ ap (λ xs. noted_reports k d xs (notes k)) told) i,
-                sym (taken k d was here told moves read) i,
+                sym (taken k d own was here told moves read) i,
               ))
               (touched p l.bus.greatest k d (begun_of (site_at k l.stations)) (notes k) (noted k)
-              (λ began begun. quiet_of p k d l n h was began begun) (agree k d was))
+              (λ began begun. quiet_of p k d l n h own was began begun) (agree k d own was))
 
     -- what is told of more, with what the entry was before all
-    told_on : (p : Packet) (l : InUse H) (notes noted : ℕ → Note) → AllAgree l notes noted → (more : List (ℕ × Report)) (k : ℕ)
+    told_on : (p : Packet) (l : InUse H) (notes noted : ℕ → Note) → AllAgree l notes noted → (more : List (ℕ × Report)) (k : ℕ) → IsOurs k l.stations
         → told_note k (slice_get (hears_packet p l.bus.greatest l.bus.devices).entries k) more
         (told_note k (slice_get l.bus.devices.entries k) (told_by_item l.bus.greatest (PacketItem p) l.bus.devices) (notes k))
         ≡ told_note k (slice_get l.bus.devices.entries k) (told_by_item l.bus.greatest (PacketItem p) l.bus.devices ++ more) (notes k)
-    told_on p l notes noted agree more k = by_entry (heard_at p l.bus.greatest k l.bus.devices)
+    told_on p l notes noted agree more k own = by_entry (heard_at p l.bus.greatest k l.bus.devices)
       where
         by_entry : HeardAt p l.bus.greatest k l.bus.devices
             → told_note k (slice_get (hears_packet p l.bus.greatest l.bus.devices).entries k) more
@@ -281,7 +286,7 @@ module _ {H : Type 0} where
             ap (λ o. told_note k o more (told_note k (slice_get l.bus.devices.entries k) told (notes k))) becomes
             ∙ ap (λ o. noted_reports k e more (told_note k o told (notes k))) was
             ∙ same_reports k d e more (noted_reports k d told (notes k)) (λ begun. (
-              address_stays p l.bus.greatest d.controller.session ((agree k d was).opening (begun_before k d told (notes k) begun)),
+              address_stays p l.bus.greatest d.controller.session ((agree k d own was).opening (begun_before k d told (notes k) begun)),
               refl,
             ))
             ∙ sym (reports_then k d told more (notes k))
@@ -309,18 +314,39 @@ module _ {H : Type 0} where
     }
 
     module _ (suffices : RuleSuffices answer_of after) (nobody : NobodyElseHears answer_of after) (n0 : Net H) (up : IsSetUp n0) where
-      -- a packet that none of the controllers hears changes nothing
-      unread : (p : Packet) (ps : List Packet) (places : List ℕ) (l : InUse H) (notes : ℕ → Note) → IsElsewhere l.bus.devices.entries p
-          → Ruled n0 (reads_those ps places l) (told_notes l.bus.devices (told_by_all l.bus.greatest ps l.bus.devices) notes)
+      -- what is noted of ours alone counts
+      ruled_notes : (l : InUse H) (x y : ℕ → Note) → ((k : ℕ) → IsOurs k l.stations → x k ≡ y k) → Ruled n0 l x → Ruled n0 l y
+      ruled_notes l x y same z = record {
+        net = z.net;
+        noted = z.noted;
+        path = z.path;
+        same = z.same;
+        agree = λ k d own at. subst (λ note. Agrees (begun_of (site_at k l.stations)) d.controller.session.state note (z.noted k)) (same k own) (z.agree k d own at);
+      }
+
+      -- a packet that none of our controllers hears
+      unread : (p : Packet) (ps : List Packet) (places : List ℕ) (l : InUse H) (n : Net H) (notes noted : ℕ → Note) → IsNetOf l n → Path answer_of after n0 n noted
+          → AllAgree l notes noted → IsElsewhere (length l.stations) l.bus.devices.entries p
+          → (AllAgree (hears_one answer_of after p l) (told_notes l.bus.devices (told_by_item l.bus.greatest (PacketItem p) l.bus.devices) notes) noted
+          → Ruled n0 (reads_those ps places (hears_one answer_of after p l))
+          (told_notes (hears_packet p l.bus.greatest l.bus.devices) (told_by_all l.bus.greatest ps (hears_packet p l.bus.greatest l.bus.devices))
+          (told_notes l.bus.devices (told_by_item l.bus.greatest (PacketItem p) l.bus.devices) notes)))
           → Ruled n0 (reads_those (p ∷ ps) places l) (told_notes l.bus.devices (told_by_all l.bus.greatest (p ∷ ps) l.bus.devices) notes)
-      unread p ps places l notes off rest =
-          let told : Option ℕ → List (ℕ × Report) = λ o.
-          told_by_entry p l.bus.greatest o l.bus.devices ++ told_by_all l.bus.greatest ps (hears_at p l.bus.greatest o l.bus.devices) in
-          subst (λ o. Ruled n0 (record l {
-            bus = record l.bus { devices = hears_all l.bus.greatest ps (hears_at p l.bus.greatest o l.bus.devices) };
-            stations = all_hear (told o) l.stations;
+      unread p ps places l n notes noted h path agree off rest =
+          let g = l.bus.greatest in
+          let told = told_by_item g (PacketItem p) l.bus.devices in
+          let more = told_by_all g ps (hears_packet p g l.bus.devices) in
+          let b : Burst = record { by_panel = true; entry = 0; packet = p } in
+          let whole = heard_by_own answer_of after suffices n0 up nobody n noted path in
+          let agree2 = one_read p b l n h whole refl noted notes agree [] (IsIgnored (others_hear p g l off).told refl) in
+          ruled_notes (reads_those (p ∷ ps) places l) (told_notes (hears_packet p g l.bus.devices) more (told_notes l.bus.devices told notes))
+          (told_notes l.bus.devices (told_by_all g (p ∷ ps) l.bus.devices) notes)
+          (λ k own. told_on p l notes noted agree more k (sym (heard_keeps k (told_by_all g (p ∷ ps) l.bus.devices) l.stations) ∙ own))
+          (subst (λ ts. Ruled n0 (record l {
+            bus = record l.bus { devices = hears_all g ps (hears_packet p g l.bus.devices) };
+            stations = ts;
             place = last_of places l.place;
-          }) (told_notes l.bus.devices (told o) notes)) (sym (nobody_at p 0 l.bus.devices.entries off)) rest
+          }) (told_notes (hears_packet p g l.bus.devices) more (told_notes l.bus.devices told notes))) (sym (told_then told more l.stations)) (rest agree2))
 
       pub all_read : (ps : List Packet) (places : List ℕ) (l : InUse H) (n : Net H) (notes noted : ℕ → Note) → IsNetOf l n
           → Path answer_of after n0 n noted → Ordered l ps places → Each (NotPast l) places → AllAgree l notes noted
@@ -330,14 +356,20 @@ module _ {H : Type 0} where
         noted = noted;
         path = path;
         same = h;
-        agree = λ k d at. subst (λ x. Agrees (begun_of (site_at k l.stations)) d.controller.session.state x (noted k))
-            (sym (nothing_told k (slice_get l.bus.devices.entries k) (notes k))) (agree k d at);
+        agree = λ k d own at. subst (λ x. Agrees (begun_of (site_at k l.stations)) d.controller.session.state x (noted k))
+            (sym (nothing_told k (slice_get l.bus.devices.entries k) (notes k))) (agree k d own at);
       }
       all_read [] (i ∷ places) l n notes noted h path all past agree = absurd all
       all_read (p ∷ ps) [] l n notes noted h path all past agree =
-          unread p ps [] l notes all.0 (all_read ps [] l n notes noted h path all.1 past agree)
+          let told = told_by_item l.bus.greatest (PacketItem p) l.bus.devices in
+          unread p ps [] l n notes noted h path agree all.0 (λ agree2.
+          all_read ps [] (hears_one answer_of after p l) n (told_notes l.bus.devices told notes) noted (unheard answer_of after p l n h all.0) path
+          (ordered_heard told p l ps [] l.place all.1) past agree2)
       all_read (p ∷ ps) (i ∷ places) l n notes noted h path (inr others) past agree =
-          unread p ps (i ∷ places) l notes others.0 (all_read ps (i ∷ places) l n notes noted h path others.1 past agree)
+          let told = told_by_item l.bus.greatest (PacketItem p) l.bus.devices in
+          unread p ps (i ∷ places) l n notes noted h path agree others.0 (λ agree2.
+          all_read ps (i ∷ places) (hears_one answer_of after p l) n (told_notes l.bus.devices told notes) noted (unheard answer_of after p l n h others.0) path
+          (ordered_heard told p l ps (i ∷ places) l.place others.1) past agree2)
       all_read (p ∷ ps) (i ∷ places) l n notes noted h path (inl all) past agree =
           let inside = place_within i all.0 l.said all.1 in
           let l1 = record l { place = i } in
@@ -359,9 +391,12 @@ module _ {H : Type 0} where
           (free_rule answer_of after r.reached.moves o.net noted (read_free all.0 l1 o.net told r.reached.moves read.made) r.reached.fit) r.reached.run in
           let agree2 = one_read p all.0 l1 o.net o.same whole all.2 noted notes agree r.reached.moves read.made in
           let rest = all_read ps places l2 r.net (told_notes l.bus.devices told notes) (notes_along answer_of after r.reached.moves o.net noted)
-          r.same path2 (order_heard p g l.bus.devices l.said ps places i all.4) past.1 agree2 in
-          subst (λ (q : List (Station H) × (ℕ → Note)). Ruled n0 (record l {
+          r.same path2 (ordered_heard told p l ps places i all.4) past.1 agree2 in
+          ruled_notes (reads_those (p ∷ ps) (i ∷ places) l) (told_notes (hears_packet p g l.bus.devices) more (told_notes l.bus.devices told notes))
+          (told_notes l.bus.devices (told_by_all g (p ∷ ps) l.bus.devices) notes)
+          (λ k own. told_on p l notes noted agree more k (sym (heard_keeps k (told_by_all g (p ∷ ps) l.bus.devices) l.stations) ∙ own))
+          (subst (λ ts. Ruled n0 (record l {
             bus = record l.bus { devices = hears_all g ps (hears_packet p g l.bus.devices) };
-            stations = q.0;
+            stations = ts;
             place = last_of places i;
-          }) q.1) (λ j. (sym (told_then told more l.stations) j, λ k. told_on p l notes noted agree more k j)) rest
+          }) (told_notes (hears_packet p g l.bus.devices) more (told_notes l.bus.devices told notes))) (sym (told_then told more l.stations)) rest)

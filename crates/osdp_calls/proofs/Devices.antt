@@ -49,7 +49,7 @@ module _ {H : Type 0} (answer_of : H → Command → Answer) (after : H → Comm
     where
       by_found : FoundAt (Sites l) k k l.bus.devices.entries l.stations n.sites
           → site_queues (site_at k n.sites) event ≡ queued_at (site_at k l.stations) event
-      by_found (Nobody a b c) = ap (λ o. site_queues o event) c ∙ sym (ap (λ o. queued_at o event) b)
+      by_found (Nobody o a b c) = ap (λ o. site_queues o event) c ∙ sym (ap (λ o. queued_at o event) b)
       by_found (Somebody d t s a b c is) =
           ap (λ o. site_queues o event) c
           ∙ ap (λ (r : ReaderState H). unless_full (lacks_room event r.queue) event) is.reader
@@ -68,7 +68,7 @@ module _ {H : Type 0} (answer_of : H → Command → Answer) (after : H → Comm
         (queued_so (lacks_room event s.reader.queue) event l k d t s is));
     kinds = (refl, tt);
     made = refl;
-    submitted = λ j. queue_no_command answer_of after k j event n;
+    submitted = λ j own. queue_no_command answer_of after k j event n;
     queued = λ j. one_queue answer_of after k j event n ∙ ap (λ xs. cond (k == j) xs []) (takes_same k event l n h);
   }
 
@@ -103,7 +103,7 @@ module _ {H : Type 0} (answer_of : H → Command → Answer) (after : H → Comm
   place_of k t l n h is = by_found (found (Sites l) k l.bus.devices.entries l.stations n.sites h.sites)
     where
       by_found : FoundAt (Sites l) k k l.bus.devices.entries l.stations n.sites → t.place ≤ length l.said
-      by_found (Nobody a none c) = absurd (let e = sym none ∙ is in cc)
+      by_found (Nobody o a none c) = absurd (let e = sym none ∙ is in cc)
       by_found (Somebody d t1 s a there c here) = subst (λ (u : Station H). u.place ≤ length l.said) (some_same t1 t (sym there ∙ is)) here.place
 
   -- what a `next` of this station comes to

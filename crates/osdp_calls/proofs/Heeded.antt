@@ -1,6 +1,6 @@
 -- Programs that keep to the rule keep the premise on addresses, call after call.
 use Rattle.std.proofs.Common.{◌≡◌, ◌≤◌, ℕ, max, Bool, true, false, cond, List, [], ◌∷◌, ◌++◌, length, Option, Some, None, refl, sym, subst, ap, ◌∙◌, inl, inr}
-use Rattle.std.specs.Prelude.{◌==◌, slice_get}
+use Rattle.std.specs.Prelude.{◌==◌, is_some, slice_get}
 use Rattle.osdp_frame.specs.Packet.{Packet}
 use Rattle.osdp_msg.specs.declared.command.Command.{Command}
 use Rattle.osdp_controller.specs.Hearing.{comset_of}
@@ -20,7 +20,7 @@ use Rattle.osdp_reader.specs.declared.handler.Answer.{Answer}
 use Rattle.osdp_shared_line.specs.Addresses.{IsSetUp, NobodyElseHears}
 use Rattle.osdp_shared_line.specs.Line.{Net, Submit, Retarget, site_at}
 use Rattle.osdp_shared_line.specs.Programs.{KeepRule, Note, RuleSuffices, also_at, two_addresses}
-use Rattle.osdp_calls.specs.Calls.{Call, NewDevice, NewPanel, OfPanel, after_call, all_hear, asked_at, begins_session, begins_with, begun_of, change_at, issues, last_of, panel_says, read_by, waiting_of}
+use Rattle.osdp_calls.specs.Calls.{Call, NewDevice, NewPanel, OfPanel, after_call, all_hear, asked_at, begins_session, begins_with, begun_of, change_at, issues, last_of, panel_says, read_by, said_for, waiting_of}
 use Rattle.osdp_calls.specs.Handing.{told_by_all}
 use Rattle.osdp_calls.specs.Lines.{Burst, InUse, Opening, Station, ahead_of_panel}
 use Rattle.osdp_calls.specs.Premises.{Addresses, InOrder, InRange, PanelAddresses, QuietOpening}
@@ -31,8 +31,9 @@ use Rattle.osdp_calls.proofs.Agreeing.{AllAgree, Ruled, all_read, reads_those, t
 use Rattle.osdp_calls.proofs.Along.{IsFree, Path, free_rule, notes_along, path_on, still_free}
 use Rattle.osdp_calls.proofs.Handing.{hands_over}
 use Rattle.osdp_calls.proofs.Heeding.{rests_agree, retarget_agrees, submit_agrees}
+use Rattle.osdp_calls.proofs.Lasting.{call_keeps}
 use Rattle.osdp_calls.proofs.Losing.{IsStill}
-use Rattle.osdp_calls.proofs.Matching.{Match}
+use Rattle.osdp_calls.proofs.Matching.{IsOurs, Match}
 use Rattle.osdp_calls.proofs.Noticing.{Agrees}
 use Rattle.osdp_calls.proofs.Panel.{at_seen, told_then}
 use Rattle.osdp_calls.proofs.Runs.{NotPast}
@@ -74,7 +75,7 @@ module _ {H : Type 0} where
 
   agree_as : (l m : InUse H) (notes noted : ℕ → Note) → of_line l ≡ of_line m → AllAgree l notes noted → AllAgree m notes noted
   agree_as l m notes noted e agree =
-      subst (λ (q : OfLine H). (k : ℕ) (d : Device) → slice_get q.0 k ≡ Some d
+      subst (λ (q : OfLine H). (k : ℕ) (d : Device) → IsOurs k q.2 → slice_get q.0 k ≡ Some d
       → Agrees (begun_of (site_at k q.2)) d.controller.session.state (notes k) (noted k)) e agree
 
   -- a bus that is alike says the same
@@ -85,14 +86,14 @@ module _ {H : Type 0} where
   says_alike (Some e) (Some p) b c ts place l ds g = by_begun (begun_of (site_at e ts))
     where
       by_begun : (q : Option ℕ)
-          → of_line (record (begins_with e p q (record l { bus = b; stations = ts; place = place })) { said = l.said ++ record { by_panel = true; entry = e; packet = p } ∷ [] })
-          ≡ of_line (record (begins_with e p q (record l { bus = c; stations = ts; place = place })) { said = l.said ++ record { by_panel = true; entry = e; packet = p } ∷ [] })
-      by_begun None = (λ i. ((ds i).entries, g i, ts, l.said ++ record { by_panel = true; entry = e; packet = p } ∷ [], place, l.openings))
+          → of_line (record (begins_with e p q (record l { bus = b; stations = ts; place = place })) { said = l.said ++ said_for e p (site_at e ts) })
+          ≡ of_line (record (begins_with e p q (record l { bus = c; stations = ts; place = place })) { said = l.said ++ said_for e p (site_at e ts) })
+      by_begun None = (λ i. ((ds i).entries, g i, ts, l.said ++ said_for e p (site_at e ts), place, l.openings))
       by_begun (Some moment) = (λ i. (
         (ds i).entries,
         g i,
         change_at e (begins_session (waiting_of (slice_get (ds i).entries e))) ts,
-        l.said ++ record { by_panel = true; entry = e; packet = p } ∷ [],
+        l.said ++ said_for e p (site_at e ts),
         place,
         record { entry = e; address = p.address; place = length l.said } ∷ l.openings,
       ))
@@ -125,10 +126,10 @@ module _ {H : Type 0} where
       panel_addresses (panel.Add address) rule range = tt
       panel_addresses (panel.Begin entry now) rule range = tt
       panel_addresses (panel.Submit k command) rule range =
-          λ none asked asks. submit_premise answer_of after suffices n0 up l n notes noted h path agree k command range rule none asked asks
+          λ t there none asked asks. submit_premise answer_of after suffices n0 up l n notes noted h path agree k command range rule t there none asked asks
       panel_addresses (panel.Withdraw k) rule range = tt
       panel_addresses (panel.Retarget k address) rule range =
-          λ none. retarget_premise answer_of after suffices n0 up l n notes noted h path agree k address rule none
+          λ t there none. retarget_premise answer_of after suffices n0 up l n notes noted h path agree k address rule t there none
       panel_addresses (panel.OnBytes bytes now) rule range = tt
       panel_addresses (panel.OnSilence now) rule range = tt
       panel_addresses (panel.Tick now) rule range = tt
@@ -154,10 +155,11 @@ module _ {H : Type 0} where
 
       pub by_rest : (call : Call H) (next : InUse H) (s : StepsTo answer_of after call l n next) → Each IsStill s.moves
           → next.bus.devices.entries ≡ l.bus.devices.entries → ((j : ℕ) → begun_of (site_at j next.stations) ≡ begun_of (site_at j l.stations))
-          → ((j : ℕ) (d : Device) → noted_of j (Some d) call l (notes j) ≡ notes j) → Ruled answer_of after n0 next (notes_after call l notes)
-      by_rest call next s still entries begun mine =
+          → ((j : ℕ) (d : Device) → noted_of j (Some d) call l (notes j) ≡ notes j)
+          → ((j : ℕ) → is_some (site_at j next.stations) ≡ is_some (site_at j l.stations)) → Ruled answer_of after n0 next (notes_after call l notes)
+      by_rest call next s still entries begun mine keeps =
           by_steps call next s (free_rule answer_of after s.moves n noted (each_map IsStill IsFree still_free s.moves still) s.fit)
-          (rests_agree answer_of after call l next n notes noted s.moves still entries begun mine agree)
+          (rests_agree answer_of after call l next n notes noted s.moves still entries begun mine keeps agree)
 
       -- ---- what the panel reads
 
@@ -246,7 +248,7 @@ module _ {H : Type 0} where
             (ap (λ f. (changed_unless f l.bus (bus.after_submit_at k command l.bus)).devices.entries) is)
             (λ j. ap (λ f. begun_of (site_at j (changed_unless f l.stations (change_at k (issues command) l.stations)))) is)
             (λ j d. ap (λ f. cond (k == j) (changed_unless f (notes j) (also_at (two_addresses (devices.address_of d) (comset_of command)) (notes j))) (notes j)) is
-            ∙ either (k == j) (notes j))
+            ∙ either (k == j) (notes j)) (λ j. call_keeps j answer_of after (OfPanel (panel.Submit k command)) places l)
         | inr (none, are) ↦
             by_steps (OfPanel (panel.Submit k command)) (after_call answer_of after (OfPanel (panel.Submit k command)) places l) s
             (subst (λ ms. KeepRule answer_of after ms n noted) (sym are) (range, submit_rule k command l n notes noted h agree rule none, tt))
@@ -268,7 +270,7 @@ module _ {H : Type 0} where
             (subst (Each IsStill) (sym are) tt)
             (ap (λ f. (changed_unless f l.bus (bus.after_retarget_at k address l.bus)).devices.entries) is)
             (λ j. refl)
-            (λ j d. ap (λ f. cond (k == j) (changed_unless f (notes j) (also_at (devices.address_of d ∷ []) (notes j))) (notes j)) is ∙ either (k == j) (notes j))
+            (λ j d. ap (λ f. cond (k == j) (changed_unless f (notes j) (also_at (devices.address_of d ∷ []) (notes j))) (notes j)) is ∙ either (k == j) (notes j)) (λ j. refl)
         | inr (none, are) ↦
             by_steps (OfPanel (panel.Retarget k address)) (after_call answer_of after (OfPanel (panel.Retarget k address)) places l) s
             (subst (λ ms. KeepRule answer_of after ms n noted) (sym are) (tt, retarget_rule k address l n notes noted h agree rule none, tt))

@@ -1,5 +1,5 @@
 -- After each call what is noted of the entries agrees with what is noted along the moves that the call comes to.
-use Rattle.std.proofs.Common.{◌≡◌, ◌≢◌, ℕ, zero, suc, max, Bool, true, false, cond, List, [], ◌∷◌, ◌++◌, map, Option, Some, None, refl, sym, subst, ap, ◌∙◌, inl, inr}
+use Rattle.std.proofs.Common.{◌≡◌, ◌≢◌, ℕ, zero, suc, max, Bool, true, false, cond, List, [], ◌∷◌, ◌++◌, map, Option, Some, None, refl, sym, subst, ap, ◌∙◌, inl, inr, is_some}
 use Rattle.std.proofs.lemmas.Bool.Decides.{eqb_tells}
 use Rattle.std.specs.Option.{option_map_or}
 use Rattle.std.specs.Prelude.{◌==◌, ◌&&◌, slice_get, slice_set}
@@ -32,6 +32,8 @@ use Rattle.osdp_calls.proofs.Along.{notes_along, still_along}
 use Rattle.osdp_calls.proofs.Losing.{IsStill}
 use Rattle.osdp_calls.proofs.Noticing.{Agrees, got_new, got_other}
 use Rattle.osdp_calls.proofs.Same.{IsNetOf}
+use Rattle.osdp_calls.proofs.Lasting.{change_keeps, forget_keeps}
+use Rattle.osdp_calls.proofs.Matching.{IsOurs}
 
 -- ---- the entries of a bus of which one changes
 
@@ -82,11 +84,14 @@ module _ {H : Type 0} where
         → Agrees (begun_of (site_at j next.stations)) e.controller.session.state (noted_of j (Some device) call l (notes j)) (noted2 j)
 
   pub all_carried : (call : Call H) (l next : InUse H) (notes noted noted2 : ℕ → Note) → AllAgree l notes noted
-      → ((j : ℕ) (e : Device) → device_of j next.bus ≡ Some e → Carried call l next notes noted noted2 j e) → AllAgree next (notes_after call l notes) noted2
-  all_carried call l next notes noted noted2 agree each j e at =
-      let c = each j e at in
+      → ((j : ℕ) → is_some (site_at j next.stations) ≡ is_some (site_at j l.stations))
+      → ((j : ℕ) (e : Device) → IsOurs j l.stations → device_of j next.bus ≡ Some e → Carried call l next notes noted noted2 j e)
+      → AllAgree next (notes_after call l notes) noted2
+  all_carried call l next notes noted noted2 agree keeps each j e still at =
+      let own = sym (keeps j) ∙ still in
+      let c = each j e own at in
       subst (λ x. Agrees (begun_of (site_at j next.stations)) e.controller.session.state x (noted2 j))
-      (sym (ap (λ o. noted_of j o call l (notes j)) c.was)) (c.agrees (agree j c.device c.was))
+      (sym (ap (λ o. noted_of j o call l (notes j)) c.was)) (c.agrees (agree j c.device own c.was))
 
   -- of one of which nothing is noted
   pub as_it_was : (call : Call H) (l next : InUse H) (notes noted noted2 : ℕ → Note) (j : ℕ) (d e : Device) → device_of j l.bus ≡ Some d
@@ -116,9 +121,10 @@ module _ {H : Type 0} where
         → next.bus.devices.entries ≡ l.bus.devices.entries
         → ((j : ℕ) → begun_of (site_at j next.stations) ≡ begun_of (site_at j l.stations))
         → ((j : ℕ) (d : Device) → noted_of j (Some d) call l (notes j) ≡ notes j)
+        → ((j : ℕ) → is_some (site_at j next.stations) ≡ is_some (site_at j l.stations))
         → AllAgree l notes noted → AllAgree next (notes_after call l notes) (notes_along answer_of after moves n noted)
-    rests_agree call l next n notes noted moves still entries begun mine agree =
-        all_carried call l next notes noted (notes_along answer_of after moves n noted) agree (λ j e at.
+    rests_agree call l next n notes noted moves still entries begun mine keeps agree =
+        all_carried call l next notes noted (notes_along answer_of after moves n noted) agree keeps (λ j e own at.
         as_it_was call l next notes noted (notes_along answer_of after moves n noted) j e e (sym (ap (λ es. slice_get es j) entries) ∙ at) refl (begun j) (mine j e)
         (λ i. still_along answer_of after moves n noted still i j))
 
@@ -138,7 +144,8 @@ module _ {H : Type 0} where
         let noted2 = notes_along answer_of after moves n noted in
         let begun : (j : ℕ) → begun_of (site_at j next.stations) ≡ begun_of (site_at j l.stations) = λ j.
         begun_change j k (takes_back (withdrawn (bus.withdrawal_at k l.bus))) l.stations (λ t. refl) in
-        all_carried call l next notes noted noted2 agree (λ j e at. elim (changed_at k bus.device_withdraws l.bus j e at) [
+        all_carried call l next notes noted noted2 agree (λ j. change_keeps j k (takes_back (withdrawn (bus.withdrawal_at k l.bus))) l.stations)
+        (λ j e own at. elim (changed_at k bus.device_withdraws l.bus j e at) [
           | AsBefore other was ↦
               as_it_was call l next notes noted noted2 j e e was refl (begun j) refl (λ i. still_along answer_of after moves n noted still i j)
           | IsChanged same d was becomes ↦
@@ -183,19 +190,19 @@ module _ {H : Type 0} where
         }) (notes_after (OfPanel (panel.Begin k now)) l notes) (notes_along answer_of after moves n noted)
         by_fault (Some fault) is =
             rests_agree (OfPanel (panel.Begin k now)) l l n notes noted moves still refl (λ j. refl)
-            (λ j d. mine (Some fault) is j d ∙ either (k == j) (notes j)) agree
+            (λ j d. mine (Some fault) is j d ∙ either (k == j) (notes j)) (λ j. refl) agree
         by_fault None is =
             let moment = max l.bus.greatest now in
             let next : InUse H = record l { bus = bus.after_begin_at k now l.bus; stations = change_at k (is_to_begin moment) l.stations } in
             let noted2 = notes_along answer_of after moves n noted in
-            all_carried (OfPanel (panel.Begin k now)) l next notes noted noted2 agree (λ j e at.
+            all_carried (OfPanel (panel.Begin k now)) l next notes noted noted2 agree (λ j. change_keeps j k (is_to_begin moment) l.stations) (λ j e own at.
             elim (changed_at k (bus.device_begins moment) (seen now l.bus) j e at) [
               | AsBefore other was ↦
                   as_it_was (OfPanel (panel.Begin k now)) l next notes noted noted2 j e e was refl (begins_other j k moment l.stations other)
                   (mine None is j e ∙ ap (λ b. cond b (record (notes j) { begun = true }) (notes j)) (is_false k j (λ f. other (sym f)))) (its j)
               | IsChanged same d was becomes ↦
                   let there : device_of j l.bus ≡ Some d = subst (λ i. device_of i l.bus ≡ Some d) (sym same) was in
-                  let entry = at_entry k d l m h was in
+                  let entry = at_entry k d l m h (subst (λ i. IsOurs i l.stations) same own) was in
                   let begun : begun_of (site_at j next.stations) ≡ Some moment =
                   subst (λ i. begun_of (site_at i next.stations) ≡ Some moment) (sym same) (begins_at k moment entry.station l.stations entry.there) in
                   let note : noted_of j (Some d) (OfPanel (panel.Begin k now)) l (notes j) ≡ record (notes j) { begun = true } =
@@ -220,14 +227,15 @@ module _ {H : Type 0} where
         let next : InUse H = record l { bus = bus.after_submit_at k command l.bus; stations = change_at k (issues command) l.stations } in
         let noted2 = notes_along answer_of after (Submit k command ∷ []) n noted in
         let begun : (j : ℕ) → begun_of (site_at j next.stations) ≡ begun_of (site_at j l.stations) = λ j. begun_change j k (issues command) l.stations (λ t. refl) in
-        all_carried call l next notes noted noted2 agree (λ j e at. elim (changed_at k (bus.device_submits command) l.bus j e at) [
+        all_carried call l next notes noted noted2 agree (λ j. change_keeps j k (issues command) l.stations)
+        (λ j e own at. elim (changed_at k (bus.device_submits command) l.bus j e at) [
           | AsBefore other was ↦
               as_it_was call l next notes noted noted2 j e e was refl (begun j)
               (ap (λ b. cond b (changed_unless (bus.submit_refusal_at k command l.bus) (notes j)
               (also_at (two_addresses (devices.address_of e) (comset_of command)) (notes j))) (notes j)) (is_false k j (λ f. other (sym f))))
               (unnoted j (site_at j n.sites) (λ f. other (sym f)))
           | IsChanged same d was becomes ↦
-              let it = at_entry k d l n h was in
+              let it = at_entry k d l n h (subst (λ i. IsOurs i l.stations) same own) was in
               let more = two_addresses (devices.address_of d) (comset_of command) in
               also_noted call l next notes noted noted2 j d e more (subst (λ i. device_of i l.bus ≡ Some d) (sym same) was)
               (ap (λ (f : Device). f.controller.session.state) becomes) (begun j)
@@ -262,14 +270,14 @@ module _ {H : Type 0} where
         let call : Call H = OfPanel (panel.Retarget k address) in
         let next : InUse H = record l { bus = bus.after_retarget_at k address l.bus } in
         let noted2 = notes_along answer_of after (Retarget k address ∷ []) n noted in
-        all_carried call l next notes noted noted2 agree (λ j e at. elim (changed_at k (bus.device_retargets address) l.bus j e at) [
+        all_carried call l next notes noted noted2 agree (λ j. refl) (λ j e own at. elim (changed_at k (bus.device_retargets address) l.bus j e at) [
           | AsBefore other was ↦
               as_it_was call l next notes noted noted2 j e e was refl refl
               (ap (λ b. cond b (changed_unless (bus.retarget_refusal_at k address l.bus) (notes j) (also_at (devices.address_of e ∷ []) (notes j))) (notes j))
               (is_false k j (λ f. other (sym f))))
               (unnoted j (site_at j n.sites) (λ f. other (sym f)))
           | IsChanged same d was becomes ↦
-              let it = at_entry k d l n h was in
+              let it = at_entry k d l n h (subst (λ i. IsOurs i l.stations) same own) was in
               let more = devices.address_of d ∷ [] in
               also_noted call l next notes noted noted2 j d e more (subst (λ i. device_of i l.bus ≡ Some d) (sym same) was)
               (ap (λ (f : Device). f.controller.session.state) becomes) refl
@@ -303,16 +311,16 @@ module _ {H : Type 0} where
     forgotten (suc k) d (e ∷ ds) (t ∷ ts) is = forgotten k d ds ts is
 
     pub panel_agrees : (config : BusConfig) (xs : List ℕ) (settings : ℕ → ControllerConfig × Room) (l : InUse H) (n : Net H) (notes noted : ℕ → Note) → IsNetOf l n
-        → ((k a : ℕ) → site_at k xs ≡ Some a → (d : Device) × (device_of k l.bus ≡ Some d)) → AllAgree l notes noted
+        → ((k a : ℕ) → IsOurs k l.stations → site_at k xs ≡ Some a → (d : Device) × (device_of k l.bus ≡ Some d)) → AllAgree l notes noted
         → AllAgree (panel_made_anew config xs l) (notes_after (NewPanel config xs) l notes) (notes_along answer_of after (RestartPanel settings ∷ []) n noted)
     panel_agrees config xs settings l n notes noted h has agree =
         let call : Call H = NewPanel config xs in
         let next : InUse H = panel_made_anew config xs l in
         let noted2 = notes_along answer_of after (RestartPanel settings ∷ []) n noted in
-        all_carried call l next notes noted noted2 agree (λ j e at.
+        all_carried call l next notes noted noted2 agree (λ j. forget_keeps j l.bus.devices.entries l.stations) (λ j e own at.
         let made = new_at config j e xs at in
-        let old = has j made.0 made.1 in
-        let it = at_entry j old.0 l n h old.1 in
+        let old = has j made.0 own made.1 in
+        let it = at_entry j old.0 l n h own old.1 in
         let closed : e.controller.session.state ≡ Closed = ap (λ (f : Device). f.controller.session.state) made.2 in
         let note : noted2 j ≡ also_at (devices.address_of old.0 ∷ []) (noted j) =
         ap (λ o. noted_at j o (RestartPanel settings) n (noted j)) it.at ∙ ap (λ a. also_at (a ∷ []) (noted j)) (address_same j old.0 l it.station it.site it.is) in

@@ -1,5 +1,6 @@
 -- Every list of calls that keep the premises is a list of moves of a net, so what holds of each site holds of each entry.
 use Rattle.std.proofs.Common.{◌≡◌, ℕ, List, [], ◌∷◌, ◌++◌, Option, Some, None, refl, sym, subst, ap, ◌∙◌, inl, inr}
+use Rattle.std.specs.Prelude.{is_some}
 use Rattle.osdp_msg.specs.declared.command.Command.{Command}
 use Rattle.osdp_msg.specs.declared.event.Event.{Event}
 use Rattle.osdp_controller.specs.Machine.{Machine}
@@ -31,7 +32,9 @@ use Rattle.osdp_calls.specs.Premises.{Addresses, AllKeep, InOrder, InRange, IsSe
 use Rattle.osdp_calls.specs.Promises.{CallsHoldOnce, CallsKeepApart, link_of_entry, state_until}
 use Rattle.osdp_calls.proofs.Counting.{LinkGivesNone, all_heard, counted, in_link, in_net, in_net_more, net_none}
 use Rattle.osdp_calls.proofs.Devices.{handling, lines_change, next_still, nexting, queueing, withdrawing_event}
+use Rattle.osdp_calls.proofs.Lasting.{call_keeps}
 use Rattle.osdp_calls.proofs.Losing.{fit_then, run_then}
+use Rattle.osdp_calls.proofs.Matching.{IsOurs}
 use Rattle.osdp_calls.proofs.Orders.{beginning, retargeting, submitting, withdrawing}
 use Rattle.osdp_calls.proofs.Panel.{at_seen}
 use Rattle.osdp_calls.proofs.Powers.{device_anew, panel_anew, waiting_too}
@@ -126,12 +129,12 @@ module _ {H : Type 0} (answer_of : H → Command → Answer) (after : H → Comm
     pub run : run answer_of after moves n ≡ net
     pub same : IsNetOf (after_calls answer_of after steps l) net
     pub kinds : Each (IsOfOne steps) moves
-    pub submitted : (k : ℕ) → in_net answer_of after submitted k moves n ≡ all_accepted answer_of after k steps l
+    pub submitted : (k : ℕ) → IsOurs k l.stations → in_net answer_of after submitted k moves n ≡ all_accepted answer_of after k steps l
     pub queued : (k : ℕ) → in_net answer_of after queued k moves n ≡ all_queued answer_of after k steps l
 
   pub all_calls : (steps : List (Step H)) (l : InUse H) (n : Net H) → IsNetOf l n → AllKeep answer_of after steps l → Came steps l n
   all_calls [] l n h keep =
-      record { net = n; moves = []; fit = tt; run = refl; same = h; kinds = tt; submitted = λ k. refl; queued = λ k. refl }
+      record { net = n; moves = []; fit = tt; run = refl; same = h; kinds = tt; submitted = λ k own. refl; queued = λ k. refl }
   all_calls (step ∷ steps) l n h keep =
       let next = after_call answer_of after step.call step.places l in
       let a = one_call step.call step.places l n h keep.0.in_order keep.0.quiet_opening keep.0.addresses keep.0.in_range in
@@ -145,8 +148,9 @@ module _ {H : Type 0} (answer_of : H → Command → Answer) (after : H → Comm
         kinds = each_append (IsOfOne (step ∷ steps)) a.moves b.moves
             (each_map (IsOf step.call) (IsOfOne (step ∷ steps)) (λ move is. inl is) a.moves a.kinds)
             (each_map (IsOfOne steps) (IsOfOne (step ∷ steps)) (λ move is. inr is) b.moves b.kinds);
-        submitted = λ k. in_net_more answer_of after submitted k a.moves b.moves n
-            ∙ (λ i. a.submitted k i ++ (ap (in_net answer_of after submitted k b.moves) a.run ∙ b.submitted k) i);
+        submitted = λ k own. in_net_more answer_of after submitted k a.moves b.moves n
+            ∙ (λ i. a.submitted k own i ++ (ap (in_net answer_of after submitted k b.moves) a.run
+            ∙ b.submitted k (call_keeps k answer_of after step.call step.places l ∙ own)) i);
         queued = λ k. in_net_more answer_of after queued k a.moves b.moves n
             ∙ (λ i. a.queued k i ++ (ap (in_net answer_of after queued k b.moves) a.run ∙ b.queued k) i);
       }
@@ -253,7 +257,7 @@ module _ {H : Type 0} (answer_of : H → Command → Answer) (after : H → Comm
       let rows = row n0 moves c.start.is_set_up fit k f s.site from at in
       let ms = moves_of answer_of after k moves n0 in
       let commands : all_submitted answer_of after ms (view k f n0) ≡ all_accepted answer_of after k steps l =
-      commands_counted ms (view k f n0) ∙ given_in own nobody submitted submits_none l steps c k first is ∙ c.came.submitted k in
+      commands_counted ms (view k f n0) ∙ given_in own nobody submitted submits_none l steps c k first is ∙ c.came.submitted k (ap is_some is) in
       let events : first.reader.queue.events ++ sessions.all_queued answer_of after ms (view k f n0)
       ≡ first.reader.queue.events ++ all_queued answer_of after k steps l =
       ap (λ xs. first.reader.queue.events ++ xs)

@@ -1,5 +1,6 @@
 pub mod Losing
 pub mod Matching
+pub mod Lasting
 pub mod Same
 pub mod Stations
 pub mod Strangers

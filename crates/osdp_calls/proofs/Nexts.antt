@@ -86,7 +86,7 @@ module _ {H : Type 0} where
     moves_on k i t l n h is le within = by_found (found (Sites l) k l.bus.devices.entries l.stations n.sites h.sites)
       where
         by_found : FoundAt (Sites l) k k l.bus.devices.entries l.stations n.sites → LosesTo answer_of after n (with_station k (record t { place = i }) l)
-        by_found (Nobody a b c) = absurd (let e = sym b ∙ is in cc)
+        by_found (Nobody o a b c) = absurd (let e = sym b ∙ is in cc)
         by_found (Somebody d t1 s a b c here) =
             let at : Sites l k d t s = subst (λ u. Sites l k d u s) (some_same t1 t (sym b ∙ is)) here in
             let before : n ≡ with_coming answer_of after k s (ahead_of_device k t.place l.openings l.said) n =
@@ -122,7 +122,7 @@ module _ {H : Type 0} where
       where
         by_found : FoundAt (Sites l) k k l.bus.devices.entries l.stations n.sites
             → Makes answer_of after (IsInFront k p t.reader n) n (device_says k (option_to_list (hears answer_of after t.reader p).reply) (with_station k (has_read p t) l))
-        by_found (Nobody a none c) = absurd (let e = sym none ∙ is in cc)
+        by_found (Nobody o a none c) = absurd (let e = sym none ∙ is in cc)
         by_found (Somebody d t1 s a there c here) =
             let at : Sites l k d t s = subst (λ u. Sites l k d u s) (some_same t1 t (sym there ∙ is)) here in
             let front = device_front k t.place l.openings l.said b said_it by past in

@@ -1,5 +1,5 @@
 -- What a program notes of an entry, and its site's note, as the controller reads a packet, and as it ticks.
-use Rattle.std.proofs.Common.{◌≡◌, ◌≢◌, ℕ, zero, suc, ◌+◌, Bool, true, false, cond, List, [], ◌∷◌, ◌++◌, Option, Some, None, refl, sym, subst, ap, ◌∙◌, arith, inl, inr}
+use Rattle.std.proofs.Common.{◌≡◌, ◌≢◌, ℕ, zero, suc, ◌+◌, Bool, true, false, cond, List, [], ◌∷◌, ◌++◌, Option, Some, None, refl, sym, subst, ap, ◌∙◌, arith, inl, inr, ◌≤◌}
 use Rattle.std.proofs.lemmas.Bool.Decides.{eqb_tells}
 use Rattle.std.specs.Prelude.{◌==◌, ◌&&◌, slice_get, slice_set}
 use Rattle.osdp_frame.specs.Packet.{Packet}
@@ -213,6 +213,19 @@ first_at i a (d ∷ ds) = by_test (address_of d == a) refl (first_at (i + 1) a d
     by_test false is (OneAt j e some at here) =
         OneAt (suc j) e (ap (λ b. cond b (Some i) (first_from (i + 1) (is_at a) ds)) is ∙ some ∙ ap Some (let f : (i + 1) + j ≡ i + suc j = omega arith in f)) at here
 
+-- the first at an address is not past another that is
+pub first_before : (a i x k : ℕ) (d : Device) (ds : List Device) → first_from i (is_at a) ds ≡ Some x → slice_get ds k ≡ Some d → (address_of d == a) ≡ true → x ≤ i + k
+first_before a i x k d [] first at here = absurd (let e = at in cc)
+first_before a i x zero d (f ∷ ds) first at here =
+    let same : f ≡ d = some_same f d at in
+    let found : Some i ≡ Some x = sym (ap (λ b. cond b (Some i) (first_from (i + 1) (is_at a) ds)) (ap (λ (y : Device). address_of y == a) same ∙ here)) ∙ first in
+    let e = some_same i x found in omega (arith, e)
+first_before a i x (suc k) d (f ∷ ds) first at here = by_test (address_of f == a) first (λ further. first_before a (i + 1) x k d ds further at here)
+  where
+    by_test : (b : Bool) → cond b (Some i) (first_from (i + 1) (is_at a) ds) ≡ Some x → (first_from (i + 1) (is_at a) ds ≡ Some x → x ≤ (i + 1) + k) → x ≤ i + suc k
+    by_test true found rest = let e = some_same i x found in omega (arith, e)
+    by_test false found rest = let less = rest found in omega (arith, less)
+
 pub got_other : {A : Type 0} (j k : ℕ) (new : A) (xs : List A) → j ≢ k → slice_get (slice_set xs k new) j ≡ slice_get xs j
 got_other j k new [] other = refl
 got_other zero zero new (x ∷ xs) other = absurd (other refl)
@@ -230,7 +243,7 @@ pub data HeardAt (p : Packet) (now k : ℕ) (ds : Devices) : Type 0 where
   Untouched : slice_get (hears_packet p now ds).entries k ≡ slice_get ds.entries k
       → ((d : Device) (note : Note) → noted_reports k d (told_by_item now (PacketItem p) ds) note ≡ note)
       → ((d : Device) → slice_get ds.entries k ≡ Some d → (address_of d == p.address) ≡ true
-      → (j : ℕ) × (e : Device) × (j ≢ k) × (slice_get ds.entries j ≡ Some e) × ((address_of e == p.address) ≡ true)) → HeardAt p now k ds
+      → (j : ℕ) × (e : Device) × (j ≢ k) × (slice_get ds.entries j ≡ Some e) × ((address_of e == p.address) ≡ true) × (j ≤ k)) → HeardAt p now k ds
   Touched : (d : Device) → slice_get ds.entries k ≡ Some d → (address_of d == p.address) ≡ true
       → slice_get (hears_packet p now ds).entries k ≡ Some (device_hears p now d)
       → told_by_item now (PacketItem p) ds ≡ told_at k (told_of p now d) → HeardAt p now k ds
@@ -258,7 +271,7 @@ heard_at p now k ds = by_first (first_at 0 p.address ds.entries)
           | inr other ↦
               Untouched (ap (λ es. slice_get es k) after ∙ got_other k j (device_hears p now e) ds.entries (λ f. other.1 (sym f)))
               (λ d note. ap (λ xs. noted_reports k d xs note) told ∙ reports_of_other k j d (told_of p now e) note other.1)
-              (λ d there same. (j, e, other.1, at, here))
+              (λ d there same. (j, e, other.1, at, here, let le = first_before p.address 0 j k d ds.entries first there same in omega (arith, le)))
         ]
 
 -- ---- a tick

@@ -33,11 +33,11 @@ use Rattle.osdp_calls.specs.Calls.{OfPanel, begun_of, change_at, changes_at, is_
 use Rattle.osdp_calls.specs.Lines.{InUse, Station}
 use Rattle.osdp_calls.specs.Premises.{IsAsked, IsNoOthers, IsSaid, IsThere, MayBeAt}
 use Rattle.osdp_calls.proofs.Controllers.{closed_of, config_same, is_to_open, retargeted_same, submitted_same, waiting_same, withdrawn_same}
-use Rattle.osdp_calls.proofs.Matching.{And, Done, FoundAt, Match, Nobody, Somebody, changed_same, found, set, set_same}
+use Rattle.osdp_calls.proofs.Matching.{And, Done, FoundAt, Match, Nobody, Somebody, changed_same, found, set, set_other, set_same}
 use Rattle.osdp_calls.proofs.Panel.{at_seen}
 use Rattle.osdp_calls.proofs.Same.{Controls, IsNetOf, IsSame, IsToOpen, controlled_so, sites_so}
 use Rattle.osdp_calls.proofs.Stations.{Makes, Sites, make_move, make_none}
-use Rattle.osdp_calls.proofs.Steps.{Made, MadeByPanel, StepsTo, by_own, by_plain, by_refusal, by_submit}
+use Rattle.osdp_calls.proofs.Steps.{Made, MadeByPanel, StepsTo, by_other, by_own, by_plain, by_refusal, by_submit}
 
 some_fault : (o : Option ControllerFault) → option_map bus_fault o ≡ None → o ≡ None
 some_fault None none = refl
@@ -51,6 +51,10 @@ not_begun (Some began) top m c is shut = absurd (let e = sym is.quiet ∙ shut i
 or_assoc : (a b c : Bool) → (a || b) || c ≡ a || (b || c)
 or_assoc true b c = refl
 or_assoc false b c = refl
+
+pub or_parts : (x y : Bool) → x || y ≡ false → (x ≡ false) × (y ≡ false)
+or_parts true y is = absurd (let e = is in cc)
+or_parts false y is = (refl, is)
 
 pub asked_same : (o : Option ℕ) (top : ℕ) (m c : Machine) → Controls o top m c → asked_in c.session.state ≡ asked_in m.session.state
 asked_same None top m c is = ap (λ (x : Machine). asked_in x.session.state) is.same
@@ -79,39 +83,60 @@ module _ {H : Type 0} where
         devices = record l.bus.devices { entries = slice_set l.bus.devices.entries k (change e) };
       }) o l.bus
 
+  -- an entry without a station changes
+  pub other_changes : (k : ℕ) (change : Device → Device) (tchange : Station H → Station H) (l : InUse H) (n : Net H) → IsNetOf l n → site_at k l.stations ≡ None
+      → IsNetOf (record l { bus = changes_device k change l.bus; stations = change_at k tchange l.stations }) n
+  other_changes k change tchange l n h none = by_entry (slice_get l.bus.devices.entries k) refl
+    where
+      by_device : Option Device → BusState
+      by_device o = Rattle.std.specs.Option.option_map_or (λ (e : Device). record l.bus {
+        devices = record l.bus.devices { entries = slice_set l.bus.devices.entries k (change e) };
+      }) o l.bus
+
+      by_entry : (o : Option Device) → slice_get l.bus.devices.entries k ≡ o
+          → IsNetOf (record l { bus = changes_device k change l.bus; stations = change_at k tchange l.stations }) n
+      by_entry None is =
+          subst (λ m. IsNetOf m n) (λ i. record l { bus = by_device (sym is i); stations = changes_at k tchange (sym none i) l.stations }) h
+      by_entry (Some d) is =
+          subst (λ m. IsNetOf m n) (λ i. record l { bus = by_device (sym is i); stations = changes_at k tchange (sym none i) l.stations })
+          (sites_so h (set_other (Sites l) k (change d) l.bus.devices.entries l.stations n.sites none h.sites))
+
   -- ---- addresses that are taken
 
-  taken_same : (l : InUse H) (i a : ℕ) (ds : List Device) (ts : List (Station H)) (ss : List (Site H)) → Match (Sites l) i ds ts ss
-      → devices.is_taken a ds ≡ line.is_taken a ss
-  taken_same l i a ds1 ts1 ss1 (Done i1) = refl
-  taken_same l i a ds1 ts1 ss1 (And i1 d t s ds ts ss is rest) =
-      (λ x. up x || taken_same l (suc i) a ds ts ss rest x)
+  taken_less : (l : InUse H) (i a : ℕ) (ds : List Device) (ts : List (Station H)) (ss : List (Site H)) → Match (Sites l) i ds ts ss
+      → devices.is_taken a ds ≡ false → line.is_taken a ss ≡ false
+  taken_less l i a ds1 ts1 ss1 (Done i1 ds) free = refl
+  taken_less l i a ds1 ts1 ss1 (And i1 d t s ds ts ss is rest) free =
+      let both = or_parts (devices.takes_up a d) (devices.is_taken a ds) free in
+      (λ x. (sym up ∙ both.0) x || taken_less l (suc i) a ds ts ss rest both.1 x)
     where
       up : devices.takes_up a d ≡ line.takes_up a s
       up =
           (λ x. (Rattle.std.specs.Prelude.◌==◌ (sym (ap (λ (c : _). c.address) (config_same t.begun l.bus.greatest d.controller s.controller is.controller)) x) a)
           || line.is_reserved a (sym is.reserved x))
 
-  beside_from : (l : InUse H) (i k a : ℕ) (ds : List Device) (ts : List (Station H)) (ss : List (Site H)) → Match (Sites l) i ds ts ss
-      → devices.is_taken a (take k ds) || devices.is_taken a (drop (suc k) ds) ≡ line.is_taken_beside k a ss
-  beside_from l i zero a ds1 ts1 ss1 (Done i1) = refl
-  beside_from l i (suc k) a ds1 ts1 ss1 (Done i1) = refl
-  beside_from l i zero a ds1 ts1 ss1 (And i1 d t s ds ts ss is rest) = taken_same l (suc i) a ds ts ss rest
-  beside_from l i (suc k) a ds1 ts1 ss1 (And i1 d t s ds ts ss is rest) =
-      or_assoc (devices.takes_up a d) (devices.is_taken a (take k ds)) (devices.is_taken a (drop (suc k) ds))
-      ∙ (λ x. up x || beside_from l (suc i) k a ds ts ss rest x)
+  beside_less : (l : InUse H) (i k a : ℕ) (ds : List Device) (ts : List (Station H)) (ss : List (Site H)) → Match (Sites l) i ds ts ss
+      → devices.is_taken a (take k ds) || devices.is_taken a (drop (suc k) ds) ≡ false → line.is_taken_beside k a ss ≡ false
+  beside_less l i zero a ds1 ts1 ss1 (Done i1 ds) free = refl
+  beside_less l i (suc k) a ds1 ts1 ss1 (Done i1 ds) free = refl
+  beside_less l i zero a ds1 ts1 ss1 (And i1 d t s ds ts ss is rest) free = taken_less l (suc i) a ds ts ss rest free
+  beside_less l i (suc k) a ds1 ts1 ss1 (And i1 d t s ds ts ss is rest) free =
+      let first = or_parts (devices.takes_up a d) (devices.is_taken a (take k ds) || devices.is_taken a (drop (suc k) ds))
+      (sym (or_assoc (devices.takes_up a d) (devices.is_taken a (take k ds)) (devices.is_taken a (drop (suc k) ds))) ∙ free) in
+      (λ x. (sym up ∙ first.0) x || beside_less l (suc i) k a ds ts ss rest first.1 x)
     where
       up : devices.takes_up a d ≡ line.takes_up a s
       up =
           (λ x. (Rattle.std.specs.Prelude.◌==◌ (sym (ap (λ (c : _). c.address) (config_same t.begun l.bus.greatest d.controller s.controller is.controller)) x) a)
           || line.is_reserved a (sym is.reserved x))
 
-  pub beside_same : (k a : ℕ) (l : InUse H) (n : Net H) → IsNetOf l n
-      → devices.is_taken_beside k a l.bus.devices.entries ≡ line.is_taken_beside k a n.sites
-  beside_same k a l n h =
+  -- what is free for the bus is free for the net
+  pub beside_free : (k a : ℕ) (l : InUse H) (n : Net H) → IsNetOf l n
+      → devices.is_taken_beside k a l.bus.devices.entries ≡ false → line.is_taken_beside k a n.sites ≡ false
+  beside_free k a l n h free =
       let next : k + 1 ≡ suc k = omega arith in
-      ap (λ m. devices.is_taken a (take k l.bus.devices.entries) || devices.is_taken a (drop m l.bus.devices.entries)) next
-      ∙ beside_from l 0 k a l.bus.devices.entries l.stations n.sites h.sites
+      beside_less l 0 k a l.bus.devices.entries l.stations n.sites h.sites
+      (sym (ap (λ m. devices.is_taken a (take k l.bus.devices.entries) || devices.is_taken a (drop m l.bus.devices.entries)) next) ∙ free)
 
   -- ---- no other device is there
 
@@ -119,7 +144,7 @@ module _ {H : Type 0} where
   no_other k address l n h none j s other at may = by_found (found (Sites l) j l.bus.devices.entries l.stations n.sites h.sites)
     where
       by_found : FoundAt (Sites l) j j l.bus.devices.entries l.stations n.sites → ⊥
-      by_found (Nobody a b c) = absurd (let e = sym c ∙ at in cc)
+      by_found (Nobody o a b c) = absurd (let e = sym c ∙ at in cc)
       by_found (Somebody d t s1 a b c has) = none j other (by_may may)
         where
           is : Sites l j d t s
@@ -131,7 +156,7 @@ module _ {H : Type 0} where
               IsThere t b (sym (ap (λ (r : _). r.config.address) mine.reader) ∙ there)
           by_may (addresses.IsAsked asked) =
               let mine = subst (λ u. Sites l j d t u) (some_same s1 s (sym c ∙ at)) has in
-              IsAsked d a (subst (Somewhere (Sets address))
+              IsAsked t d b a (subst (Somewhere (Sets address))
               (λ i. asked_same t.begun l.bus.greatest d.controller s.controller mine.controller i ++ waiting_same t.begun l.bus.greatest d.controller s.controller mine.controller i) asked)
           by_may (addresses.IsSaid said) =
               let mine = subst (λ u. Sites l j d t u) (some_same s1 s (sym c ∙ at)) has in
@@ -157,7 +182,9 @@ module _ {H : Type 0} where
               bus = after_begin_at entry now l.bus;
               stations = change_at entry (is_to_begin (max l.bus.greatest now)) l.stations;
             })
-            by_found (Nobody a b c) = absurd (let e = sym (ap bus.begin_refusal_of a) ∙ is in cc)
+            by_found (Nobody o a b c) =
+                make_none answer_of after (λ moves. moves ≡ []) (record l { bus = after_begin_at entry now l.bus; stations = change_at entry (is_to_begin (max l.bus.greatest now)) l.stations }) n refl
+                (other_changes entry (device_begins (max l.bus.greatest now)) (is_to_begin (max l.bus.greatest now)) (record l { bus = seen now l.bus }) n (at_seen now l n h) b)
             by_found (Somebody d t s a b c has) =
                 let moment = max l.bus.greatest now in
                 let l1 = record l { bus = seen now l.bus } in
@@ -179,11 +206,12 @@ module _ {H : Type 0} where
 
     -- ---- a command
 
-    pub refused_same : (o : Option Communication) (k : ℕ) (d : Device) (t : Station H) (s : Site H) (l : InUse H) (n : Net H) → IsNetOf l n → Sites l k d t s
-        → line.is_comset_refused k o s n.sites ≡ bus.is_comset_refused o k d l.bus
-    refused_same None k d t s l n h is = refl
-    refused_same (Some asked) k d t s l n h is =
-        (λ i. sym (beside_same k asked.address l n h) i || is_some (is.reserved i))
+    pub refused_free : (o : Option Communication) (k : ℕ) (d : Device) (t : Station H) (s : Site H) (l : InUse H) (n : Net H) → IsNetOf l n → Sites l k d t s
+        → bus.is_comset_refused o k d l.bus ≡ false → line.is_comset_refused k o s n.sites ≡ false
+    refused_free None k d t s l n h is free = refl
+    refused_free (Some asked) k d t s l n h is free =
+        let both = or_parts (devices.is_taken_beside k asked.address l.bus.devices.entries) (is_some d.reserved) free in
+        (λ i. beside_free k asked.address l n h both.0 i || (ap is_some is.reserved ∙ both.1) i)
 
     reserves_same : (o : Option Communication) (r : Option ℕ) → line.asked_for o r ≡ reserved_for o r
     reserves_same None r = refl
@@ -200,7 +228,8 @@ module _ {H : Type 0} where
         submit_alike command m c (ap (λ (x : Machine). x.waiting) is.same) (ap (λ (x : Machine). x.capacity) is.same) (ap (λ (x : Machine). x.room) is.same)
 
     pub submitting : (k : ℕ) (command : Command) (l : InUse H) (n : Net H) → IsNetOf l n → CommandFits command
-        → (submit_refusal_at k command l.bus ≡ None → (asked : Communication) → comset_of command ≡ Some asked → IsNoOthers k asked.address l)
+        → ((t : Station H) → site_at k l.stations ≡ Some t → submit_refusal_at k command l.bus ≡ None → (asked : Communication) → comset_of command ≡ Some asked
+        → IsNoOthers k asked.address l)
         → StepsTo answer_of after (OfPanel (panel.Submit k command)) l n (record l {
           bus = changed_unless (submit_refusal_at k command l.bus) l.bus (after_submit_at k command l.bus);
           stations = changed_unless (submit_refusal_at k command l.bus) l.stations (change_at k (issues command) l.stations);
@@ -209,7 +238,9 @@ module _ {H : Type 0} where
       where
         by_found : submit_refusal_at k command l.bus ≡ None → FoundAt (Sites l) k k l.bus.devices.entries l.stations n.sites
             → StepsTo answer_of after (OfPanel (panel.Submit k command)) l n (record l { bus = after_submit_at k command l.bus; stations = change_at k (issues command) l.stations })
-        by_found is (Nobody a b c) = absurd (let e = sym (ap (λ o. bus.submit_refusal_of k command o l.bus) a) ∙ is in cc)
+        by_found is (Nobody o a b c) =
+            by_other answer_of after k command l n (record l { bus = after_submit_at k command l.bus; stations = change_at k (issues command) l.stations }) c b is fits
+            (other_changes k (bus.device_submits command) (issues command) l n h b)
         by_found is (Somebody d t s a b c has) =
             let taken = bus.is_comset_refused (comset_of command) k d l.bus in
             let accepted = unrefused taken (submit_refusal command d.controller) (sym (ap (λ o. bus.submit_refusal_of k command o l.bus) a) ∙ is) in
@@ -223,7 +254,7 @@ module _ {H : Type 0} where
             let next : after_net answer_of after (Submit k command) n ≡ record n { sites = changed k s1 n.sites } =
             ap (λ o. line.change_unless (λ u. line.is_comset_refused k (comset_of command) u n.sites) k o (line.submits answer_of after command) n) c
             ∙ ap (λ x. cond x n (record n { sites = changed k (line.submits answer_of after command s) n.sites }))
-            (refused_same (comset_of command) k d t s l n h has ∙ accepted.0)
+            (refused_free (comset_of command) k d t s l n h has accepted.0)
             ∙ ap (λ f. record n {
               sites = changed k (line.keeping (line.reserved_unless f (line.asked_for (comset_of command) s.reserved) s.reserved)
                   (line.left_by s (link.submits f command (line.link_of s [] [])))) n.sites;
@@ -234,8 +265,8 @@ module _ {H : Type 0} where
             (by_submit answer_of after k command s l n (record l {
               bus = record l.bus { devices = record l.bus.devices { entries = slice_set l.bus.devices.entries k e } };
               stations = changed k u l.stations;
-            }) c (refused_same (comset_of command) k d t s l n h has ∙ accepted.0) same is
-            (fits, λ s2 asked at2 ok moves. no_other k asked.address l n h (addresses is asked moves))
+            }) c (refused_free (comset_of command) k d t s l n h has accepted.0) same is
+            (fits, λ s2 asked at2 ok moves. no_other k asked.address l n h (addresses t b is asked moves))
             (subst (IsNetOf (record l {
               bus = record l.bus { devices = record l.bus.devices { entries = slice_set l.bus.devices.entries k e } };
               stations = changed k u l.stations;
@@ -310,15 +341,11 @@ module _ {H : Type 0} where
           bus = bus.after_withdraw_at k l.bus;
           stations = change_at k (takes_back (withdrawn (bus.withdrawal_at k l.bus))) l.stations;
         })
-        by_found (Nobody a b c) =
-            subst (λ x. StepsTo answer_of after (OfPanel (panel.Withdraw k)) l n x)
-            (λ i. record l {
-              bus = Rattle.std.specs.Option.option_map_or (λ (e : Device). record l.bus {
-                devices = record l.bus.devices { entries = slice_set l.bus.devices.entries k (bus.device_withdraws e) };
-              }) (sym a i) l.bus;
-              stations = changes_at k (takes_back (withdrawn (bus.withdrawal_at k l.bus))) (sym b i) l.stations;
-            }) (by_plain answer_of after (OfPanel (panel.Withdraw k)) l n l (λ j. refl) (λ j. refl) (make_none answer_of after (λ moves. Made (OfPanel (panel.Withdraw k)) l moves) l n
-            (inl (refl, ap (λ o. withdrawn (bus.withdrawal_of o)) a)) h))
+        by_found (Nobody o a b c) =
+            let next : InUse H = record l { bus = bus.after_withdraw_at k l.bus; stations = change_at k (takes_back (withdrawn (bus.withdrawal_at k l.bus))) l.stations } in
+            by_own answer_of after (OfPanel (panel.Withdraw k)) (Withdraw k) l n next (λ j. refl) (λ j. refl) tt refl (inr (refl, ap begun_of b)) tt
+            (subst (IsNetOf next) (sym (ap (λ q. line.change_at k q (line.withdraws answer_of after) n) c))
+            (other_changes k bus.device_withdraws (takes_back (withdrawn (bus.withdrawal_at k l.bus))) l n h b))
         by_found (Somebody d t s a b c has) =
             subst (λ o. StepsTo answer_of after (OfPanel (panel.Withdraw k)) l n (record l {
               bus = bus.after_withdraw_at k l.bus;
@@ -342,13 +369,19 @@ module _ {H : Type 0} where
     Retargeted k address l moves = MadeByPanel (panel.Retarget k address) l moves
 
     pub retargeting : (k address : ℕ) (l : InUse H) (n : Net H) → IsNetOf l n
-        → (bus.retarget_refusal_at k address l.bus ≡ None → IsNoOthers k address l)
+        → ((t : Station H) → site_at k l.stations ≡ Some t → bus.retarget_refusal_at k address l.bus ≡ None → IsNoOthers k address l)
         → Makes answer_of after (Retargeted k address l) n (record l { bus = changed_unless (bus.retarget_refusal_at k address l.bus) l.bus (bus.after_retarget_at k address l.bus) })
     retargeting k address l n h free = by_fault (bus.retarget_refusal_at k address l.bus) refl
       where
         by_found : bus.retarget_refusal_at k address l.bus ≡ None → FoundAt (Sites l) k k l.bus.devices.entries l.stations n.sites
             → Makes answer_of after (Retargeted k address l) n (record l { bus = bus.after_retarget_at k address l.bus })
-        by_found is (Nobody a b c) = absurd (let e = sym (ap (λ o. bus.retarget_refusal_of k address o l.bus) a) ∙ is in cc)
+        by_found is (Nobody o a b c) =
+            let next : InUse H = record l { bus = bus.after_retarget_at k address l.bus } in
+            make_move answer_of after (Retargeted k address l) (Retarget k address) next n (inr (is, refl)) tt
+            (λ s2 at2 ok. absurd (let e = sym c ∙ at2 in cc))
+            (subst (IsNetOf next) (sym (ap (λ q. line.change_unless (λ u. line.is_retarget_refused k address u n.sites) k q (line.retargets answer_of after address) n) c))
+            (subst (λ ts. IsNetOf (record l { bus = bus.after_retarget_at k address l.bus; stations = ts }) n) (ap (λ q. changes_at k (λ (t : Station H). t) q l.stations) b)
+            (other_changes k (bus.device_retargets address) (λ (t : Station H). t) l n h b)))
         by_found is (Somebody d t s a b c has) =
             let taken = devices.is_taken_beside k address l.bus.devices.entries || has_comset d.controller.waiting in
             let accepted = or_taken_none (retarget_refusal address d.controller) taken (sym (ap (λ o. bus.retarget_refusal_of k address o l.bus) a) ∙ is) in
@@ -358,7 +391,8 @@ module _ {H : Type 0} where
             let control : IsSame l.bus.greatest d.controller s.controller = subst (λ o. Controls o l.bus.greatest d.controller s.controller) begun has.controller in
             let same : retarget_refusal address s.controller ≡ None = ap (retarget_refusal address) control.same ∙ accepted.0 in
             let taken_too : line.is_retarget_refused k address s n.sites ≡ false =
-            (λ i. sym (beside_same k address l n h) i || has_comset (ap (λ (x : Machine). x.waiting) control.same i)) ∙ accepted.1 in
+            (let free = or_parts (devices.is_taken_beside k address l.bus.devices.entries) (has_comset d.controller.waiting) accepted.1 in
+            (λ i. beside_free k address l n h free.0 i || (ap (λ (x : Machine). has_comset x.waiting) control.same ∙ free.1) i)) in
             let s1 : Site H = record s { controller = controllers.after_retarget address s.controller; reserved = None } in
             let next : after_net answer_of after (Retarget k address) n ≡ record n { sites = changed k s1 n.sites } =
             ap (λ o. line.change_unless (λ u. line.is_retarget_refused k address u n.sites) k o (line.retargets answer_of after address) n) c
@@ -373,7 +407,7 @@ module _ {H : Type 0} where
                 devices = record l.bus.devices { entries = slice_set l.bus.devices.entries k (bus.device_retargets address f) };
               }) o l.bus;
             })) (sym a)
-            (make_move answer_of after (Retargeted k address l) (Retarget k address) l1 n (inr (is, refl)) tt (λ s2 at2 ok. no_other k address l n h (free is))
+            (make_move answer_of after (Retargeted k address l) (Retarget k address) l1 n (inr (is, refl)) tt (λ s2 at2 ok. no_other k address l n h (free t b is))
             (subst (IsNetOf l1) (sym next) (sites_so h
             (subst (λ ts. Match (Sites l1) 0 (slice_set l.bus.devices.entries k e) ts (changed k s1 n.sites)) (changed_same k t l.stations b)
             (set (Sites l) k e t s1 l.bus.devices.entries l.stations n.sites h.sites (controlled_so has

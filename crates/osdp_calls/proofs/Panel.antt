@@ -28,6 +28,7 @@ use Rattle.osdp_calls.proofs.Matching.{And, Done, Match, changed_same, matched, 
 use Rattle.osdp_calls.proofs.Nexts.{each_at, loses_to}
 use Rattle.osdp_calls.proofs.Same.{Controls, IsNetOf, IsRightly, IsSame, IsSiteOf, IsToOpen, controlled_so, sites_so}
 use Rattle.osdp_calls.proofs.Stations.{LosesTo, Makes, Sites, make_move, make_none}
+use Rattle.osdp_calls.proofs.Strangers.{AreOfOthers, from_least, hears_other}
 
 -- ---- the address that is kept
 
@@ -63,14 +64,19 @@ module _ {H : Type 0} where
   P l = Sites l
 
   pub data AtAddress (l : InUse H) (p : Packet) (now i : ℕ) (ds : List Device) (ts : List (Station H)) (ss : List (Site H)) : Type 0 where
-    NoneThere : first_from i (is_at p.address) ds ≡ None → AtAddress l p now i ds ts ss
+    NoneThere : ((j : ℕ) → first_from i (is_at p.address) ds ≡ Some j → (x : ℕ) → j ≡ i + x → site_at x ts ≡ None) → AtAddress l p now i ds ts ss
     OneThere : (k j : ℕ) → j ≡ i + k → (d : Device) (t : Station H) (s : Site H) → first_from i (is_at p.address) ds ≡ Some j
         → slice_get ds k ≡ Some d → site_at k ts ≡ Some t → site_at k ss ≡ Some s → Sites l j d t s
         → first_gets p now ss ≡ changed k (gets p now s) ss → AtAddress l p now i ds ts ss
 
+  past_one : (t : Station H) (ts : List (Station H)) (i j x : ℕ) → suc i ≤ j → j ≡ i + x → ((y : ℕ) → j ≡ suc i + y → site_at y ts ≡ None)
+      → site_at x (t ∷ ts) ≡ None
+  past_one t ts i j zero least at none = absurd (omega (arith, least, at))
+  past_one t ts i j (suc y) least at none = none y (omega (arith, at))
+
   pub at_address : (l : InUse H) (p : Packet) (now i : ℕ) (ds : List Device) (ts : List (Station H)) (ss : List (Site H))
       → Match (Sites l) i ds ts ss → AtAddress l p now i ds ts ss
-  at_address l p now i ds1 ts1 ss1 (Done i1) = NoneThere refl
+  at_address l p now i ds1 ts1 ss1 (Done i1 ds) = NoneThere (λ j is x e. refl)
   at_address l p now i ds1 ts1 ss1 (And i1 d t s ds ts ss is rest) =
       elim (eqb_tells (devices.address_of d) p.address) [
         | inl here ↦
@@ -92,7 +98,8 @@ module _ {H : Type 0} where
       further : (d : Device) (t : Station H) (s : Site H) (ds : List Device) (ts : List (Station H)) (ss : List (Site H))
           → first_from i (is_at p.address) (d ∷ ds) ≡ first_from (suc i) (is_at p.address) ds → first_gets p now (s ∷ ss) ≡ s ∷ first_gets p now ss
           → AtAddress l p now (suc i) ds ts ss → AtAddress l p now i (d ∷ ds) (t ∷ ts) (s ∷ ss)
-      further d t s ds ts ss on gets_on (NoneThere none) = NoneThere (on ∙ none)
+      further d t s ds ts ss on gets_on (NoneThere none) = NoneThere (λ j is x e.
+          past_one t ts i j x (from_least (is_at p.address) (suc i) j ds (sym on ∙ is)) e (none j (sym on ∙ is)))
       further d t s ds ts ss on gets_on (OneThere k j at d1 t1 s1 some a b c is got) =
           OneThere (suc k) j (omega (arith, at)) d1 t1 s1 (on ∙ some) a b c is (gets_on ∙ ap (λ us. s ∷ us) got)
 
@@ -119,7 +126,7 @@ module _ {H : Type 0} where
 
     -- a packet is nothing to the controllers, or it is in front for the panel and may be read again
     pub data IsRead (b : Burst) (l : InUse H) (n : Net H) (told : List (ℕ × Report)) (moves : List (NetMove H)) : Type 0 where
-      IsIgnored : told ≡ [] → moves ≡ [] → IsRead b l n told moves
+      IsIgnored : AreOfOthers told l.stations → moves ≡ [] → IsRead b l n told moves
       IsHeard : (rest : List (ℕ × Packet)) → n.to_panel ≡ (b.entry, b.packet) ∷ rest → moves ≡ ToPanel Repeated l.bus.greatest ∷ [] → IsRead b l n told moves
 
     -- the packet is heard at the greatest moment seen
@@ -163,7 +170,7 @@ module _ {H : Type 0} where
             → Makes answer_of after (IsRead b l n (told_at k (hears p l.bus.greatest d.controller.session).report)) n (by_heard k d (hears p l.bus.greatest d.controller.session))
         ignored k d t s there c is nothing =
             subst (λ (heard : Heard). Makes answer_of after (IsRead b l n (told_at k heard.report)) n (by_heard k d heard)) (sym nothing)
-            (make_none answer_of after (IsRead b l n []) (by_heard k d (ignores (clocks.seen l.bus.greatest d.controller.session))) n (IsIgnored refl refl)
+            (make_none answer_of after (IsRead b l n []) (by_heard k d (ignores (clocks.seen l.bus.greatest d.controller.session))) n (IsIgnored tt refl)
             (sites_so h (one_seen k d t s l n h there c is)))
 
         heard_by : (k : ℕ) (d : Device) (t : Station H) (s : Site H) → site_at k l.stations ≡ Some t → Sites l k d t s → t.begun ≡ None
@@ -207,8 +214,10 @@ module _ {H : Type 0} where
         by_place : AtAddress l p l.bus.greatest 0 l.bus.devices.entries l.stations n.sites
             → Makes answer_of after (IsRead b l n (told_by_item l.bus.greatest (PacketItem p) l.bus.devices)) n (hears_one p l)
         by_place (NoneThere none) =
-            subst (λ o. Makes answer_of after (IsRead b l n (told_by_entry p l.bus.greatest o l.bus.devices)) n (by_entry o)) (sym none)
-            (make_none answer_of after (IsRead b l n []) l n (IsIgnored refl refl) h)
+            let x = hears_other p l.bus.greatest (first_from 0 (is_at p.address) l.bus.devices.entries) l (λ j is. none j is j (omega arith)) in
+            make_none answer_of after (IsRead b l n (told_by_item l.bus.greatest (PacketItem p) l.bus.devices)) (hears_one p l) n (IsIgnored x.told refl)
+            (subst (λ ts. IsNetOf (record l { bus = record l.bus { devices = hears_packet p l.bus.greatest l.bus.devices }; stations = ts }) n) (sym x.stations)
+            (sites_so h (x.keeps n.sites h.sites)))
         by_place (OneThere k j at d t s some a there c is got) =
             let here : j ≡ k = omega (arith, at) in
             subst (λ o. Makes answer_of after (IsRead b l n (told_by_entry p l.bus.greatest o l.bus.devices)) n (by_entry o)) (sym (some ∙ ap Some here))

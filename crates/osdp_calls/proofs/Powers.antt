@@ -1,5 +1,5 @@
 -- Restarts: a device made anew, and the panel made anew with its devices at their addresses.
-use Rattle.std.proofs.Common.{◌≡◌, ◌≢◌, ◌<◌, ◌⊎◌, ℕ, zero, suc, ◌+◌, List, [], ◌∷◌, ◌++◌, length, map, All, Option, Some, None, refl, sym, subst, ap, ◌∙◌, arith, inl, inr}
+use Rattle.std.proofs.Common.{◌≡◌, ◌≢◌, ◌<◌, ◌≤◌, ◌⊎◌, ℕ, zero, suc, ◌+◌, List, [], ◌∷◌, ◌++◌, length, map, All, Option, Some, None, refl, sym, subst, ap, ◌∙◌, arith, inl, inr}
 use Rattle.std.specs.Prelude.{option_to_list}
 use Rattle.osdp_msg.specs.declared.limits.Room.{Room}
 use Rattle.osdp_frame.specs.Packet.{Packet}
@@ -28,7 +28,7 @@ use Rattle.osdp_calls.proofs.Matching.{And, Done, FoundAt, Match, Nobody, Somebo
 use Rattle.osdp_calls.proofs.Nexts.{each_at}
 use Rattle.osdp_calls.proofs.Orders.{no_other}
 use Rattle.osdp_calls.proofs.Same.{Controls, IsNetOf, IsSiteOf, controlled_so, read_so, sites_so}
-use Rattle.osdp_calls.proofs.Stations.{Sites, both_change}
+use Rattle.osdp_calls.proofs.Stations.{Sites, both_change, of_site}
 use Rattle.osdp_calls.proofs.Steps.{StepsTo, by_own}
 
 -- the settings of the controllers of a bus with these addresses
@@ -78,7 +78,7 @@ module _ {H : Type 0} where
   -- how many sites there are
   pub as_many : (P : ℕ → Device → Station H → Site H → Type 0) (i : ℕ) (ds : List Device) (ts : List (Station H)) (ss : List (Site H))
       → Match P i ds ts ss → length ss ≡ length ts
-  as_many P i ds1 ts1 ss1 (Done i1) = refl
+  as_many P i ds1 ts1 ss1 (Done i1 ds) = refl
   as_many P i ds1 ts1 ss1 (And i1 d t s ds ts ss is rest) = let more = as_many P (suc i) ds ts ss rest in omega (arith, more)
 
   module _ (answer_of : H → Command → Answer) (after : H → Command → H) where
@@ -99,7 +99,7 @@ module _ {H : Type 0} where
       where
         by_found : (s : Site H) → site_at k n.sites ≡ Some s → FoundAt (Sites l) k k l.bus.devices.entries l.stations n.sites
             → (s.reader.config.address ≡ address) ⊎ addresses.IsFreeFor k address s n
-        by_found s at (Nobody a b c) = absurd (let e = sym c ∙ at in cc)
+        by_found s at (Nobody o a b c) = absurd (let e = sym c ∙ at in cc)
         by_found s at (Somebody d t s1 a b c has) =
             let is : Sites l k d t s = subst (λ u. Sites l k d t u) (some_same s1 s (sym c ∙ at)) has in
             elim (free t b) [
@@ -112,9 +112,9 @@ module _ {H : Type 0} where
           where
             by_name : {t : Station H} → IsFreeFor k address t l → (j : ℕ) (u : Site H) → j ≢ k → site_at j n.sites ≡ Some u
                 → FoundAt (Sites l) j j l.bus.devices.entries l.stations n.sites → IsNameOf address j u → ⊥
-            by_name frees j u other there (Nobody a b c) name = absurd (let e = sym c ∙ there in cc)
+            by_name frees j u other there (Nobody o a b c) name = absurd (let e = sym c ∙ there in cc)
             by_name frees j u other there (Somebody d1 t1 s2 a b c has) (inl is) =
-                frees.entries j d1 other a (sym (ap (λ (x : _). x.address) (config_same t1.begun l.bus.greatest d1.controller s2.controller has.controller))
+                frees.entries j t1 d1 other b a (sym (ap (λ (x : _). x.address) (config_same t1.begun l.bus.greatest d1.controller s2.controller has.controller))
                 ∙ ap address_of (some_same s2 u (sym c ∙ there)) ∙ is)
             by_name frees j u other there (Somebody d1 t1 s2 a b c has) (inr may) = no_other k address l n h frees.devices j u other there may
 
@@ -128,11 +128,11 @@ module _ {H : Type 0} where
     -- ---- the panel
 
     each_made : (config : BusConfig) (settings : ℕ → ControllerConfig × Room) (l : InUse H) (i : ℕ) (xs : List ℕ) (ds : List Device) (ts : List (Station H)) (ss : List (Site H))
-        → length xs ≡ length ts → ((k a : ℕ) → site_at k xs ≡ Some a → settings (i + k) ≡ (controller_config a config, config.room))
+        → length ts ≤ length xs → ((k a : ℕ) → site_at k xs ≡ Some a → settings (i + k) ≡ (controller_config a config, config.room))
         → Match (Sites l) i ds ts ss
         → Match (IsSiteOf l.openings l.said 0) i (map (λ a. new_device a config) xs) (all_forget ds ts) (all_restart answer_of after i settings ss)
-    each_made config settings l i [] ds1 ts1 ss1 same set_so (Done i1) = Done i
-    each_made config settings l i (a ∷ xs) ds1 ts1 ss1 same set_so (Done i1) = absurd (omega (arith, same))
+    each_made config settings l i xs ds1 ts1 ss1 same set_so (Done i1 []) = Done i (map (λ a. new_device a config) xs)
+    each_made config settings l i xs ds1 ts1 ss1 same set_so (Done i1 (d ∷ ds)) = Done i (map (λ a. new_device a config) xs)
     each_made config settings l i [] ds1 ts1 ss1 same set_so (And i1 d t s ds ts ss is rest) = absurd (omega (arith, same))
     each_made config settings l i (a ∷ xs) ds1 ts1 ss1 same set_so (And i1 d t s ds ts ss is rest) =
         let here : settings i ≡ (controller_config a config, config.room) =
@@ -153,14 +153,14 @@ module _ {H : Type 0} where
         ∙ ap (λ b. (controller_config b config, config.room)) (some_same (address_at k xs) a (sym (there_is k xs (within k a xs is)) ∙ is))
 
     pub panel_anew : (config : BusConfig) (xs : List ℕ) (l : InUse H) (n : Net H) → IsNetOf l n → PanelIsApart xs l
-        → IsBusConfig config × All (λ a. a < 127) xs × (length xs ≡ length l.stations) → StepsTo answer_of after (NewPanel config xs) l n (panel_made_anew config xs l)
+        → IsBusConfig config × All (λ a. a < 127) xs × (length l.stations ≤ length xs) → StepsTo answer_of after (NewPanel config xs) l n (panel_made_anew config xs l)
     panel_anew config xs l n h apart fits =
         by_own answer_of after (NewPanel config xs) (RestartPanel (settings_of config xs)) l n (panel_made_anew config xs l)
         (λ j. refl) (λ j. refl) tt (config, xs, refl)
         (settings_of config xs, refl, λ k a is. some_same (address_at k xs) a (sym (there_is k xs (within k a xs is)) ∙ is))
         (λ k s at. (
           are_settings config (address_at k xs) fits.0 (each_at (λ a. a < 127) k (address_at k xs) xs (each_of (λ a. a < 127) xs fits.1) (there_is k xs (count k s at))),
-          λ j t other there. by_name k j other (there_is k xs (count k s at)) t there (found (Sites l) j l.bus.devices.entries l.stations n.sites h.sites),
+          λ j t other there. by_name k j (of_site k s l n h at).station (of_site k s l n h at).there other (there_is k xs (count k s at)) t there (found (Sites l) j l.bus.devices.entries l.stations n.sites h.sites),
         ))
         (sites_so h (each_made config (settings_of config xs) l 0 xs l.bus.devices.entries l.stations n.sites fits.2 (set_at config [] xs) h.sites))
       where
@@ -171,19 +171,19 @@ module _ {H : Type 0} where
             let same = fits.2 in
             omega (arith, less, many, same)
 
-        by_name : (k j : ℕ) → j ≢ k → site_at k xs ≡ Some (address_at k xs) → (t : Site H) → site_at j n.sites ≡ Some t
+        by_name : (k j : ℕ) (u : Station H) → site_at k l.stations ≡ Some u → j ≢ k → site_at k xs ≡ Some (address_at k xs) → (t : Site H) → site_at j n.sites ≡ Some t
             → FoundAt (Sites l) j j l.bus.devices.entries l.stations n.sites → IsNameOf (address_at k xs) j (restarts answer_of after (settings_of config xs j) t) → ⊥
-        by_name k j other here t there (Nobody a b c) name = absurd (let e = sym c ∙ there in cc)
-        by_name k j other here t there (Somebody d t1 s2 a b c has) (inl is) =
+        by_name k j u mine other here t there (Nobody o a b c) name = absurd (let e = sym c ∙ there in cc)
+        by_name k j u mine other here t there (Somebody d t1 s2 a b c has) (inl is) =
             let less = within j t n.sites there in
             let many = as_many (Sites l) 0 l.bus.devices.entries l.stations n.sites h.sites in
             let same = fits.2 in
-            apart.own j k (address_at j xs) (address_at k xs) other (there_is j xs (omega (arith, less, many, same))) here is
-        by_name k j other here t there (Somebody d t1 s2 a b c has) (inr (addresses.IsThere is)) =
-            apart.there j k (address_at k xs) t1 other here b
+            apart.own j k (address_at j xs) (address_at k xs) t1 u other (there_is j xs (omega (arith, less, many, same))) here b mine is
+        by_name k j u mine other here t there (Somebody d t1 s2 a b c has) (inr (addresses.IsThere is)) =
+            apart.there j k (address_at k xs) t1 u other here b mine
             (sym (ap (λ (r : ReaderState H). r.config.address) (sym (ap (λ (s : Site H). s.reader) (some_same s2 t (sym c ∙ there))) ∙ has.reader)) ∙ is)
-        by_name k j other here t there (Somebody d t1 s2 a b c has) (inr (addresses.IsAsked none)) = absurd none
-        by_name k j other here t there (Somebody d t1 s2 a b c has) (inr (addresses.IsSaid is)) =
-            apart.said j k (address_at k xs) t1 other here b
+        by_name k j u mine other here t there (Somebody d t1 s2 a b c has) (inr (addresses.IsAsked none)) = absurd none
+        by_name k j u mine other here t there (Somebody d t1 s2 a b c has) (inr (addresses.IsSaid is)) =
+            apart.said j k (address_at k xs) t1 u other here b mine
             (subst (Somewhere (λ (q : ℕ × Packet). (q.0 ≡ j) × addresses.SetsReader (address_at k xs) q.1))
             (sym (ap (λ (s : Site H). s.coming) (some_same s2 t (sym c ∙ there))) ∙ has.coming) is)

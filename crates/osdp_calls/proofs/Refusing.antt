@@ -1,7 +1,7 @@
 -- What a controller tells of a packet that it reads is what its link's controller tells of it, so it is no refused number.
 use Rattle.std.proofs.Common.{◌≡◌, ◌≢◌, ℕ, max, not, Bool, true, false, cond, All, IfSome, List, [], ◌∷◌, ◌++◌, Option, Some, None, refl, sym, subst, ap, ◌∙◌, arith, inl, inr}
 use Rattle.std.proofs.lemmas.Bool.Decides.{eqb_tells}
-use Rattle.std.specs.Prelude.{◌==◌, ◌&&◌}
+use Rattle.std.specs.Prelude.{◌==◌, ◌&&◌, is_some}
 use Rattle.osdp_frame.specs.Packet.{Packet}
 use Rattle.osdp_msg.specs.declared.command.Command.{Command}
 use Rattle.osdp_controller.specs.Answers.{meaning_of}
@@ -13,14 +13,14 @@ use Rattle.osdp_controller.specs.declared.session.Session.{Session}
 use Rattle.osdp_controller.specs.declared.state.State.TheVariants.{Closed}
 use Rattle.osdp_bus.specs.Buses.{BusState, device_of, seen}
 use Rattle.osdp_bus.specs.Devices.{first_from, is_at, step_of}
-use Rattle.osdp_bus.specs.Hearing.{hears_at, hears_packet}
+use Rattle.osdp_bus.specs.Hearing.{hears_packet}
 use Rattle.osdp_bus.specs.declared.device.Device.{Device}
 use Rattle.osdp_bus_laws.specs.Calls as bus
 use Rattle.osdp_bus_laws.specs.Reports.{told_at, told_by_device, told_by_entry, told_by_ticking, told_in, told_with}
 use Rattle.osdp_link_laws.specs.Link as link
 use Rattle.osdp_link_laws.specs.Link.{Account, Repeated, after_report}
 use Rattle.osdp_link_laws.specs.Refusals.{IsNoRefusal, told_by_front}
-use Rattle.osdp_link_laws.proofs.Lines.{each_all, each_append, each_of}
+use Rattle.osdp_link_laws.proofs.Lines.{each_all, each_append, each_map, each_of}
 use Rattle.osdp_link_laws.proofs.Reports.{tick_so}
 use Rattle.osdp_link_laws.proofs.Stages.{Each}
 use Rattle.osdp_reader.specs.declared.handler.Answer.{Answer}
@@ -37,14 +37,16 @@ use Rattle.osdp_calls.proofs.Ahead.{panel_front}
 use Rattle.osdp_calls.proofs.Controllers.{hears_same, ignored_command, ignored_quiet}
 use Rattle.osdp_calls.proofs.Handing.{hands_over}
 use Rattle.osdp_calls.proofs.Holding.{comes}
+use Rattle.osdp_calls.proofs.Lasting.{heard_keeps}
 use Rattle.osdp_calls.proofs.Losing.{Reaches, fit_then, run_then}
+use Rattle.osdp_calls.proofs.Matching.{IsOurs}
 use Rattle.osdp_calls.proofs.Nexts.{each_at, place_within}
 use Rattle.osdp_calls.proofs.Panel.{AtAddress, NoneThere, OneThere, at_address, at_seen, hears_one, panel_on, reads_here}
-use Rattle.osdp_calls.proofs.Runs.{NotPast}
+use Rattle.osdp_calls.proofs.Runs.{NotPast, unheard}
 use Rattle.osdp_calls.proofs.Same.{Controls, IsNetOf, IsRightly, IsSame, IsToOpen}
 use Rattle.osdp_calls.proofs.Setting.{first_net, first_site, first_there}
 use Rattle.osdp_calls.proofs.Stations.{Sites}
-use Rattle.osdp_calls.proofs.Strangers.{IsElsewhere, Ordered, nobody_at, order_heard, ordered}
+use Rattle.osdp_calls.proofs.Strangers.{AreOfOthers, Ordered, hears_other, ordered, ordered_heard, others_hear}
 
 -- ---- what a controller passes over tells nothing
 
@@ -112,6 +114,12 @@ module _ {H : Type 0} where
     | inr other ↦ is t other.1
   ]
 
+  -- what is told of entries without a station is told of none of ours
+  others_tell : (k : ℕ) (ts : List (Station H)) → IsOurs k ts → (told : List (ℕ × Report)) → AreOfOthers told ts → Each (Tells k) told
+  others_tell k ts own told none =
+      each_map (λ (x : ℕ × Report). site_at x.0 ts ≡ None) (Tells k)
+      (λ x nobody here. absurd (let e = sym (ap is_some (subst (λ i. site_at i ts ≡ None) here nobody)) ∙ own in cc)) told none
+
   all_unbroken : (k : ℕ) (told : List (ℕ × Report)) (ts : List (Station H)) → Unbroken k ts → Unbroken k (all_hear told ts)
   all_unbroken k [] ts is = is
   all_unbroken k (said ∷ more) ts is =
@@ -164,10 +172,10 @@ module _ {H : Type 0} where
       -- ---- what one packet brings
 
       one_tells : (p : Packet) (b : Burst) (l : InUse H) (n : Net H) → IsNetOf l n → Reached n0 n → site_at l.place l.said ≡ Some b → b.packet ≡ p
-          → is_past_for_panel l.openings l.place b ≡ false → Unbroken k l.stations
+          → is_past_for_panel l.openings l.place b ≡ false → Unbroken k l.stations → IsOurs k l.stations
           → Each (Tells k)
           (told_by_entry p l.bus.greatest (first_from 0 (is_at p.address) l.bus.devices.entries) l.bus.devices)
-      one_tells p b l n h r said_it same past unbroken =
+      one_tells p b l n h r said_it same past unbroken own =
           by_place (at_address l p l.bus.greatest 0 l.bus.devices.entries l.stations n.sites h.sites)
         where
           heard_so : (j : ℕ) (d : Device) (t : Station H) (s : Site H) → site_at j l.stations ≡ Some t → site_at j n.sites ≡ Some s → Sites l j d t s
@@ -206,7 +214,9 @@ module _ {H : Type 0} where
 
           by_place : AtAddress l p l.bus.greatest 0 l.bus.devices.entries l.stations n.sites
               → Each (Tells k) (told_by_entry p l.bus.greatest (first_from 0 (is_at p.address) l.bus.devices.entries) l.bus.devices)
-          by_place (NoneThere nobody_there) = subst (λ o. Each (Tells k) (told_by_entry p l.bus.greatest o l.bus.devices)) (sym nobody_there) tt
+          by_place (NoneThere nobody_there) =
+              let x = hears_other p l.bus.greatest (first_from 0 (is_at p.address) l.bus.devices.entries) l (λ j is. nobody_there j is j (omega arith)) in
+              others_tell k l.stations own (told_by_entry p l.bus.greatest (first_from 0 (is_at p.address) l.bus.devices.entries) l.bus.devices) x.told
           by_place (OneThere i j at d t s some a there c is got) =
               let here : j ≡ i = omega (arith, at) in
               subst (λ o. Each (Tells k) (told_by_entry p l.bus.greatest o l.bus.devices)) (sym (some ∙ ap Some here))
@@ -215,21 +225,23 @@ module _ {H : Type 0} where
 
       -- ---- all that are read
 
-      -- a packet that none of the controllers hears tells nothing
-      untold : (p : Packet) (ps : List Packet) (l : InUse H) → IsElsewhere l.bus.devices.entries p
-          → Each (Tells k) (told_by_all l.bus.greatest ps l.bus.devices) → Each (Tells k) (told_by_all l.bus.greatest (p ∷ ps) l.bus.devices)
-      untold p ps l off rest =
-          subst (λ o. Each (Tells k) (told_by_entry p l.bus.greatest o l.bus.devices ++ told_by_all l.bus.greatest ps (hears_at p l.bus.greatest o l.bus.devices)))
-          (sym (nobody_at p 0 l.bus.devices.entries off)) rest
-
       all_tell : (ps : List Packet) (places : List ℕ) (l : InUse H) (n : Net H) → IsNetOf l n → Reached n0 n → Ordered l ps places
-          → Each (NotPast l) places → Unbroken k l.stations
+          → Each (NotPast l) places → Unbroken k l.stations → IsOurs k l.stations
           → Each (Tells k) (told_by_all l.bus.greatest ps l.bus.devices)
-      all_tell [] places l n h r all past unbroken = tt
-      all_tell (p ∷ ps) [] l n h r all past unbroken = untold p ps l all.0 (all_tell ps [] l n h r all.1 past unbroken)
-      all_tell (p ∷ ps) (i ∷ places) l n h r (inr others) past unbroken =
-          untold p ps l others.0 (all_tell ps (i ∷ places) l n h r others.1 past unbroken)
-      all_tell (p ∷ ps) (i ∷ places) l n h r (inl all) past unbroken =
+      all_tell [] places l n h r all past unbroken own = tt
+      all_tell (p ∷ ps) [] l n h r all past unbroken own =
+          let told = told_by_entry p l.bus.greatest (first_from 0 (is_at p.address) l.bus.devices.entries) l.bus.devices in
+          each_append (Tells k) told (told_by_all l.bus.greatest ps (hears_packet p l.bus.greatest l.bus.devices))
+          (others_tell k l.stations own told (others_hear p l.bus.greatest l all.0).told)
+          (all_tell ps [] (hears_one answer_of after p l) n (unheard answer_of after p l n h all.0) r (ordered_heard told p l ps [] l.place all.1) past
+          (all_unbroken k told l.stations unbroken) (heard_keeps k told l.stations ∙ own))
+      all_tell (p ∷ ps) (i ∷ places) l n h r (inr others) past unbroken own =
+          let told = told_by_entry p l.bus.greatest (first_from 0 (is_at p.address) l.bus.devices.entries) l.bus.devices in
+          each_append (Tells k) told (told_by_all l.bus.greatest ps (hears_packet p l.bus.greatest l.bus.devices))
+          (others_tell k l.stations own told (others_hear p l.bus.greatest l others.0).told)
+          (all_tell ps (i ∷ places) (hears_one answer_of after p l) n (unheard answer_of after p l n h others.0) r
+          (ordered_heard told p l ps (i ∷ places) l.place others.1) past (all_unbroken k told l.stations unbroken) (heard_keeps k told l.stations ∙ own))
+      all_tell (p ∷ ps) (i ∷ places) l n h r (inl all) past unbroken own =
           let inside = place_within i all.0 l.said all.1 in
           let l1 = record l { place = i } in
           let l2 = hears_one answer_of after p l1 in
@@ -239,9 +251,9 @@ module _ {H : Type 0} where
           let told = told_by_entry p l.bus.greatest (first_from 0 (is_at p.address) l.bus.devices.entries) l.bus.devices in
           each_append (Tells k) told
           (told_by_all l.bus.greatest ps (hears_packet p l.bus.greatest l.bus.devices))
-          (one_tells p all.0 l1 on.net on.same r1 all.1 all.2 (past.0 all.0 all.1) unbroken)
-          (all_tell ps places l2 read.net read.same (reached_more n0 on.net read.net r1 read.reached) (order_heard p l.bus.greatest l.bus.devices l.said ps places i all.4)
-          past.1 (all_unbroken k told l.stations unbroken))
+          (one_tells p all.0 l1 on.net on.same r1 all.1 all.2 (past.0 all.0 all.1) unbroken own)
+          (all_tell ps places l2 read.net read.same (reached_more n0 on.net read.net r1 read.reached) (ordered_heard told p l ps places i all.4)
+          past.1 (all_unbroken k told l.stations unbroken) (heard_keeps k told l.stations ∙ own))
 
   -- of a call, where packets that it reads tell of none
   call_tells : (k : ℕ) (places : List ℕ) (l : InUse H)
@@ -276,5 +288,5 @@ module _ {H : Type 0} where
       (λ now ps order. all_tell answer_of after nobody none (first_net c.start.config l.stations) c.start.is_set_up k (first_site c.start.config first)
       (first_there c.start.config k first l.stations was) ps places (record ls { bus = seen now ls.bus }) c.came.net (at_seen now ls c.came.net c.came.same)
       (record { moves = RestartPanel c.start.settings ∷ c.came.moves; fit = (c.start.fits, c.came.fit); is = c.came.run }) order past
-      (λ u there. ap (λ (x : Station H). x.account.restarts) (some_same u t (sym there ∙ is)) ∙ zero))
+      (λ u there. ap (λ (x : Station H). x.account.restarts) (some_same u t (sym there ∙ is)) ∙ zero) (ap is_some is))
       call (ordered ls (read_by call ls.bus) places keeps.in_order))

@@ -1,5 +1,5 @@
 -- So programs that keep to the rule keep the premise on addresses, over every list of calls.
-use Rattle.std.proofs.Common.{◌≡◌, ◌<◌, ℕ, zero, suc, Bool, true, false, List, [], ◌∷◌, length, map, Option, Some, None, refl, sym, subst, ap, ◌∙◌, arith, inl, inr}
+use Rattle.std.proofs.Common.{◌≡◌, ℕ, zero, suc, Bool, true, false, List, [], ◌∷◌, length, map, Option, Some, None, refl, sym, subst, ap, ◌∙◌, inl, inr, ◌++◌, is_some, ◌≤◌}
 use Rattle.osdp_frame.specs.Packet.{Packet}
 use Rattle.osdp_msg.specs.declared.command.Command.{Command}
 use Rattle.osdp_msg.specs.declared.event.Event.{Event}
@@ -38,7 +38,6 @@ use Rattle.osdp_calls.proofs.Heeding.{all_carried, as_it_was, begin_agrees, new_
 use Rattle.osdp_calls.proofs.Holding.{one_call}
 use Rattle.osdp_calls.proofs.Losing.{IsStill}
 use Rattle.osdp_calls.proofs.Noticing.{Agrees}
-use Rattle.osdp_calls.proofs.Powers.{within}
 use Rattle.osdp_calls.proofs.Same.{IsNetOf}
 use Rattle.osdp_calls.proofs.Setting.{Starts, first_from, first_net, first_site, first_there, starts}
 use Rattle.osdp_calls.proofs.Setting as setting
@@ -46,16 +45,13 @@ use Rattle.osdp_calls.proofs.Stations.{of_site, of_station}
 use Rattle.osdp_calls.proofs.Steps.{StepsTo}
 use Rattle.osdp_shared_line.proofs.Sites.{some_same}
 use Rattle.osdp_link_laws.proofs.Lines.{each_map}
+use Rattle.osdp_calls.proofs.Lasting.{change_keeps, call_keeps}
+use Rattle.osdp_calls.proofs.Matching.{is_there}
 
-some_there : {A : Type 0} (k : ℕ) (xs : List A) → k < length xs → (x : A) × (site_at k xs ≡ Some x)
-some_there k [] lt = absurd (omega (arith, lt))
-some_there zero (x ∷ xs) lt = (x, refl)
-some_there (suc k) (x ∷ xs) lt = some_there k xs (omega (arith, lt))
-
-mapped_at : {A B : Type 0} (f : A → B) (k : ℕ) (b : B) (xs : List A) → site_at k (map f xs) ≡ Some b → (x : A) × (site_at k xs ≡ Some x) × (b ≡ f x)
-mapped_at f k b [] is = absurd (let e = is in cc)
-mapped_at f zero b (x ∷ xs) is = (x, refl, some_same b (f x) (sym is))
-mapped_at f (suc k) b (x ∷ xs) is = mapped_at f k b xs is
+mapped_front : {A B : Type 0} (f : A → B) (others : List B) (k : ℕ) (x : A) (xs : List A) → site_at k xs ≡ Some x → site_at k (map f xs ++ others) ≡ Some (f x)
+mapped_front f others k x [] is = absurd (let e = is in cc)
+mapped_front f others zero x (y ∷ ys) is = ap (λ z. Some (f z)) (some_same y x is)
+mapped_front f others (suc k) x (y ∷ ys) is = mapped_front f others k x ys is
 
 module _ {H : Type 0} where
   queues_begun : (full : Bool) (event : Event) (t : Station H) → (queues full event t).begun ≡ t.begun
@@ -89,8 +85,10 @@ module _ {H : Type 0} where
 
       rests : (call : Call H) (next : InUse H) (s : StepsTo answer_of after call l n next) → Each IsStill s.moves
           → next.bus.devices.entries ≡ l.bus.devices.entries → ((j : ℕ) → begun_of (site_at j next.stations) ≡ begun_of (site_at j l.stations))
-          → ((j : ℕ) (d : Device) → noted_of j (Some d) call l (notes j) ≡ notes j) → Ruled answer_of after n0 next (notes_after call l notes)
-      rests call next s still entries begun mine = by_rest answer_of after suffices nobody reads n0 up l n notes noted h path agree call next s still entries begun mine
+          → ((j : ℕ) (d : Device) → noted_of j (Some d) call l (notes j) ≡ notes j)
+          → ((j : ℕ) → is_some (site_at j next.stations) ≡ is_some (site_at j l.stations)) → Ruled answer_of after n0 next (notes_after call l notes)
+      rests call next s still entries begun mine keeps =
+          by_rest answer_of after suffices nobody reads n0 up l n notes noted h path agree call next s still entries begun mine keeps
 
       -- a call that changes a station alone, and not the moment at which its session was to begin
       station_ruled : (call : Call H) (k : ℕ) (change : Station H → Station H) → ((t : Station H) → (change t).begun ≡ t.begun)
@@ -98,7 +96,7 @@ module _ {H : Type 0} where
           → ((made : StepsTo answer_of after call l n (on_station k change l)) → Each IsStill made.moves)
           → Ruled answer_of after n0 (on_station k change l) (notes_after call l notes)
       station_ruled call k change begun mine s still =
-          rests call (on_station k change l) s (still s) refl (λ j. begun_change j k change l.stations begun) mine
+          rests call (on_station k change l) s (still s) refl (λ j. begun_change j k change l.stations begun) mine (λ j. change_keeps j k change l.stations)
 
       -- .. where its reader alone changes, or what it has received
       reader_ruled : (call : Call H) (k : ℕ) (change : ReaderState H → ReaderState H) → ((j : ℕ) (d : Device) → noted_of j (Some d) call l (notes j) ≡ notes j)
@@ -107,6 +105,7 @@ module _ {H : Type 0} where
       reader_ruled call k change mine s still =
           rests call (on_station k (λ t. record t { reader = change t.reader }) l) s still refl
           (λ j. begun_change j k (λ t. record t { reader = change t.reader }) l.stations (λ t. refl)) mine
+          (λ j. change_keeps j k (λ t. record t { reader = change t.reader }) l.stations)
 
       line_ruled : (call : Call H) (k : ℕ) (change : Received → Received) → ((j : ℕ) (d : Device) → noted_of j (Some d) call l (notes j) ≡ notes j)
           → (s : StepsTo answer_of after call l n (on_station k (λ t. record t { line = change t.line }) l)) → Each IsStill s.moves
@@ -114,6 +113,7 @@ module _ {H : Type 0} where
       line_ruled call k change mine s still =
           rests call (on_station k (λ t. record t { line = change t.line }) l) s still refl
           (λ j. begun_change j k (λ t. record t { line = change t.line }) l.stations (λ t. refl)) mine
+          (λ j. change_keeps j k (λ t. record t { line = change t.line }) l.stations)
 
       panel_ruled : (call : panel.Call) (places : List ℕ) → InOrder (OfPanel call) places l → QuietOpening (OfPanel call) places l
           → KeepsRule (OfPanel call) l notes → InRange answer_of after (OfPanel call) l
@@ -149,6 +149,7 @@ module _ {H : Type 0} where
       panel_ruled panel.NextReport places order quiet rule range =
           let s = steps_to (OfPanel panel.NextReport) places order quiet rule range in
           rests (OfPanel panel.NextReport) (after_call answer_of after (OfPanel panel.NextReport) places l) s (subst (Each IsStill) (sym s.made) tt) refl (λ j. refl) (λ j d. refl)
+          (λ j. refl)
 
       device_ruled : (k address : ℕ) (handler : H) (room : Room) (gap : ℕ) (places : List ℕ)
           → KeepsRule (NewDevice k address handler room gap) l notes
@@ -169,7 +170,7 @@ module _ {H : Type 0} where
           ))
           (subst (λ ms. AllAgree next (notes_after call l notes) (notes_along answer_of after ms n noted)) (sym made)
           (all_carried call l next notes noted (notes_along answer_of after (RestartReader k address handler room ∷ []) n noted) agree
-          (λ j e at.
+          (λ j. change_keeps j k (made_anew address handler room gap) l.stations) (λ j e own at.
           as_it_was call l next notes noted (notes_along answer_of after (RestartReader k address handler room ∷ []) n noted) j e e at refl
           (begun_change j k (made_anew address handler room gap) l.stations (λ t. refl)) refl (unnoted j (site_at j n.sites)))))
         where
@@ -187,14 +188,13 @@ module _ {H : Type 0} where
           let settings = s.made.0 in
           let made = s.made.1 in
           let fit = subst (λ ms. NetMovesFit answer_of after ms n) made s.fit in
-          let many : length xs ≡ length l.stations = range.2 in
+          let many : length l.stations ≤ length xs = range.2 in
           by_steps answer_of after suffices nobody reads n0 up l n notes noted h path agree call next s
           (subst (λ ms. KeepRule answer_of after ms n noted) (sym made)
           ((λ k u at. (fit.0 k u at).0), panel_rule config xs settings l n notes noted h agree rule many s.made.2, tt))
           (subst (λ ms. AllAgree next (notes_after call l notes) (notes_along answer_of after ms n noted)) (sym made)
-          (panel_agrees answer_of after config xs settings l n notes noted h (λ k a is.
-          let less = within k a xs is in
-          let t = some_there k l.stations (omega (arith, less, many)) in
+          (panel_agrees answer_of after config xs settings l n notes noted h (λ k a own is.
+          let t = is_there (site_at k l.stations) own in
           let it = of_station k t.0 l n h t.1 in
           (it.device, it.entry)) agree))
 
@@ -219,7 +219,7 @@ module _ {H : Type 0} where
       call_ruled (Next k) places order quiet rule range =
           let s = steps_to (Next k) places order quiet rule range in
           rests (Next k) (after_call answer_of after (Next k) places l) s s.made (next_entries k places (site_at k l.stations) l)
-          (λ j. next_begun j k places (site_at k l.stations) l refl) (λ j d. refl)
+          (λ j. next_begun j k places (site_at k l.stations) l refl) (λ j d. refl) (λ j. call_keeps j answer_of after (Next k) places l)
       call_ruled (Pending k) places order quiet rule range =
           station_ruled (Pending k) k (λ t. record t { line = record t.line { held = passed t.reader t.line.held } }) (λ t. refl) (λ j d. refl)
           (steps_to (Pending k) places order quiet rule range) (λ s. subst (Each IsStill) (sym s.made) tt)
@@ -248,9 +248,11 @@ module _ {H : Type 0} where
 
       first_agree : (l : InUse H) → premises.IsSetUp l → (s : Starts answer_of after l)
           → AllAgree l (first_notes l) (programs.notes_after (RestartPanel s.settings) (first_net s.config l.stations) no_notes)
-      first_agree l up s k d at =
-          let made = new_at up.config k d (map setting.address_of l.stations) (sym (ap (λ b. device_of k b) up.bus) ∙ at) in
-          let t = mapped_at setting.address_of k made.0 l.stations made.1 in
+      first_agree l up s k d own at =
+          let made = new_at up.config k d (map setting.address_of l.stations ++ up.others) (sym (ap (λ b. device_of k b) up.bus) ∙ at) in
+          let there = is_there (site_at k l.stations) own in
+          let t : (u : Station H) × (site_at k l.stations ≡ Some u) × (made.0 ≡ setting.address_of u) =
+          (there.0, there.1, some_same made.0 (setting.address_of there.0) (sym made.1 ∙ mapped_front setting.address_of up.others k there.0 l.stations there.1)) in
           let f = first_site s.config t.0 in
           let begun : begun_of (site_at k l.stations) ≡ None = ap begun_of t.1 ∙ (up.place k t.0 t.1).1 in
           let mine : first_notes l k ≡ first_note (Some d) = ap first_note at in

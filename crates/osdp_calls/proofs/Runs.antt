@@ -1,12 +1,12 @@
 -- Bytes, silences and the ends of runs: what a call of the panel reads, packet after packet.
-use Rattle.std.proofs.Common.{◌≡◌, ℕ, Bool, true, false, cond, List, [], ◌∷◌, ◌++◌, Some, refl, sym, subst, ap, ◌∙◌, arith, inl, inr}
+use Rattle.std.proofs.Common.{◌≡◌, ℕ, Bool, true, false, cond, List, [], ◌∷◌, ◌++◌, length, Some, refl, sym, subst, ap, ◌∙◌, arith, inl, inr}
 use Rattle.osdp_frame.specs.Items.{items, left_over, whole_packets}
 use Rattle.osdp_frame.specs.Packet.{Packet}
 use Rattle.osdp_frame.specs.Reading.{RunItem, PacketItem, SkippedItem, RefusedItem}
 use Rattle.osdp_msg.specs.declared.command.Command.{Command}
 use Rattle.osdp_bus.specs.Buses.{is_silent, seen}
-use Rattle.osdp_bus.specs.Hearing.{after_bytes, ends_run, ends_silent, hears_at, hears_bytes, hears_item, hears_items}
-use Rattle.osdp_bus_laws.specs.Reports.{told_by_bytes, told_by_end, told_by_entry, told_by_item, told_by_items, told_by_silence}
+use Rattle.osdp_bus.specs.Hearing.{after_bytes, ends_run, ends_silent, hears_bytes, hears_item, hears_items, hears_packet}
+use Rattle.osdp_bus_laws.specs.Reports.{told_by_bytes, told_by_end, told_by_item, told_by_items, told_by_silence}
 use Rattle.osdp_link_laws.proofs.Stages.{Each}
 use Rattle.osdp_reader.specs.declared.handler.Answer.{Answer}
 use Rattle.osdp_shared_line.specs.Line.{Net, site_at}
@@ -15,9 +15,9 @@ use Rattle.osdp_calls.specs.Lines.{Burst, InUse, is_past_for_panel}
 use Rattle.osdp_calls.specs.Premises.{AreInOrder}
 use Rattle.osdp_calls.proofs.Nexts.{place_within, then_refines}
 use Rattle.osdp_calls.proofs.Panel.{at_seen, hears_one, panel_on, reads_here, told_then}
-use Rattle.osdp_calls.proofs.Same.{IsNetOf}
+use Rattle.osdp_calls.proofs.Same.{IsNetOf, sites_so}
 use Rattle.osdp_calls.proofs.Stations.{Refines, by_none}
-use Rattle.osdp_calls.proofs.Strangers.{IsElsewhere, Ordered, nobody_at, order_heard, order_silent}
+use Rattle.osdp_calls.proofs.Strangers.{IsElsewhere, Ordered, ordered_heard, ordered_silent, others_hear}
 
 -- ---- places, one part after the other
 
@@ -90,16 +90,24 @@ module _ {H : Type 0} where
   }
 
   module _ (answer_of : H → Command → Answer) (after : H → Command → H) where
-    -- a packet that none of the controllers hears changes nothing
-    passed_by : (p : Packet) (parts : List RunItem) (places : List ℕ) (l : InUse H) (n : Net H) → IsElsewhere l.bus.devices.entries p
-        → Refines answer_of after n (reads_items parts places l) → Refines answer_of after n (reads_items (PacketItem p ∷ parts) places l)
-    passed_by p parts places l n off rest =
-        subst (λ o. Refines answer_of after n (record l {
-          bus = record l.bus { devices = hears_items l.bus.greatest parts (hears_at p l.bus.greatest o l.bus.devices) };
-          stations = all_hear (told_by_entry p l.bus.greatest o l.bus.devices
-              ++ told_by_items l.bus.greatest parts (hears_at p l.bus.greatest o l.bus.devices)) l.stations;
+    -- a packet that none of our controllers hears is nothing to the net
+    pub unheard : (p : Packet) (l : InUse H) (n : Net H) → IsNetOf l n → IsElsewhere (length l.stations) l.bus.devices.entries p
+        → IsNetOf (hears_one answer_of after p l) n
+    unheard p l n h off =
+        let x = others_hear p l.bus.greatest l off in
+        subst (λ ts. IsNetOf (record l { bus = record l.bus { devices = hears_packet p l.bus.greatest l.bus.devices }; stations = ts }) n) (sym x.stations)
+        (sites_so h (x.keeps n.sites h.sites))
+
+    passed_by : (p : Packet) (parts : List RunItem) (places : List ℕ) (l : InUse H) (n : Net H)
+        → Refines answer_of after n (reads_items parts places (hears_one answer_of after p l)) → Refines answer_of after n (reads_items (PacketItem p ∷ parts) places l)
+    passed_by p parts places l n rest =
+        let g = l.bus.greatest in
+        let ds = l.bus.devices in
+        subst (λ ts. Refines answer_of after n (record l {
+          bus = record l.bus { devices = hears_items g parts (hears_item g (PacketItem p) ds) };
+          stations = ts;
           place = last_of places l.place;
-        })) (sym (nobody_at p 0 l.bus.devices.entries off)) rest
+        })) (sym (told_then (told_by_item g (PacketItem p) ds) (told_by_items g parts (hears_item g (PacketItem p) ds)) l.stations)) rest
 
     pub panel_reads : (parts : List RunItem) (places : List ℕ) (l : InUse H) (n : Net H) → IsNetOf l n → Ordered l (whole_packets parts) places
         → Each (NotPast l) places → Refines answer_of after n (reads_items parts places l)
@@ -107,9 +115,12 @@ module _ {H : Type 0} where
     panel_reads [] (i ∷ places) l n h all past = absurd all
     panel_reads (SkippedItem byte ∷ parts) places l n h all past = panel_reads parts places l n h all past
     panel_reads (RefusedItem fault ∷ parts) places l n h all past = panel_reads parts places l n h all past
-    panel_reads (PacketItem p ∷ parts) [] l n h all past = passed_by p parts [] l n all.0 (panel_reads parts [] l n h all.1 past)
+    panel_reads (PacketItem p ∷ parts) [] l n h all past =
+        passed_by p parts [] l n (panel_reads parts [] (hears_one answer_of after p l) n (unheard p l n h all.0)
+        (ordered_heard (told_by_item l.bus.greatest (PacketItem p) l.bus.devices) p l (whole_packets parts) [] l.place all.1) past)
     panel_reads (PacketItem p ∷ parts) (i ∷ places) l n h (inr others) past =
-        passed_by p parts (i ∷ places) l n others.0 (panel_reads parts (i ∷ places) l n h others.1 past)
+        passed_by p parts (i ∷ places) l n (panel_reads parts (i ∷ places) (hears_one answer_of after p l) n (unheard p l n h others.0)
+        (ordered_heard (told_by_item l.bus.greatest (PacketItem p) l.bus.devices) p l (whole_packets parts) (i ∷ places) l.place others.1) past)
     panel_reads (PacketItem p ∷ parts) (i ∷ places) l n h (inl all) past =
         let inside = place_within i all.0 l.said all.1 in
         let l1 = record l { place = i } in
@@ -123,7 +134,7 @@ module _ {H : Type 0} where
           stations = ts;
           place = last_of places i;
         })) (sym (told_then (told_by_item g (PacketItem p) ds) (told_by_items g parts (hears_item g (PacketItem p) ds)) l.stations))
-        (then_refines answer_of after n l2 (reads_items parts places l2) second (λ m h2. panel_reads parts places l2 m h2 (order_heard p g ds l.said (whole_packets parts) places i all.4) past.1))
+        (then_refines answer_of after n l2 (reads_items parts places l2) second (λ m h2. panel_reads parts places l2 m h2 (ordered_heard (told_by_item g (PacketItem p) ds) p l (whole_packets parts) places i all.4) past.1))
 
     -- what is held is nothing to the net
     pub then_is : (l m : InUse H) (n : Net H) → Refines answer_of after n l → ((k : Net H) → IsNetOf l k → IsNetOf m k) → Refines answer_of after n m
@@ -181,13 +192,13 @@ module _ {H : Type 0} where
         let given = byte ∷ bytes in
         let quiet = ends_silent l1.bus in
         let parts = items false (quiet.held ++ given) in
-        let s = split (IsElsewhere l.bus.devices.entries) l.said (read_at_silence l1.bus) (whole_packets parts) places l.place all in
+        let s = split (IsElsewhere (length l.stations) l.bus.devices.entries) l.said (read_at_silence l1.bus) (whole_packets parts) places l.place all in
         let past_parts : Each (NotPast l) (s.front ++ s.back) = subst (Each (NotPast l)) s.parts past in
         let l2 = at_silence s.front l1 in
         let first = reads_silence s.front l1 n (at_seen now l n h) s.first (each_first (NotPast l) s.front s.back past_parts) in
         let l3 = reads_items parts s.back l2 in
         let second = then_refines answer_of after n l2 l3 first (λ m h2. panel_reads parts s.back l2 m h2
-        (order_silent l1.bus l.said (whole_packets parts) s.back (last_of s.front l.place) s.second) (each_second (NotPast l) s.front s.back past_parts)) in
+        (ordered_silent (told_by_silence l1.bus) l1 (whole_packets parts) s.back (last_of s.front l.place) s.second) (each_second (NotPast l) s.front s.back past_parts)) in
         subst (λ i. Refines answer_of after n (record l {
           bus = hears_bytes given quiet;
           stations = all_hear (told_by_bytes given (seen now l.bus)) l.stations;

@@ -1,5 +1,5 @@
 -- What goes out at a call is what is said.
-use Rattle.std.proofs.Common.{◌≡◌, ◌||◌, ℕ, not, Bool, true, false, cond, List, [], ◌∷◌, ◌++◌, map, Option, Some, None, refl, sym, subst, ap, ◌∙◌, append-nil, append_assoc}
+use Rattle.std.proofs.Common.{◌≡◌, ◌||◌, ℕ, not, Bool, true, false, cond, List, [], ◌∷◌, ◌++◌, map, Option, Some, None, refl, sym, subst, ap, ◌∙◌, append-nil, append_assoc, is_some}
 use Rattle.std.specs.Option.{option_map}
 use Rattle.std.specs.Prelude.{option_to_list}
 use Rattle.osdp_frame.specs.Items.{whole_packets}
@@ -19,17 +19,19 @@ use Rattle.osdp_bus_laws.specs.Turns.{judged}
 use Rattle.osdp_device.specs.Saying.{but_poll, said_to, speaks, taken_by}
 use Rattle.osdp_device.specs.Telling.{items_of}
 use Rattle.osdp_link_laws.specs.Link.{Account, front_of, taken, taken_command}
-use Rattle.osdp_link_laws.proofs.Lines.{each_all, each_of}
+use Rattle.osdp_link_laws.proofs.Lines.{each_all, each_of, both}
 use Rattle.osdp_link_laws.proofs.Stages.{Each}
 use Rattle.osdp_reader.specs.State.{ReaderState}
 use Rattle.osdp_reader.specs.Table.{hears, kind_of, outcome}
 use Rattle.osdp_reader.specs.declared.handler.Answer.{Answer}
 use Rattle.osdp_reader.specs.declared.kind.Kind.{Kind}
 use Rattle.osdp_reader.specs.declared.kind.Kind.TheVariants as kind
-use Rattle.osdp_calls.specs.Calls.{after_next, answers, asked_at, asked_by_holder, by_device, first_answered, panel_says, read_up_to, reply_to}
+use Rattle.osdp_calls.specs.Calls.{after_next, answers, asked_at, asked_by_holder, by_device, first_answered, panel_says, read_up_to, reply_to, said_for}
 use Rattle.osdp_calls.specs.Lines.{Burst, InUse, Station, bus_with}
-use Rattle.osdp_calls.specs.Sayings.{AddsMakeTheBus, ByDevice, IsSaid, NoneRefused, ReadsToFirst, SaysWhatGoesOut, acted_on, after_hearing}
+use Rattle.osdp_calls.specs.Sayings.{AddsMakeTheBus, ByDevice, IsSaid, NoneRefused, ReadsToFirst, SaysWhatGoesOut, acted_on, after_hearing, for_ours}
 use Rattle.osdp_calls.proofs.Replying.{told_first, reader_with}
+use Rattle.osdp_shared_line.specs.Line.{site_at}
+use Rattle.osdp_calls.proofs.Lasting.{noted_keeps}
 
 -- ---- who is asked says what goes out
 
@@ -85,21 +87,35 @@ adds_make_the_bus config xs none = adds_after config xs [] none
 module _ {H : Type 0} (answer_of : H → Command → Answer) (after : H → Command → H) where
   -- ---- the panel
 
-  says : (who : Option ℕ) (o : Option ℕ) (t : BusTicked) (l : InUse H) (old : List Burst) → l.said ≡ old → who ≡ o → Asked t o
-      → IsSaid (λ (b : Burst). (b.by_panel ≡ true) × (who ≡ Some b.entry)) (option_to_list t.sent) old (panel_says o t.sent l).said
-  says who None t l old is same none =
-      subst (λ p. IsSaid (λ (b : Burst). (b.by_panel ≡ true) × (who ≡ Some b.entry)) (option_to_list p) old (panel_says None p l).said) (sym none)
-      (record { bursts = []; more = is ∙ sym (append-nil old); are = refl; who = each_all (λ (b : Burst). (b.by_panel ≡ true) × (who ≡ Some b.entry)) [] tt })
-  says who (Some entry) t l old is same asked = by_sent t.sent
+  abbrev SaidBy : Option ℕ → Burst → Type 0
+  SaidBy who b = (b.by_panel ≡ true) × (who ≡ Some b.entry)
+
+  nothing_more : (who : Option ℕ) (old new : List Burst) → new ≡ old → IsSaid (SaidBy who) [] old new
+  nothing_more who old new is = record { bursts = []; more = is ∙ sym (append-nil old); are = refl; who = each_all (SaidBy who) [] tt }
+
+  says : (who : Option ℕ) (o : Option ℕ) (t : BusTicked) (l : InUse H) (old : List Burst) → l.said ≡ old → who ≡ o
+      → IsSaid (SaidBy who) (for_ours o t.sent l) old (panel_says o t.sent l).said
+  says who None t l old is same = nothing_more who old l.said is
+  says who (Some entry) t l old is same = by_sent t.sent
     where
-      by_sent : (p : Option Packet) → IsSaid (λ (b : Burst). (b.by_panel ≡ true) × (who ≡ Some b.entry)) (option_to_list p) old (panel_says (Some entry) p l).said
-      by_sent None = record { bursts = []; more = is ∙ sym (append-nil old); are = refl; who = each_all (λ (b : Burst). (b.by_panel ≡ true) × (who ≡ Some b.entry)) [] tt }
-      by_sent (Some p) = record {
+      by_station : (p : Packet) (q : Option (Station H)) → IsSaid (SaidBy who) (cond (is_some q) (p ∷ []) []) old (l.said ++ said_for entry p q)
+      by_station p None = nothing_more who old (l.said ++ []) (append-nil l.said ∙ is)
+      by_station p (Some u) = record {
         bursts = record { by_panel = true; entry = entry; packet = p } ∷ [];
         more = ap (λ bs. bs ++ record { by_panel = true; entry = entry; packet = p } ∷ []) is;
         are = refl;
-        who = each_all (λ (b : Burst). (b.by_panel ≡ true) × (who ≡ Some b.entry)) (record { by_panel = true; entry = entry; packet = p } ∷ []) ((refl, same), tt);
+        who = each_all (SaidBy who) (record { by_panel = true; entry = entry; packet = p } ∷ []) ((refl, same), tt);
       }
+
+      by_sent : (p : Option Packet) → IsSaid (SaidBy who) (for_ours (Some entry) p l) old (panel_says (Some entry) p l).said
+      by_sent None =
+          both (λ ps. IsSaid (SaidBy who) ps old l.said) (is_some (site_at entry l.stations)) [] [] (nothing_more who old l.said is) (nothing_more who old l.said is)
+      by_sent (Some p) = by_station p (site_at entry l.stations)
+
+  ours_same : (o : Option ℕ) (p : Option Packet) (l m : InUse H) → ((k : ℕ) → is_some (site_at k m.stations) ≡ is_some (site_at k l.stations))
+      → for_ours o p m ≡ for_ours o p l
+  ours_same None p l m same = refl
+  ours_same (Some k) p l m same = ap (λ b. cond b (option_to_list p) []) (same k)
 
   -- ---- a device
 
@@ -191,11 +207,15 @@ module _ {H : Type 0} (answer_of : H → Command → Answer) (after : H → Comm
 
   pub says_what_goes_out : (l : InUse H) → SaysWhatGoesOut answer_of after l
   says_what_goes_out l = record {
-    panel = λ now places. says (asked_at now l.bus) (asked_at now l.bus) (bus_ticks now l.bus) (record l {
-      bus = (bus_ticks now l.bus).bus;
-      stations = Rattle.osdp_calls.specs.Calls.noted (bus.Tick now) l.bus l.stations;
-      place = Rattle.osdp_calls.specs.Calls.last_of places l.place;
-    }) l.said refl refl (asked_says now l.bus);
+    panel = λ now places.
+        let m : InUse H = record l {
+          bus = (bus_ticks now l.bus).bus;
+          stations = Rattle.osdp_calls.specs.Calls.noted (bus.Tick now) l.bus l.stations;
+          place = Rattle.osdp_calls.specs.Calls.last_of places l.place;
+        } in
+        subst (λ ps. IsSaid (SaidBy (asked_at now l.bus)) ps l.said (panel_says (asked_at now l.bus) (bus_ticks now l.bus).sent m).said)
+        (ours_same (asked_at now l.bus) (bus_ticks now l.bus).sent l m (λ k. noted_keeps k (bus.Tick now) l.bus l.stations))
+        (says (asked_at now l.bus) (asked_at now l.bus) (bus_ticks now l.bus) m l.said refl refl);
     device = λ k places t is. record {
       answered = first_answered t.reader (read_up_to t.reader (items_of t.line.held));
       read = reads_to_first (items_of t.line.held) t.reader;

@@ -72,17 +72,17 @@ module _ {H : Type 0} where
     pub earlier : t.earlier ≡ []
 
   module _ (answer_of : H → Command → Answer) (after : H → Command → H) where
-    made_first : (config : BusConfig) (settings : ℕ → ControllerConfig × Room) (os : List Opening) (said : List Burst) (i : ℕ) (ts : List (Station H)) → said ≡ []
+    made_first : (config : BusConfig) (others : List ℕ) (settings : ℕ → ControllerConfig × Room) (os : List Opening) (said : List Burst) (i : ℕ) (ts : List (Station H)) → said ≡ []
         → ((k : ℕ) (t : Station H) → site_at k ts ≡ Some t → settings (i + k) ≡ (controller_config (address_of t) config, config.room))
         → ((k : ℕ) (t : Station H) → site_at k ts ≡ Some t → IsFresh t)
-        → Match (IsSiteOf os said 0) i (map (λ a. new_device a config) (map address_of ts)) ts (all_restart answer_of after i settings (map (first_site config) ts))
-    made_first config settings os said i [] none set_so fresh = Done i
-    made_first config settings os said i (t ∷ ts) none set_so fresh =
+        → Match (IsSiteOf os said 0) i (map (λ a. new_device a config) (map address_of ts ++ others)) ts (all_restart answer_of after i settings (map (first_site config) ts))
+    made_first config others settings os said i [] none set_so fresh = Done i (map (λ a. new_device a config) others)
+    made_first config others settings os said i (t ∷ ts) none set_so fresh =
         let here : settings i ≡ (controller_config (address_of t) config, config.room) =
         ap settings (let e : i ≡ i + 0 = omega arith in e) ∙ set_so 0 t refl in
         let f = fresh 0 t refl in
         And i (new_device (address_of t) config) t (restarts answer_of after (settings i) (first_site config t))
-        (map (λ a. new_device a config) (map address_of ts)) ts (all_restart answer_of after (suc i) settings (map (first_site config) ts))
+        (map (λ a. new_device a config) (map address_of ts ++ others)) ts (all_restart answer_of after (suc i) settings (map (first_site config) ts))
         (record {
           controller = subst (λ o. Controls o 0 (new_machine (controller_config (address_of t) config) config.room.messages config.room.bytes) (new_machine (settings i).0 (settings i).1.messages (settings i).1.bytes)) (sym f.begun)
               (equal_same 0 (new_machine (controller_config (address_of t) config) config.room.messages config.room.bytes) (new_machine (settings i).0 (settings i).1.messages (settings i).1.bytes)
@@ -95,7 +95,7 @@ module _ {H : Type 0} where
           place = subst (λ p. p ≤ length said) (sym f.place) (omega arith);
           stored = subst (λ o. IfSome o (λ (p : Packet). p.reply ≡ Rattle.std.proofs.Common.true)) (sym f.stored) tt;
         })
-        (made_first config settings os said (suc i) ts none (λ k u is. ap settings (let e : suc i + k ≡ i + suc k = omega arith in e) ∙ set_so (suc k) u is)
+        (made_first config others settings os said (suc i) ts none (λ k u is. ap settings (let e : suc i + k ≡ i + suc k = omega arith in e) ∙ set_so (suc k) u is)
         (λ k u is. fresh (suc k) u is))
 
     pub record Starts (l : InUse H) : Type 0 where
@@ -138,7 +138,7 @@ module _ {H : Type 0} where
       given = λ k t is. address_there k t l.stations is;
       fits = fits;
       same = subst (λ b. IsNetOf (record l { bus = b }) n1) (sym up.bus) (record {
-        sites = made_first up.config (settings_of up.config (map address_of l.stations)) l.openings l.said 0 l.stations up.said
+        sites = made_first up.config up.others (settings_of up.config (map address_of l.stations)) l.openings l.said 0 l.stations up.said
             (λ k t is. ap (settings_of up.config (map address_of l.stations)) (let e : 0 + k ≡ k = omega arith in e)
             ∙ ap (λ a. (controller_config a up.config, up.config.room)) (address_there k t l.stations is))
             (λ k t is. record {

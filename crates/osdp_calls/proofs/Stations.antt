@@ -35,7 +35,7 @@ module _ {H : Type 0} where
   of_site k s l n h at = by_found (found (Sites l) k l.bus.devices.entries l.stations n.sites h.sites)
     where
       by_found : FoundAt (Sites l) k k l.bus.devices.entries l.stations n.sites → OfSite k s l
-      by_found (Nobody a b c) = absurd (let e = sym c ∙ at in cc)
+      by_found (Nobody o a b c) = absurd (let e = sym c ∙ at in cc)
       by_found (Somebody d t s1 a b c has) =
           record { device = d; station = t; entry = a; there = b; is = subst (λ u. Sites l k d t u) (some_same s1 s (sym c ∙ at)) has }
 
@@ -50,7 +50,7 @@ module _ {H : Type 0} where
   of_station k t l n h there = by_found (found (Sites l) k l.bus.devices.entries l.stations n.sites h.sites)
     where
       by_found : FoundAt (Sites l) k k l.bus.devices.entries l.stations n.sites → OfStation k t l n
-      by_found (Nobody a b c) = absurd (let e = sym b ∙ there in cc)
+      by_found (Nobody o a b c) = absurd (let e = sym b ∙ there in cc)
       by_found (Somebody d t1 s a b c has) =
           record { device = d; site = s; entry = a; at = c; is = subst (λ u. Sites l k d u s) (some_same t1 t (sym b ∙ there)) has }
 
@@ -62,7 +62,7 @@ module _ {H : Type 0} where
   station_changes k change l n h f = by_found (found (Sites l) k l.bus.devices.entries l.stations n.sites h.sites)
     where
       by_found : FoundAt (Sites l) k k l.bus.devices.entries l.stations n.sites → IsNetOf (on_station k change l) n
-      by_found (Nobody a b c) = subst (λ o. IsNetOf (record l { stations = changes_at k change o l.stations }) n) (sym b) h
+      by_found (Nobody o a b c) = subst (λ o. IsNetOf (record l { stations = changes_at k change o l.stations }) n) (sym b) h
       by_found (Somebody d t s a b c is) = subst (λ o. IsNetOf (record l { stations = changes_at k change o l.stations }) n) (sym b) (sites_so h
           (subst (λ ss. Match (Sites l) 0 l.bus.devices.entries (changed k (change t) l.stations) ss) (changed_same k s n.sites c)
           (set_station (Sites l) k d (change t) s l.bus.devices.entries l.stations n.sites h.sites a (f d t s is))))
@@ -75,7 +75,7 @@ module _ {H : Type 0} where
     where
       by_found : FoundAt (Sites l) k k l.bus.devices.entries l.stations n.sites
           → IsNetOf (on_station k change l) (line.change_at k (site_at k n.sites) changes n)
-      by_found (Nobody a b c) =
+      by_found (Nobody o a b c) =
           subst (λ o. IsNetOf (record l { stations = changes_at k change o l.stations }) (line.change_at k (site_at k n.sites) changes n)) (sym b)
           (subst (λ o. IsNetOf l (line.change_at k o changes n)) (sym c) h)
       by_found (Somebody d t s a b c is) =

@@ -1,7 +1,8 @@
 -- What one call comes to: moves of its own kind alone, and what they give is what the call has accepted.
 use Rattle.std.proofs.Common.{◌≡◌, ℕ, true, false, cond, List, [], ◌∷◌, ◌++◌, ◌⊎◌, Option, Some, None, refl, sym, subst, ap, ◌∙◌, append-nil, inl, inr}
 use Rattle.std.proofs.lemmas.Bool.Decides.{eqb_tells}
-use Rattle.std.specs.Prelude.{◌==◌}
+use Rattle.std.specs.Prelude.{◌==◌, is_some}
+use Rattle.osdp_msg.specs.CommandTable.{CommandFits}
 use Rattle.osdp_msg.specs.declared.limits.Room.{Room}
 use Rattle.osdp_msg.specs.declared.command.Command.{Command}
 use Rattle.osdp_msg.specs.declared.event.Event.{Event}
@@ -29,6 +30,7 @@ use Rattle.osdp_calls.specs.Calls.{Call, NewDevice, NewPanel, OfPanel, Step, Sub
 use Rattle.osdp_calls.specs.Lines.{InUse}
 use Rattle.osdp_calls.proofs.Counting.{GivesNone, LinkGivesNone, at_site, counted, in_net, net_none}
 use Rattle.osdp_calls.proofs.Losing.{IsPlain, IsStill}
+use Rattle.osdp_calls.proofs.Matching.{IsOurs}
 use Rattle.osdp_calls.proofs.Same.{IsNetOf}
 use Rattle.osdp_calls.proofs.Stations.{Makes}
 
@@ -125,7 +127,7 @@ module _ {H : Type 0} where
       pub same : IsNetOf next net
       pub kinds : Each (IsOf call) moves
       pub made : Made call l moves
-      pub submitted : (k : ℕ) → in_net answer_of after submitted k moves n ≡ accepted_by k call l
+      pub submitted : (k : ℕ) → IsOurs k l.stations → in_net answer_of after submitted k moves n ≡ accepted_by k call l
       pub queued : (k : ℕ) → in_net answer_of after queued k moves n ≡ queued_by k call l
 
     -- a call that accepts nothing
@@ -142,7 +144,7 @@ module _ {H : Type 0} where
           same = r.same;
           kinds = each_map IsPlain (IsOf call) (plain_of call) r.reached.moves r.reached.plain;
           made = m.made;
-          submitted = λ k. net_none answer_of after submitted submits_none k r.reached.moves n gives ∙ sym (no_command k);
+          submitted = λ k own. net_none answer_of after submitted submits_none k r.reached.moves n gives ∙ sym (no_command k);
           queued = λ k. net_none answer_of after queued queues_none k r.reached.moves n gives ∙ sym (no_event k);
         }
 
@@ -158,7 +160,7 @@ module _ {H : Type 0} where
       same = same;
       kinds = (of_it, tt);
       made = made;
-      submitted = λ k. net_none answer_of after submitted submits_none k (move ∷ []) n (none, tt) ∙ sym (no_command k);
+      submitted = λ k own. net_none answer_of after submitted submits_none k (move ∷ []) n (none, tt) ∙ sym (no_command k);
       queued = λ k. net_none answer_of after queued queues_none k (move ∷ []) n (none, tt) ∙ sym (no_event k);
     }
 
@@ -261,7 +263,28 @@ module _ {H : Type 0} where
       same = same;
       kinds = (refl, tt);
       made = inr (none, refl);
-      submitted = λ j. one_submit k j command s n is free accepts ∙ sym (accepts_so k j command (submit_refusal_at k command l.bus) None none);
+      submitted = λ j own. one_submit k j command s n is free accepts ∙ sym (accepts_so k j command (submit_refusal_at k command l.bus) None none);
+      queued = λ j. submit_no_event k j command n;
+    }
+
+    -- .. of an entry without a station
+    pub by_other : (k : ℕ) (command : Command) (l : InUse H) (n : Net H) (next : InUse H) → site_at k n.sites ≡ None → site_at k l.stations ≡ None
+        → submit_refusal_at k command l.bus ≡ None → CommandFits command → IsNetOf next n → StepsTo (OfPanel (bus.Submit k command)) l n next
+    by_other k command l n next nobody none is fits same = record {
+      net = n;
+      moves = Submit k command ∷ [];
+      fit = ((fits, λ s asked at accepted moves. absurd (let e = sym nobody ∙ at in cc)), tt);
+      run = ap (λ o. line.change_unless (λ s. is_comset_refused k (comset_of command) s n.sites) k o (line.submits answer_of after command) n) nobody;
+      same = same;
+      kinds = (refl, tt);
+      made = inr (is, refl);
+      submitted = λ j own. elim (eqb_tells k j) [
+        | inl here ↦ absurd (let e = sym (ap is_some (subst (λ i. site_at i l.stations ≡ None) here.1 none)) ∙ own in cc)
+        | inr differs ↦
+            append-nil (at_site answer_of after submitted j (site_at j n.sites) (Submit k command) n)
+            ∙ other_submit k j command (site_at j n.sites) n differs.0
+            ∙ sym (ap (λ b. cond b (changed_unless (submit_refusal_at k command l.bus) [] (command ∷ [])) []) differs.0)
+      ];
       queued = λ j. submit_no_event k j command n;
     }
 
@@ -276,6 +299,6 @@ module _ {H : Type 0} where
       same = same;
       kinds = tt;
       made = inl (fault, is, refl);
-      submitted = λ j. sym (accepts_so k j command (submit_refusal_at k command l.bus) (Some fault) is ∙ both (λ xs. xs ≡ []) (k == j) [] [] refl refl);
+      submitted = λ j own. sym (accepts_so k j command (submit_refusal_at k command l.bus) (Some fault) is ∙ both (λ xs. xs ≡ []) (k == j) [] [] refl refl);
       queued = λ j. refl;
     }

@@ -1,19 +1,20 @@
 -- Packets of others: no controller is at their address, whatever the panel has read before in the same call, and no device answers them.
-use Rattle.std.proofs.Common.{◌≡◌, ◌≢◌, ◌+◌, ℕ, zero, suc, Bool, true, false, cond, not, ◌||◌, List, [], ◌∷◌, Option, Some, None, refl, sym, subst, ap, ◌∙◌, inl, inr}
+use Rattle.std.proofs.Common.{◌≡◌, ◌≢◌, ◌≤◌, ◌+◌, ℕ, zero, suc, Bool, true, false, cond, not, ◌||◌, List, [], ◌∷◌, length, Option, Some, None, refl, sym, subst, ap, ◌∙◌, arith, inl, inr}
 use Rattle.std.specs.Prelude.{◌==◌, slice_get, slice_set}
 use Rattle.osdp_frame.specs.Items.{items}
 use Rattle.osdp_frame.specs.Packet.{Packet}
 use Rattle.osdp_frame.specs.Reading.{RunItem, PacketItem, SkippedItem, RefusedItem}
 use Rattle.osdp_msg.specs.declared.command.Command.{Command}
 use Rattle.osdp_controller.specs.Hearing.{hears}
+use Rattle.osdp_controller.specs.declared.report.Report.{Report}
 use Rattle.osdp_controller.specs.declared.session.Session.{Session}
 use Rattle.osdp_bus.specs.Buses.{BusState, Devices, is_silent}
-use Rattle.osdp_bus.specs.Devices.{address_of, device_hears, first_from, is_at}
+use Rattle.osdp_bus.specs.Devices.{address_of, device_hears, first_from, is_at, told_of}
 use Rattle.osdp_bus.specs.Hearing.{ends_run, ends_silent, hears_at, hears_items, hears_packet, hears_with}
 use Rattle.osdp_bus.specs.declared.device.Device.{Device}
-use Rattle.osdp_bus_laws.specs.Reports.{told_by_entry}
+use Rattle.osdp_bus_laws.specs.Reports.{told_at, told_by_entry, told_with}
 use Rattle.osdp_device.specs.Saying.{speaks}
-use Rattle.osdp_link_laws.proofs.Lines.{both}
+use Rattle.osdp_link_laws.proofs.Lines.{both, each_all}
 use Rattle.osdp_link_laws.proofs.Numbers.{is_false}
 use Rattle.osdp_link_laws.proofs.Stages.{Each}
 use Rattle.osdp_reader.specs.State.{ReaderState}
@@ -22,13 +23,16 @@ use Rattle.osdp_reader.specs.declared.handler.Answer.{Answer}
 use Rattle.osdp_reader.specs.declared.kind.Kind.{Kind}
 use Rattle.osdp_reader.specs.declared.kind.Kind.TheVariants as kind
 use Rattle.osdp_shared_line.specs.Addresses.{Sets, Somewhere, asked_in}
-use Rattle.osdp_shared_line.specs.Line.{site_at}
+use Rattle.osdp_shared_line.specs.Line.{Site, changed, site_at}
 use Rattle.osdp_shared_line.proofs.Controllers.{hears_well}
 use Rattle.osdp_shared_line.proofs.Lists.{somewhere_front, somewhere_rest}
-use Rattle.osdp_calls.specs.Calls.{first_answered}
+use Rattle.osdp_shared_line.proofs.Sites.{some_same}
+use Rattle.osdp_calls.specs.Calls.{all_hear, change_at, changes_at, first_answered, hears_of}
 use Rattle.osdp_calls.specs.Lines.{Burst, InUse, Station}
 use Rattle.osdp_calls.specs.Premises.{AreInOrder, IsAsked, IsOfOthers, IsThere}
 use Rattle.osdp_calls.specs.Strangers.{OthersArePassedOver}
+use Rattle.osdp_calls.proofs.Matching.{Match, none_past, set_other}
+use Rattle.osdp_calls.proofs.Same.{IsSiteOf}
 
 -- ---- the same order, with more that need none
 
@@ -57,81 +61,136 @@ heard_off a p now s off =
       λ asked. off.1 (subst (Somewhere (Sets a)) (sym well.left.1) (somewhere_rest (Sets a) well.left.0 (asked_in (hears p now s).session.state) asked)),
     )
 
--- of these devices none is at the packet's address
-abbrev pub IsElsewhere : List Device → Packet → Type 0
-IsElsewhere ds p = Each (λ (d : Device). IsOff p.address d.controller.session) ds
+-- of so many devices none is at the packet's address
+abbrev pub IsElsewhere : ℕ → List Device → Packet → Type 0
+IsElsewhere zero ds p = Unit {0}
+IsElsewhere (suc m) [] p = Unit {0}
+IsElsewhere (suc m) (d ∷ ds) p = IsOff p.address d.controller.session × IsElsewhere m ds p
 
-each_got : {A : Type 0} (P : A → Type 0) (xs : List A) → ((k : ℕ) (x : A) → slice_get xs k ≡ Some x → P x) → Each P xs
-each_got P [] f = tt
-each_got P (x ∷ xs) f = (f 0 x refl, each_got P xs (λ k y is. f (suc k) y is))
-
-got_each : {A : Type 0} (P : A → Type 0) (k : ℕ) (x : A) (xs : List A) → Each P xs → slice_get xs k ≡ Some x → P x
-got_each P k x [] all is = absurd (let e = is in cc)
-got_each {A} P zero x (y ∷ xs) all is = let same : y ≡ x = cc in subst P same all.0
-got_each P (suc k) x (y ∷ xs) all is = got_each P k x xs all.1 is
-
-set_each : {A : Type 0} (P : A → Type 0) (k : ℕ) (x : A) (xs : List A) → Each P xs → P x → Each P (slice_set xs k x)
-set_each P k x [] all is = tt
-set_each P zero x (y ∷ xs) all is = (is, all.1)
-set_each P (suc k) x (y ∷ xs) all is = (all.0, set_each P k x xs all.1 is)
+set_elsewhere : (p : Packet) (m k : ℕ) (e : Device) (ds : List Device)
+    → ((d : Device) → slice_get ds k ≡ Some d → IsOff p.address d.controller.session → IsOff p.address e.controller.session)
+    → IsElsewhere m ds p → IsElsewhere m (slice_set ds k e) p
+set_elsewhere p zero k e ds f all = tt
+set_elsewhere p (suc m) k e [] f all = tt
+set_elsewhere p (suc m) zero e (d ∷ ds) f all = (f d refl all.0, all.1)
+set_elsewhere p (suc m) (suc k) e (d ∷ ds) f all = (all.0, set_elsewhere p m k e ds f all.1)
 
 -- .. nor after they have heard another packet
-heard_elsewhere : (p q : Packet) (now : ℕ) (ds : Devices) → IsElsewhere ds.entries p → IsElsewhere (hears_packet q now ds).entries p
-heard_elsewhere p q now ds off = by_place (first_from 0 (is_at q.address) ds.entries)
+heard_elsewhere : (p q : Packet) (now m : ℕ) (ds : Devices) → IsElsewhere m ds.entries p → IsElsewhere m (hears_packet q now ds).entries p
+heard_elsewhere p q now m ds off = by_place (first_from 0 (is_at q.address) ds.entries)
   where
-    by_entry : (k : ℕ) (o : Option Device) → slice_get ds.entries k ≡ o → IsElsewhere (hears_with q now k o ds).entries p
+    by_entry : (k : ℕ) (o : Option Device) → slice_get ds.entries k ≡ o → IsElsewhere m (hears_with q now k o ds).entries p
     by_entry k None is = off
     by_entry k (Some d) is =
-        set_each (λ (e : Device). IsOff p.address e.controller.session) k (device_hears q now d) ds.entries off
-        (heard_off p.address q now d.controller.session (got_each (λ (e : Device). IsOff p.address e.controller.session) k d ds.entries off is))
+        set_elsewhere p m k (device_hears q now d) ds.entries (λ e at was.
+        heard_off p.address q now d.controller.session (subst (λ (f : Device). IsOff p.address f.controller.session) (some_same e d (sym at ∙ is)) was)) off
 
-    by_place : (o : Option ℕ) → IsElsewhere (hears_at q now o ds).entries p
+    by_place : (o : Option ℕ) → IsElsewhere m (hears_at q now o ds).entries p
     by_place None = off
     by_place (Some k) = by_entry k (slice_get ds.entries k) refl
 
-items_elsewhere : (p : Packet) (now : ℕ) (parts : List RunItem) (ds : Devices) → IsElsewhere ds.entries p → IsElsewhere (hears_items now parts ds).entries p
-items_elsewhere p now [] ds off = off
-items_elsewhere p now (PacketItem q ∷ parts) ds off = items_elsewhere p now parts (hears_packet q now ds) (heard_elsewhere p q now ds off)
-items_elsewhere p now (SkippedItem byte ∷ parts) ds off = items_elsewhere p now parts ds off
-items_elsewhere p now (RefusedItem fault ∷ parts) ds off = items_elsewhere p now parts ds off
+items_elsewhere : (p : Packet) (now m : ℕ) (parts : List RunItem) (ds : Devices) → IsElsewhere m ds.entries p → IsElsewhere m (hears_items now parts ds).entries p
+items_elsewhere p now m [] ds off = off
+items_elsewhere p now m (PacketItem q ∷ parts) ds off = items_elsewhere p now m parts (hears_packet q now ds) (heard_elsewhere p q now m ds off)
+items_elsewhere p now m (SkippedItem byte ∷ parts) ds off = items_elsewhere p now m parts ds off
+items_elsewhere p now m (RefusedItem fault ∷ parts) ds off = items_elsewhere p now m parts ds off
 
-silent_elsewhere : (p : Packet) (b : BusState) → IsElsewhere b.devices.entries p → IsElsewhere (ends_silent b).devices.entries p
-silent_elsewhere p b off =
-    both (λ (c : BusState). IsElsewhere c.devices.entries p) (is_silent b) (ends_run b) b
-    (items_elsewhere p b.greatest (items true b.held) b.devices off) off
+silent_elsewhere : (p : Packet) (m : ℕ) (b : BusState) → IsElsewhere m b.devices.entries p → IsElsewhere m (ends_silent b).devices.entries p
+silent_elsewhere p m b off =
+    both (λ (c : BusState). IsElsewhere m c.devices.entries p) (is_silent b) (ends_run b) b
+    (items_elsewhere p b.greatest m (items true b.held) b.devices off) off
 
--- no controller hears such a packet
-pub nobody_at : (p : Packet) (at : ℕ) (ds : List Device) → IsElsewhere ds p → first_from at (is_at p.address) ds ≡ None
-nobody_at p at [] off = refl
-nobody_at p at (d ∷ ds) off =
-    ap (λ b. cond b (Some at) (first_from (at + 1) (is_at p.address) ds)) (is_false (address_of d) p.address off.0.0) ∙ nobody_at p (at + 1) ds off.1
+pub from_least : (test : Device → Bool) (at j : ℕ) (ds : List Device) → first_from at test ds ≡ Some j → at ≤ j
+from_least test at j [] is = absurd (let e = is in cc)
+from_least test at j (d ∷ ds) is = by_test (test d) is (λ further. from_least test (at + 1) j ds further)
+  where
+    by_test : (b : Bool) → cond b (Some at) (first_from (at + 1) test ds) ≡ Some j → (first_from (at + 1) test ds ≡ Some j → at + 1 ≤ j) → at ≤ j
+    by_test true here least = let same = some_same at j here in omega (arith, same)
+    by_test false further least = let more = least further in omega (arith, more)
+
+got_other : {A : Type 0} (k j : ℕ) (x : A) (xs : List A) → k ≢ j → slice_get (slice_set xs j x) k ≡ slice_get xs k
+got_other k j x [] other = refl
+got_other zero zero x (y ∷ ys) other = absurd (other refl)
+got_other zero (suc j) x (y ∷ ys) other = refl
+got_other (suc k) zero x (y ∷ ys) other = refl
+got_other (suc k) (suc j) x (y ∷ ys) other = got_other k j x ys (λ e. other (ap suc e))
+
+-- only a controller past these hears such a packet
+heard_past : (p : Packet) (m at j : ℕ) (ds : List Device) → IsElsewhere m ds p → first_from at (is_at p.address) ds ≡ Some j → at + m ≤ j
+heard_past p zero at j ds off is = let least = from_least (is_at p.address) at j ds is in omega (arith, least)
+heard_past p (suc m) at j [] off is = absurd (let e = is in cc)
+heard_past p (suc m) at j (d ∷ ds) off is =
+    let further = sym (ap (λ b. cond b (Some at) (first_from (at + 1) (is_at p.address) ds)) (is_false (address_of d) p.address off.0.0)) ∙ is in
+    let rest = heard_past p m (at + 1) j ds off.1 further in omega (arith, rest)
 
 -- ---- what the panel reads is in order, but what is for none of its controllers
 
 -- .. as it stays when another packet has been heard, or a run is over
-pub order_heard : (q : Packet) (now : ℕ) (ds : Devices) (said : List Burst) (ps : List Packet) (places : List ℕ) (before : ℕ)
-    → AreInOrder (IsElsewhere ds.entries) said ps places before → AreInOrder (IsElsewhere (hears_packet q now ds).entries) said ps places before
-order_heard q now ds said ps places before order =
-    order_of (IsElsewhere ds.entries) (IsElsewhere (hears_packet q now ds).entries) said (λ p off. heard_elsewhere p q now ds off) ps places before order
+order_heard : (m : ℕ) (q : Packet) (now : ℕ) (ds : Devices) (said : List Burst) (ps : List Packet) (places : List ℕ) (before : ℕ)
+    → AreInOrder (IsElsewhere m ds.entries) said ps places before → AreInOrder (IsElsewhere m (hears_packet q now ds).entries) said ps places before
+order_heard m q now ds said ps places before order =
+    order_of (IsElsewhere m ds.entries) (IsElsewhere m (hears_packet q now ds).entries) said (λ p off. heard_elsewhere p q now m ds off) ps places before order
 
-pub order_silent : (b : BusState) (said : List Burst) (ps : List Packet) (places : List ℕ) (before : ℕ)
-    → AreInOrder (IsElsewhere b.devices.entries) said ps places before → AreInOrder (IsElsewhere (ends_silent b).devices.entries) said ps places before
-order_silent b said ps places before order =
-    order_of (IsElsewhere b.devices.entries) (IsElsewhere (ends_silent b).devices.entries) said (λ p off. silent_elsewhere p b off) ps places before order
+order_silent : (m : ℕ) (b : BusState) (said : List Burst) (ps : List Packet) (places : List ℕ) (before : ℕ)
+    → AreInOrder (IsElsewhere m b.devices.entries) said ps places before → AreInOrder (IsElsewhere m (ends_silent b).devices.entries) said ps places before
+order_silent m b said ps places before order =
+    order_of (IsElsewhere m b.devices.entries) (IsElsewhere m (ends_silent b).devices.entries) said (λ p off. silent_elsewhere p m b off) ps places before order
 
 module _ {H : Type 0} where
-  abbrev pub Ordered : InUse H → List Packet → List ℕ → Type 0
-  Ordered l ps places = AreInOrder (IsElsewhere l.bus.devices.entries) l.said ps places l.place
+  -- no station goes or comes where something is told
+  changes_many : (k : ℕ) (change : Station H → Station H) (o : Option (Station H)) (ts : List (Station H)) → length (changes_at k change o ts) ≡ length ts
+  changes_many k change None ts = refl
+  changes_many k change (Some t) ts = many_changed k (change t) ts
+    where
+      many_changed : (i : ℕ) (u : Station H) (us : List (Station H)) → length (changed i u us) ≡ length us
+      many_changed i u [] = refl
+      many_changed zero u (x ∷ us) = refl
+      many_changed (suc i) u (x ∷ us) = ap suc (many_changed i u us)
 
-  elsewhere : (l : InUse H) (p : Packet) → IsOfOthers l p → IsElsewhere l.bus.devices.entries p
+  pub heard_many : (told : List (ℕ × Report)) (ts : List (Station H)) → length (all_hear told ts) ≡ length ts
+  heard_many [] ts = refl
+  heard_many (x ∷ xs) ts = heard_many xs (change_at x.0 (hears_of x.1) ts) ∙ changes_many x.0 (hears_of x.1) (site_at x.0 ts) ts
+
+  -- .. to an entry without one nothing is
+  pub heard_by_none : (j : ℕ) (r : Option Report) (ts : List (Station H)) → site_at j ts ≡ None → all_hear (told_at j r) ts ≡ ts
+  heard_by_none j None ts none = refl
+  heard_by_none j (Some r) ts none = ap (λ o. changes_at j (hears_of r) o ts) none
+
+  abbrev pub Ordered : InUse H → List Packet → List ℕ → Type 0
+  Ordered l ps places = AreInOrder (IsElsewhere (length l.stations) l.bus.devices.entries) l.said ps places l.place
+
+  -- the order that is left when a packet has been heard, or a run is over
+  pub ordered_heard : (told : List (ℕ × Report)) (q : Packet) (l : InUse H) (ps : List Packet) (places : List ℕ) (before : ℕ)
+      → AreInOrder (IsElsewhere (length l.stations) l.bus.devices.entries) l.said ps places before
+      → AreInOrder (IsElsewhere (length (all_hear told l.stations)) (hears_packet q l.bus.greatest l.bus.devices).entries) l.said ps places before
+  ordered_heard told q l ps places before order =
+      subst (λ m. AreInOrder (IsElsewhere m (hears_packet q l.bus.greatest l.bus.devices).entries) l.said ps places before) (sym (heard_many told l.stations))
+      (order_heard (length l.stations) q l.bus.greatest l.bus.devices l.said ps places before order)
+
+  pub ordered_silent : (told : List (ℕ × Report)) (l : InUse H) (ps : List Packet) (places : List ℕ) (before : ℕ)
+      → AreInOrder (IsElsewhere (length l.stations) l.bus.devices.entries) l.said ps places before
+      → AreInOrder (IsElsewhere (length (all_hear told l.stations)) (ends_silent l.bus).devices.entries) l.said ps places before
+  ordered_silent told l ps places before order =
+      subst (λ m. AreInOrder (IsElsewhere m (ends_silent l.bus).devices.entries) l.said ps places before) (sym (heard_many told l.stations))
+      (order_silent (length l.stations) l.bus l.said ps places before order)
+
+  elsewhere_from : (p : Packet) (ts : List (Station H)) (ds : List Device)
+      → ((k : ℕ) (t : Station H) (d : Device) → site_at k ts ≡ Some t → slice_get ds k ≡ Some d → IsOff p.address d.controller.session)
+      → IsElsewhere (length ts) ds p
+  elsewhere_from p [] ds f = tt
+  elsewhere_from p (t ∷ ts) [] f = tt
+  elsewhere_from p (t ∷ ts) (d ∷ ds) f = (f 0 t d refl refl, elsewhere_from p ts ds (λ k u e there at. f (suc k) u e there at))
+
+  pub elsewhere : (l : InUse H) (p : Packet) → IsOfOthers l p → IsElsewhere (length l.stations) l.bus.devices.entries p
   elsewhere l p others =
-      each_got (λ (d : Device). IsOff p.address d.controller.session) l.bus.devices.entries (λ k d at. (
-        others.entries k d at,
-        λ asked. others.devices k (IsAsked d at (somewhere_front (Sets p.address) (asked_in d.controller.session.state) d.controller.waiting asked)),
+      elsewhere_from p l.stations l.bus.devices.entries (λ k t d there at. (
+        others.entries k t d there at,
+        λ asked. others.devices k (IsAsked t d there at (somewhere_front (Sets p.address) (asked_in d.controller.session.state) d.controller.waiting asked)),
       ))
 
   pub ordered : (l : InUse H) (ps : List Packet) (places : List ℕ) → AreInOrder (IsOfOthers l) l.said ps places l.place → Ordered l ps places
-  ordered l ps places order = order_of (IsOfOthers l) (IsElsewhere l.bus.devices.entries) l.said (λ p others. elsewhere l p others) ps places l.place order
+  ordered l ps places order =
+      order_of (IsOfOthers l) (IsElsewhere (length l.stations) l.bus.devices.entries) l.said (λ p others. elsewhere l p others) ps places l.place order
 
   -- ---- what a device reads is in order, but what it doesn't answer
 
@@ -161,11 +220,57 @@ module _ {H : Type 0} where
   order_for_device k t l is ps places order =
       order_of (IsOfOthers l) (IsUnanswered t.reader) l.said (λ p others. ap speaks (silent_to_others k t l is p others)) ps places t.place order
 
-  pub passed_over : (answer_of : H → Command → Answer) (after : H → Command → H) → OthersArePassedOver answer_of after
-  passed_over answer_of after l p others =
-      let nobody = nobody_at p 0 l.bus.devices.entries (elsewhere l p others) in
-      record {
-        controllers = λ now. ap (λ o. hears_at p now o l.bus.devices) nobody;
-        told = λ now. ap (λ o. told_by_entry p now o l.bus.devices) nobody;
-        devices = λ k t is. ap (λ x. outcome answer_of after x t.reader p) (silent_to_others k t l is p others);
+  -- ---- no station hears of a packet of others
+
+  -- what is told is told of entries without a station
+  abbrev pub AreOfOthers : List (ℕ × Report) → List (Station H) → Type 0
+  AreOfOthers told ts = Each (λ (x : ℕ × Report). site_at x.0 ts ≡ None) told
+
+  told_of_others : (j : ℕ) (r : Option Report) (ts : List (Station H)) → site_at j ts ≡ None → AreOfOthers (told_at j r) ts
+  told_of_others j None ts none = tt
+  told_of_others j (Some r) ts none = (none, tt)
+
+  -- the entry that hears it, if any
+  pub record HearsOther (p : Packet) (now : ℕ) (o : Option ℕ) (l : InUse H) : Type 0 where
+    pub stations : all_hear (told_by_entry p now o l.bus.devices) l.stations ≡ l.stations
+    pub told : AreOfOthers (told_by_entry p now o l.bus.devices) l.stations
+    pub entries : (k : ℕ) (t : Station H) → site_at k l.stations ≡ Some t
+        → slice_get (hears_at p now o l.bus.devices).entries k ≡ slice_get l.bus.devices.entries k
+    pub keeps : (ss : List (Site H)) → Match (IsSiteOf l.openings l.said l.bus.greatest) 0 l.bus.devices.entries l.stations ss
+        → Match (IsSiteOf l.openings l.said l.bus.greatest) 0 (hears_at p now o l.bus.devices).entries l.stations ss
+
+  pub hears_other : (p : Packet) (now : ℕ) (o : Option ℕ) (l : InUse H) → ((j : ℕ) → o ≡ Some j → site_at j l.stations ≡ None) → HearsOther p now o l
+  hears_other p now None l none = record { stations = refl; told = tt; entries = λ k t is. refl; keeps = λ ss m. m }
+  hears_other p now (Some j) l none = by_entry (slice_get l.bus.devices.entries j) refl
+    where
+      by_entry : (q : Option Device) → slice_get l.bus.devices.entries j ≡ q → HearsOther p now (Some j) l
+      by_entry None is = record {
+        stations = ap (λ q. all_hear (told_with p now j q) l.stations) is;
+        told = subst (λ q. AreOfOthers (told_with p now j q) l.stations) (sym is) tt;
+        entries = λ k t there. ap (λ q. slice_get (hears_with p now j q l.bus.devices).entries k) is;
+        keeps = λ ss m. subst (λ q. Match (IsSiteOf l.openings l.said l.bus.greatest) 0 (hears_with p now j q l.bus.devices).entries l.stations ss) (sym is) m;
       }
+      by_entry (Some d) is = record {
+        stations = ap (λ q. all_hear (told_with p now j q) l.stations) is ∙ heard_by_none j (told_of p now d) l.stations (none j refl);
+        told = subst (λ q. AreOfOthers (told_with p now j q) l.stations) (sym is) (told_of_others j (told_of p now d) l.stations (none j refl));
+        entries = λ k t there. ap (λ q. slice_get (hears_with p now j q l.bus.devices).entries k) is
+            ∙ got_other k j (device_hears p now d) l.bus.devices.entries
+            (λ same. let here = subst (λ i. site_at i l.stations ≡ Some t) same there in absurd (let e = sym (none j refl) ∙ here in cc));
+        keeps = λ ss m. subst (λ q. Match (IsSiteOf l.openings l.said l.bus.greatest) 0 (hears_with p now j q l.bus.devices).entries l.stations ss) (sym is)
+            (set_other (IsSiteOf l.openings l.said l.bus.greatest) j (device_hears p now d) l.bus.devices.entries l.stations ss (none j refl) m);
+      }
+
+  pub others_hear : (p : Packet) (now : ℕ) (l : InUse H) → IsElsewhere (length l.stations) l.bus.devices.entries p
+      → HearsOther p now (first_from 0 (is_at p.address) l.bus.devices.entries) l
+  others_hear p now l off =
+      hears_other p now (first_from 0 (is_at p.address) l.bus.devices.entries) l (λ j is.
+      let past = heard_past p (length l.stations) 0 j l.bus.devices.entries off is in none_past j l.stations (omega (arith, past)))
+
+  pub passed_over : (answer_of : H → Command → Answer) (after : H → Command → H) → OthersArePassedOver answer_of after
+  passed_over answer_of after l p others = record {
+    controllers = λ now k t d there at. (others_hear p now l (elsewhere l p others)).entries k t there ∙ at;
+    told = λ now.
+        let h = others_hear p now l (elsewhere l p others) in
+        each_all (λ (x : ℕ × Report). site_at x.0 l.stations ≡ None) (told_by_entry p now (first_from 0 (is_at p.address) l.bus.devices.entries) l.bus.devices) h.told;
+    devices = λ k t is. ap (λ x. outcome answer_of after x t.reader p) (silent_to_others k t l is p others);
+  }

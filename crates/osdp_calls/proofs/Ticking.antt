@@ -28,17 +28,18 @@ use Rattle.osdp_shared_line.specs.Line as line
 use Rattle.osdp_shared_line.specs.Line.{Net, NetMove, Reopen, Site, Tick, address_of, after_net, changed, is_told, run, site_at, tagged}
 use Rattle.osdp_shared_line.specs.Views.{IsQuiet}
 use Rattle.osdp_shared_line.proofs.Sites.{at_changed, some_same}
-use Rattle.osdp_calls.specs.Calls.{all_hear, begins_session, begins_with, begun_of, change_at, changes_at, panel_says, waiting_of}
+use Rattle.osdp_calls.specs.Calls.{all_hear, begins_session, begins_with, begun_of, change_at, changes_at, panel_says, said_for, waiting_of}
 use Rattle.osdp_calls.specs.Lines.{InUse, Opening, Station}
 use Rattle.osdp_calls.proofs.Ahead.{device_quiet, from_panel, panel_quiet, panel_told_device, panel_told_panel}
 use Rattle.osdp_calls.proofs.Controllers.{equal_same, opened_ticks, ticked_same, ticks_same}
 use Rattle.osdp_calls.proofs.Losing.{IsLoss, changed_twice, joins}
-use Rattle.osdp_calls.proofs.Matching.{FoundAt, Match, Nobody, Somebody, found, matched_map, set}
+use Rattle.osdp_calls.proofs.Matching.{FoundAt, Match, Nobody, Somebody, found, matched_map, set, set_other}
 use Rattle.osdp_calls.proofs.Nexts.{within_more, length_more}
 use Rattle.osdp_calls.proofs.Opens.{opens}
 use Rattle.osdp_calls.proofs.Panel.{one_seen, one_told}
 use Rattle.osdp_calls.proofs.Same.{Controls, IsNetOf, IsRightly, IsSiteOf, IsToOpen, controlled_so, placed_so, sites_so}
 use Rattle.osdp_calls.proofs.Stations.{Makes, Sites, make_move, make_none}
+use Rattle.osdp_calls.proofs.Strangers.{heard_by_none}
 
 -- ---- what a controller sends are commands
 
@@ -107,7 +108,8 @@ module _ {H : Type 0} where
         ((ticks g (after_begin began m).session (after_begin began m).waiting).step.frame ≡ Some p)
         × ((ticks g (after_begin began m).session (after_begin began m).waiting).step.report ≡ None)
 
-    -- what a tick comes to: nothing; the tick, where no session begins; or what is lost as one opens, its beginning, and the tick
+    -- what a tick comes to: nothing; the tick, where no session begins; what is lost as one opens, its beginning, and the tick; or that of an entry without a
+    -- station
     pub data IsTicked (o : Option ℕ) (l : InUse H) (n : Net H) (moves : List (NetMove H)) : Type 0 where
       Rests : moves ≡ [] → told_by_ticking o l.bus ≡ [] → (ticks_at o l.bus).sent ≡ None → IsTicked o l n moves
       GoesOn : (k : ℕ) → o ≡ Some k → begun_of (site_at k l.stations) ≡ None → moves ≡ Tick k l.bus.greatest ∷ [] → IsTicked o l n moves
@@ -116,6 +118,7 @@ module _ {H : Type 0} where
           → run answer_of after lost n ≡ mid → site_at k mid.sites ≡ Some s → is_closed s.controller.session.state ≡ true
           → IsOpeningOf began l.bus.greatest p s.controller
           → moves ≡ lost ++ Reopen k began ∷ Tick k l.bus.greatest ∷ [] → IsTicked o l n moves
+      IsOfOther : (k : ℕ) → o ≡ Some k → site_at k l.stations ≡ None → moves ≡ [] → IsTicked o l n moves
 
     -- ---- a controller whose session has begun, or is not to begin
 
@@ -163,11 +166,11 @@ module _ {H : Type 0} where
         still : IsTicked (Some k) l n (Tick k l.bus.greatest ∷ [])
         still = GoesOn k refl (ap begun_of b ∙ begun) refl
 
-        not_begun : begun_of (site_at k (ticked_bus k d (ticks l.bus.greatest d.controller.session d.controller.waiting) l).stations) ≡ None
-        not_begun =
+        still_there : site_at k (ticked_bus k d (ticks l.bus.greatest d.controller.session d.controller.waiting) l).stations
+            ≡ Some (record t { account = after_report (ticks l.bus.greatest d.controller.session d.controller.waiting).step.report t.account })
+        still_there =
             let y = ticks l.bus.greatest d.controller.session d.controller.waiting in
-            ap (λ ts. begun_of (site_at k ts)) (one_told k y.step.report t l.stations b)
-            ∙ ap begun_of (at_changed k (record t { account = after_report y.step.report t.account }) t l.stations b) ∙ begun
+            ap (site_at k) (one_told k y.step.report t l.stations b) ∙ at_changed k (record t { account = after_report y.step.report t.account }) t l.stations b
 
         by_frame : (o : Option Packet) → (ticks l.bus.greatest d.controller.session d.controller.waiting).step.frame ≡ o
             → IfSome (ticks l.bus.greatest d.controller.session d.controller.waiting).step.frame (λ p. p.reply ≡ false)
@@ -182,11 +185,12 @@ module _ {H : Type 0} where
             let l1 = ticked_bus k d (ticks l.bus.greatest d.controller.session d.controller.waiting) l in
             let command : p.reply ≡ false = subst (λ o. IfSome o (λ q. q.reply ≡ false)) some so in
             subst (λ o. Makes answer_of after (IsTicked (Some k) l n) n (panel_says (Some k) o l1)) (sym some)
-            (subst (λ o. Makes answer_of after (IsTicked (Some k) l n) n (record (begins_with k p o l1) { said = l1.said ++ from_panel k p ∷ [] })) (sym not_begun)
+            (subst (λ q. Makes answer_of after (IsTicked (Some k) l n) n (record (begins_with k p (begun_of q) l1) { said = l1.said ++ said_for k p q })) (sym still_there)
+            (subst (λ o. Makes answer_of after (IsTicked (Some k) l n) n (record (begins_with k p o l1) { said = l1.said ++ from_panel k p ∷ [] })) (sym begun)
             (make_move answer_of after (IsTicked (Some k) l n) (Tick k l.bus.greatest) (record l1 { said = l1.said ++ from_panel k p ∷ [] }) n still tt tt
             (subst (IsNetOf (record l1 { said = l1.said ++ from_panel k p ∷ [] }))
             (sym (next ∙ ap (λ o. record n { sites = map (is_told (tagged k (option_to_list o))) (changed k (line.ticks answer_of after l.bus.greatest s) n.sites) }) some))
-            (panel_said k p l1 (record n { sites = changed k (line.ticks answer_of after l.bus.greatest s) n.sites }) command first))))
+            (panel_said k p l1 (record n { sites = changed k (line.ticks answer_of after l.bus.greatest s) n.sites }) command first)))))
 
     -- ---- a session begins with its opening ID
 
@@ -314,7 +318,7 @@ module _ {H : Type 0} where
         by_found : (m : Net H) → IsNetOf (record l { openings = opening_of k d l ∷ l.openings }) m
             → FoundAt (Sites (record l { openings = opening_of k d l ∷ l.openings })) k k l.bus.devices.entries l.stations m.sites
             → Makes answer_of after (IsBegun k began l.bus.greatest (opening_packet d.controller) m) m (with_opening k d t l)
-        by_found m h1 (Nobody x y z) = absurd (let e = sym y ∙ b in cc)
+        by_found m h1 (Nobody o x y z) = absurd (let e = sym y ∙ b in cc)
         by_found m h1 (Somebody d1 t1 s1 x y z has) =
             let lo : InUse H = record l { openings = opening_of k d l ∷ l.openings } in
             let mine : Sites lo k d t s1 =
@@ -358,7 +362,8 @@ module _ {H : Type 0} where
             let p = opening_packet d.controller in
             let e : Device = record { controller = record d.controller { session = y.session; waiting = y.waiting }; reserved = d.reserved } in
             subst (λ z. Makes answer_of after (IsTicked (Some k) l n) n (ticked_line k d z l)) (sym eq)
-            (subst (λ o. Makes answer_of after (IsTicked (Some k) l n) n (record (begins_with k p o lb) { said = l.said ++ from_panel k p ∷ [] })) (sym (ap begun_of b ∙ begun))
+            (subst (λ q. Makes answer_of after (IsTicked (Some k) l n) n (record (begins_with k p (begun_of q) lb) { said = l.said ++ said_for k p q })) (sym b)
+            (subst (λ o. Makes answer_of after (IsTicked (Some k) l n) n (record (begins_with k p o lb) { said = l.said ++ from_panel k p ∷ [] })) (sym begun)
             (subst (λ (o : Option Device). Makes answer_of after (IsTicked (Some k) l n) n (record lb {
               stations = change_at k (begins_session (waiting_of o)) l.stations;
               openings = opening_of k d l ∷ l.openings;
@@ -368,7 +373,28 @@ module _ {H : Type 0} where
               stations = changes_at k (begins_session d.controller.waiting) o l.stations;
               openings = opening_of k d l ∷ l.openings;
               said = l.said ++ from_panel k p ∷ [];
-            })) (sym b) (opens_then k began d t s l n h a b c is begun eq))))
+            })) (sym b) (opens_then k began d t s l n h a b c is begun eq)))))
+
+    -- ---- a controller of an entry without a station
+
+    ticks_other : (k : ℕ) (d : Device) (x : Ticked) (l : InUse H) (n : Net H) → IsNetOf l n → site_at k l.stations ≡ None → IsNetOf (ticked_line k d x l) n
+    ticks_other k d x l n h none = by_frame x.step.frame
+      where
+        stays : all_hear (told_at k x.step.report) l.stations ≡ l.stations
+        stays = heard_by_none k x.step.report l.stations none
+
+        first : IsNetOf (ticked_bus k d x l) n
+        first =
+            let e : Device = record { controller = record d.controller { session = x.session; waiting = x.waiting }; reserved = reserved_after x.step.report d.reserved } in
+            subst (λ ts. IsNetOf (record (ticked_bus k d x l) { stations = ts }) n) (sym (heard_by_none k x.step.report l.stations none))
+            (sites_so h (set_other (Sites l) k e l.bus.devices.entries l.stations n.sites none h.sites))
+
+        by_frame : (o : Option Packet) → IsNetOf (panel_says (Some k) o (ticked_bus k d x l)) n
+        by_frame None = first
+        by_frame (Some p) =
+            let lb = ticked_bus k d x l in
+            subst (λ q. IsNetOf (record (begins_with k p (begun_of q) lb) { said = lb.said ++ said_for k p q }) n) (sym (ap (site_at k) stays ∙ none))
+            (subst (λ bs. IsNetOf (record lb { said = bs }) n) (sym (append-nil lb.said)) first)
 
     -- ---- a tick of the controller of an entry, or of none
 
@@ -394,7 +420,10 @@ module _ {H : Type 0} where
               bus = (ticks_at (Some k) l.bus).bus;
               stations = all_hear (told_by_ticking (Some k) l.bus) l.stations;
             }))
-        by_found (Nobody a b c) =
+        by_found (Nobody None a b c) =
             let nobody : IsTicked (Some k) l n [] = Rests refl (ap (λ o. told_by_device k o l.bus) a) (ap (λ o. (ticks_with k o l.bus).sent) a) in
             subst Goal (sym a) (make_none answer_of after (IsTicked (Some k) l n) l n nobody h)
+        by_found (Nobody (Some d) a b c) =
+            subst Goal (sym a) (make_none answer_of after (IsTicked (Some k) l n) (ticked_line k d (ticks l.bus.greatest d.controller.session d.controller.waiting) l) n
+            (IsOfOther k refl b refl) (ticks_other k d (ticks l.bus.greatest d.controller.session d.controller.waiting) l n h b))
         by_found (Somebody d t s a b c is) = subst Goal (sym a) (by_begun d t s a b c is t.begun refl)

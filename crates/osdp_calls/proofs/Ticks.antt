@@ -1,5 +1,5 @@
 -- A tick of the bus: runs that are over are read, and then the controller of an entry ticks, or none.
-use Rattle.std.proofs.Common.{◌||◌, ℕ, not, Bool, true, false, cond, List, [], ◌∷◌, ◌++◌, Option, Some, None, sym, subst, ap, ◌∙◌, append-nil}
+use Rattle.std.proofs.Common.{◌||◌, ℕ, not, Bool, true, false, cond, List, [], ◌∷◌, ◌++◌, length, Option, Some, None, sym, subst, ap, ◌∙◌, append-nil}
 use Rattle.osdp_msg.specs.declared.command.Command.{Command}
 use Rattle.osdp_bus.specs.Buses.{has_report, holder, seen}
 use Rattle.osdp_bus.specs.Hearing.{ends_run}
@@ -16,7 +16,7 @@ use Rattle.osdp_calls.proofs.Panel.{at_seen, told_then}
 use Rattle.osdp_calls.proofs.Runs.{NotPast, at_end, at_silence, each_first, each_second, last_then, reads_end, reads_silence, split}
 use Rattle.osdp_calls.proofs.Same.{IsNetOf}
 use Rattle.osdp_calls.proofs.Stations.{Refines, by_none}
-use Rattle.osdp_calls.proofs.Strangers.{IsElsewhere, Ordered, order_silent}
+use Rattle.osdp_calls.proofs.Strangers.{IsElsewhere, Ordered, ordered_silent}
 use Rattle.osdp_calls.proofs.Ticking.{ticks_entry}
 use Rattle.osdp_controller.specs.declared.report.Report.{Report}
 
@@ -82,7 +82,7 @@ module _ {H : Type 0} (answer_of : H → Command → Answer) (after : H → Comm
           let l1 = record l { bus = b1 } in
           let j = judged now l.bus in
           let o = holder j in
-          let s = split (IsElsewhere l.bus.devices.entries) l.said (read_at_silence b1) (read_by_holder o j) places l.place all in
+          let s = split (IsElsewhere (length l.stations) l.bus.devices.entries) l.said (read_at_silence b1) (read_by_holder o j) places l.place all in
           let past_parts : Each (NotPast l) (s.front ++ s.back) = subst (Each (NotPast l)) s.parts past in
           let l2 = at_silence answer_of after s.front l1 in
           let told = told_by_holder o j in
@@ -95,4 +95,4 @@ module _ {H : Type 0} (answer_of : H → Command → Answer) (after : H → Comm
           }))) (sym (told_then (told_by_silence b1) told l.stations))
           (then_refines answer_of after n l2 (ticked_to (ticks_by o j) (asked_by_holder o j) told (last_of s.back l2.place) l2)
           (reads_silence answer_of after s.front l1 n (at_seen now l n h) s.first (each_first (NotPast l) s.front s.back past_parts))
-          (λ m h2. by_holder o s.back l2 m h2 (order_silent b1 l.said (read_by_holder o j) s.back (last_of s.front l.place) s.second) (each_second (NotPast l) s.front s.back past_parts))))
+          (λ m h2. by_holder o s.back l2 m h2 (ordered_silent (told_by_silence b1) l1 (read_by_holder o j) s.back (last_of s.front l.place) s.second) (each_second (NotPast l) s.front s.back past_parts))))

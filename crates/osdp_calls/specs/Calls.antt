@@ -174,10 +174,15 @@ module _ {H : Type 0} where
   begun_of None = None
   begun_of (Some t) = t.begun
 
+  -- what goes out for an entry whose device is of others is none of what was said
+  abbrev pub said_for : ℕ → Packet → Option (Station H) → List Burst
+  said_for entry p None = []
+  said_for entry p (Some t) = record { by_panel = true; entry = entry; packet = p } ∷ []
+
   abbrev pub panel_says : Option ℕ → Option Packet → InUse H → InUse H
   panel_says (Some entry) (Some p) l =
       let begins = begins_with entry p (begun_of (site_at entry l.stations)) l in
-      record begins { said = l.said ++ record { by_panel = true; entry = entry; packet = p } ∷ [] }
+      record begins { said = l.said ++ said_for entry p (site_at entry l.stations) }
   panel_says (Some entry) None l = l
   panel_says None p l = l
 

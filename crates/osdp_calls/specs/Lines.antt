@@ -32,8 +32,8 @@ pub record Opening : Type 0 where
   pub address : ℕ
   pub place : ℕ
 
--- a bus and the devices of its entries, in their order; what was said, the oldest first; the place of what the panel read last; and the
--- sessions that have begun, the last of them first
+-- a bus and the devices of its first entries, those that are ours, in their order; the devices of all further entries are of others. What was said by or for
+-- ours, the oldest first; the place of what the panel read last; and the sessions of ours that have begun, the last of them first
 pub record InUse (H : Type 0) : Type 0 where
   pub bus : BusState
   pub stations : List (Station H)

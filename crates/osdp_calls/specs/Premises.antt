@@ -48,7 +48,7 @@ module _ {H : Type 0} where
   -- that was said and that it may still read
   pub data MayBeAt (address k : ℕ) (l : InUse H) : Type 0 where
     IsThere : (t : Station H) → site_at k l.stations ≡ Some t → t.reader.config.address ≡ address → MayBeAt address k l
-    IsAsked : (d : Device) → device_of k l.bus ≡ Some d → Somewhere (Sets address) (unended_of d) → MayBeAt address k l
+    IsAsked : (t : Station H) (d : Device) → site_at k l.stations ≡ Some t → device_of k l.bus ≡ Some d → Somewhere (Sets address) (unended_of d) → MayBeAt address k l
     IsSaid : (t : Station H) → site_at k l.stations ≡ Some t
         → Somewhere (λ (q : ℕ × Packet). (q.0 ≡ k) × SetsReader address q.1) (ahead_of_device k t.place l.openings l.said) → MayBeAt address k l
 
@@ -56,7 +56,8 @@ module _ {H : Type 0} where
   -- to all.
   pub record IsOfOthers (l : InUse H) (p : Packet) : Type 0 where
     pub to_one : p.address ≢ 127
-    pub entries : (j : ℕ) (d : Device) → device_of j l.bus ≡ Some d → d.controller.session.config.address ≢ p.address
+    pub entries : (j : ℕ) (t : Station H) (d : Device) → site_at j l.stations ≡ Some t → device_of j l.bus ≡ Some d
+        → d.controller.session.config.address ≢ p.address
     pub devices : (j : ℕ) → MayBeAt p.address j l → ⊥
 
   -- What an end reads as packets was said by an end before, and no packet that it reads was said before one that it has read already. Nothing is
@@ -87,23 +88,27 @@ module _ {H : Type 0} where
   -- (Another entry's address, or one reserved for it, the bus refuses by itself.)
   abbrev pub PanelAddresses : bus.Call → InUse H → Type 0
   PanelAddresses (bus.Submit k command) l =
-      submit_refusal_at k command l.bus ≡ None → (asked : Communication) → comset_of command ≡ Some asked → IsNoOthers k asked.address l
-  PanelAddresses (bus.Retarget k address) l = retarget_refusal_at k address l.bus ≡ None → IsNoOthers k address l
+      (t : Station H) → site_at k l.stations ≡ Some t → submit_refusal_at k command l.bus ≡ None → (asked : Communication) → comset_of command ≡ Some asked → IsNoOthers k asked.address l
+  PanelAddresses (bus.Retarget k address) l =
+      (t : Station H) → site_at k l.stations ≡ Some t → retarget_refusal_at k address l.bus ≡ None → IsNoOthers k address l
   PanelAddresses _ l = Unit {0}
 
   -- an address that a device may have anew: no other entry's, no other device's, and nothing was said to it for another entry that this
   -- device may still read
   pub record IsFreeFor (k address : ℕ) (t : Station H) (l : InUse H) : Type 0 where
-    pub entries : (j : ℕ) (d : Device) → j ≢ k → device_of j l.bus ≡ Some d → d.controller.session.config.address ≢ address
+    pub entries : (j : ℕ) (u : Station H) (d : Device) → j ≢ k → site_at j l.stations ≡ Some u → device_of j l.bus ≡ Some d
+        → d.controller.session.config.address ≢ address
     pub devices : IsNoOthers k address l
     pub said : All (λ (q : ℕ × Packet). q.0 ≢ k → q.1.address ≢ address) (ahead_of_device k t.place l.openings l.said)
 
   -- each entry of a panel that is made anew has an address of its own, at which no other device is, and where no COMSET that was said and
   -- that it may still read takes another
   pub record PanelIsApart (addresses : List ℕ) (l : InUse H) : Type 0 where
-    pub own : (j k a b : ℕ) → j ≢ k → site_at j addresses ≡ Some a → site_at k addresses ≡ Some b → a ≢ b
-    pub there : (j k a : ℕ) (t : Station H) → j ≢ k → site_at k addresses ≡ Some a → site_at j l.stations ≡ Some t → t.reader.config.address ≢ a
-    pub said : (j k a : ℕ) (t : Station H) → j ≢ k → site_at k addresses ≡ Some a → site_at j l.stations ≡ Some t
+    pub own : (j k a b : ℕ) (t u : Station H) → j ≢ k → site_at j addresses ≡ Some a → site_at k addresses ≡ Some b → site_at j l.stations ≡ Some t
+        → site_at k l.stations ≡ Some u → a ≢ b
+    pub there : (j k a : ℕ) (t u : Station H) → j ≢ k → site_at k addresses ≡ Some a → site_at j l.stations ≡ Some t → site_at k l.stations ≡ Some u
+        → t.reader.config.address ≢ a
+    pub said : (j k a : ℕ) (t u : Station H) → j ≢ k → site_at k addresses ≡ Some a → site_at j l.stations ≡ Some t → site_at k l.stations ≡ Some u
         → Somewhere (λ (q : ℕ × Packet). (q.0 ≡ j) × SetsReader a q.1) (ahead_of_device j t.place l.openings l.said) → ⊥
 
   -- A device is made anew where it is, or at an address that is free for it. The panel is made anew with addresses that are no others'.
@@ -120,7 +125,8 @@ module _ {H : Type 0} where
   pub record IsSetUp (l : InUse H) : Type 0 where
     pub config : BusConfig
     pub settings : IsBusConfig config
-    pub bus : l.bus ≡ bus_with config (map (λ (t : Station H). t.reader.config.address) l.stations)
+    pub others : List ℕ
+    pub bus : l.bus ≡ bus_with config (map (λ (t : Station H). t.reader.config.address) l.stations ++ others)
     pub devices : (k : ℕ) (t : Station H) → site_at k l.stations ≡ Some t → t.reader.config.address < 127
     pub apart : (j k : ℕ) (s t : Station H) → j ≢ k → site_at j l.stations ≡ Some s → site_at k l.stations ≡ Some t
         → s.reader.config.address ≢ t.reader.config.address
@@ -149,7 +155,7 @@ module _ {H : Type 0} where
     InRange (Next k) l = NextInRange (site_at k l.stations)
     InRange (NewDevice k address handler room gap) l = (address < 127) × AreRoom room.messages room.bytes
     InRange (NewPanel config addresses) l =
-        IsBusConfig config × All (λ a. a < 127) addresses × (length addresses ≡ length l.stations)
+        IsBusConfig config × All (λ a. a < 127) addresses × (length l.stations ≤ length addresses)
     InRange _ l = Unit {0}
 
     -- each call of a list keeps the premises

@@ -1,5 +1,5 @@
 -- What goes out at a call is what is said, and entries that are added one by one are those of a line's set-up.
-use Rattle.std.specs.Prelude.{◌≡◌, ℕ, true, false, All, List, [], ◌∷◌, ◌++◌, map, Option, Some, None, option_to_list}
+use Rattle.std.specs.Prelude.{◌≡◌, ℕ, true, false, All, List, [], ◌∷◌, ◌++◌, map, Option, Some, None, if◌then◌else◌, is_some, option_to_list}
 use Rattle.std.specs.Option.{option_map}
 use Rattle.osdp_frame.specs.Items.{whole_packets}
 use Rattle.osdp_frame.specs.Packet.{Packet}
@@ -24,6 +24,11 @@ pub record IsSaid (Who : Burst → Type 0) (packets : List Packet) (old new : Li
   pub more : new ≡ old ++ bursts
   pub are : map (λ (b : Burst). b.packet) bursts ≡ packets
   pub who : All Who bursts
+
+-- of what goes out, what is for an entry whose device is ours
+abbrev pub for_ours : {H : Type 0} → Option ℕ → Option Packet → InUse H → List Packet
+for_ours None p l = []
+for_ours (Some entry) p l = if is_some (site_at entry l.stations) then option_to_list p else []
 
 -- by the panel, for the entry whose controller ticked
 abbrev pub ByPanel : ℕ → BusState → Burst → Type 0
@@ -77,5 +82,5 @@ module _ {H : Type 0} (answer_of : H → Command → Answer) (after : H → Comm
 
   pub record SaysWhatGoesOut (l : InUse H) : Type 0 where
     pub panel : (now : ℕ) (places : List ℕ)
-        → IsSaid (ByPanel now l.bus) (option_to_list (bus_ticks now l.bus).sent) l.said (after_call answer_of after (OfPanel (bus.Tick now)) places l).said
+        → IsSaid (ByPanel now l.bus) (for_ours (asked_at now l.bus) (bus_ticks now l.bus).sent l) l.said (after_call answer_of after (OfPanel (bus.Tick now)) places l).said
     pub device : (k : ℕ) (places : List ℕ) (t : Station H) → site_at k l.stations ≡ Some t → NextSays k places t l

@@ -39,7 +39,8 @@ use osdp_reader::Handler;
 ///   reader, or to or from its address.
 /// - Addresses: no accepted call and no restart gives an entry an address where another entry's device is or may come. A device that comes back
 ///   elsewhere comes to no address of another entry, and to none at which it may still read what was said for another.
-/// - Set-up: entries stand at different addresses, each with its reader there and no reply stored.
+/// - Set-up: entries stand at different addresses, each with its reader there and no reply stored. Further entries, after these, may have readers of
+///   others: nothing is promised or asked of them.
 /// - Values are in the ranges of their types, and no entry is added later.
 ///
 /// Nothing is asked of moments, of how bytes are cut, of when reports are taken, of who is busy, or of what the handlers answer.
@@ -73,14 +74,14 @@ pub fn calls_keep_apart<H: Handler>()
     osdp_shared_line::nobody_else_hears::<H>();
 }
 
-/// A packet of others, at an address where no entry is and no device of an entry is or may come, is passed over. No controller changes by it or tells
-/// anything, and no device changes by it or says anything. 127 is everybody's address.
+/// A packet of others, at an address where no entry of ours is and no device of one is or may come, is passed over. No controller of ours changes by it or
+/// tells anything, and no device of ours changes by it or says anything. 127 is everybody's address. A controller whose device is of others may tell of it.
 pub fn others_are_passed_over<H: Handler>()
     ensures { OthersArePassedOver H.answer_of H.after }
 {}
 
-/// What is said is what goes out: at a tick of the panel the frame that it gives, and at a `next` of a device the packet whose bytes the response
-/// has.
+/// What is said is what goes out: at a tick of the panel the frame that it gives, where it is for an entry of ours, and at a `next` of a device the packet
+/// whose bytes the response has.
 pub fn says_what_goes_out<H: Handler>()
     ensures { (l : InUse H) → SaysWhatGoesOut H.answer_of H.after l }
 {}

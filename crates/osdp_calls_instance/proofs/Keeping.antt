@@ -74,14 +74,14 @@ module _ {H : Type 0} where
   -- no other entry is there
   alone : (l : InUse H) (t : Station H) (d : Device) (address : ℕ) → l.stations ≡ t ∷ [] → l.bus.devices.entries ≡ d ∷ [] → IsNoOthers 0 address l
   alone l t d address stations entries j other (IsThere u at is) = other (only t j u (ap (site_at j) (sym stations) ∙ at)).0
-  alone l t d address stations entries j other (IsAsked e at is) = other (only_entry d j e (ap (λ es. slice_get es j) (sym entries) ∙ at))
+  alone l t d address stations entries j other (IsAsked u e here at is) = other (only_entry d j e (ap (λ es. slice_get es j) (sym entries) ∙ at))
   alone l t d address stations entries j other (IsSaid u at is) = other (only t j u (ap (site_at j) (sym stations) ∙ at)).0
 
   apart : (l : InUse H) (t : Station H) → l.stations ≡ t ∷ [] → PanelIsApart (0 ∷ []) l
   apart l t stations = record {
-    own = λ j k a b other at there e. other ((only 0 j a at).0 ∙ sym (only 0 k b there).0);
-    there = λ j k a u other at there e. other ((only t j u (ap (site_at j) (sym stations) ∙ there)).0 ∙ sym (only 0 k a at).0);
-    said = λ j k a u other at there e. other ((only t j u (ap (site_at j) (sym stations) ∙ there)).0 ∙ sym (only 0 k a at).0);
+    own = λ j k a b v u other at there first second e. other ((only 0 j a at).0 ∙ sym (only 0 k b there).0);
+    there = λ j k a u v other at there mine e. other ((only t j u (ap (site_at j) (sym stations) ∙ there)).0 ∙ sym (only 0 k a at).0);
+    said = λ j k a u v other at there mine e. other ((only t j u (ap (site_at j) (sym stations) ∙ there)).0 ∙ sym (only 0 k a at).0);
   }
 
   one_station : (handler : H) (Q : Station H → Type 0) → Q (station handler) → (k : ℕ) (t : Station H) → site_at k (station handler ∷ []) ≡ Some t → Q t
@@ -90,6 +90,7 @@ module _ {H : Type 0} where
   pub is_set_up : (handler : H) → IsSetUp (set_up handler)
   is_set_up handler = record {
     config = settings;
+    others = [];
     settings = in_time;
     bus = refl;
     devices = one_station handler (λ t. t.reader.config.address < 127) (omega arith);
@@ -126,13 +127,13 @@ module _ {H : Type 0} (answer_of : H → Command → Answer) (after : H → Comm
                     (
                       record { in_order = tt; quiet_opening = none_read (is_past_for_panel (line_after answer_of after 8 handler).openings) (line_after answer_of after 8 handler).said; addresses = tt; in_range = tt },
                       (
-                        record { in_order = tt; quiet_opening = none_read (is_past_for_panel (line_after answer_of after 9 handler).openings) (line_after answer_of after 9 handler).said; addresses = λ is asked comset. alone (line_after answer_of after 9 handler) (only_station (line_after answer_of after 9 handler).stations handler) (only_device (line_after answer_of after 9 handler).bus.devices.entries) asked.address refl refl; in_range = (omega arith, omega arith) },
+                        record { in_order = tt; quiet_opening = none_read (is_past_for_panel (line_after answer_of after 9 handler).openings) (line_after answer_of after 9 handler).said; addresses = λ t here is asked comset. alone (line_after answer_of after 9 handler) (only_station (line_after answer_of after 9 handler).stations handler) (only_device (line_after answer_of after 9 handler).bus.devices.entries) asked.address refl refl; in_range = (omega arith, omega arith) },
                         (
                           record { in_order = tt; quiet_opening = none_read (is_past_for_panel (line_after answer_of after 10 handler).openings) (line_after answer_of after 10 handler).said; addresses = tt; in_range = tt },
                           (
                             record { in_order = tt; quiet_opening = tt; addresses = λ t is. inl (ap (λ (u : Station H). u.reader.config.address) (sym (only (only_station (line_after answer_of after 11 handler).stations handler) 0 t is).1)); in_range = (omega arith, ((omega arith, omega arith), omega arith, omega arith)) },
                             (
-                              record { in_order = tt; quiet_opening = tt; addresses = apart (line_after answer_of after 12 handler) (only_station (line_after answer_of after 12 handler).stations handler) refl; in_range = (in_time, one_below, refl) },
+                              record { in_order = tt; quiet_opening = tt; addresses = apart (line_after answer_of after 12 handler) (only_station (line_after answer_of after 12 handler).stations handler) refl; in_range = (in_time, one_below, omega arith) },
                               tt,
                             ),
                           ),

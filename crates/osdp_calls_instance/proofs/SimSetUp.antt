@@ -1,5 +1,5 @@
 -- A run begins on a line that is set up.
-use Rattle.std.proofs.Common.{◌≡◌, ◌≢◌, ℕ, zero, suc, ◌<◌, Bool, true, false, List, [], ◌∷◌, length, map, Some, None, refl, sym, subst, ap, ◌∙◌, arith, inl, inr}
+use Rattle.std.proofs.Common.{append-nil, ◌≡◌, ◌≢◌, ℕ, zero, suc, ◌<◌, Bool, true, false, List, [], ◌∷◌, length, map, Some, None, refl, sym, subst, ap, ◌∙◌, arith, inl, inr}
 use Rattle.std.proofs.lemmas.Bool.{leb-true}
 use Rattle.std.proofs.lemmas.Bool.Decides.{eqb_tells}
 use Rattle.std.specs.Prelude.{not, ◌==◌, ◌&&◌, ◌||◌, nat_le}
@@ -76,8 +76,9 @@ module _ {H : Type 0} where
       let parts = both (list_all is_reader_in_range readers) (are_apart readers) within.1 in
       record {
         config = config;
+        others = [];
         settings = set.bus;
-        bus = ap (bus_with config) (addresses_are gap readers);
+        bus = ap (bus_with config) (addresses_are gap readers ∙ sym (append-nil (map (λ (t : Station H). t.reader.config.address) (map (new_station gap) readers))));
         devices = λ k t at.
             let from = station_from gap k t readers at in
             let range = each_is is_reader_in_range k from.0 readers parts.0 from.1 in

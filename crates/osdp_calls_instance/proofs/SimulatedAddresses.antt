@@ -45,7 +45,7 @@ module _ {H : Type 0} where
   GivesNone _ = Unit {0}
 
   none_given : (call : Call H) (l : InUse H) → GivesNone call → Addresses call l
-  none_given (OfPanel (bus.Submit k command)) l none = λ fine asked is. absurd (let e = sym none ∙ is in cc)
+  none_given (OfPanel (bus.Submit k command)) l none = λ t here fine asked is. absurd (let e = sym none ∙ is in cc)
   none_given (OfPanel (bus.Retarget k address)) l none = absurd none
   none_given (NewDevice k address handler room gap) l none = absurd none
   none_given (NewPanel config addresses) l none = absurd none

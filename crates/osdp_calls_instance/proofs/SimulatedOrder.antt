@@ -1,5 +1,5 @@
 -- The calls of a run keep order and quiet openings, and with that all premises, where addresses are given as they may be.
-use Rattle.std.proofs.Common.{◌≡◌, ◌-◌, ℕ, suc, Bool, true, false, cond, List, [], ◌∷◌, ◌++◌, length, map, None, refl, sym, subst, ap, ◌∙◌, arith, append_assoc, append-nil}
+use Rattle.std.proofs.Common.{◌≡◌, ◌-◌, ℕ, suc, Bool, true, false, cond, List, [], ◌∷◌, ◌++◌, length, map, None, Some, refl, sym, subst, ap, ◌∙◌, arith, append_assoc, append-nil, is_some, zero}
 use Rattle.std.specs.Prelude.{◌==◌}
 use Rattle.std.proofs.lemmas.List.{map-append}
 use Rattle.osdp_msg.specs.declared.command.Command.{Command}
@@ -11,7 +11,7 @@ use Rattle.osdp_link_laws.proofs.Lines.{each_of}
 use Rattle.osdp_reader.specs.declared.handler.Answer.{Answer}
 use Rattle.osdp_shared_line.specs.Addresses.{IsSetUp}
 use Rattle.osdp_shared_line.specs.Line as line
-use Rattle.osdp_shared_line.specs.Line.{Net, NetMove, Site, run as net_run}
+use Rattle.osdp_shared_line.specs.Line.{Net, NetMove, Site, run as net_run, site_at}
 use Rattle.osdp_shared_line.proofs.Apart.{Apart}
 use Rattle.osdp_shared_line.proofs.Running.{apart_all, apart_first}
 use Rattle.osdp_shared_line.specs.Programs.{Note}
@@ -35,10 +35,12 @@ use Rattle.osdp_calls.specs.Lines.{InUse}
 use Rattle.osdp_calls.specs.Premises.{AllKeep}
 use Rattle.osdp_calls.specs.Programs.{AllKeepRule, CallsRuleSuffices, first_notes, notes_after}
 use Rattle.osdp_bus.specs.Buses.{BusState}
+use Rattle.osdp_calls.proofs.Matching.{IsOurs, is_there as found_there}
+use Rattle.osdp_sim_bus_laws.proofs.Sites.{same_count}
 use Rattle.osdp_calls_instance.proofs.OwnCalls.{call_the_line, more_steps}
 use Rattle.osdp_calls_instance.proofs.SimSetUp.{runs_from_a_set_up}
 use Rattle.osdp_calls_instance.proofs.SimulatedAddresses.{run_keeps_addresses}
-use Rattle.osdp_calls_instance.proofs.SimulatedBus.{Follows, Here, begins_so, goes, stations_are, step_follows, well_first}
+use Rattle.osdp_calls_instance.proofs.SimulatedBus.{Follows, Here, begins_so, goes, stations_are, step_follows, well_first, count_sites}
 use Rattle.osdp_calls_instance.proofs.SimulatedEnds.{sim_devices_are, sim_panels_are}
 use Rattle.osdp_calls_instance.proofs.SimulatedKeeping.{run_is_in_range}
 use Rattle.osdp_calls_instance.proofs.SimulatedLine.{Stands, stands_quiet}
@@ -51,6 +53,13 @@ use Rattle.osdp_calls_instance.specs.OwnCalls.{AtDevice, AtPanel, IsLineOf, all_
 use Rattle.osdp_calls_instance.specs.SimulatedBus.{Begins, HandsBytes, HearsRun, IsBusy, Queues, SimCall, Submits, begin_calls, line_at_first, programs_at_first, schedule_calls, sim_device, sim_panel, step_calls}
 use Rattle.osdp_calls_instance.specs.SimulatedOrder.{AllOrdered, AllRuled, RunKeepsOrder}
 use Rattle.osdp_calls_instance.specs.SimulatedPremises.{AllAtAddresses, AllInRange, HandsShort}
+
+ours_as : {A B : Type 0} (k : ℕ) (xs : List A) (ys : List B) → length xs ≡ length ys → IsOurs k xs → IsOurs k ys
+ours_as k [] [] same own = absurd (let e = own in cc)
+ours_as k [] (y ∷ ys) same own = absurd (let e = own in cc)
+ours_as k (x ∷ xs) [] same own = absurd (omega (arith, same))
+ours_as zero (x ∷ xs) (y ∷ ys) same own = refl
+ours_as (suc k) (x ∷ xs) (y ∷ ys) same own = ours_as k xs ys (omega (arith, same)) own
 
 module _ {H : Type 0} (answer_of : H → Command → Answer) (after : H → Command → H) where
   -- ---- own calls after own calls
@@ -73,6 +82,15 @@ module _ {H : Type 0} (answer_of : H → Command → Answer) (after : H → Comm
 
   module _ (own : (l : InUse H) → GoByTheirOwn answer_of after l) (given : OneBus answer_of after) (hands : (b : BusState) → HandsOver b)
       (asks : ReadsWhatIsAsked) where
+    -- at each site there is a device of ours
+    ours_of : (s : LineState H) (n : Net H) (w : Here answer_of after) (l : InUse H) → Standing answer_of after own given s n w l
+        → (k : ℕ) (t : Site H) → site_at k n.sites ≡ Some t → IsOurs k l.stations
+    ours_of s n w l h k t at =
+        let many : length n.sites ≡ length w.devices =
+        sym (same_count s.sites n.sites h.sites.sites) ∙ count_sites answer_of after w.devices s.sites h.follows.readers in
+        let d = found_there (site_at k w.devices) (ours_as k n.sites w.devices many (ap is_some at)) in
+        ap is_some (h.line.devices k d.0 d.1).2
+
     -- ---- a step
 
     step_taken : (step : SimStep) (s : LineState H) (n : Net H) (w : Here answer_of after) (l : InUse H) → Standing answer_of after own given s n w l
@@ -93,7 +111,7 @@ module _ {H : Type 0} (answer_of : H → Command → Answer) (after : H → Comm
         let now = moment_after wait s.clock in
         let same : l.bus ≡ s.bus = h.line.bus ∙ h.follows.bus in
         subst (λ b. Taken answer_of after (step_calls answer_of after (Wait wait) s) w l (net_run answer_of after (tick_moves now b) n)) same
-        (tick_taken answer_of after hands asks now w l n (subst (λ b. IsBusOf b n.sites) (sym same) h.sites.bus) h.apart h.stands)
+        (tick_taken answer_of after hands asks now w l n (subst (λ b. IsBusOf b n.sites) (sym same) h.sites.bus) (ours_of s n w l h) h.apart h.stands)
     step_taken (ToReader move) s n w l h fault fits bytes short =
         readers_taken answer_of after own given move s n w l h fault bytes short
         (each_of (λ (u : ReaderSite H). SaysFit answer_of after (packets_in (handed move s.to_readers)) u.reader) s.sites fits)

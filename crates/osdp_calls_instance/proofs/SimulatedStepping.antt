@@ -1,5 +1,5 @@
 -- What each step of a schedule does to what is on the line: its calls keep order and quiet openings.
-use Rattle.std.proofs.Common.{◌≡◌, ◌≢◌, ◌⊎◌, ◌≤◌, ◌+◌, ℕ, max, Bool, true, false, List, [], ◌∷◌, ◌++◌, length, map, Option, Some, None, refl, sym, subst, ap, ◌∙◌, arith, append-nil, inl, inr}
+use Rattle.std.proofs.Common.{◌≡◌, ◌≢◌, ◌⊎◌, ◌≤◌, ◌+◌, ℕ, max, Bool, true, false, List, [], ◌∷◌, ◌++◌, length, map, Option, Some, None, refl, sym, subst, ap, ◌∙◌, arith, append-nil, inl, inr, is_some}
 use Rattle.std.specs.Prelude.{slice_get}
 use Rattle.osdp_frame.specs.Bytes.{AreBytes}
 use Rattle.osdp_frame.specs.Items.{packets_in}
@@ -22,10 +22,12 @@ use Rattle.osdp_shared_line.specs.Line as line
 use Rattle.osdp_shared_line.specs.Line.{Net, NetMove, Site, address_of, after_net, changed, first_gets, run, site_at, tagged}
 use Rattle.osdp_shared_line.proofs.Apart.{Apart}
 use Rattle.osdp_shared_line.proofs.Sites.{changed_from}
-use Rattle.osdp_calls.specs.Calls.{OfPanel, Step, after_calls, after_panel, asked_at, begins_session, begins_with, begun_of, change_at, changes_at, is_to_begin, last_of, noted, panel_says, read_by as panel_reads, waiting_of}
+use Rattle.osdp_calls.specs.Calls.{OfPanel, Step, after_calls, after_panel, asked_at, begins_session, begins_with, begun_of, change_at, changes_at, is_to_begin, last_of, noted, panel_says, read_by as panel_reads, waiting_of, said_for}
 use Rattle.osdp_calls.specs.Ends.{GoByTheirOwn, Held}
 use Rattle.osdp_calls.specs.Handing.{HandsOver, hears_all}
 use Rattle.osdp_calls.specs.Lines.{Burst, InUse, Opening, Station, is_past_for_panel}
+use Rattle.osdp_calls.proofs.Matching.{IsOurs}
+use Rattle.osdp_calls.proofs.Lasting.{noted_keeps}
 use Rattle.osdp_calls_instance.proofs.SimulatedBus.{Here}
 use Rattle.osdp_calls_instance.proofs.SimulatedHeard.{HeardBy, PanelChunk, all_hear_keeps, asked_is, keep_same, quiet_chunk, run_chunk, tick_reads}
 use Rattle.osdp_calls_instance.proofs.SimulatedLine.{Ahead, IsAwayFrom, IsOpen, Placed, Stands, ahead_bound, ahead_later, ahead_said, burst_of, bursts_length, bursts_of, from, open_more, placed_more, placed_opening, placed_said, stands_quiet, stands_still}
@@ -310,14 +312,21 @@ module _ {H : Type 0} (answer_of : H → Command → Answer) (after : H → Comm
       moved who is qs placed =
           subst (λ bs. Placed who bs next.openings is qs) (sym more) (subst (λ x. Placed who (l.said ++ bursts_of true ((e, p) ∷ [])) x is qs) (sym openings) placed)
 
-  panel_speaks : (e : ℕ) (frame : Option Packet) (s : Site H) (n m : Net H) (l : InUse H) → site_at e n.sites ≡ Some s → Apart n → Said e frame s n m
-      → Stands n l → Stands m (panel_says (Some e) frame l)
-  panel_speaks e None s n m l at apart said st =
+  -- what is said for an entry of ours
+  said_ours : (e : ℕ) (p : Packet) (o : Option (Station H)) → is_some o ≡ true → said_for e p o ≡ bursts_of true ((e, p) ∷ [])
+  said_ours e p None own = absurd (let x = own in cc)
+  said_ours e p (Some t) own = refl
+
+  panel_speaks : (e : ℕ) (frame : Option Packet) (s : Site H) (n m : Net H) (l : InUse H) → site_at e n.sites ≡ Some s → IsOurs e l.stations → Apart n
+      → Said e frame s n m → Stands n l → Stands m (panel_says (Some e) frame l)
+  panel_speaks e None s n m l at own apart said st =
       stands_still n m l l (record {
         to_panel = said.to_panel;
         sites = λ k u there. let t = said.sites k u there in (t.0, t.1, t.2 ∙ append-nil t.0.coming, t.3);
       }) refl refl refl (keep_same l.stations) st
-  panel_speaks e (Some p) s n m l at apart said st = by_begun (begun_of (site_at e l.stations)) refl
+  panel_speaks e (Some p) s n m l at own apart said st =
+      subst (λ bs. Stands m (record (begins_with e p (begun_of (site_at e l.stations)) l) { said = l.said ++ bs })) (sym (said_ours e p (site_at e l.stations) own))
+      (by_begun (begun_of (site_at e l.stations)) refl)
     where
       new : List Burst
       new = bursts_of true ((e, p) ∷ [])
@@ -372,8 +381,8 @@ module _ {H : Type 0} (answer_of : H → Command → Answer) (after : H → Comm
               ])
 
   pub tick_taken : ((b : BusState) → HandsOver b) → ReadsWhatIsAsked → (now : ℕ) (w : Here answer_of after) (l : InUse H) (n : Net H) → IsBusOf l.bus n.sites
-      → Apart n → Stands n l → Taken (AtPanel (Waits now) ∷ []) w l (run answer_of after (tick_moves now l.bus) n)
-  tick_taken hands asks now w l n is apart st =
+      → ((k : ℕ) (s : Site H) → site_at k n.sites ≡ Some s → IsOurs k l.stations) → Apart n → Stands n l → Taken (AtPanel (Waits now) ∷ []) w l (run answer_of after (tick_moves now l.bus) n)
+  tick_taken hands asks now w l n is ours apart st =
       let b = l.bus in
       let nothing = tick_reads now b is.held in
       let reads = panel_reads (bus.Tick now) b in
@@ -390,7 +399,7 @@ module _ {H : Type 0} (answer_of : H → Command → Answer) (after : H → Comm
       let goal : Stands (run answer_of after (tick_moves now b) n) next =
       subst (λ o. Stands (run answer_of after (tick_moves now b) n) (panel_says o (bus_ticks now b).sent first)) (sym (asked_is now b is.held is.report))
       (subst (λ p. Stands (run answer_of after (tick_moves now b) n) (panel_says (who_ticks now b) p first)) (sym sent)
-      (by_who (who_ticks now b) first stood)) in
+      (by_who (who_ticks now b) first (λ k s at. noted_keeps k (bus.Tick now) b l.stations ∙ ours k s at) stood)) in
       record {
         steps = placed l.place (OfPanel (bus.Tick now)) l ∷ placed next.place (OfPanel bus.NextReport) next ∷ [];
         are = refl;
@@ -402,9 +411,9 @@ module _ {H : Type 0} (answer_of : H → Command → Answer) (after : H → Comm
       g : ℕ
       g = max l.bus.greatest now
 
-      by_who : (o : Option ℕ) (first : InUse H) → Stands n first → Stands (run answer_of after (one_ticks o g) n) (panel_says o (ticks_at o (seen now l.bus)).sent first)
-      by_who None first st = st
-      by_who (Some e) first st = by_site (site_at e n.sites) refl
+      by_who : (o : Option ℕ) (first : InUse H) → ((k : ℕ) (s : Site H) → site_at k n.sites ≡ Some s → IsOurs k first.stations) → Stands n first → Stands (run answer_of after (one_ticks o g) n) (panel_says o (ticks_at o (seen now l.bus)).sent first)
+      by_who None first ours st = st
+      by_who (Some e) first ours st = by_site (site_at e n.sites) refl
         where
           by_site : (o : Option (Site H)) → site_at e n.sites ≡ o
               → Stands (line.tick_at answer_of after e g (site_at e n.sites) n) (panel_says (Some e) (ticks_with e (buses.device_of e (seen now l.bus)) (seen now l.bus)).sent first)
@@ -416,4 +425,4 @@ module _ {H : Type 0} (answer_of : H → Command → Answer) (after : H → Comm
               subst (λ o. Stands (line.tick_at answer_of after e g (site_at e n.sites) n) (panel_says (Some e) (ticks_with e o (seen now l.bus)).sent first))
               (sym (ap (λ ds. slice_get ds e) is.entries ∙ get_device e s n.sites at))
               (subst (λ o. Stands (line.tick_at answer_of after e g o n) (panel_says (Some e) (frame_at g s) first)) (sym at)
-              (panel_speaks e (frame_at g s) s n (line.tick_at answer_of after e g (Some s) n) first at apart (tick_says answer_of after asks e g s n at apart) st))
+              (panel_speaks e (frame_at g s) s n (line.tick_at answer_of after e g (Some s) n) first at (ours e s at) apart (tick_says answer_of after asks e g s n at apart) st))

@@ -66,7 +66,7 @@ module _ {H : Type 0} where
   two_alone l t u d e a stations entries away none ahead zero other may = other refl
   two_alone l t u d e a stations entries away none ahead (suc zero) other (IsThere v at is) =
       away (ap (λ (x : Station H). x.reader.config.address) (some_same u v (ap (site_at 1) (sym stations) ∙ at)) ∙ is)
-  two_alone l t u d e a stations entries away none ahead (suc zero) other (IsAsked f at is) =
+  two_alone l t u d e a stations entries away none ahead (suc zero) other (IsAsked v f here at is) =
       subst (Somewhere (Sets a)) none
       (subst (λ x. Somewhere (Sets a) (unended_of x)) (sym (some_same e f (ap (λ es. slice_get es 1) (sym entries) ∙ at))) is)
   two_alone l t u d e a stations entries away none ahead (suc zero) other (IsSaid v at is) =
@@ -75,7 +75,7 @@ module _ {H : Type 0} where
       (sym (some_same u v (ap (site_at 1) (sym stations) ∙ at))) is)
   two_alone l t u d e a stations entries away none ahead (suc (suc j)) other (IsThere v at is) =
       absurd (let none_there = ap (site_at (suc (suc j))) (sym stations) ∙ at in cc)
-  two_alone l t u d e a stations entries away none ahead (suc (suc j)) other (IsAsked f at is) =
+  two_alone l t u d e a stations entries away none ahead (suc (suc j)) other (IsAsked v f here at is) =
       absurd (let none_there = ap (λ es. slice_get es (suc (suc j))) (sym entries) ∙ at in cc)
   two_alone l t u d e a stations entries away none ahead (suc (suc j)) other (IsSaid v at is) =
       absurd (let none_there = ap (site_at (suc (suc j))) (sym stations) ∙ at in cc)
@@ -104,6 +104,7 @@ module _ {H : Type 0} where
   two_is_set_up : (handler : H) → IsSetUp (two_set_up handler)
   two_is_set_up handler = record {
     config = once;
+    others = [];
     settings = once_in_time;
     bus = refl;
     devices = two_stations handler (λ t. t.reader.config.address < 127) (omega arith) (omega arith);
@@ -138,7 +139,7 @@ module _ {H : Type 0} (answer_of : H → Command → Answer) (after : H → Comm
                   (
                     record { in_order = tt; quiet_opening = none_read (is_past_for_panel (two_after answer_of after 7 handler).openings) (two_after answer_of after 7 handler).said; addresses = tt; in_range = tt },
                     (
-                      record { in_order = tt; quiet_opening = none_read (is_past_for_panel (two_after answer_of after 8 handler).openings) (two_after answer_of after 8 handler).said; addresses = λ is asked none. absurd (let nothing = none in cc); in_range = omega arith },
+                      record { in_order = tt; quiet_opening = none_read (is_past_for_panel (two_after answer_of after 8 handler).openings) (two_after answer_of after 8 handler).said; addresses = λ t here is asked none. absurd (let nothing = none in cc); in_range = omega arith },
                       (
                         record { in_order = tt; quiet_opening = none_read (is_past_for_panel (two_after answer_of after 9 handler).openings) (two_after answer_of after 9 handler).said; addresses = tt; in_range = tt },
                         (
@@ -150,7 +151,7 @@ module _ {H : Type 0} (answer_of : H → Command → Answer) (after : H → Comm
                               (
                                 record { in_order = tt; quiet_opening = none_read (is_past_for_panel (two_after answer_of after 13 handler).openings) (two_after answer_of after 13 handler).said; addresses = tt; in_range = tt },
                                 (
-                                  record { in_order = tt; quiet_opening = none_read (is_past_for_panel (two_after answer_of after 14 handler).openings) (two_after answer_of after 14 handler).said; addresses = λ is asked comset. two_alone (two_after answer_of after 14 handler) (first_station (two_after answer_of after 14 handler).stations handler) (second_station (two_after answer_of after 14 handler).stations handler) (first_device (two_after answer_of after 14 handler).bus.devices.entries) (second_device (two_after answer_of after 14 handler).bus.devices.entries) asked.address refl refl (λ e. let far : 1 ≡ 5 = e ∙ sym (ap (λ (c : Communication). c.address) (some_same five asked comset)) in absurd (omega (arith, far))) refl (refl, (refl, tt)); in_range = (omega arith, omega arith) },
+                                  record { in_order = tt; quiet_opening = none_read (is_past_for_panel (two_after answer_of after 14 handler).openings) (two_after answer_of after 14 handler).said; addresses = λ t here is asked comset. two_alone (two_after answer_of after 14 handler) (first_station (two_after answer_of after 14 handler).stations handler) (second_station (two_after answer_of after 14 handler).stations handler) (first_device (two_after answer_of after 14 handler).bus.devices.entries) (second_device (two_after answer_of after 14 handler).bus.devices.entries) asked.address refl refl (λ e. let far : 1 ≡ 5 = e ∙ sym (ap (λ (c : Communication). c.address) (some_same five asked comset)) in absurd (omega (arith, far))) refl (refl, (refl, tt)); in_range = (omega arith, omega arith) },
                                   (
                                     record { in_order = tt; quiet_opening = none_read (is_past_for_panel (two_after answer_of after 15 handler).openings) (two_after answer_of after 15 handler).said; addresses = tt; in_range = tt },
                                     (
@@ -158,9 +159,9 @@ module _ {H : Type 0} (answer_of : H → Command → Answer) (after : H → Comm
                                       (
                                         record { in_order = tt; quiet_opening = none_read (is_past_for_panel (two_after answer_of after 17 handler).openings) (two_after answer_of after 17 handler).said; addresses = tt; in_range = tt },
                                         (
-                                          record { in_order = tt; quiet_opening = none_read (is_past_for_panel (two_after answer_of after 18 handler).openings) (two_after answer_of after 18 handler).said; addresses = λ is. two_alone (two_after answer_of after 18 handler) (first_station (two_after answer_of after 18 handler).stations handler) (second_station (two_after answer_of after 18 handler).stations handler) (first_device (two_after answer_of after 18 handler).bus.devices.entries) (second_device (two_after answer_of after 18 handler).bus.devices.entries) 5 refl refl (λ e. let far : 1 ≡ 5 = e in absurd (omega (arith, far))) refl (refl, (refl, (refl, tt))); in_range = tt },
+                                          record { in_order = tt; quiet_opening = none_read (is_past_for_panel (two_after answer_of after 18 handler).openings) (two_after answer_of after 18 handler).said; addresses = λ t here is. two_alone (two_after answer_of after 18 handler) (first_station (two_after answer_of after 18 handler).stations handler) (second_station (two_after answer_of after 18 handler).stations handler) (first_device (two_after answer_of after 18 handler).bus.devices.entries) (second_device (two_after answer_of after 18 handler).bus.devices.entries) 5 refl refl (λ e. let far : 1 ≡ 5 = e in absurd (omega (arith, far))) refl (refl, (refl, (refl, tt))); in_range = tt },
                                           (
-                                            record { in_order = tt; quiet_opening = none_read (is_past_for_panel (two_after answer_of after 19 handler).openings) (two_after answer_of after 19 handler).said; addresses = λ is. two_alone (two_after answer_of after 19 handler) (first_station (two_after answer_of after 19 handler).stations handler) (second_station (two_after answer_of after 19 handler).stations handler) (first_device (two_after answer_of after 19 handler).bus.devices.entries) (second_device (two_after answer_of after 19 handler).bus.devices.entries) 0 refl refl (λ e. let far : 1 ≡ 0 = e in absurd (omega (arith, far))) refl (refl, (refl, (refl, tt))); in_range = tt },
+                                            record { in_order = tt; quiet_opening = none_read (is_past_for_panel (two_after answer_of after 19 handler).openings) (two_after answer_of after 19 handler).said; addresses = λ t here is. two_alone (two_after answer_of after 19 handler) (first_station (two_after answer_of after 19 handler).stations handler) (second_station (two_after answer_of after 19 handler).stations handler) (first_device (two_after answer_of after 19 handler).bus.devices.entries) (second_device (two_after answer_of after 19 handler).bus.devices.entries) 0 refl refl (λ e. let far : 1 ≡ 0 = e in absurd (omega (arith, far))) refl (refl, (refl, (refl, tt))); in_range = tt },
                                             (
                                               record { in_order = tt; quiet_opening = none_read (is_past_for_panel (two_after answer_of after 20 handler).openings) (two_after answer_of after 20 handler).said; addresses = tt; in_range = tt },
                                               (

@@ -1,5 +1,5 @@
 -- What each call comes to, with the steps of each entry.
-use Rattle.std.proofs.Common.{◌≡◌, ℕ, max, Bool, cond, List, [], ◌∷◌, ◌++◌, Option, Some, None, refl, sym, ap, ◌∙◌, inl, inr, append_assoc}
+use Rattle.std.proofs.Common.{◌≡◌, ℕ, max, Bool, cond, List, [], ◌∷◌, ◌++◌, Option, Some, None, refl, sym, ap, ◌∙◌, inl, inr, append_assoc, is_some}
 use Rattle.std.specs.Prelude.{◌==◌}
 use Rattle.osdp_msg.specs.declared.command.Command.{Command}
 use Rattle.osdp_bus.specs.Buses.{device_of, seen as seen_by_bus}
@@ -37,10 +37,12 @@ use Rattle.osdp_calls_ledger.specs.Steps.{device_steps, opening, reported, steps
 use Rattle.osdp_calls_ledger.proofs.Nexting.{next_of_shows}
 use Rattle.osdp_calls_ledger.proofs.Own.{no_steps, none_back, of_device, of_power, of_submit, of_withdraw}
 use Rattle.osdp_calls_ledger.proofs.Quiet.{seen_none}
-use Rattle.osdp_calls_ledger.proofs.Reading.{reads_show, reads_shown, reported_more}
+use Rattle.osdp_calls_ledger.proofs.Reading.{reads_show, reads_shown, reported_more, reads_keep}
 use Rattle.osdp_calls_ledger.proofs.Seen.{seen}
 use Rattle.osdp_calls_ledger.proofs.Shows.{Shown, Shows, both_shown, by_made, shows_as, shows_line, then_shows}
-use Rattle.osdp_calls_ledger.proofs.Ticks.{tick_shown, ticks_show}
+use Rattle.osdp_calls_ledger.proofs.Ticks.{tick_shown, ticks_show, ticks_keep}
+use Rattle.osdp_calls.proofs.Matching.{IsOurs}
+use Rattle.osdp_calls.proofs.Lasting.{call_keeps}
 
 module _ {H : Type 0} (answer_of : H → Command → Answer) (after : H → Command → H) where
   -- the steps of a call
@@ -50,9 +52,11 @@ module _ {H : Type 0} (answer_of : H → Command → Answer) (after : H → Comm
   -- ---- calls that read nothing
 
   by_steps : (call : Call H) (l : InUse H) (n : Net H) (next : InUse H) (s : StepsTo answer_of after call l n next)
-      → ((k : ℕ) (g : Ledger) → seen answer_of after k s.moves n g ≡ steps_of answer_of after k call l g) → Shows answer_of after (call_shown call l) n next
-  by_steps call l n next s shows =
-      record { net = s.net; moves = s.moves; fit = s.fit; run = s.run; same = s.same; shows = λ heard k g. shows k g }
+      → ((k : ℕ) → is_some (site_at k next.stations) ≡ is_some (site_at k l.stations))
+      → ((k : ℕ) (g : Ledger) → IsOurs k l.stations → seen answer_of after k s.moves n g ≡ steps_of answer_of after k call l g)
+      → Shows answer_of after (call_shown call l) n next
+  by_steps call l n next s keeps shows =
+      record { net = s.net; moves = s.moves; fit = s.fit; run = s.run; same = s.same; shows = λ heard k g own. shows k g (sym (keeps k) ∙ own) }
 
   -- a call that shows nothing of any station
   quiet_at : (call : Call H) → ((t : Station H) (q : Ledger) → device_steps answer_of after call t q ≡ []) → (b : Bool) (o : Option (Station H)) (g : Ledger)
@@ -66,15 +70,16 @@ module _ {H : Type 0} (answer_of : H → Command → Answer) (after : H → Comm
     reads_call : (call : bus.Call) (now : ℕ) (places : List ℕ) (next : InUse H) → InOrder (OfPanel call) places l → QuietOpening (OfPanel call) places l
         → of_line (reads_those answer_of after (read_by call l.bus) places (record l { bus = seen_by_bus now l.bus })) ≡ of_line next
         → told_in call l.bus ≡ told_by_all (max l.bus.greatest now) (read_by call l.bus) l.bus.devices
+        → ((k : ℕ) → is_some (site_at k next.stations) ≡ is_some (site_at k l.stations))
         → Shows answer_of after (λ k. reported k (told_in call l.bus)) n next
-    reads_call call now places next order quiet e told =
+    reads_call call now places next order quiet e told keeps =
         let l0 : InUse H = record l { bus = seen_by_bus now l.bus } in
         let ps = read_by call l.bus in
         let read = reads_show answer_of after ps places l0 n (at_seen now l n h) (ordered l ps places order) (each_of (NotPast l) places quiet) in
         shows_line answer_of after (λ k. reported k (told_in call l.bus)) n (reads_those answer_of after ps places l0) next
-        (λ q same. net_as (reads_those answer_of after ps places l0) next q e same)
+        (λ q same. net_as (reads_those answer_of after ps places l0) next q e same) (λ k. keeps k ∙ sym (reads_keep answer_of after ps places l0 k))
         (shows_as answer_of after (reads_shown answer_of after ps l0) (λ k. reported k (told_in call l.bus)) n (reads_those answer_of after ps places l0)
-        (λ k g. ap (λ xs. reported k xs g) (sym told)) read)
+        (λ k g own. ap (λ xs. reported k xs g) (sym told)) read)
 
     ticks_call : (now : ℕ) (places : List ℕ) → InOrder (OfPanel (bus.Tick now)) places l → QuietOpening (OfPanel (bus.Tick now)) places l
         → Shows answer_of after (call_shown (OfPanel (bus.Tick now)) l) n (after_call answer_of after (OfPanel (bus.Tick now)) places l)
@@ -87,7 +92,7 @@ module _ {H : Type 0} (answer_of : H → Command → Answer) (after : H → Comm
         let l1 = reads_those answer_of after ps places l0 in
         let ticked = told_by_ticking o l1.bus in
         let first = reads_show answer_of after ps places l0 n (at_seen now l n h) (ordered l ps places order) (each_of (NotPast l) places quiet) in
-        let both = then_shows answer_of after (reads_shown answer_of after ps l0) (tick_shown answer_of after o l1) n l1 (ticks_to answer_of after o l1) first
+        let both = then_shows answer_of after (reads_shown answer_of after ps l0) (tick_shown answer_of after o l1) n l1 (ticks_to answer_of after o l1) (ticks_keep answer_of after o l1) first
         (λ m h1. ticks_show answer_of after o l1 m h1) in
         let hands = (hands_over l.bus).tick now in
         let greatest : (ticks_at o l1.bus).bus.greatest ≡ (bus_ticks now l.bus).bus.greatest =
@@ -102,9 +107,10 @@ module _ {H : Type 0} (answer_of : H → Command → Answer) (after : H → Comm
         }))) in
         shows_line answer_of after (call_shown (OfPanel call) l) n (ticks_to answer_of after o l1) (after_call answer_of after (OfPanel call) places l)
         (λ q same. net_as (ticks_to answer_of after o l1) (after_call answer_of after (OfPanel call) places l) q alike same)
+        (λ k. call_keeps k answer_of after (OfPanel call) places l ∙ sym (ticks_keep answer_of after o l1 k ∙ reads_keep answer_of after ps places l0 k))
         (shows_as answer_of after (both_shown (reads_shown answer_of after ps l0) (tick_shown answer_of after o l1)) (call_shown (OfPanel call) l) n
         (ticks_to answer_of after o l1)
-        (λ k g.
+        (λ k g own.
         let sends = opening k o (ticks_at o l1.bus).sent (device_of k l1.bus) in
         let before = reported k told g in
         sym (append_assoc before (reported k ticked (after_steps before g)) sends)
@@ -120,26 +126,30 @@ module _ {H : Type 0} (answer_of : H → Command → Answer) (after : H → Comm
     panel_shows (bus.Add address) places order quiet addresses range s = absurd range
     panel_shows (bus.Begin i now) places order quiet addresses range s =
         by_steps (OfPanel (bus.Begin i now)) l n (after_call answer_of after (OfPanel (bus.Begin i now)) places l) s
-        (λ k g. ap (λ ms. seen answer_of after k ms n g) s.made)
+        (λ k. call_keeps k answer_of after (OfPanel (bus.Begin i now)) places l)
+        (λ k g own. ap (λ ms. seen answer_of after k ms n g) s.made)
     panel_shows (bus.Submit i command) places order quiet addresses range s =
         by_steps (OfPanel (bus.Submit i command)) l n (after_call answer_of after (OfPanel (bus.Submit i command)) places l) s
-        (λ k g. elim s.made [
+        (λ k. call_keeps k answer_of after (OfPanel (bus.Submit i command)) places l)
+        (λ k g own. elim s.made [
           | inl (fault, is, are) ↦
               ap (λ ms. seen answer_of after k ms n g) are
               ∙ sym (ap (λ f. cond (i == k) (changed_unless f [] (submits None command g)) []) is ∙ no_steps (i == k) [] refl)
-          | inr (none, are) ↦ ap (λ ms. seen answer_of after k ms n g) are ∙ of_submit answer_of after i command l n h none k g
+          | inr (none, are) ↦ ap (λ ms. seen answer_of after k ms n g) are ∙ of_submit answer_of after i command l n h none k g own
         ])
     panel_shows (bus.Withdraw i) places order quiet addresses range s =
         by_steps (OfPanel (bus.Withdraw i)) l n (after_call answer_of after (OfPanel (bus.Withdraw i)) places l) s
-        (λ k g. elim s.made [
+        (λ k. call_keeps k answer_of after (OfPanel (bus.Withdraw i)) places l)
+        (λ k g own. elim s.made [
           | inl (are, back) ↦
               ap (λ ms. seen answer_of after k ms n g) are
               ∙ sym (ap (λ o. cond (i == k) (withdraws o g) []) (none_back (Rattle.osdp_bus.specs.Machine.withdrawal_at i l.bus) back) ∙ no_steps (i == k) [] refl)
-          | inr (are, none) ↦ ap (λ ms. seen answer_of after k ms n g) are ∙ of_withdraw answer_of after i l n h none k g
+          | inr (are, none) ↦ ap (λ ms. seen answer_of after k ms n g) are ∙ of_withdraw answer_of after i l n h none k g own
         ])
     panel_shows (bus.Retarget i address) places order quiet addresses range s =
         by_steps (OfPanel (bus.Retarget i address)) l n (after_call answer_of after (OfPanel (bus.Retarget i address)) places l) s
-        (λ k g. elim s.made [
+        (λ k. call_keeps k answer_of after (OfPanel (bus.Retarget i address)) places l)
+        (λ k g own. elim s.made [
           | inl (fault, is, are) ↦ ap (λ ms. seen answer_of after k ms n g) are
           | inr (none, are) ↦ ap (λ ms. seen answer_of after k ms n g) are ∙ seen_none answer_of after k (Retarget i address ∷ []) n g (tt, tt)
         ])
@@ -148,14 +158,17 @@ module _ {H : Type 0} (answer_of : H → Command → Answer) (after : H → Comm
         let greatest = (moments_are_seen l.bus).brought (bus.OnBytes bytes now) now refl in
         reads_call (bus.OnBytes bytes now) now places (after_call answer_of after (OfPanel (bus.OnBytes bytes now)) places l) order quiet
         (λ i. ((sym hands.0 i).entries, sym greatest i, all_hear (sym hands.1 i) l.stations, l.said, last_of places l.place, l.openings)) hands.1
+        (λ k. call_keeps k answer_of after (OfPanel (bus.OnBytes bytes now)) places l)
     panel_shows (bus.OnSilence now) places order quiet addresses range s =
         let hands = (hands_over l.bus).silence now in
         let greatest = (moments_are_seen l.bus).brought (bus.OnSilence now) now refl in
         reads_call (bus.OnSilence now) now places (after_call answer_of after (OfPanel (bus.OnSilence now)) places l) order quiet
         (λ i. ((sym hands.0 i).entries, sym greatest i, all_hear (sym hands.1 i) l.stations, l.said, last_of places l.place, l.openings)) hands.1
+        (λ k. call_keeps k answer_of after (OfPanel (bus.OnSilence now)) places l)
     panel_shows (bus.Tick now) places order quiet addresses range s = ticks_call now places order quiet
     panel_shows bus.NextReport places order quiet addresses range s =
-        by_steps (OfPanel bus.NextReport) l n (after_call answer_of after (OfPanel bus.NextReport) places l) s (λ k g. ap (λ ms. seen answer_of after k ms n g) s.made)
+        by_steps (OfPanel bus.NextReport) l n (after_call answer_of after (OfPanel bus.NextReport) places l) s
+        (λ k. call_keeps k answer_of after (OfPanel bus.NextReport) places l) (λ k g own. ap (λ ms. seen answer_of after k ms n g) s.made)
 
     -- a call of a device that comes to the move of its own name, or to none
     by_moves : (call : Call H) (places : List ℕ) → InOrder call places l → QuietOpening call places l → Addresses call l → InRange answer_of after call l
@@ -164,8 +177,8 @@ module _ {H : Type 0} (answer_of : H → Command → Answer) (after : H → Comm
         → Shows answer_of after (call_shown call l) n (after_call answer_of after call places l)
     by_moves call places order quiet addresses range are shows =
         let s = one_call answer_of after call places l n h order quiet addresses range in
-        by_steps call l n (after_call answer_of after call places l) s
-        (λ k g. ap (λ ms. seen answer_of after k ms n g) (are s.moves s.made) ∙ shows k g)
+        by_steps call l n (after_call answer_of after call places l) s (λ k. call_keeps k answer_of after call places l)
+        (λ k g own. ap (λ ms. seen answer_of after k ms n g) (are s.moves s.made) ∙ shows k g)
 
     pub call_shows : (call : Call H) (places : List ℕ) → InOrder call places l → QuietOpening call places l → Addresses call l → InRange answer_of after call l
         → Shows answer_of after (call_shown call l) n (after_call answer_of after call places l)
@@ -197,7 +210,7 @@ module _ {H : Type 0} (answer_of : H → Command → Answer) (after : H → Comm
         (λ k g. sym (quiet_at (Silence i now) (λ t q. refl) (i == k) (site_at k l.stations) g))
     call_shows (Next i) places order quiet addresses range =
         by_made answer_of after (call_shown (Next i) l) (IsNextOf answer_of after i (site_at i l.stations) n) n (after_call answer_of after (Next i) places l)
-        (λ moves next whole k g. next_of_shows answer_of after i (site_at i l.stations) l n moves refl next whole k g)
+        (λ moves next whole k g own. next_of_shows answer_of after i (site_at i l.stations) l n moves refl next whole k g)
         (nexting answer_of after i places l n h order quiet range)
     call_shows (Pending i) places order quiet addresses range =
         by_moves (Pending i) places order quiet addresses range (λ moves are. are)
@@ -209,4 +222,4 @@ module _ {H : Type 0} (answer_of : H → Command → Answer) (after : H → Comm
     call_shows (NewPanel config xs) places order quiet addresses range =
         let s = one_call answer_of after (NewPanel config xs) places l n h order quiet addresses range in
         by_steps (NewPanel config xs) l n (after_call answer_of after (NewPanel config xs) places l) s
-        (λ k g. ap (λ ms. seen answer_of after k ms n g) s.made.1 ∙ of_power answer_of after s.made.0 l n h k g)
+        (λ k. call_keeps k answer_of after (NewPanel config xs) places l) (λ k g own. ap (λ ms. seen answer_of after k ms n g) s.made.1 ∙ of_power answer_of after s.made.0 l n h k g own)

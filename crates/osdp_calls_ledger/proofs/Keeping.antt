@@ -1,6 +1,6 @@
 -- Every list of calls that keep the premises shows what the moves of a net show, so what each of several links keeps each entry keeps.
 use Rattle.std.proofs.Common.{◌≡◌, ◌+◌, ℕ, false, List, [], ◌∷◌, ◌++◌, map, Option, None, Some, refl, sym, subst, ap, ◌∙◌}
-use Rattle.std.specs.Prelude.{flat_map}
+use Rattle.std.specs.Prelude.{flat_map, is_some}
 use Rattle.osdp_msg.specs.declared.command.Command.{Command}
 use Rattle.osdp_msg.specs.declared.event.Event.{Event}
 use Rattle.osdp_msg.specs.declared.reply.Reply.{Reply}
@@ -36,6 +36,7 @@ use Rattle.osdp_calls_ledger.proofs.Accepted.{all_commands, all_events}
 use Rattle.osdp_calls_ledger.proofs.Calling.{call_shown, call_shows}
 use Rattle.osdp_calls_ledger.proofs.Seen.{seen, seen_of_link}
 use Rattle.osdp_calls_ledger.proofs.Shows.{Shown, Shows, then_shows}
+use Rattle.osdp_calls.proofs.Lasting.{calls_keep}
 
 -- ---- a panel that is switched on before anything has happened forgets nothing
 
@@ -77,12 +78,12 @@ module _ {H : Type 0} (answer_of : H → Command → Answer) (after_command : H 
 
   pub calls_show : (steps : List (Step H)) (l : InUse H) (n : Net H) → IsNetOf l n → AllKeep answer_of after_command steps l
       → Shows answer_of after_command (along steps l) n (after_calls answer_of after_command steps l)
-  calls_show [] l n h keep = record { net = n; moves = []; fit = tt; run = refl; same = h; shows = λ heard k g. refl }
+  calls_show [] l n h keep = record { net = n; moves = []; fit = tt; run = refl; same = h; shows = λ heard k g own. refl }
   calls_show (step ∷ steps) l n h keep =
       let next = after_call answer_of after_command step.call step.places l in
       let k = keep.0 in
       then_shows answer_of after_command (call_shown answer_of after_command step.call l) (along steps next) n next
-      (after_calls answer_of after_command steps next)
+      (after_calls answer_of after_command steps next) (λ i. calls_keep i answer_of after_command steps next)
       (call_shows answer_of after_command l n h step.call step.places k.in_order k.quiet_opening k.addresses k.in_range)
       (λ m h1. calls_show steps next m h1 keep.1)
 
@@ -120,7 +121,7 @@ module _ {H : Type 0} (answer_of : H → Command → Answer) (after_command : H 
       ∙ ap (λ o. Rattle.osdp_calls_ledger.proofs.Seen.in_turn (Rattle.osdp_calls_ledger.proofs.Seen.seen_at answer_of after_command k o restart n0)
       (seen answer_of after_command k shown.moves n1) g0) from
       ∙ ap (λ xs. RestartPanel false ∷ xs)
-      (shown.shows heard.1 k (after (RestartPanel false) g0) ∙ ap (λ g. steps_along answer_of after_command k steps l g) g1) in
+      (shown.shows heard.1 k (after (RestartPanel false) g0) (ap is_some there) ∙ ap (λ g. steps_along answer_of after_command k steps l g) g1) in
       let same : lines.steps_at answer_of after_command k f moves n0 ≡ before ++ RestartPanel false ∷ rest = ap (λ xs. before ++ xs) seen_all in
       let ends : runs (lines.steps_at answer_of after_command k f moves n0) new_history ≡ runs (before ++ rest) new_history =
       ap (λ xs. runs xs new_history) same ∙ runs_without before rest (RestartPanel false) new_history quiet in

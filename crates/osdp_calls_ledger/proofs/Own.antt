@@ -9,7 +9,7 @@ use Rattle.osdp_controller.specs.Machine.{Machine, submit_refusal, withdrawn_in}
 use Rattle.osdp_controller.specs.declared.config.ControllerConfig.{ControllerConfig}
 use Rattle.osdp_controller.specs.declared.fault.ControllerFault.{ControllerFault}
 use Rattle.osdp_bus.specs.Buses.{device_of}
-use Rattle.osdp_bus.specs.Machine.{changed_unless, submit_refusal_at, withdrawal_at, withdrawal_of, withdrawn_of}
+use Rattle.osdp_bus.specs.Machine.{changed_unless, submit_refusal_at, withdrawal_at, withdrawal_of}
 use Rattle.osdp_bus.specs.declared.fault.BusFault.{BusFault}
 use Rattle.osdp_bus_laws.specs.Calls as bus
 use Rattle.osdp_reader.specs.declared.handler.Answer.{Answer}
@@ -25,7 +25,7 @@ use Rattle.osdp_shared_line.specs.Views.{move_of, one_if, view}
 use Rattle.osdp_calls.specs.Calls.{Call, begun_of, withdrawn}
 use Rattle.osdp_calls.specs.Lines.{InUse, Station}
 use Rattle.osdp_calls.proofs.Accepting.{command_accepted}
-use Rattle.osdp_calls.proofs.Matching.{FoundAt, Nobody, Somebody, found}
+use Rattle.osdp_calls.proofs.Matching.{FoundAt, Nobody, Somebody, found, IsOurs}
 use Rattle.osdp_calls.proofs.Powers.{outstanding_same}
 use Rattle.osdp_calls.proofs.Same.{Controls, IsNetOf, IsSame}
 use Rattle.osdp_calls.proofs.Stations.{Sites}
@@ -72,7 +72,7 @@ module _ {H : Type 0} (answer_of : H → Command → Answer) (after : H → Comm
     where
       by_found : FoundAt (Sites l) k k l.bus.devices.entries l.stations n.sites
           → seen_at answer_of after k (site_at k n.sites) m n g ≡ cond (i == k) (steps_at answer_of after call (site_at k l.stations) g) []
-      by_found (Nobody a b c) =
+      by_found (Nobody o a b c) =
           ap (λ o. seen_at answer_of after k o m n g) c ∙ sym (no_steps (i == k) [] refl)
           ∙ sym (ap (λ o. cond (i == k) (steps_at answer_of after call o g) []) b)
       by_found (Somebody d t s a b c has) =
@@ -84,14 +84,14 @@ module _ {H : Type 0} (answer_of : H → Command → Answer) (after : H → Comm
 
   -- ---- power of the panel
 
-  pub of_power : (settings : ℕ → ControllerConfig × Room) (l : InUse H) (n : Net H) → IsNetOf l n → (k : ℕ) (g : Ledger)
+  pub of_power : (settings : ℕ → ControllerConfig × Room) (l : InUse H) (n : Net H) → IsNetOf l n → (k : ℕ) (g : Ledger) → IsOurs k l.stations
       → seen answer_of after k (RestartsPanel settings ∷ []) n g ≡ panel_restarts (device_of k l.bus)
-  of_power settings l n h k g =
+  of_power settings l n h k g own =
       seen_one k (RestartsPanel settings) n g ∙ by_found (found (Sites l) k l.bus.devices.entries l.stations n.sites h.sites)
     where
       by_found : FoundAt (Sites l) k k l.bus.devices.entries l.stations n.sites
           → seen_at answer_of after k (site_at k n.sites) (RestartsPanel settings) n g ≡ panel_restarts (device_of k l.bus)
-      by_found (Nobody a b c) = ap (λ o. seen_at answer_of after k o (RestartsPanel settings) n g) c ∙ sym (ap panel_restarts a)
+      by_found (Nobody o a b c) = absurd (let e = sym (ap is_some b) ∙ own in cc)
       by_found (Somebody d t s a b c has) =
           ap (λ o. seen_at answer_of after k o (RestartsPanel settings) n g) c
           ∙ ap (λ o. RestartPanel (is_some o) ∷ []) (outstanding_same t.begun l.bus.greatest d.controller s.controller has.controller)
@@ -99,9 +99,9 @@ module _ {H : Type 0} (answer_of : H → Command → Answer) (after : H → Comm
 
   -- ---- a command is accepted
 
-  pub of_submit : (i : ℕ) (command : Command) (l : InUse H) (n : Net H) → IsNetOf l n → submit_refusal_at i command l.bus ≡ None → (k : ℕ) (g : Ledger)
+  pub of_submit : (i : ℕ) (command : Command) (l : InUse H) (n : Net H) → IsNetOf l n → submit_refusal_at i command l.bus ≡ None → (k : ℕ) (g : Ledger) → IsOurs k l.stations
       → seen answer_of after k (Submit i command ∷ []) n g ≡ panel_steps k (bus.Submit i command) l.bus g
-  of_submit i command l n h none k g =
+  of_submit i command l n h none k g own =
       seen_one k (Submit i command) n g
       ∙ by_found (found (Sites l) k l.bus.devices.entries l.stations n.sites h.sites)
       ∙ sym (ap (λ f. cond (i == k) (changed_unless f [] (submits None command g)) []) none)
@@ -115,15 +115,7 @@ module _ {H : Type 0} (answer_of : H → Command → Answer) (after : H → Comm
           (ap (λ b. all_steps answer_of after (cond b (link.Submit command ∷ []) []) (view k s n) g) differs)
 
       by_found : FoundAt (Sites l) k k l.bus.devices.entries l.stations n.sites → Goal
-      by_found (Nobody a b c) =
-          ap (λ o. seen_at answer_of after k o (Submit i command) n g) c
-          ∙ elim (eqb_tells i k) [
-            | inl equal ↦
-                let there : device_of k l.bus ≡ None = a in
-                let refused = subst (λ j. submit_refusal_at j command l.bus ≡ None) equal.1 none in
-                absurd (let e = sym (ap (λ o. Rattle.osdp_bus.specs.Machine.submit_refusal_of k command o l.bus) there) ∙ refused in cc)
-            | inr differs ↦ sym (ap (λ b. cond b (submits None command g) []) differs.0)
-          ]
+      by_found (Nobody o a b c) = absurd (let e = sym (ap is_some b) ∙ own in cc)
       by_found (Somebody d t s a b c has) =
           ap (λ o. seen_at answer_of after k o (Submit i command) n g) c
           ∙ elim (eqb_tells i k) [
@@ -139,21 +131,14 @@ module _ {H : Type 0} (answer_of : H → Command → Answer) (after : H → Comm
 
   -- ---- .. or taken back
 
-  pub of_withdraw : (i : ℕ) (l : InUse H) (n : Net H) → IsNetOf l n → begun_of (site_at i l.stations) ≡ None → (k : ℕ) (g : Ledger)
+  pub of_withdraw : (i : ℕ) (l : InUse H) (n : Net H) → IsNetOf l n → begun_of (site_at i l.stations) ≡ None → (k : ℕ) (g : Ledger) → IsOurs k l.stations
       → seen answer_of after k (Withdraw i ∷ []) n g ≡ panel_steps k (bus.Withdraw i) l.bus g
-  of_withdraw i l n h none k g =
+  of_withdraw i l n h none k g own =
       seen_one k (Withdraw i) n g ∙ by_found (found (Sites l) k l.bus.devices.entries l.stations n.sites h.sites)
     where
       by_found : FoundAt (Sites l) k k l.bus.devices.entries l.stations n.sites
           → seen_at answer_of after k (site_at k n.sites) (Withdraw i) n g ≡ panel_steps k (bus.Withdraw i) l.bus g
-      by_found (Nobody a b c) =
-          ap (λ o. seen_at answer_of after k o (Withdraw i) n g) c
-          ∙ elim (eqb_tells i k) [
-            | inl equal ↦
-                sym (no_steps (i == k) [] refl)
-                ∙ sym (ap (λ o. cond (i == k) (withdraws (given_back (withdrawal_of o)) g) []) (subst (λ j. device_of j l.bus ≡ None) (sym equal.1) a))
-            | inr differs ↦ sym (ap (λ b. cond b (withdraws (given_back (withdrawal_at i l.bus)) g) []) differs.0)
-          ]
+      by_found (Nobody o a b c) = absurd (let e = sym (ap is_some b) ∙ own in cc)
       by_found (Somebody d t s a b c has) =
           ap (λ o. seen_at answer_of after k o (Withdraw i) n g) c
           ∙ one_shown i k link.Withdraw (view k s n) g

@@ -1,5 +1,5 @@
 -- What the panel reads: of each packet the controller at its address tells, and nobody else.
-use Rattle.std.proofs.Common.{◌≡◌, ◌≢◌, ◌+◌, ℕ, Bool, true, false, cond, List, [], ◌∷◌, ◌++◌, Option, Some, None, All, refl, sym, subst, ap, ◌∙◌, inl, inr, arith, append-nil}
+use Rattle.std.proofs.Common.{◌≡◌, ◌≢◌, ◌+◌, ℕ, Bool, true, false, cond, List, [], ◌∷◌, ◌++◌, Option, Some, None, All, refl, sym, subst, ap, ◌∙◌, inl, inr, arith, append-nil, is_some, length}
 use Rattle.std.proofs.lemmas.Bool.Decides.{eqb_tells}
 use Rattle.std.specs.Prelude.{◌==◌, slice_get}
 use Rattle.osdp_frame.specs.Packet.{Packet}
@@ -14,7 +14,7 @@ use Rattle.osdp_controller.specs.declared.state.State.{State}
 use Rattle.osdp_controller.specs.declared.state.State.TheVariants.{Closed}
 use Rattle.osdp_bus.specs.Devices as devices
 use Rattle.osdp_bus.specs.Devices.{first_from, is_at, told_of}
-use Rattle.osdp_bus.specs.Hearing.{hears_at, hears_packet}
+use Rattle.osdp_bus.specs.Hearing.{hears_packet}
 use Rattle.osdp_bus.specs.declared.device.Device.{Device}
 use Rattle.osdp_bus_laws.specs.Reports.{told_at, told_by_entry, told_by_item, told_with}
 use Rattle.osdp_reader.specs.declared.handler.Answer.{Answer}
@@ -28,24 +28,25 @@ use Rattle.osdp_link_ledger.specs.Steps.{after_steps, all_steps, opens, ticked, 
 use Rattle.osdp_shared_line.specs.Line.{Net, NetMove, Site, ToPanel, address_of, link_of, site_at}
 use Rattle.osdp_shared_line.specs.Views.{HeardByOwn, front_to_panel, other_reply, own, own_reply}
 use Rattle.osdp_shared_line.proofs.Hearing.{closed_hears}
-use Rattle.osdp_calls.specs.Calls.{all_hear, last_of}
+use Rattle.osdp_calls.specs.Calls.{last_of}
 use Rattle.osdp_calls.specs.Handing.{told_by_all}
 use Rattle.osdp_calls.specs.Lines.{Burst, InUse, Station}
 use Rattle.osdp_calls.proofs.Agreeing.{address_same, at_entry, reads_those}
 use Rattle.osdp_calls.proofs.Controllers.{hears_same, ignored_quiet}
 use Rattle.osdp_calls.proofs.Counting.{AllHeard}
-use Rattle.osdp_calls.proofs.Matching.{FoundAt, Nobody, Somebody, found}
+use Rattle.osdp_calls.proofs.Matching.{FoundAt, Nobody, Somebody, found, IsOurs, ours_below}
 use Rattle.osdp_calls.proofs.Nexts.{place_within}
-use Rattle.osdp_calls.proofs.Noticing.{FirstAt, NoneAt, OneAt, first_at}
+use Rattle.osdp_calls.proofs.Noticing.{FirstAt, NoneAt, OneAt, first_at, first_before}
 use Rattle.osdp_calls.proofs.Panel.{IsHeard, IsIgnored, IsRead, hears_one, panel_on, reads_here, told_then}
-use Rattle.osdp_calls.proofs.Runs.{NotPast}
+use Rattle.osdp_calls.proofs.Runs.{NotPast, unheard}
 use Rattle.osdp_calls.proofs.Same.{Controls, IsNetOf, IsToOpen}
 use Rattle.osdp_calls.proofs.Stations.{Sites}
-use Rattle.osdp_calls.proofs.Strangers.{IsElsewhere, Ordered, nobody_at, order_heard}
+use Rattle.osdp_calls.proofs.Strangers.{AreOfOthers, IsElsewhere, Ordered, ordered_heard, others_hear}
 use Rattle.osdp_calls_ledger.specs.Steps.{reported}
 use Rattle.osdp_calls_ledger.proofs.Own.{seen_one}
 use Rattle.osdp_calls_ledger.proofs.Seen.{in_turn, seen, seen_at}
 use Rattle.osdp_calls_ledger.proofs.Shows.{Shown, Shows, both_shown, by_losses, by_made, none_shown, shows_as, then_shows}
+use Rattle.osdp_calls.proofs.Lasting.{heard_keeps}
 
 -- ---- what is told of one entry
 
@@ -133,16 +134,24 @@ module _ {H : Type 0} where
         Shut : ℕ × Packet → Type 0
         Shut q = (j : ℕ) (u : Site H) → j ≢ q.0 → site_at j n.sites ≡ Some u → address_of u ≡ q.1.address → u.controller.session.state ≡ Closed
 
+    -- what is told of entries without a station is reported of none of ours
+    of_others : (k : ℕ) (ts : List (Station H)) → IsOurs k ts → (told_all : List (ℕ × Report)) → AreOfOthers told_all ts → (g : Ledger) → reported k told_all g ≡ []
+    of_others k ts own [] none g = refl
+    of_others k ts own (x ∷ xs) none g =
+        let other : (x.0 == k) ≡ false = is_false x.0 k (λ same.
+        let here = subst (λ i. site_at i ts ≡ None) same none.0 in absurd (let e = sym (ap is_some here) ∙ own in cc)) in
+        ap (λ b. let steps = cond b (told (Some x.1) g) [] in steps ++ reported k xs (after_steps steps g)) other ∙ of_others k ts own xs none.1 g
+
     -- ---- a packet that is read
 
     module _ (p : Packet) (b : Burst) (l : InUse H) (n : Net H) (h : IsNetOf l n) (same : b.packet ≡ p) (whole : HeardByOwn n) where
       told_item : List (ℕ × Report)
       told_item = told_by_item l.bus.greatest (PacketItem p) l.bus.devices
 
-      shown_front : (rest : List (ℕ × Packet)) → n.to_panel ≡ (b.entry, b.packet) ∷ rest → (k : ℕ) (g : Ledger)
+      shown_front : (rest : List (ℕ × Packet)) → n.to_panel ≡ (b.entry, b.packet) ∷ rest → (k : ℕ) (g : Ledger) → IsOurs k l.stations
           → seen_at answer_of after k (site_at k n.sites) (ToPanel Repeated l.bus.greatest) n g
           ≡ reported k (told_by_item l.bus.greatest (PacketItem p) l.bus.devices) g
-      shown_front rest front k g =
+      shown_front rest front k g own =
           by_found (found (Sites l) k l.bus.devices.entries l.stations n.sites h.sites) (first_at 0 p.address l.bus.devices.entries)
         where
           now : ℕ
@@ -164,13 +173,7 @@ module _ {H : Type 0} where
           by_found : FoundAt (Sites l) k k l.bus.devices.entries l.stations n.sites → FirstAt 0 p.address l.bus.devices.entries
               → seen_at answer_of after k (site_at k n.sites) (ToPanel Repeated l.bus.greatest) n g
               ≡ reported k (told_by_item l.bus.greatest (PacketItem p) l.bus.devices) g
-          by_found (Nobody x y z) (NoneAt none all) =
-              ap (λ o. seen_at answer_of after k o (ToPanel Repeated l.bus.greatest) n g) z ∙ sym (ap (λ xs. reported k xs g) (none_told none))
-          by_found (Nobody x y z) (OneAt j e some at here) =
-              ap (λ o. seen_at answer_of after k o (ToPanel Repeated l.bus.greatest) n g) z
-              ∙ sym (ap (λ xs. reported k xs g) (one_told j e some at)
-              ∙ reported_other k j (told_of p l.bus.greatest e) g (λ f. let there = subst (λ i. slice_get l.bus.devices.entries i ≡ Some e) f at in
-              absurd (let q = sym x ∙ there in cc)))
+          by_found (Nobody o x y z) first = absurd (let e = sym (ap is_some y) ∙ own in cc)
           by_found (Somebody d t s x y z is) (NoneAt none all) =
               its s z
               ∙ ap (λ c. cond c (told (hears p l.bus.greatest s.controller.session).report g) []) (ap (λ a. a == p.address) (address_same k d l t s is) ∙ all k d x)
@@ -186,8 +189,10 @@ module _ {H : Type 0} where
                 ∙ sym (reported_own k (told_of p l.bus.greatest d) g)
                 ∙ sym (ap (λ xs. reported k xs g) (one_told j e some at ∙ (λ i. told_at (mine.1 i) (told_of p l.bus.greatest (one i)))))
             | inr differs ↦
-                let it = at_entry j e l n h at in
                 let other : (address_of s == p.address) ≡ false = is_false (address_of s) p.address (λ f.
+                let first : first_from 0 (is_at p.address) l.bus.devices.entries ≡ Some j = some ∙ ap Some (let z0 : 0 + j ≡ j = omega arith in z0) in
+                let before = first_before p.address 0 j k d l.bus.devices.entries first x (is_true (devices.address_of d) p.address (sym (address_same k d l t s is) ∙ f)) in
+                let it = at_entry j e l n h (ours_below j k l.stations (omega (arith, before)) own) at in
                 whole.addresses j k it.site s differs.1 it.at z
                 (address_same j e l it.station it.site it.is ∙ equal_of (devices.address_of e) p.address here ∙ sym f)) in
                 its s z
@@ -195,42 +200,56 @@ module _ {H : Type 0} where
                 ∙ sym (ap (λ xs. reported k xs g) (one_told j e some at) ∙ reported_other k j (told_of p l.bus.greatest e) g differs.1)
           ]
 
-      pub shown_read : (moves : List (NetMove H)) → IsRead answer_of after b l n (told_by_item l.bus.greatest (PacketItem p) l.bus.devices) moves → (k : ℕ) (g : Ledger)
+      pub shown_read : (moves : List (NetMove H)) → IsRead answer_of after b l n (told_by_item l.bus.greatest (PacketItem p) l.bus.devices) moves → (k : ℕ) (g : Ledger) → IsOurs k l.stations
           → seen answer_of after k moves n g ≡ reported k (told_by_item l.bus.greatest (PacketItem p) l.bus.devices) g
-      shown_read moves (IsIgnored none are) k g = ap (λ ms. seen answer_of after k ms n g) are ∙ sym (ap (λ xs. reported k xs g) none)
-      shown_read moves (IsHeard rest front are) k g =
-          ap (λ ms. seen answer_of after k ms n g) are ∙ seen_one answer_of after k (ToPanel Repeated l.bus.greatest) n g ∙ shown_front rest front k g
+      shown_read moves (IsIgnored none are) k g own =
+          ap (λ ms. seen answer_of after k ms n g) are ∙ sym (of_others k l.stations own (told_by_item l.bus.greatest (PacketItem p) l.bus.devices) none g)
+      shown_read moves (IsHeard rest front are) k g own =
+          ap (λ ms. seen answer_of after k ms n g) are ∙ seen_one answer_of after k (ToPanel Repeated l.bus.greatest) n g ∙ shown_front rest front k g own
 
     -- no packet is read of which nobody hears
-    whole_of : (moves : List (NetMove H)) (b : Burst) (l : InUse H) (n : Net H) (told : List (ℕ × Report)) → IsRead answer_of after b l n told moves → (k : ℕ) (g : Ledger)
+    whole_of : (moves : List (NetMove H)) (b : Burst) (l : InUse H) (n : Net H) (told : List (ℕ × Report)) → IsRead answer_of after b l n told moves → (k : ℕ) (g : Ledger) → IsOurs k l.stations
         → AllHeard answer_of after moves n → (HeardByOwn n → seen answer_of after k moves n g ≡ reported k told g)
         → seen answer_of after k moves n g ≡ reported k told g
-    whole_of moves b l n told (IsIgnored none are) k g heard shows = ap (λ ms. seen answer_of after k ms n g) are ∙ sym (ap (λ xs. reported k xs g) none)
-    whole_of moves b l n told (IsHeard rest front are) k g heard shows = shows (subst (λ ms. AllHeard answer_of after ms n) are heard).0
+    whole_of moves b l n told (IsIgnored none are) k g own heard shows = ap (λ ms. seen answer_of after k ms n g) are ∙ sym (of_others k l.stations own told none g)
+    whole_of moves b l n told (IsHeard rest front are) k g own heard shows = shows (subst (λ ms. AllHeard answer_of after ms n) are heard).0
 
     abbrev pub reads_shown : List Packet → InUse H → Shown
     reads_shown ps l k = reported k (told_by_all l.bus.greatest ps l.bus.devices)
 
-    -- a packet that none of the controllers hears shows nothing
-    unread_shows : (p : Packet) (ps : List Packet) (places : List ℕ) (l : InUse H) (n : Net H) → IsElsewhere l.bus.devices.entries p
-        → Shows answer_of after (reads_shown ps l) n (reads_those answer_of after ps places l)
+    -- what the panel reads leaves each station there
+    pub reads_keep : (ps : List Packet) (places : List ℕ) (l : InUse H) (k : ℕ)
+        → is_some (site_at k (reads_those answer_of after ps places l).stations) ≡ is_some (site_at k l.stations)
+    reads_keep ps places l k = heard_keeps k (told_by_all l.bus.greatest ps l.bus.devices) l.stations
+
+    -- a packet that none of our controllers hears shows nothing
+    unread_shows : (p : Packet) (ps : List Packet) (places : List ℕ) (l : InUse H) (n : Net H) → IsElsewhere (length l.stations) l.bus.devices.entries p
+        → Shows answer_of after (reads_shown ps (hears_one answer_of after p l)) n (reads_those answer_of after ps places (hears_one answer_of after p l))
         → Shows answer_of after (reads_shown (p ∷ ps) l) n (reads_those answer_of after (p ∷ ps) places l)
     unread_shows p ps places l n off rest =
-        let told : Option ℕ → List (ℕ × Report) = λ o.
-        told_by_entry p l.bus.greatest o l.bus.devices ++ told_by_all l.bus.greatest ps (hears_at p l.bus.greatest o l.bus.devices) in
-        subst (λ o. Shows answer_of after (λ k. reported k (told o)) n (record l {
-          bus = record l.bus { devices = Rattle.osdp_calls.specs.Handing.hears_all l.bus.greatest ps (hears_at p l.bus.greatest o l.bus.devices) };
-          stations = all_hear (told o) l.stations;
+        let g = l.bus.greatest in
+        let told_here = told_by_item g (PacketItem p) l.bus.devices in
+        let more = told_by_all g ps (hears_packet p g l.bus.devices) in
+        shows_as answer_of after (λ k. reported k more) (reads_shown (p ∷ ps) l) n (reads_those answer_of after (p ∷ ps) places l)
+        (λ k q own.
+        let nothing = of_others k l.stations (sym (reads_keep (p ∷ ps) places l k) ∙ own) told_here (others_hear p g l off).told q in
+        sym (λ i. nothing i ++ reported k more (after_steps (nothing i) q)) ∙ sym (reported_more k told_here more q))
+        (subst (λ ts. Shows answer_of after (λ k. reported k more) n (record l {
+          bus = record l.bus { devices = Rattle.osdp_calls.specs.Handing.hears_all g ps (hears_packet p g l.bus.devices) };
+          stations = ts;
           place = last_of places l.place;
-        })) (sym (nobody_at p 0 l.bus.devices.entries off)) rest
+        })) (sym (told_then told_here more l.stations)) rest)
 
     pub reads_show : (ps : List Packet) (places : List ℕ) (l : InUse H) (n : Net H) → IsNetOf l n → Ordered l ps places → Each (NotPast l) places
         → Shows answer_of after (reads_shown ps l) n (reads_those answer_of after ps places l)
-    reads_show [] [] l n h all past = record { net = n; moves = []; fit = tt; run = refl; same = h; shows = λ heard k g. refl }
+    reads_show [] [] l n h all past = record { net = n; moves = []; fit = tt; run = refl; same = h; shows = λ heard k g own. refl }
     reads_show [] (i ∷ places) l n h all past = absurd all
-    reads_show (p ∷ ps) [] l n h all past = unread_shows p ps [] l n all.0 (reads_show ps [] l n h all.1 past)
+    reads_show (p ∷ ps) [] l n h all past =
+        unread_shows p ps [] l n all.0 (reads_show ps [] (hears_one answer_of after p l) n (unheard answer_of after p l n h all.0)
+        (ordered_heard (told_by_item l.bus.greatest (PacketItem p) l.bus.devices) p l ps [] l.place all.1) past)
     reads_show (p ∷ ps) (i ∷ places) l n h (inr others) past =
-        unread_shows p ps (i ∷ places) l n others.0 (reads_show ps (i ∷ places) l n h others.1 past)
+        unread_shows p ps (i ∷ places) l n others.0 (reads_show ps (i ∷ places) (hears_one answer_of after p l) n (unheard answer_of after p l n h others.0)
+        (ordered_heard (told_by_item l.bus.greatest (PacketItem p) l.bus.devices) p l ps (i ∷ places) l.place others.1) past)
     reads_show (p ∷ ps) (i ∷ places) l n h (inl all) past =
         let inside = place_within i all.0 l.said all.1 in
         let l1 = record l { place = i } in
@@ -241,14 +260,15 @@ module _ {H : Type 0} where
         let here : Shown = λ k. reported k told_here in
         let rest : Shown = λ k. reported k more in
         let first = by_losses answer_of after n l1 (panel_on answer_of after i l n h all.3 (omega (arith, inside))) in
-        let second = then_shows answer_of after none_shown here n l1 l2 first (λ m h1.
-        by_made answer_of after here (IsRead answer_of after all.0 l1 m told_here) m l2 (λ moves read heard k q.
-        whole_of moves all.0 l1 m told_here read k q heard (λ whole. shown_read p all.0 l1 m h1 all.2 whole moves read k q))
+        let second = then_shows answer_of after none_shown here n l1 l2 (λ k. heard_keeps k told_here l.stations) first (λ m h1.
+        by_made answer_of after here (IsRead answer_of after all.0 l1 m told_here) m l2 (λ moves read heard k q own.
+        let mine = sym (heard_keeps k told_here l.stations) ∙ own in
+        whole_of moves all.0 l1 m told_here read k q mine heard (λ whole. shown_read p all.0 l1 m h1 all.2 whole moves read k q mine))
         (reads_here answer_of after p all.0 l1 m h1 all.1 all.2 (past.0 all.0 all.1))) in
-        let third = then_shows answer_of after (both_shown none_shown here) rest n l2 (reads_those answer_of after ps places l2) second
-        (λ m h2. reads_show ps places l2 m h2 (order_heard p g l.bus.devices l.said ps places i all.4) past.1) in
+        let third = then_shows answer_of after (both_shown none_shown here) rest n l2 (reads_those answer_of after ps places l2) (reads_keep ps places l2) second
+        (λ m h2. reads_show ps places l2 m h2 (ordered_heard told_here p l ps places i all.4) past.1) in
         shows_as answer_of after (both_shown (both_shown none_shown here) rest) (reads_shown (p ∷ ps) l) n (reads_those answer_of after (p ∷ ps) (i ∷ places) l)
-        (λ k q. sym (reported_more k told_here more q))
+        (λ k q own. sym (reported_more k told_here more q))
         (subst (λ ts. Shows answer_of after (both_shown (both_shown none_shown here) rest) n (record l {
           bus = record l.bus { devices = Rattle.osdp_calls.specs.Handing.hears_all g ps (hears_packet p g l.bus.devices) };
           stations = ts;

@@ -1,5 +1,5 @@
 -- What calls come to, with what the moves show of each entry.
-use Rattle.std.proofs.Common.{◌≡◌, ℕ, List, [], ◌∷◌, ◌++◌, sym, subst, ap, ◌∙◌}
+use Rattle.std.proofs.Common.{◌≡◌, ℕ, List, [], ◌∷◌, ◌++◌, sym, subst, ap, ◌∙◌, is_some}
 use Rattle.osdp_msg.specs.declared.command.Command.{Command}
 use Rattle.osdp_reader.specs.declared.handler.Answer.{Answer}
 use Rattle.osdp_ledger.specs.Ledger as ledger
@@ -8,7 +8,7 @@ use Rattle.osdp_link_laws.proofs.Lines.{each_map}
 use Rattle.osdp_link_laws.proofs.Stages.{Each}
 use Rattle.osdp_link_ledger.specs.Steps.{after_steps}
 use Rattle.osdp_shared_line.specs.Addresses.{NetMovesFit}
-use Rattle.osdp_shared_line.specs.Line.{Net, NetMove, after_net, run}
+use Rattle.osdp_shared_line.specs.Line.{Net, NetMove, after_net, run, site_at}
 use Rattle.osdp_calls.specs.Lines.{InUse}
 use Rattle.osdp_calls.proofs.Counting.{AllHeard}
 use Rattle.osdp_calls.proofs.Losing.{IsLoss, fit_then, run_then}
@@ -16,6 +16,7 @@ use Rattle.osdp_calls.proofs.Same.{IsNetOf}
 use Rattle.osdp_calls.proofs.Stations.{LosesTo, Makes}
 use Rattle.osdp_calls_ledger.proofs.Quiet.{ShowsNothing, loss_shows, seen_none}
 use Rattle.osdp_calls_ledger.proofs.Seen.{in_turn, seen, seen_more}
+use Rattle.osdp_calls.proofs.Matching.{IsOurs}
 
 -- the steps of each entry, as a ledger has them
 abbrev pub Shown : Type 0
@@ -47,24 +48,25 @@ module _ {H : Type 0} (answer_of : H → Command → Answer) (after : H → Comm
     pub fit : NetMovesFit answer_of after moves n
     pub run : run answer_of after moves n ≡ net
     pub same : IsNetOf l net
-    pub shows : AllHeard answer_of after moves n → (k : ℕ) (g : Ledger) → seen answer_of after k moves n g ≡ f k g
+    pub shows : AllHeard answer_of after moves n → (k : ℕ) (g : Ledger) → IsOurs k l.stations → seen answer_of after k moves n g ≡ f k g
 
-  pub shows_as : (f h : Shown) (n : Net H) (l : InUse H) → ((k : ℕ) (g : Ledger) → f k g ≡ h k g) → Shows f n l → Shows h n l
+  pub shows_as : (f h : Shown) (n : Net H) (l : InUse H) → ((k : ℕ) (g : Ledger) → IsOurs k l.stations → f k g ≡ h k g) → Shows f n l → Shows h n l
   shows_as f h n l same x = record {
     net = x.net;
     moves = x.moves;
     fit = x.fit;
     run = x.run;
     same = x.same;
-    shows = λ heard k g. x.shows heard k g ∙ same k g;
+    shows = λ heard k g own. x.shows heard k g own ∙ same k g own;
   }
 
-  pub shows_line : (f : Shown) (n : Net H) (l m : InUse H) → ((k : Net H) → IsNetOf l k → IsNetOf m k) → Shows f n l → Shows f n m
-  shows_line f n l m same x =
-      record { net = x.net; moves = x.moves; fit = x.fit; run = x.run; same = same x.net x.same; shows = x.shows }
+  pub shows_line : (f : Shown) (n : Net H) (l m : InUse H) → ((k : Net H) → IsNetOf l k → IsNetOf m k)
+      → ((k : ℕ) → is_some (site_at k m.stations) ≡ is_some (site_at k l.stations)) → Shows f n l → Shows f n m
+  shows_line f n l m same keeps x =
+      record { net = x.net; moves = x.moves; fit = x.fit; run = x.run; same = same x.net x.same; shows = λ heard k g own. x.shows heard k g (sym (keeps k) ∙ own) }
 
   pub by_made : (f : Shown) (Q : List (NetMove H) → Type 0) (n : Net H) (l : InUse H)
-      → ((moves : List (NetMove H)) → Q moves → AllHeard answer_of after moves n → (k : ℕ) (g : Ledger) → seen answer_of after k moves n g ≡ f k g)
+      → ((moves : List (NetMove H)) → Q moves → AllHeard answer_of after moves n → (k : ℕ) (g : Ledger) → IsOurs k l.stations → seen answer_of after k moves n g ≡ f k g)
       → Makes answer_of after Q n l → Shows f n l
   by_made f Q n l shows x =
       let r = x.refines in
@@ -80,10 +82,11 @@ module _ {H : Type 0} (answer_of : H → Command → Answer) (after : H → Comm
   pub by_losses : (n : Net H) (l : InUse H) → LosesTo answer_of after n l → Shows none_shown n l
   by_losses n l x =
       by_made none_shown (Each IsLoss) n l
-      (λ moves losses heard k g. seen_none answer_of after k moves n g (each_map IsLoss ShowsNothing loss_shows moves losses)) x
+      (λ moves losses heard k g own. seen_none answer_of after k moves n g (each_map IsLoss ShowsNothing loss_shows moves losses)) x
 
-  pub then_shows : (f h : Shown) (n : Net H) (l m : InUse H) → Shows f n l → ((q : Net H) → IsNetOf l q → Shows h q m) → Shows (both_shown f h) n m
-  then_shows f h n l m x next =
+  pub then_shows : (f h : Shown) (n : Net H) (l m : InUse H) → ((k : ℕ) → is_some (site_at k m.stations) ≡ is_some (site_at k l.stations)) → Shows f n l
+      → ((q : Net H) → IsNetOf l q → Shows h q m) → Shows (both_shown f h) n m
+  then_shows f h n l m keeps x next =
       let y = next x.net x.same in
       record {
         net = y.net;
@@ -91,9 +94,9 @@ module _ {H : Type 0} (answer_of : H → Command → Answer) (after : H → Comm
         fit = fit_then answer_of after x.moves y.moves n x.fit (subst (NetMovesFit answer_of after y.moves) (sym x.run) y.fit);
         run = run_then answer_of after x.moves y.moves n ∙ ap (run answer_of after y.moves) x.run ∙ y.run;
         same = y.same;
-        shows = λ heard k g.
-            let first = x.shows (heard_first x.moves y.moves n heard) k g in
-            let second = y.shows (heard_then x.moves y.moves n x.net x.run heard) k (after_steps (f k g) g) in
+        shows = λ heard k g own.
+            let first = x.shows (heard_first x.moves y.moves n heard) k g (sym (keeps k) ∙ own) in
+            let second = y.shows (heard_then x.moves y.moves n x.net x.run heard) k (after_steps (f k g) g) own in
             seen_more answer_of after k x.moves y.moves n g
             ∙ (λ i. first i ++ seen answer_of after k y.moves (x.run i) (after_steps (first i) g))
             ∙ ap (λ xs. f k g ++ xs) second;

@@ -1,5 +1,5 @@
 -- A tick of the bus: what is read before it, and the controller that ticks, with its opening ID.
-use Rattle.std.proofs.Common.{◌≡◌, ◌≢◌, ℕ, Bool, true, false, cond, List, [], ◌∷◌, ◌++◌, Option, Some, None, refl, sym, subst, ap, ◌∙◌, inl, inr, append-nil}
+use Rattle.std.proofs.Common.{◌≡◌, ◌≢◌, ℕ, Bool, true, false, cond, List, [], ◌∷◌, ◌++◌, Option, Some, None, refl, sym, subst, ap, ◌∙◌, inl, inr, append-nil, is_some}
 use Rattle.std.proofs.lemmas.Bool.Decides.{eqb_tells}
 use Rattle.std.specs.Prelude.{◌==◌, nat_le}
 use Rattle.osdp_frame.specs.Packet.{Packet}
@@ -29,21 +29,22 @@ use Rattle.osdp_shared_line.specs.Line as line
 use Rattle.osdp_shared_line.specs.Line.{Net, NetMove, Reopen, Site, Tick, after_net, changed, site_at}
 use Rattle.osdp_shared_line.specs.Views.{view}
 use Rattle.osdp_shared_line.proofs.Sites.{at_changed}
-use Rattle.osdp_calls.specs.Calls.{begun_of}
+use Rattle.osdp_calls.specs.Calls.{begun_of, all_hear}
 use Rattle.osdp_calls.specs.Lines.{InUse}
 use Rattle.osdp_calls.proofs.Agreed.{ticks_to}
 use Rattle.osdp_calls.proofs.Controllers.{ticks_same}
 use Rattle.osdp_calls.proofs.Losing.{IsLoss}
-use Rattle.osdp_calls.proofs.Matching.{FoundAt, Nobody, Somebody, found}
+use Rattle.osdp_calls.proofs.Matching.{FoundAt, Nobody, Somebody, found, IsOurs}
 use Rattle.osdp_calls.proofs.Same.{Controls, IsNetOf, IsSame, IsToOpen}
 use Rattle.osdp_calls.proofs.Stations.{Sites}
-use Rattle.osdp_calls.proofs.Ticking.{GoesOn, IsOpeningOf, IsTicked, Opens, Rests, ticks_entry}
+use Rattle.osdp_calls.proofs.Ticking.{GoesOn, IsOpeningOf, IsTicked, Opens, Rests, ticks_entry, IsOfOther}
 use Rattle.osdp_calls_ledger.specs.Steps.{opening, reported}
 use Rattle.osdp_calls_ledger.proofs.Own.{one_shown, seen_one}
 use Rattle.osdp_calls_ledger.proofs.Quiet.{ShowsNothing, loss_shows, seen_after_none}
 use Rattle.osdp_calls_ledger.proofs.Reading.{reported_other, reported_own}
 use Rattle.osdp_calls_ledger.proofs.Seen.{seen, seen_at}
 use Rattle.osdp_calls_ledger.proofs.Shows.{Shown, Shows, by_made}
+use Rattle.osdp_calls.proofs.Lasting.{heard_keeps, says_keep}
 
 -- ---- what a controller sends and tells at a tick: never both
 
@@ -106,9 +107,9 @@ module _ {H : Type 0} (answer_of : H → Command → Answer) (after : H → Comm
         (λ i. other_told k e (device_of e l.bus) l.bus g other i ++ other_opens k e (ticks_at (Some e) l.bus).sent (device_of k l.bus) other i)
 
     -- of the one that ticks, where no session begins
-    goes_on : begun_of (site_at e l.stations) ≡ None → e ≡ k
+    goes_on : IsOurs k l.stations → begun_of (site_at e l.stations) ≡ None → e ≡ k
         → seen_at answer_of after k (site_at k n.sites) (Tick e l.bus.greatest) n g ≡ tick_shown (Some e) l k g
-    goes_on none same = by_found (found (Sites l) k l.bus.devices.entries l.stations n.sites h.sites)
+    goes_on own none same = by_found (found (Sites l) k l.bus.devices.entries l.stations n.sites h.sites)
       where
         now : ℕ
         now = l.bus.greatest
@@ -121,9 +122,7 @@ module _ {H : Type 0} (answer_of : H → Command → Answer) (after : H → Comm
 
         by_found : FoundAt (Sites l) k k l.bus.devices.entries l.stations n.sites
             → seen_at answer_of after k (site_at k n.sites) (Tick e l.bus.greatest) n g ≡ tick_shown (Some e) l k g
-        by_found (Nobody a b c) =
-            at ∙ ap (λ o. seen_at answer_of after k o (Tick k l.bus.greatest) n g) c
-            ∙ sym (its ∙ ap (λ o. reported k (told_by_device k o l.bus) g ++ opening k (Some k) (ticks_with k o l.bus).sent o) a)
+        by_found (Nobody o a b c) = absurd (let e1 = sym (ap is_some b) ∙ own in cc)
         by_found (Somebody d t s a b c is) =
             let begun : t.begun ≡ None = sym (ap begun_of b) ∙ subst (λ i. begun_of (site_at i l.stations) ≡ None) same none in
             let control : IsSame l.bus.greatest d.controller s.controller = subst (λ o. Controls o l.bus.greatest d.controller s.controller) begun is.controller in
@@ -176,7 +175,7 @@ module _ {H : Type 0} (answer_of : H → Command → Answer) (after : H → Comm
             ∙ at_changed e s1 s mid.sites there
 
         by_found : FoundAt (Sites l) k k l.bus.devices.entries l.stations n.sites → tick_shown (Some e) l k g ≡ Open ∷ []
-        by_found (Nobody a b c) = absurd (let f = sym begun ∙ ap (λ i. begun_of (site_at i l.stations)) same ∙ ap begun_of b in cc)
+        by_found (Nobody o a b c) = absurd (let f = sym begun ∙ ap (λ i. begun_of (site_at i l.stations)) same ∙ ap begun_of b in cc)
         by_found (Somebody d t u a b c is) =
             let to_begin : t.begun ≡ Some began = sym (ap begun_of b) ∙ ap (λ i. begun_of (site_at i l.stations)) (sym same) ∙ begun in
             let control : IsToOpen began l.bus.greatest d.controller u.controller = subst (λ o. Controls o l.bus.greatest d.controller u.controller) to_begin is.controller in
@@ -184,19 +183,28 @@ module _ {H : Type 0} (answer_of : H → Command → Answer) (after : H → Comm
             ∙ ap (λ x. cond x (opens d.controller.session.state (Some p)) []) (is_true k k refl)
             ∙ ap (λ st. opens st (Some p)) control.quiet
 
-  tick_shows : (o : Option ℕ) (l : InUse H) (n : Net H) → IsNetOf l n → (moves : List (NetMove H)) → IsTicked answer_of after o l n moves → (k : ℕ) (g : Ledger)
+  pub ticks_keep : (o : Option ℕ) (l : InUse H) (k : ℕ) → is_some (site_at k (ticks_to answer_of after o l).stations) ≡ is_some (site_at k l.stations)
+  ticks_keep o l k =
+      says_keep k o (ticks_at o l.bus).sent (record l { bus = (ticks_at o l.bus).bus; stations = all_hear (told_by_ticking o l.bus) l.stations })
+      ∙ heard_keeps k (told_by_ticking o l.bus) l.stations
+
+  tick_shows : (o : Option ℕ) (l : InUse H) (n : Net H) → IsNetOf l n → (moves : List (NetMove H)) → IsTicked answer_of after o l n moves → (k : ℕ) (g : Ledger) → IsOurs k l.stations
       → seen answer_of after k moves n g ≡ tick_shown o l k g
-  tick_shows o l n h moves (Rests are none sent) k g =
+  tick_shows o l n h moves (IsOfOther e is none are) k g own =
+      ap (λ ms. seen answer_of after k ms n g) are
+      ∙ sym (of_other e l n h k g (λ same. let here = subst (λ i. site_at i l.stations ≡ None) same none in absurd (let f = sym (ap is_some here) ∙ own in cc)))
+      ∙ sym (ap (λ q. tick_shown q l k g) is)
+  tick_shows o l n h moves (Rests are none sent) k g own =
       ap (λ ms. seen answer_of after k ms n g) are
       ∙ sym (λ i. reported k (none i) g ++ nothing_sent k o (ticks_at o l.bus).sent (device_of k l.bus) sent i)
-  tick_shows o l n h moves (GoesOn e is begun are) k g =
+  tick_shows o l n h moves (GoesOn e is begun are) k g own =
       ap (λ ms. seen answer_of after k ms n g) are ∙ seen_one answer_of after k (Tick e l.bus.greatest) n g
       ∙ elim (eqb_tells e k) [
-        | inl equal ↦ goes_on e l n h k g begun equal.1
+        | inl equal ↦ goes_on e l n h k g own begun equal.1
         | inr differs ↦ other_ticks k e l.bus.greatest (site_at k n.sites) n g differs.1 ∙ sym (of_other e l n h k g differs.1)
       ]
       ∙ sym (ap (λ q. tick_shown q l k g) is)
-  tick_shows o l n h moves (Opens e began p s mid lost is begun sent none losses runs there shut opening_is are) k g =
+  tick_shows o l n h moves (Opens e began p s mid lost is begun sent none losses runs there shut opening_is are) k g own =
       let mid1 = after_net answer_of after (Reopen e began) mid in
       let sent_one : (ticks_at (Some e) l.bus).sent ≡ Some p = subst (λ q. (ticks_at q l.bus).sent ≡ Some p) is sent in
       let none_one : told_by_ticking (Some e) l.bus ≡ [] = subst (λ q. told_by_ticking q l.bus ≡ []) is none in
@@ -213,4 +221,4 @@ module _ {H : Type 0} (answer_of : H → Command → Answer) (after : H → Comm
   pub ticks_show : (o : Option ℕ) (l : InUse H) (n : Net H) → IsNetOf l n → Shows answer_of after (tick_shown o l) n (ticks_to answer_of after o l)
   ticks_show o l n h =
       by_made answer_of after (tick_shown o l) (IsTicked answer_of after o l n) n (ticks_to answer_of after o l)
-      (λ moves ticked_so heard k g. tick_shows o l n h moves ticked_so k g) (ticks_entry answer_of after o l n h)
+      (λ moves ticked_so heard k g own. tick_shows o l n h moves ticked_so k g (sym (ticks_keep o l k) ∙ own)) (ticks_entry answer_of after o l n h)

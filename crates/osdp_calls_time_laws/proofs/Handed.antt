@@ -1,42 +1,47 @@
 -- What the panel reads, before one of its controllers ticks.
-use Rattle.std.proofs.Common.{ℕ, List, [], ◌∷◌, ◌++◌, sym, subst, arith, inl, inr}
+use Rattle.std.proofs.Common.{ℕ, List, [], ◌∷◌, sym, subst, arith, inl, inr}
 use Rattle.osdp_frame.specs.Packet.{Packet}
 use Rattle.osdp_frame.specs.Reading.{PacketItem}
 use Rattle.osdp_msg.specs.declared.command.Command.{Command}
-use Rattle.osdp_bus.specs.Hearing.{hears_at, hears_packet}
-use Rattle.osdp_bus_laws.specs.Reports.{told_by_entry, told_by_item}
+use Rattle.osdp_bus.specs.Hearing.{hears_packet}
+use Rattle.osdp_bus_laws.specs.Reports.{told_by_item}
 use Rattle.osdp_link_laws.proofs.Stages.{Each}
 use Rattle.osdp_reader.specs.declared.handler.Answer.{Answer}
 use Rattle.osdp_shared_line.specs.Line.{Net}
-use Rattle.osdp_calls.specs.Calls.{all_hear, last_of}
+use Rattle.osdp_calls.specs.Calls.{last_of}
 use Rattle.osdp_calls.specs.Handing.{hears_all, told_by_all}
 use Rattle.osdp_calls.specs.Lines.{InUse}
 use Rattle.osdp_calls.proofs.Agreeing.{reads_those}
 use Rattle.osdp_calls.proofs.Nexts.{place_within, then_refines}
 use Rattle.osdp_calls.proofs.Panel.{hears_one, panel_on, reads_here, told_then}
-use Rattle.osdp_calls.proofs.Runs.{NotPast}
+use Rattle.osdp_calls.proofs.Runs.{NotPast, unheard}
 use Rattle.osdp_calls.proofs.Same.{IsNetOf}
 use Rattle.osdp_calls.proofs.Stations.{Refines, by_none}
-use Rattle.osdp_calls.proofs.Strangers.{IsElsewhere, Ordered, nobody_at, order_heard}
+use Rattle.osdp_calls.proofs.Strangers.{Ordered, ordered_heard}
 
 module _ {H : Type 0} (answer_of : H → Command → Answer) (after : H → Command → H) where
-  -- a packet that none of the controllers hears changes nothing
-  unread : (p : Packet) (ps : List Packet) (places : List ℕ) (l : InUse H) (n : Net H) → IsElsewhere l.bus.devices.entries p
-      → Refines answer_of after n (reads_those answer_of after ps places l) → Refines answer_of after n (reads_those answer_of after (p ∷ ps) places l)
-  unread p ps places l n off rest =
-      subst (λ o. Refines answer_of after n (record l {
-        bus = record l.bus { devices = hears_all l.bus.greatest ps (hears_at p l.bus.greatest o l.bus.devices) };
-        stations = all_hear (told_by_entry p l.bus.greatest o l.bus.devices ++ told_by_all l.bus.greatest ps (hears_at p l.bus.greatest o l.bus.devices)) l.stations;
+  -- a packet that none of our controllers hears
+  unread : (p : Packet) (ps : List Packet) (places : List ℕ) (l : InUse H) (n : Net H)
+      → Refines answer_of after n (reads_those answer_of after ps places (hears_one answer_of after p l)) → Refines answer_of after n (reads_those answer_of after (p ∷ ps) places l)
+  unread p ps places l n rest =
+      let g = l.bus.greatest in
+      let ds = l.bus.devices in
+      subst (λ ts. Refines answer_of after n (record l {
+        bus = record l.bus { devices = hears_all g ps (hears_packet p g ds) };
+        stations = ts;
         place = last_of places l.place;
-      })) (sym (nobody_at p 0 l.bus.devices.entries off)) rest
+      })) (sym (told_then (told_by_item g (PacketItem p) ds) (told_by_all g ps (hears_packet p g ds)) l.stations)) rest
 
   pub reads_net : (ps : List Packet) (places : List ℕ) (l : InUse H) (n : Net H) → IsNetOf l n → Ordered l ps places → Each (NotPast l) places
       → Refines answer_of after n (reads_those answer_of after ps places l)
   reads_net [] [] l n h all past = by_none answer_of after l n h
   reads_net [] (i ∷ places) l n h all past = absurd all
-  reads_net (p ∷ ps) [] l n h all past = unread p ps [] l n all.0 (reads_net ps [] l n h all.1 past)
+  reads_net (p ∷ ps) [] l n h all past =
+      unread p ps [] l n (reads_net ps [] (hears_one answer_of after p l) n (unheard answer_of after p l n h all.0)
+      (ordered_heard (told_by_item l.bus.greatest (PacketItem p) l.bus.devices) p l ps [] l.place all.1) past)
   reads_net (p ∷ ps) (i ∷ places) l n h (inr others) past =
-      unread p ps (i ∷ places) l n others.0 (reads_net ps (i ∷ places) l n h others.1 past)
+      unread p ps (i ∷ places) l n (reads_net ps (i ∷ places) (hears_one answer_of after p l) n (unheard answer_of after p l n h others.0)
+      (ordered_heard (told_by_item l.bus.greatest (PacketItem p) l.bus.devices) p l ps (i ∷ places) l.place others.1) past)
   reads_net (p ∷ ps) (i ∷ places) l n h (inl all) past =
       let inside = place_within i all.0 l.said all.1 in
       let l1 = record l { place = i } in
@@ -50,4 +55,4 @@ module _ {H : Type 0} (answer_of : H → Command → Answer) (after : H → Comm
         stations = ts;
         place = last_of places i;
       })) (sym (told_then (told_by_item g (PacketItem p) ds) (told_by_all g ps (hears_packet p g ds)) l.stations))
-      (then_refines answer_of after n l2 (reads_those answer_of after ps places l2) second (λ m h2. reads_net ps places l2 m h2 (order_heard p g ds l.said ps places i all.4) past.1))
+      (then_refines answer_of after n l2 (reads_those answer_of after ps places l2) second (λ m h2. reads_net ps places l2 m h2 (ordered_heard (told_by_item g (PacketItem p) ds) p l ps places i all.4) past.1))

@@ -1,5 +1,5 @@
 -- Call after call each packet is read in time, so each opening is quiet.
-use Rattle.std.proofs.Common.{◌≡◌, ◌+◌, ◌<◌, ◌≤◌, ℕ, Bool, true, false, List, [], ◌∷◌, length, refl, sym, subst, ap, ◌∙◌, arith}
+use Rattle.std.proofs.Common.{◌≡◌, ◌+◌, ◌<◌, ◌≤◌, ℕ, Bool, true, false, List, [], ◌∷◌, length, refl, sym, subst, ap, ◌∙◌, arith, ◌++◌}
 use Rattle.std.specs.Prelude.{◌^◌, map, slice_get}
 use Rattle.osdp_msg.specs.declared.command.Command.{Command}
 use Rattle.osdp_msg.specs.declared.event.Event.{Event}
@@ -146,7 +146,7 @@ module _ {H : Type 0} where
         let n0 = first_net s.config l.stations in
         let n1 = after_net answer_of after (RestartPanel s.settings) n0 in
         let none : l.said ≡ [] = up.said in
-        let addresses = map (λ (t : Station H). t.reader.config.address) l.stations in
+        let addresses = map (λ (t : Station H). t.reader.config.address) l.stations ++ up.others in
         let patient : WaitsTwice w up.config = subst (λ (b : BusState). WaitsTwice w b.config) up.bus waits in
         record {
           net = n1;

@@ -57,6 +57,7 @@ module _ {H : Type 0} where
   one_is_set_up : (handler : H) → IsSetUp (one_line handler)
   one_is_set_up handler = record {
     config = brief;
+    others = [];
     settings = brief_fits;
     bus = refl;
     devices = one handler (λ t. t.reader.config.address < 127) (omega arith);

@@ -1,5 +1,5 @@
 -- A tick of a controller of the bus, on a line whose packets are read in time: where it opens a session, what was said before is read by now.
-use Rattle.std.proofs.Common.{◌≡◌, ◌≢◌, ◌||◌, ◌+◌, ◌*◌, ◌<◌, ◌≤◌, ℕ, zero, suc, max, Bool, true, false, List, [], ◌∷◌, ◌++◌, length, Option, Some, None, refl, sym, subst, ap, ◌∙◌, inl, inr, arith}
+use Rattle.std.proofs.Common.{◌≡◌, ◌≢◌, ◌||◌, ◌+◌, ◌*◌, ◌<◌, ◌≤◌, ℕ, zero, suc, max, Bool, true, false, List, [], ◌∷◌, ◌++◌, length, Option, Some, None, refl, sym, subst, ap, ◌∙◌, inl, inr, arith, append-nil, is_some}
 use Rattle.std.proofs.lemmas.Bool.Decides.{eqb_tells}
 use Rattle.std.specs.Prelude.{◌==◌, ◌^◌, ◌-◌, IfSome, slice_get, slice_set}
 use Rattle.osdp_frame.specs.Packet.{Packet}
@@ -16,11 +16,13 @@ use Rattle.osdp_reader.specs.declared.handler.Answer.{Answer}
 use Rattle.osdp_shared_line.specs.Line.{Net, site_at}
 use Rattle.osdp_shared_line.proofs.Apart.{Apart}
 use Rattle.osdp_shared_line.proofs.Sites.{at_changed, at_other, some_same}
-use Rattle.osdp_calls.specs.Calls.{all_hear, begins_session, begins_with, begun_of, change_at, changes_at, panel_says, waiting_of}
+use Rattle.osdp_calls.specs.Calls.{all_hear, begins_session, begins_with, begun_of, change_at, changes_at, panel_says, waiting_of, said_for}
 use Rattle.osdp_calls.specs.Lines.{Burst, InUse, Station, concerns}
 use Rattle.osdp_calls.proofs.Agreed.{ticks_to}
 use Rattle.osdp_calls.proofs.Agreeing.{address_same, at_entry, begun_heard}
 use Rattle.osdp_calls.proofs.Ahead.{from_panel}
+use Rattle.osdp_calls.proofs.Matching.{IsOurs}
+use Rattle.osdp_calls.proofs.Lasting.{heard_keeps}
 use Rattle.osdp_calls.proofs.Noticing.{got_new, got_other}
 use Rattle.osdp_calls.proofs.Same.{Controls, IsNetOf, IsToOpen}
 use Rattle.osdp_calls_time_laws.specs.Moments.{stamped}
@@ -45,6 +47,14 @@ module _ {H : Type 0} where
       by_station : (o : Option (Station H)) → site_at k (changes_at e change o ts) ≡ site_at k ts
       by_station None = refl
       by_station (Some t) = at_other k e (change t) ts other
+
+  -- a session waits to begin at an entry with a station alone
+  begun_ours : (k began : ℕ) (ts : List (Station H)) → begun_of (site_at k ts) ≡ Some began → IsOurs k ts
+  begun_ours k began ts = by_station (site_at k ts)
+    where
+      by_station : (o : Option (Station H)) → begun_of o ≡ Some began → is_some o ≡ true
+      by_station None begun = let e = begun in cc
+      by_station (Some t) begun = refl
 
   has_begun : (e : ℕ) (ws : List Command) (ts : List (Station H)) → begun_of (site_at e (change_at e (begins_session ws) ts)) ≡ None
   has_begun e ws ts = by_station (site_at e ts) refl
@@ -76,10 +86,11 @@ module _ {H : Type 0} where
 
     -- ---- two entries are at two addresses
 
-    differ : (j k : ℕ) (d e : Device) → j ≢ k → device_of j l.bus ≡ Some d → device_of k l.bus ≡ Some e → address_of d ≢ address_of e
-    differ j k d e other at there equal =
-        let a = at_entry j d l n h at in
-        let b = at_entry k e l n h there in
+    differ : (j k : ℕ) (d e : Device) → IsOurs j l.stations → IsOurs k l.stations → j ≢ k → device_of j l.bus ≡ Some d → device_of k l.bus ≡ Some e
+        → address_of d ≢ address_of e
+    differ j k d e first second other at there equal =
+        let a = at_entry j d l n h first at in
+        let b = at_entry k e l n h second there in
         apart.names j k a.site b.site other a.at b.at (address_of e) (inl (address_same j d l a.station a.site a.is ∙ equal))
         (inl (address_same k e l b.station b.site b.is))
 
@@ -116,32 +127,32 @@ module _ {H : Type 0} where
             subst (λ o. IfSome o (λ q. q.address ≡ address_of d)) sent
             (frames_to d.controller.session.state (clocks.seen l.bus.greatest d.controller.session) d.controller.waiting)
 
-        not_mine : (k : ℕ) (f : Device) → k ≢ e → slice_get (slice_set l.bus.devices.entries e (device_ticks l.bus.greatest d)) k ≡ Some f
+        not_mine : (k : ℕ) (f : Device) → IsOurs e l.stations → IsOurs k l.stations → k ≢ e → slice_get (slice_set l.bus.devices.entries e (device_ticks l.bus.greatest d)) k ≡ Some f
             → concerns (of_entry k (address_of f)) (from_panel e p) ≡ false
-        not_mine k f other at_k =
+        not_mine k f own mine other at_k =
             let there : device_of k l.bus ≡ Some f = sym (got_other k e (device_ticks l.bus.greatest d) l.bus.devices.entries other) ∙ at_k in
             ap (λ x. x || (p.address == address_of f)) (is_false e k (λ i. other (sym i)))
-            ∙ is_false p.address (address_of f) (λ i. differ e k d f (λ j. other (sym j)) is there (sym to_device ∙ i))
+            ∙ is_false p.address (address_of f) (λ i. differ e k d f own mine (λ j. other (sym j)) is there (sym to_device ∙ i))
 
         -- what waits beside it
-        others_wait : (k began : ℕ) (f : Device) → k ≢ e → slice_get (slice_set l.bus.devices.entries e (device_ticks l.bus.greatest d)) k ≡ Some f
+        others_wait : (k began : ℕ) (f : Device) → IsOurs e l.stations → k ≢ e → slice_get (slice_set l.bus.devices.entries e (device_ticks l.bus.greatest d)) k ≡ Some f
             → begun_of (site_at k l.stations) ≡ Some began
             → Waits w (l.said ++ from_panel e p ∷ []) (stamped at (l.said ++ from_panel e p ∷ []) stamps) k (address_of f) (start + began)
-        others_wait k began f other at_k begun =
+        others_wait k began f own other at_k begun =
             still_waits w at l.said (from_panel e p ∷ []) stamps k (address_of f) (start + began) same (waits_on k began f at_k begun)
             (λ j b there con. absurd (by_place j b there con))
           where
             by_place : (j : ℕ) (b : Burst) → site_at j (from_panel e p ∷ []) ≡ Some b → concerns (of_entry k (address_of f)) b ≡ true → ⊥
             by_place zero b there con =
                 let equal : from_panel e p ≡ b = some_same (from_panel e p) b there in
-                let e0 = sym (not_mine k f other at_k) ∙ subst (λ x. concerns (of_entry k (address_of f)) x ≡ true) (sym equal) con in
+                let e0 = sym (not_mine k f own (begun_ours k began l.stations begun) other at_k) ∙ subst (λ x. concerns (of_entry k (address_of f)) x ≡ true) (sym equal) con in
                 cc
             by_place (suc j) b there con = let e0 = there in cc
 
         -- the session of the entry opens
         due : (began : ℕ) → begun_of (site_at e l.stations) ≡ Some began → began + q ≤ l.bus.greatest
         due began begun =
-            let x = at_entry e d l n h is in
+            let x = at_entry e d l n h (begun_ours e began l.stations begun) is in
             let control : IsToOpen began l.bus.greatest d.controller x.site.controller =
             subst (λ o. Controls o l.bus.greatest d.controller x.site.controller) (sym (ap begun_of x.there) ∙ begun) x.is.controller in
             let y = waiting e d began is begun in
@@ -189,8 +200,14 @@ module _ {H : Type 0} where
       heard_same : (k : ℕ) → begun_of (site_at k (all_hear (told_by_device e (Some d) l.bus) l.stations)) ≡ begun_of (site_at k l.stations)
       heard_same k = begun_heard k (told_by_device e (Some d) l.bus) l.stations
 
+      silent_here : HasTicked w start at stamps (line_with None)
+      silent_here =
+          let both = silent (slice_set l.bus.devices.entries e (device_ticks l.bus.greatest d)) (all_hear (told_by_device e (Some d) l.bus) l.stations)
+          (λ k f began at_k begun. waits_on k began f at_k (sym (heard_same k) ∙ begun)) in
+          record { waits = both.0; opened = both.1 }
+
       says : (p : Packet) → (step_of l.bus.greatest d).frame ≡ Some p → HasTicked w start at stamps (line_with (Some p))
-      says p sent = by_begun (begun_of (site_at e (all_hear (told_by_device e (Some d) l.bus) l.stations))) refl
+      says p sent = by_station (site_at e (all_hear (told_by_device e (Some d) l.bus) l.stations)) refl
         where
           old_past : Each (IsPast w (l.said ++ from_panel e p ∷ []) (stamped at (l.said ++ from_panel e p ∷ []) stamps) at) l.openings
           old_past = still_past w at now l.said (from_panel e p ∷ []) stamps l.openings same h.openings later opened
@@ -199,28 +216,33 @@ module _ {H : Type 0} where
           not_it k began ts none begun mine =
               let e0 = sym none ∙ subst (λ i. begun_of (site_at i ts) ≡ Some began) mine begun in cc
 
-          by_begun : (o : Option ℕ) → begun_of (site_at e (all_hear (told_by_device e (Some d) l.bus) l.stations)) ≡ o
+          by_begun : IsOurs e l.stations → (o : Option ℕ) → begun_of (site_at e (all_hear (told_by_device e (Some d) l.bus) l.stations)) ≡ o
               → HasTicked w start at stamps (record (begins_with e p o (line_with None)) { said = l.said ++ from_panel e p ∷ [] })
-          by_begun None none = record {
+          by_begun own None none = record {
             waits = λ k f began at_k begun.
-                others_wait p sent k began f (not_it k began (all_hear (told_by_device e (Some d) l.bus) l.stations) none begun) at_k (sym (heard_same k) ∙ begun);
+                others_wait p sent k began f own (not_it k began (all_hear (told_by_device e (Some d) l.bus) l.stations) none begun) at_k (sym (heard_same k) ∙ begun);
             opened = old_past;
           }
-          by_begun (Some began) begun =
+          by_begun own (Some began) begun =
               let ws = waiting_of (slice_get (slice_set l.bus.devices.entries e (device_ticks l.bus.greatest d)) e) in
               let ts = all_hear (told_by_device e (Some d) l.bus) l.stations in
               record {
                 waits = λ k f began2 at_k begun2.
                     let other : k ≢ e = not_it k began2 (change_at e (begins_session ws) ts) (has_begun e ws ts) begun2 in
-                    others_wait p sent k began2 f other at_k (sym (heard_same k) ∙ sym (ap begun_of (elsewhere k e (begins_session ws) ts other)) ∙ begun2);
+                    others_wait p sent k began2 f own other at_k (sym (heard_same k) ∙ sym (ap begun_of (elsewhere k e (begins_session ws) ts other)) ∙ begun2);
                 opened = (opens p sent began (sym (heard_same e) ∙ begun), old_past);
               }
 
+          -- what is said for an entry of another make is not ours
+          by_station : (o : Option (Station H)) → site_at e (all_hear (told_by_device e (Some d) l.bus) l.stations) ≡ o
+              → HasTicked w start at stamps (record (begins_with e p (begun_of o) (line_with None)) { said = l.said ++ said_for e p o })
+          by_station None none =
+              subst (λ bs. HasTicked w start at stamps (record (line_with None) { said = bs })) (sym (append-nil l.said)) silent_here
+          by_station (Some t) there =
+              by_begun (sym (heard_keeps e (told_by_device e (Some d) l.bus) l.stations) ∙ ap is_some there) (begun_of (Some t)) (ap begun_of there)
+
       with_frame : (o : Option Packet) → (step_of l.bus.greatest d).frame ≡ o → HasTicked w start at stamps (line_with o)
-      with_frame None none =
-          let both = silent (slice_set l.bus.devices.entries e (device_ticks l.bus.greatest d)) (all_hear (told_by_device e (Some d) l.bus) l.stations)
-          (λ k f began at_k begun. waits_on k began f at_k (sym (heard_same k) ∙ begun)) in
-          record { waits = both.0; opened = both.1 }
+      with_frame None none = silent_here
       with_frame (Some p) sent = says p sent
 
     -- nobody ticks

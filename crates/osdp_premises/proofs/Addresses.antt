@@ -15,8 +15,8 @@ use Rattle.osdp_shared_line.specs.Addresses.{Sets, SetsReader, Somewhere, addres
 use Rattle.osdp_shared_line.specs.Line.{site_at}
 use Rattle.osdp_calls.specs.Lines.{InUse, Station, ahead_of_device}
 use Rattle.osdp_calls.specs.Premises.{IsAsked, IsFreeFor, IsNoOthers, IsOfOthers, IsSaid, IsThere, MayBeAt, PanelAddresses, PanelIsApart, unended_of}
-use Rattle.osdp_premises.specs.Deciding.{address_asked, count_of, differ, each_below, each_of, each_other, gives_no_others, if_there, is_apart_from, is_asked_to, is_entry_at, is_free_for, is_no_others, is_of_others, is_sent_to, is_there_with, may_be_at, panel_addresses, panel_is_apart, sets, sets_reader, stands_at}
-use Rattle.osdp_premises.proofs.Deciding.{always, below_decides, each_decides, every_decides, get_below, if_decides, other_decides, site_below, some_decides, there_decides}
+use Rattle.osdp_premises.specs.Deciding.{address_asked, are_other_addresses, differ, each_below, each_of, each_other, gives_no_others, if_there, is_apart_from, is_asked_to, is_entry_at, is_free_for, is_free_of_others, is_no_others, is_of_others, is_ours_at, is_sent_to, is_there_with, may_be_at, panel_addresses, panel_is_apart, sets, sets_reader, stands_at}
+use Rattle.osdp_premises.proofs.Deciding.{always, each_decides, every_decides, if_decides, other_decides, site_below, some_decides, there_decides}
 
 -- that number is there
 number_decides : (a : ℕ) (o : Option ℕ) → Decides (is_there_with (λ to. to == a) o) (o ≡ Some a)
@@ -63,61 +63,76 @@ module _ {H : Type 0} where
   may_decides : (a k : ℕ) (l : InUse H) → Decides (may_be_at a k l) (MayBeAt a k l)
   may_decides a k l =
       let there = is_there_with (stands_at a) (site_at k l.stations) in
-      let asked = is_there_with (is_asked_to a) (device_of k l.bus) in
+      let asked = is_there_with (λ (t : Station H). is_there_with (is_asked_to a) (device_of k l.bus)) (site_at k l.stations) in
       let sent = is_there_with (is_sent_to a k l) (site_at k l.stations) in
       Decides-like (there || (asked || sent)) to from
       (Decides-or there (asked || sent)
       (there_decides (stands_at a) (λ (t : Station H). t.reader.config.address ≡ a) (stands_decides a) (site_at k l.stations))
       (Decides-or asked sent
-      (there_decides (is_asked_to a) (λ (d : Device). Somewhere (Sets a) (unended_of d)) (asked_decides a) (device_of k l.bus))
+      (there_decides (λ (t : Station H). is_there_with (is_asked_to a) (device_of k l.bus))
+      (λ (t : Station H). (d : Device) × (device_of k l.bus ≡ Some d) × Somewhere (Sets a) (unended_of d))
+      (λ t. there_decides (is_asked_to a) (λ (d : Device). Somewhere (Sets a) (unended_of d)) (asked_decides a) (device_of k l.bus)) (site_at k l.stations))
       (there_decides (is_sent_to a k l)
       (λ (t : Station H). Somewhere (λ (q : ℕ × Packet). (q.0 ≡ k) × SetsReader a q.1) (ahead_of_device k t.place l.openings l.said))
       (sent_decides a k l) (site_at k l.stations))))
     where
       to : ((t : Station H) × (site_at k l.stations ≡ Some t) × (t.reader.config.address ≡ a))
-          ⊎ (((d : Device) × (device_of k l.bus ≡ Some d) × Somewhere (Sets a) (unended_of d))
+          ⊎ (((t : Station H) × (site_at k l.stations ≡ Some t) × ((d : Device) × (device_of k l.bus ≡ Some d) × Somewhere (Sets a) (unended_of d)))
           ⊎ ((t : Station H) × (site_at k l.stations ≡ Some t)
           × Somewhere (λ (q : ℕ × Packet). (q.0 ≡ k) × SetsReader a q.1) (ahead_of_device k t.place l.openings l.said))) → MayBeAt a k l
       to (inl h) = IsThere h.0 h.1 h.2
-      to (inr (inl h)) = IsAsked h.0 h.1 h.2
+      to (inr (inl h)) = IsAsked h.0 h.2.0 h.1 h.2.1 h.2.2
       to (inr (inr h)) = IsSaid h.0 h.1 h.2
 
       from : MayBeAt a k l → ((t : Station H) × (site_at k l.stations ≡ Some t) × (t.reader.config.address ≡ a))
-          ⊎ (((d : Device) × (device_of k l.bus ≡ Some d) × Somewhere (Sets a) (unended_of d))
+          ⊎ (((t : Station H) × (site_at k l.stations ≡ Some t) × ((d : Device) × (device_of k l.bus ≡ Some d) × Somewhere (Sets a) (unended_of d)))
           ⊎ ((t : Station H) × (site_at k l.stations ≡ Some t)
           × Somewhere (λ (q : ℕ × Packet). (q.0 ≡ k) × SetsReader a q.1) (ahead_of_device k t.place l.openings l.said)))
       from (IsThere t at is) = inl (t, at, is)
-      from (IsAsked d at is) = inr (inl (d, at, is))
+      from (IsAsked t d there at is) = inr (inl (t, there, (d, at, is)))
       from (IsSaid t at is) = inr (inr (t, at, is))
 
-  -- past all entries and devices nobody is
-  nobody_past : (a : ℕ) (l : InUse H) (j : ℕ) → count_of l ≤ j → MayBeAt a j l → ⊥
+  -- past all stations nobody is
+  nobody_past : (a : ℕ) (l : InUse H) (j : ℕ) → length l.stations ≤ j → MayBeAt a j l → ⊥
   nobody_past a l j above (IsThere t at is) = let below = site_below j l.stations t at in absurd (omega (arith, above, below))
-  nobody_past a l j above (IsAsked d at is) = let below = get_below j l.bus.devices.entries d at in absurd (omega (arith, above, below))
+  nobody_past a l j above (IsAsked t d there at is) = let below = site_below j l.stations t there in absurd (omega (arith, above, below))
   nobody_past a l j above (IsSaid t at is) = let below = site_below j l.stations t at in absurd (omega (arith, above, below))
+
+  -- an entry of ours is at an address
+  abbrev OursAt : ℕ → ℕ → InUse H → Type 0
+  OursAt a j l = (t : Station H) × (site_at j l.stations ≡ Some t)
+      × ((d : Device) × (device_of j l.bus ≡ Some d) × (d.controller.session.config.address ≡ a))
+
+  ours_decides : (a j : ℕ) (l : InUse H) → Decides (is_ours_at a j l) (OursAt a j l)
+  ours_decides a j l =
+      there_decides (λ (t : Station H). is_there_with (is_entry_at a) (device_of j l.bus))
+      (λ (t : Station H). (d : Device) × (device_of j l.bus ≡ Some d) × (d.controller.session.config.address ≡ a))
+      (λ t. there_decides (is_entry_at a) (λ (d : Device). d.controller.session.config.address ≡ a)
+      (λ d. Decides-eqb d.controller.session.config.address a) (device_of j l.bus)) (site_at j l.stations)
 
   pub no_others_decides : (k a : ℕ) (l : InUse H) → Decides (is_no_others k a l) (IsNoOthers k a l)
   no_others_decides k a l =
-      other_decides k (count_of l) (λ j. not (may_be_at a j l)) (λ j. MayBeAt a j l → ⊥)
+      other_decides k (length l.stations) (λ j. not (may_be_at a j l)) (λ j. MayBeAt a j l → ⊥)
       (λ j. Decides-not (may_be_at a j l) (may_decides a j l)) (λ j above. nobody_past a l j above)
 
   pub others_decides : (l : InUse H) (p : Packet) → Decides (is_of_others l p) (IsOfOthers l p)
   others_decides l p =
       let a = p.address in
-      let entries = each_below (λ j. not (is_there_with (is_entry_at a) (device_of j l.bus))) (length l.bus.devices.entries) in
-      let devices = each_below (λ j. not (may_be_at a j l)) (count_of l) in
+      let entries = each_below (λ j. not (is_ours_at a j l)) (length l.stations) in
+      let devices = each_below (λ j. not (may_be_at a j l)) (length l.stations) in
       Decides-like (not (a == 127) && (entries && devices))
-      (λ h. record { to_one = h.0; entries = λ j d at same. h.1.0 j (d, at, same); devices = h.1.1 })
-      (λ (r : IsOfOthers l p). (r.to_one, ((λ j held. r.entries j held.0 held.1 held.2), r.devices)))
+      (λ h. record {
+        to_one = h.0;
+        entries = λ j t d there at same. h.1.0 j (t, there, (d, at, same));
+        devices = h.1.1;
+      })
+      (λ (r : IsOfOthers l p). (r.to_one, ((λ j held. r.entries j held.0 held.2.0 held.1 held.2.1 held.2.2), r.devices)))
       (Decides-and (not (a == 127)) (entries && devices) (Decides-not (a == 127) (Decides-eqb a 127))
       (Decides-and entries devices
-      (every_decides (length l.bus.devices.entries) (λ j. not (is_there_with (is_entry_at a) (device_of j l.bus)))
-      (λ j. ((d : Device) × (device_of j l.bus ≡ Some d) × (d.controller.session.config.address ≡ a)) → ⊥)
-      (λ j. Decides-not (is_there_with (is_entry_at a) (device_of j l.bus))
-      (there_decides (is_entry_at a) (λ (d : Device). d.controller.session.config.address ≡ a)
-      (λ d. Decides-eqb d.controller.session.config.address a) (device_of j l.bus)))
-      (λ j above held. let below = get_below j l.bus.devices.entries held.0 held.1 in absurd (omega (arith, above, below))))
-      (every_decides (count_of l) (λ j. not (may_be_at a j l)) (λ j. MayBeAt a j l → ⊥)
+      (every_decides (length l.stations) (λ j. not (is_ours_at a j l)) (λ j. OursAt a j l → ⊥)
+      (λ j. Decides-not (is_ours_at a j l) (ours_decides a j l))
+      (λ j above held. let below = site_below j l.stations held.0 held.1 in absurd (omega (arith, above, below))))
+      (every_decides (length l.stations) (λ j. not (may_be_at a j l)) (λ j. MayBeAt a j l → ⊥)
       (λ j. Decides-not (may_be_at a j l) (may_decides a j l)) (λ j above. nobody_past a l j above))))
 
   gives_decides : (k : ℕ) (refused : Option BusFault) (asked : Option Communication) (l : InUse H)
@@ -136,8 +151,14 @@ module _ {H : Type 0} where
       Decides-like (is_no_others k address l) (λ h e. h) (λ all. all refl) (no_others_decides k address l)
 
   pub panel_decides : (call : bus.Call) (l : InUse H) → Decides (panel_addresses call l) (PanelAddresses call l)
-  panel_decides (bus.Submit k command) l = gives_decides k (submit_refusal_at k command l.bus) (comset_of command) l
-  panel_decides (bus.Retarget k address) l = goes_decides k (retarget_refusal_at k address l.bus) address l
+  panel_decides (bus.Submit k command) l =
+      if_decides (λ (t : Station H). gives_no_others k (submit_refusal_at k command l.bus) (address_asked (comset_of command)) l)
+      (λ (t : Station H). submit_refusal_at k command l.bus ≡ None → (c : Communication) → comset_of command ≡ Some c → IsNoOthers k c.address l)
+      (λ t. gives_decides k (submit_refusal_at k command l.bus) (comset_of command) l) (site_at k l.stations)
+  panel_decides (bus.Retarget k address) l =
+      if_decides (λ (t : Station H). gives_no_others k (retarget_refusal_at k address l.bus) (Some address) l)
+      (λ (t : Station H). retarget_refusal_at k address l.bus ≡ None → IsNoOthers k address l)
+      (λ t. goes_decides k (retarget_refusal_at k address l.bus) address l) (site_at k l.stations)
   panel_decides (bus.Add address) l = always tt
   panel_decides (bus.Begin entry now) l = always tt
   panel_decides (bus.Withdraw entry) l = always tt
@@ -148,18 +169,15 @@ module _ {H : Type 0} where
 
   pub free_decides : (k a : ℕ) (l : InUse H) (t : Station H) → Decides (is_free_for k a l t) (IsFreeFor k a t l)
   free_decides k a l t =
-      let entries = each_other k (length l.bus.devices.entries) (λ j. not (is_there_with (is_entry_at a) (device_of j l.bus))) in
+      let entries = each_other k (length l.stations) (λ j. not (is_ours_at a j l)) in
       let said = each_of (λ (q : ℕ × Packet). (q.0 == k) || not (q.1.address == a)) (ahead_of_device k t.place l.openings l.said) in
       Decides-like (entries && (is_no_others k a l && said))
-      (λ h. record { entries = λ j d other at same. h.0 j other (d, at, same); devices = h.1.0; said = h.1.1 })
-      (λ (r : IsFreeFor k a t l). ((λ j other held. r.entries j held.0 other held.1 held.2), (r.devices, r.said)))
+      (λ h. record { entries = λ j u d other there at same. h.0 j other (u, there, (d, at, same)); devices = h.1.0; said = h.1.1 })
+      (λ (r : IsFreeFor k a t l). ((λ j other held. r.entries j held.0 held.2.0 other held.1 held.2.1 held.2.2), (r.devices, r.said)))
       (Decides-and entries (is_no_others k a l && said)
-      (other_decides k (length l.bus.devices.entries) (λ j. not (is_there_with (is_entry_at a) (device_of j l.bus)))
-      (λ j. ((d : Device) × (device_of j l.bus ≡ Some d) × (d.controller.session.config.address ≡ a)) → ⊥)
-      (λ j. Decides-not (is_there_with (is_entry_at a) (device_of j l.bus))
-      (there_decides (is_entry_at a) (λ (d : Device). d.controller.session.config.address ≡ a)
-      (λ d. Decides-eqb d.controller.session.config.address a) (device_of j l.bus)))
-      (λ j above held. let below = get_below j l.bus.devices.entries held.0 held.1 in absurd (omega (arith, above, below))))
+      (other_decides k (length l.stations) (λ j. not (is_ours_at a j l)) (λ j. OursAt a j l → ⊥)
+      (λ j. Decides-not (is_ours_at a j l) (ours_decides a j l))
+      (λ j above held. let below = site_below j l.stations held.0 held.1 in absurd (omega (arith, above, below))))
       (Decides-and (is_no_others k a l) said (no_others_decides k a l)
       (each_decides (λ (q : ℕ × Packet). (q.0 == k) || not (q.1.address == a)) (λ (q : ℕ × Packet). q.0 ≢ k → q.1.address ≢ a)
       (away_decides k a) (ahead_of_device k t.place l.openings l.said))))
@@ -181,30 +199,52 @@ module _ {H : Type 0} where
       (λ t. Decides-and (not (stands_at a t)) (not (is_sent_to a j l t))
       (Decides-not (stands_at a t) (stands_decides a t)) (Decides-not (is_sent_to a j l t) (sent_decides a j l t))) (site_at j l.stations)
 
-  pub apart_decides : (addresses : List ℕ) (l : InUse H) → Decides (panel_is_apart addresses l) (PanelIsApart addresses l)
-  apart_decides addresses l =
-      let own = each_below (λ k. each_other k (length addresses) (λ j. differ (site_at j addresses) (site_at k addresses))) (length addresses) in
-      let others = each_below (λ k. each_other k (length l.stations) (λ j. if_there (is_apart_from j l) (site_at k addresses))) (length addresses) in
-      Decides-like (own && others)
-      (λ h. record {
-        own = λ j k a b other at there. h.0 k (site_below k addresses b there) j other a at b there;
-        there = λ j k a t other at there. (h.1 k (site_below k addresses a at) j other a at t there).0;
-        said = λ j k a t other at there. (h.1 k (site_below k addresses a at) j other a at t there).1;
-      })
-      (λ (r : PanelIsApart addresses l). (
-        (λ k below j other a at b there. r.own j k a b other at there),
-        (λ k below j other a at t there. (r.there j k a t other at there, r.said j k a t other at there)),
-      ))
-      (Decides-and own others
-      (below_decides (λ k. each_other k (length addresses) (λ j. differ (site_at j addresses) (site_at k addresses)))
-      (λ k. (j : ℕ) → j ≢ k → Differ addresses k j)
-      (λ k. other_decides k (length addresses) (λ j. differ (site_at j addresses) (site_at k addresses)) (Differ addresses k) (differ_decides addresses k)
-      (λ j above a at. let below = site_below j addresses a at in absurd (omega (arith, above, below)))) (length addresses))
-      (below_decides (λ k. each_other k (length l.stations) (λ j. if_there (is_apart_from j l) (site_at k addresses)))
-      (λ k. (j : ℕ) → j ≢ k → Apart addresses l k j)
-      (λ k. other_decides k (length l.stations) (λ j. if_there (is_apart_from j l) (site_at k addresses)) (Apart addresses l k)
+  -- of an entry of ours
+  abbrev OwnAddress : List ℕ → InUse H → ℕ → Type 0
+  OwnAddress addresses l k = (u : Station H) → site_at k l.stations ≡ Some u → (j : ℕ) → j ≢ k → (t : Station H) → site_at j l.stations ≡ Some t
+      → Differ addresses k j
+
+  abbrev FreeAddress : List ℕ → InUse H → ℕ → Type 0
+  FreeAddress addresses l k = (u : Station H) → site_at k l.stations ≡ Some u → (j : ℕ) → j ≢ k → Apart addresses l k j
+
+  own_decides : (addresses : List ℕ) (l : InUse H) (k : ℕ) → Decides (are_other_addresses addresses l k) (OwnAddress addresses l k)
+  own_decides addresses l k =
+      if_decides (λ (u : Station H). each_other k (length l.stations) (λ j.
+      if_there (λ (t : Station H). differ (site_at j addresses) (site_at k addresses)) (site_at j l.stations)))
+      (λ (u : Station H). (j : ℕ) → j ≢ k → (t : Station H) → site_at j l.stations ≡ Some t → Differ addresses k j)
+      (λ u. other_decides k (length l.stations) (λ j. if_there (λ (t : Station H). differ (site_at j addresses) (site_at k addresses)) (site_at j l.stations))
+      (λ j. (t : Station H) → site_at j l.stations ≡ Some t → Differ addresses k j)
+      (λ j. if_decides (λ (t : Station H). differ (site_at j addresses) (site_at k addresses)) (λ (t : Station H). Differ addresses k j)
+      (λ t. differ_decides addresses k j) (site_at j l.stations))
+      (λ j above t there. let below = site_below j l.stations t there in absurd (omega (arith, above, below)))) (site_at k l.stations)
+
+  free_address_decides : (addresses : List ℕ) (l : InUse H) (k : ℕ) → Decides (is_free_of_others addresses l k) (FreeAddress addresses l k)
+  free_address_decides addresses l k =
+      if_decides (λ (u : Station H). each_other k (length l.stations) (λ j. if_there (is_apart_from j l) (site_at k addresses)))
+      (λ (u : Station H). (j : ℕ) → j ≢ k → Apart addresses l k j)
+      (λ u. other_decides k (length l.stations) (λ j. if_there (is_apart_from j l) (site_at k addresses)) (Apart addresses l k)
       (λ j. if_decides (is_apart_from j l) (λ a. (t : Station H) → site_at j l.stations ≡ Some t
       → (t.reader.config.address ≡ a → ⊥)
       × (Somewhere (λ (q : ℕ × Packet). (q.0 ≡ j) × SetsReader a q.1) (ahead_of_device j t.place l.openings l.said) → ⊥))
       (from_decides j l) (site_at k addresses))
-      (λ j above a at t there. let below = site_below j l.stations t there in absurd (omega (arith, above, below)))) (length addresses)))
+      (λ j above a at t there. let below = site_below j l.stations t there in absurd (omega (arith, above, below)))) (site_at k l.stations)
+
+  pub apart_decides : (addresses : List ℕ) (l : InUse H) → Decides (panel_is_apart addresses l) (PanelIsApart addresses l)
+  apart_decides addresses l =
+      let own = each_below (are_other_addresses addresses l) (length l.stations) in
+      let others = each_below (is_free_of_others addresses l) (length l.stations) in
+      Decides-like (own && others)
+      (λ h. record {
+        own = λ j k a b t u other at there tj uk. h.0 k u uk j other t tj a at b there;
+        there = λ j k a t u other at tj uk. (h.1 k u uk j other a at t tj).0;
+        said = λ j k a t u other at tj uk. (h.1 k u uk j other a at t tj).1;
+      })
+      (λ (r : PanelIsApart addresses l). (
+        (λ k u uk j other t tj a at b there. r.own j k a b t u other at there tj uk),
+        (λ k u uk j other a at t tj. (r.there j k a t u other at tj uk, r.said j k a t u other at tj uk)),
+      ))
+      (Decides-and own others
+      (every_decides (length l.stations) (are_other_addresses addresses l) (OwnAddress addresses l) (own_decides addresses l)
+      (λ k above u uk. let below = site_below k l.stations u uk in absurd (omega (arith, above, below))))
+      (every_decides (length l.stations) (is_free_of_others addresses l) (FreeAddress addresses l) (free_address_decides addresses l)
+      (λ k above u uk. let below = site_below k l.stations u uk in absurd (omega (arith, above, below)))))

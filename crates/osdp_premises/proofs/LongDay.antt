@@ -1,5 +1,5 @@
 -- The long day keeps the premises: by the tests of each call, and since its values are in their ranges.
-use Rattle.std.proofs.Common.{◌≡◌, ◌≢◌, ◌<◌, ℕ, zero, suc, true, IfSome, List, [], ◌∷◌, length, Option, Some, None, is_some, refl, sym, subst, ap, ◌∙◌, arith}
+use Rattle.std.proofs.Common.{◌≡◌, ◌≢◌, ◌<◌, ◌≤◌, ℕ, zero, suc, true, IfSome, List, [], ◌∷◌, length, Option, Some, None, is_some, refl, sym, subst, ap, ◌∙◌, arith}
 use Rattle.std.proofs.lemmas.Bool.{and_parts}
 use Rattle.std.specs.Prelude.{drop, slice_index, take}
 use Rattle.osdp_frame.specs.Held.{decided}
@@ -111,6 +111,7 @@ module _ {H : Type 0} where
   is_set_up handler = record {
     config = twice;
     settings = twice_fits;
+    others = 20 ∷ [];
     bus = refl;
     devices = both handler (λ t. t.reader.config.address < 127) (omega arith) (omega arith);
     apart = λ j k s t other at there e.
@@ -133,7 +134,7 @@ module _ {H : Type 0} (answer_of : H → Command → Answer) (after : H → Comm
   RangeOf (OfPanel call) l = PanelInRange answer_of after call
   RangeOf (Next k) l = NextEach (site_at k l.stations)
   RangeOf (NewDevice k address handler room gap) l = (address < 127) × AreRoom room.messages room.bytes
-  RangeOf (NewPanel config addresses) l = IsBusConfig config × Each (λ a. a < 127) addresses × (length addresses ≡ length l.stations)
+  RangeOf (NewPanel config addresses) l = IsBusConfig config × Each (λ a. a < 127) addresses × (length l.stations ≤ length addresses)
   RangeOf (SubmitEvent k event) l = Unit {0}
   RangeOf (SetBusy k busy) l = Unit {0}
   RangeOf (SetHandler k handler) l = Unit {0}
@@ -174,7 +175,7 @@ module _ {H : Type 0} (answer_of : H → Command → Answer) (after : H → Comm
   ranges : (handler other : H) → AllRanges (long_day handler other) (first_line handler)
   unfolding items left_over decided reply_of reply_fault reply_at command_of command_fault command_at
   ranges handler other =
-      (tt, (tt, (tt, (tt, (tt, (tt, ((id_fits, tt), (tt, ((tt, tt), (tt, (tt, (tt, (omega arith, (tt, (tt, ((id_fits, tt), (tt, (tt, (tt, (tt, (tt, (tt, (tt, (tt, (tt, (((omega arith, each_all CapabilityFits [] tt), tt), (tt, ((tt, tt), (tt, (tt, (tt, (tt, (tt, (tt, ((tt, tt), (tt, (tt, (tt, (tt, ((tt, tt), (tt, (tt, (tt, (tt, ((key_fits, tt), (tt, (tt, (tt, (tt, ((tt, tt), (tt, (tt, (tt, (tt, (tt, (tt, (omega arith, (tt, (tt, (tt, (tt, (tt, (tt, ((omega arith, room_fits), (tt, ((record { reason = tt; room = omega arith; detail = no_bytes }, tt), (tt, (tt, (tt, (tt, ((id_fits, tt), (tt, (tt, (tt, (tt, ((key_fits, tt), (tt, (tt, ((omega arith, omega arith), (tt, (tt, (((omega arith, omega arith), tt), (tt, (tt, (tt, (tt, (tt, ((id_fits, tt), (tt, (tt, ((omega arith, omega arith), (tt, (tt, (((omega arith, omega arith), tt), (tt, (tt, ((tt, tt), (tt, (tt, (tt, (tt, (tt, (tt, ((id_fits, tt), (tt, (tt, ((omega arith, room_fits), (tt, (tt, (tt, (tt, (tt, (tt, (tt, (tt, ((id_fits, tt), (tt, (tt, (omega arith, (tt, (tt, (((omega arith, each_all CapabilityFits [] tt), tt), ((twice_fits, (omega arith, (omega arith, tt)), refl), (tt, (tt, (tt, ((id_fits, tt), (tt, (tt, (tt, (tt, (tt, (tt, (tt, ((tt, tt), (tt, (tt, (tt, ((tt, (tt, (tt, tt))), (tt, (tt, tt)))))))))))))))))))))))))))))))))))))))))))))))))))))))))))))))))))))))))))))))))))))))))))))))))))))))))))))))))))))))))))))))))))))))))))))
+      (tt, (tt, (tt, (tt, (tt, (tt, ((id_fits, tt), (tt, ((tt, tt), (tt, (tt, (tt, (omega arith, (tt, (tt, ((id_fits, tt), (tt, (tt, (tt, (tt, (tt, (tt, (tt, (tt, (tt, (((omega arith, each_all CapabilityFits [] tt), tt), (tt, ((tt, tt), (tt, (tt, (tt, (tt, (tt, (tt, ((tt, tt), (tt, (tt, (tt, (tt, ((tt, tt), (tt, (tt, (tt, (tt, ((key_fits, tt), (tt, (tt, (tt, (tt, ((tt, tt), (tt, (tt, (tt, (tt, (tt, (tt, (omega arith, (tt, (tt, (tt, (tt, (tt, (tt, ((omega arith, room_fits), (tt, ((record { reason = tt; room = omega arith; detail = no_bytes }, tt), (tt, (tt, (tt, (tt, ((id_fits, tt), (tt, (tt, (tt, (tt, ((key_fits, tt), (tt, (tt, ((omega arith, omega arith), (tt, (tt, (((omega arith, omega arith), tt), (tt, (tt, (tt, (tt, (tt, ((id_fits, tt), (tt, (tt, ((omega arith, omega arith), (tt, (tt, (((omega arith, omega arith), tt), (tt, (tt, ((tt, tt), (tt, (tt, (tt, (tt, (tt, (tt, ((id_fits, tt), (tt, (tt, ((omega arith, room_fits), (tt, (tt, (tt, (tt, (tt, (tt, (tt, (tt, ((id_fits, tt), (tt, (tt, (omega arith, (tt, (tt, (((omega arith, each_all CapabilityFits [] tt), tt), ((twice_fits, (omega arith, (omega arith, (omega arith, tt))), omega arith), (tt, (tt, (tt, ((id_fits, tt), (tt, (tt, (tt, (tt, (tt, (tt, (omega arith, (tt, (tt, (tt, ((tt, tt), (tt, (tt, (tt, (tt, ((tt, (tt, (tt, tt))), (tt, (tt, (tt, (tt, (tt, tt))))))))))))))))))))))))))))))))))))))))))))))))))))))))))))))))))))))))))))))))))))))))))))))))))))))))))))))))))))))))))))))))))))))))))))))))))))
 
   pub day_keeps : (handler other : H) → LongDayKeeps answer_of after handler other
   unfolding items left_over decided reply_of reply_fault reply_at command_of command_fault command_at
@@ -184,8 +185,8 @@ module _ {H : Type 0} (answer_of : H → Command → Answer) (after : H → Comm
         (all_range (long_day handler other) (first_line handler) (ranges handler other));
     stand = each_all (λ (step : Step H). CanStand step.call) (long_day handler other)
         (each_split (λ (step : Step H). CanStand step.call) 122 (long_day handler other) (still (take 122 (long_day handler other)) refl)
-        ((twice_fits, (refl, (refl, tt))), still (drop 123 (long_day handler other)) refl));
-    none_refused = (refl, (refl, tt));
+        ((twice_fits, (refl, (refl, (refl, tt)))), still (drop 123 (long_day handler other)) refl));
+    none_refused = (refl, (refl, (refl, tt)));
     openings = refl;
     addresses = refl;
     taken = refl;
@@ -260,9 +261,9 @@ module _ {H : Type 0} (answer_of : H → Command → Answer) (after : H → Comm
   unfolding items left_over decided reply_of reply_fault reply_at command_of command_fault command_at
   elsewhere handler other = restart 106 0 (NewDevice 0 9 handler four 20) handler other (station_at 3 handler) refl refl refl refl refl refl
 
-  of_panel : (handler other : H) → RestartHappens answer_of after 122 0 (NewPanel twice (9 ∷ 4 ∷ [])) handler other
+  of_panel : (handler other : H) → RestartHappens answer_of after 122 0 (NewPanel twice (9 ∷ 4 ∷ 20 ∷ [])) handler other
   unfolding items left_over decided reply_of reply_fault reply_at command_of command_fault command_at
-  of_panel handler other = restart 122 0 (NewPanel twice (9 ∷ 4 ∷ [])) handler other (station_at 3 handler) refl refl refl refl refl refl
+  of_panel handler other = restart 122 0 (NewPanel twice (9 ∷ 4 ∷ 20 ∷ [])) handler other (station_at 3 handler) refl refl refl refl refl refl
 
   pub restarts_happen : (handler other : H) → RestartsHappen answer_of after handler other
   restarts_happen handler other =

@@ -1,5 +1,5 @@
 -- Each premise on the calls of a line in use, as a test: what is computed of the call, of the places of what it reads, and of the line before it.
-use Rattle.std.specs.Prelude.{ℕ, suc, zero, ◌+◌, ◌==◌, ◌&&◌, ◌||◌, not, nat_le, Bool, true, false, List, [], ◌∷◌, length, Option, Some, None}
+use Rattle.std.specs.Prelude.{ℕ, suc, zero, ◌==◌, ◌&&◌, ◌||◌, not, nat_le, Bool, true, false, List, [], ◌∷◌, length, Option, Some, None}
 use Rattle.std.specs.Bool.{beq}
 use Rattle.std.specs.Str.{bytes_eq}
 use Rattle.osdp_frame.specs.Packet.{Packet}
@@ -113,18 +113,18 @@ module _ {H : Type 0} where
   abbrev pub may_be_at : ℕ → ℕ → InUse H → Bool
   may_be_at address k l =
       is_there_with (stands_at address) (site_at k l.stations)
-      || (is_there_with (is_asked_to address) (device_of k l.bus) || is_there_with (is_sent_to address k l) (site_at k l.stations))
+      || (is_there_with (λ (t : Station H). is_there_with (is_asked_to address) (device_of k l.bus)) (site_at k l.stations)
+      || is_there_with (is_sent_to address k l) (site_at k l.stations))
 
-  -- so many entries and devices at most
-  abbrev pub count_of : InUse H → ℕ
-  count_of l = length l.stations + length l.bus.devices.entries
+  -- an entry of ours is there
+  abbrev pub is_ours_at : ℕ → ℕ → InUse H → Bool
+  is_ours_at address j l = is_there_with (λ (t : Station H). is_there_with (is_entry_at address) (device_of j l.bus)) (site_at j l.stations)
 
-  -- no entry is at its address, and no device of an entry is or may come there
+  -- no entry of ours is at its address, and no device of ours is or may come there
   abbrev pub is_of_others : InUse H → Packet → Bool
   is_of_others l p =
       not (p.address == 127)
-      && (each_below (λ j. not (is_there_with (is_entry_at p.address) (device_of j l.bus))) (length l.bus.devices.entries)
-      && each_below (λ j. not (may_be_at p.address j l)) (count_of l))
+      && (each_below (λ j. not (is_ours_at p.address j l)) (length l.stations) && each_below (λ j. not (may_be_at p.address j l)) (length l.stations))
 
   abbrev pub is_in_order : Call H → List ℕ → InUse H → Bool
   is_in_order (OfPanel call) places l = are_in_order (is_of_others l) l.said (read_by call l.bus) places l.place
@@ -156,15 +156,17 @@ module _ {H : Type 0} where
   is_quiet (NewPanel config addresses) places l = true
 
   abbrev pub is_no_others : ℕ → ℕ → InUse H → Bool
-  is_no_others k address l = each_other k (count_of l) (λ j. not (may_be_at address j l))
+  is_no_others k address l = each_other k (length l.stations) (λ j. not (may_be_at address j l))
 
   abbrev pub gives_no_others : ℕ → Option BusFault → Option ℕ → InUse H → Bool
   gives_no_others k (Some refused) address l = true
   gives_no_others k None address l = if_there (λ a. is_no_others k a l) address
 
   abbrev pub panel_addresses : bus.Call → InUse H → Bool
-  panel_addresses (bus.Submit k command) l = gives_no_others k (submit_refusal_at k command l.bus) (address_asked (comset_of command)) l
-  panel_addresses (bus.Retarget k address) l = gives_no_others k (retarget_refusal_at k address l.bus) (Some address) l
+  panel_addresses (bus.Submit k command) l =
+      if_there (λ (t : Station H). gives_no_others k (submit_refusal_at k command l.bus) (address_asked (comset_of command)) l) (site_at k l.stations)
+  panel_addresses (bus.Retarget k address) l =
+      if_there (λ (t : Station H). gives_no_others k (retarget_refusal_at k address l.bus) (Some address) l) (site_at k l.stations)
   panel_addresses (bus.Add address) l = true
   panel_addresses (bus.Begin entry now) l = true
   panel_addresses (bus.Withdraw entry) l = true
@@ -175,7 +177,7 @@ module _ {H : Type 0} where
 
   abbrev pub is_free_for : ℕ → ℕ → InUse H → Station H → Bool
   is_free_for k address l t =
-      each_other k (length l.bus.devices.entries) (λ j. not (is_there_with (is_entry_at address) (device_of j l.bus)))
+      each_other k (length l.stations) (λ j. not (is_ours_at address j l))
       && (is_no_others k address l
       && each_of (λ (q : ℕ × Packet). (q.0 == k) || not (q.1.address == address)) (ahead_of_device k t.place l.openings l.said))
 
@@ -184,10 +186,19 @@ module _ {H : Type 0} where
   is_apart_from j l a =
       if_there (λ (t : Station H). not (stands_at a t) && not (is_sent_to a j l t)) (site_at j l.stations)
 
+  -- of an entry of ours: its address is no other entry's of ours, and free of their devices
+  abbrev pub are_other_addresses : List ℕ → InUse H → ℕ → Bool
+  are_other_addresses addresses l k =
+      if_there (λ (u : Station H). each_other k (length l.stations) (λ j.
+      if_there (λ (t : Station H). differ (site_at j addresses) (site_at k addresses)) (site_at j l.stations))) (site_at k l.stations)
+
+  abbrev pub is_free_of_others : List ℕ → InUse H → ℕ → Bool
+  is_free_of_others addresses l k =
+      if_there (λ (u : Station H). each_other k (length l.stations) (λ j. if_there (is_apart_from j l) (site_at k addresses))) (site_at k l.stations)
+
   abbrev pub panel_is_apart : List ℕ → InUse H → Bool
   panel_is_apart addresses l =
-      each_below (λ k. each_other k (length addresses) (λ j. differ (site_at j addresses) (site_at k addresses))) (length addresses)
-      && each_below (λ k. each_other k (length l.stations) (λ j. if_there (is_apart_from j l) (site_at k addresses))) (length addresses)
+      each_below (are_other_addresses addresses l) (length l.stations) && each_below (is_free_of_others addresses l) (length l.stations)
 
   abbrev pub has_addresses : Call H → InUse H → Bool
   has_addresses (OfPanel call) l = panel_addresses call l

@@ -1,6 +1,6 @@
 -- A list of calls in which all of it happens that a line knows: two devices, bytes in pieces, damage, lost packets and repeated ones, a packet that is
 -- read twice, a busy device, an event that is told again, orders and events that are taken back, another handler, a COMSET that is settled and one
--- that is in doubt, devices that restart where they are and elsewhere, a panel that restarts, and packets of other makers' machines.
+-- that is in doubt, devices that restart where they are and elsewhere, a panel that restarts, and a reader of another make, whose entry is the last.
 use Rattle.std.specs.Prelude.{◌≡◌, ℕ, true, false, All, List, [], ◌∷◌, ◌++◌, map, length, take, drop, Option, Some, None}
 use Rattle.osdp_frame.specs.Packed.{packed}
 use Rattle.osdp_frame.specs.Receiving.{new_line}
@@ -72,10 +72,10 @@ module _ {H : Type 0} where
     earlier = [];
   }
 
-  -- two devices, at 3 and at 4
+  -- two devices, at 3 and at 4; and an entry whose device is of another make, at 20
   abbrev pub first_line : H → InUse H
   first_line handler = record {
-    bus = bus_with twice (3 ∷ 4 ∷ []);
+    bus = bus_with twice (3 ∷ 4 ∷ 20 ∷ []);
     stations = station_at 3 handler ∷ station_at 4 handler ∷ [];
     said = [];
     place = 0;
@@ -260,7 +260,7 @@ module _ {H : Type 0} where
       ∷ calls (OfPanel (bus.Tick 3695)) []
       ∷ calls (Take 0 (asks 9 1 (98 ∷ 0 ∷ [])) 3696) []
       ∷ calls (Next 0) (37 ∷ [])
-      ∷ calls (NewPanel twice (9 ∷ 4 ∷ [])) []
+      ∷ calls (NewPanel twice (9 ∷ 4 ∷ 20 ∷ [])) []
       ∷ calls (OfPanel (bus.Begin 0 3700)) []
       ∷ calls (OfPanel (bus.Tick 4100)) []
       ∷ calls (Take 0 (asks 9 0 (97 ∷ 0 ∷ [])) 4101) []
@@ -272,18 +272,25 @@ module _ {H : Type 0} where
       ∷ calls (Pending 0) []
       ∷ []
 
-  -- Another panel asks a reader of another make, at 20. The panel and the devices hear both, and pass them over: alone, and in one burst with a packet of
-  -- their own.
+  -- The panel opens a session with the reader of another make, and that reader answers an order. The devices hear it all, alone and in one burst with a packet of
+  -- their own, and pass it over. In between an ordinary POLL of the panel is answered.
   abbrev pub strangers : H → H → List (Step H)
   strangers handler other =
-      calls (OfPanel (bus.OnBytes (asks 20 0 (97 ∷ 0 ∷ [])) 4110)) []
-      ∷ calls (Take 1 (asks 20 0 (97 ∷ 0 ∷ [])) 4110) []
+      calls (OfPanel (bus.Begin 2 4110)) []
+      ∷ calls (OfPanel (bus.Submit 2 (Cap 0))) []
+      ∷ calls (OfPanel (bus.Tick 4510)) []
+      ∷ calls (OfPanel bus.NextReport) []
+      ∷ calls (Take 1 (asks 20 0 (97 ∷ 0 ∷ [])) 4511) []
       ∷ calls (Next 1) []
-      ∷ calls (OfPanel (bus.OnBytes (answers 20 0 (64 ∷ [])) 4112)) []
-      ∷ calls (OfPanel (bus.Tick 4153)) []
-      ∷ calls (Take 0 (asks 20 0 (97 ∷ 0 ∷ []) ++ answers 20 0 (64 ∷ []) ++ asks 9 1 (96 ∷ [])) 4154) []
+      ∷ calls (OfPanel (bus.OnBytes (answers 20 0 (69 ∷ 1 ∷ 2 ∷ 3 ∷ 4 ∷ 5 ∷ 6 ∷ 0 ∷ 0 ∷ 0 ∷ 7 ∷ 8 ∷ 9 ∷ [])) 4512)) []
+      ∷ calls (OfPanel bus.NextReport) []
+      ∷ calls (OfPanel (bus.Tick 4513)) []
+      ∷ calls (Take 0 (asks 20 0 (97 ∷ 0 ∷ []) ++ answers 20 0 (64 ∷ []) ++ asks 9 1 (96 ∷ [])) 4514) []
       ∷ calls (Next 0) (41 ∷ [])
-      ∷ calls (OfPanel (bus.OnBytes (asks 20 1 (96 ∷ []) ++ answers 20 1 (64 ∷ []) ++ answers 9 1 (64 ∷ [])) 4156)) (42 ∷ [])
+      ∷ calls (OfPanel (bus.OnBytes (asks 9 1 (96 ∷ []) ++ answers 9 1 (64 ∷ [])) 4516)) (41 ∷ 42 ∷ [])
+      ∷ calls (OfPanel bus.NextReport) []
+      ∷ calls (OfPanel (bus.Tick 4517)) []
+      ∷ calls (OfPanel (bus.OnBytes (asks 20 1 (98 ∷ 0 ∷ []) ++ answers 20 1 (70 ∷ [])) 4520)) []
       ∷ calls (OfPanel bus.NextReport) []
       ∷ []
 
@@ -321,7 +328,7 @@ module _ {H : Type 0} where
       pub up : IsSetUp (first_line handler)
       pub keep : AllKeep answer_of after (long_day handler other) (first_line handler)
       pub stand : All (λ (step : Step H). CanStand step.call) (long_day handler other)
-      pub none_refused : NoneRefused (3 ∷ 4 ∷ []) (new_bus twice)
+      pub none_refused : NoneRefused (3 ∷ 4 ∷ 20 ∷ []) (new_bus twice)
       pub openings : map (λ (o : Opening). o.entry) (line_at_night handler other).openings ≡ 0 ∷ 0 ∷ 0 ∷ 0 ∷ 0 ∷ 1 ∷ 0 ∷ []
       pub addresses : map (λ (o : Opening). o.address) (line_at_night handler other).openings ≡ 9 ∷ 9 ∷ 7 ∷ 5 ∷ 3 ∷ 4 ∷ 3 ∷ []
       pub taken : map (λ (a : Account). length a.taken) (first_sessions handler other) ≡ 0 ∷ 1 ∷ 0 ∷ 1 ∷ 1 ∷ 1 ∷ 0 ∷ []
@@ -329,7 +336,7 @@ module _ {H : Type 0} where
       pub in_doubt : map (λ (a : Account). a.unsettled) (first_sessions handler other) ≡ [] ∷ [] ∷ [] ∷ (away 7 ∷ []) ∷ [] ∷ [] ∷ [] ∷ []
       pub forgotten : map (λ (a : Account). a.forgotten) (first_sessions handler other) ≡ [] ∷ (Cap 0 ∷ []) ∷ [] ∷ [] ∷ [] ∷ [] ∷ [] ∷ []
       pub reported : map (λ (a : Account). a.reported) (first_sessions handler other) ≡ [] ∷ [] ∷ [] ∷ [] ∷ (key ∷ []) ∷ (key ∷ []) ∷ [] ∷ []
-      -- what others said is not among this
+      -- what is said for the reader of another make, or by it, is not among this
       pub said : length (line_at_night handler other).said ≡ 43
       pub withdrawn : map (λ (a : Account). a.withdrawn) (first_sessions handler other) ≡ [] ∷ [] ∷ [] ∷ [] ∷ [] ∷ (key ∷ []) ∷ [] ∷ []
 
@@ -348,4 +355,4 @@ module _ {H : Type 0} where
     pub record RestartsHappen (handler other : H) : Type 0 where
       pub in_place : RestartHappens 63 1 (NewDevice 1 4 other four 20) handler other
       pub elsewhere : RestartHappens 106 0 (NewDevice 0 9 handler four 20) handler other
-      pub panel : RestartHappens 122 0 (NewPanel twice (9 ∷ 4 ∷ [])) handler other
+      pub panel : RestartHappens 122 0 (NewPanel twice (9 ∷ 4 ∷ 20 ∷ [])) handler other

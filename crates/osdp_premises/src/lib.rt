@@ -47,7 +47,7 @@ pub fn leaving_is_exact<H: Handler>()
 /// One list of calls in which all of it happens that a line knows keeps all premises, whatever the devices' handlers answer. It has bytes in pieces,
 /// damage, a lost packet and a repeated one, a packet that is read twice, a busy device, an event that is told again, an order and an event that are taken
 /// back, another handler, a COMSET that is settled and one that is in doubt, a device that restarts where it is and one that comes back elsewhere, a panel
-/// that restarts, and packets of other makers' machines.
+/// that restarts, packets of other makers' machines, and an entry whose reader is one of them.
 pub fn a_long_day_keeps_the_premises<H: Handler>()
     ensures keeps { (handler other : H) → LongDayKeeps H.answer_of H.after handler other }
     ensures restarts { (handler other : H) → RestartsHappen H.answer_of H.after handler other }
