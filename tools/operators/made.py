@@ -78,8 +78,10 @@ def form(path, unit, body):
         return None
 
 
-def made(edits, below):
-    """Yields each kept edit with the generated one that is the same, or the pair of these, or None. `below` tells the crates below one."""
+def made(edits, below, with_special=False):
+    """Yields each kept edit with the generated one that is the same, or the pair of these, or None. `below` tells the crates below one.
+
+    Special cases are asked only where told: their lists are so long that these edits would hardly be tried again."""
     waiting, kept = defaultdict(list), []
     for edit in edits:
         found = changes(edit)
@@ -100,7 +102,7 @@ def made(edits, below):
             if near and (one := it.form()) in [wanted.form for wanted in near]:
                 made_of[place, one].append(it)
         for it in found:
-            if (place, it.form) not in made_of:
+            if with_special and (place, it.form) not in made_of:
                 made_of[place, it.form] += special(it, crates)
     for edit, found in kept:
         yield edit, chosen([made_of[it.place, it.form] for it in found])
@@ -145,9 +147,12 @@ def without_spaces(text):
 
 
 def remove(tools, words):
-    """Prints the kept edits that operators make, each with the generated edit that is the same, and with `--remove` removes their files."""
-    is_to_remove = "--remove" in words
-    crates = [it for it in words if it != "--remove"] or [it for it in tools.USES if glob.glob(f"{generated.TOP}/crates/{it}/planted/*.edit")]
+    """Prints the kept edits that operators make, each with the generated edit that is the same, and with `--remove` removes their files.
+
+    With `--special` it asks for special cases too, and removes none."""
+    with_special = "--special" in words
+    is_to_remove = "--remove" in words and not with_special
+    crates = [it for it in words if it not in ("--remove", "--special")] or [it for it in tools.USES if glob.glob(f"{generated.TOP}/crates/{it}/planted/*.edit")]
     kept, count, spelled, by_runs = [], 0, 0, 0
     for edit in [it for found in tools.wanted(crates).values() for it in found]:
         # what runs alone refuses isn't tried with what operators make
@@ -159,7 +164,7 @@ def remove(tools, words):
             kept.append(edit)
         except tools.Bad as why:
             print(f"{edit.label()}: stays: {why}")
-    for edit, same in made(kept, tools.below):
+    for edit, same in made(kept, tools.below, with_special):
         if same is None:
             continue
         count += 1
