@@ -1,10 +1,23 @@
 -- What is told with the moments of a capture.
-use Rattle.std.proofs.Common.{◌≡◌, inl, inr, ℕ, List, [], ◌∷◌, ◌++◌, codes, flat_map, refl, sym, ap, ◌∙◌, append_assoc}
+use Rattle.std.proofs.Common.{◌≡◌, ◌⊎◌, inl, inr, ℕ, Bool, true, false, cond, List, [], ◌∷◌, ◌++◌, codes, flat_map, Result, Ok, Err, refl, sym, ap, ◌∙◌, append_assoc}
 use Rattle.std.proofs.lemmas.Bool.{cases_Bool, cond-false, cond-true}
+use Rattle.osdp_tool_monitor.specs.declared.mode.MonitorMode.{MonitorMode}
+use Rattle.osdp_tool_show.specs.Ending.{Stream}
 use Rattle.osdp_tool_streams.specs.Cut.{line_feed, lines_of}
+use Rattle.osdp_tool_streams.specs.declared.fault.ToolFault.{ToolFault}
+use Rattle.osdp_tool_streams.specs.declared.fault.ToolFault.TheVariants.{NoMemory, WriteFailed}
+use Rattle.osdp_tool_inputs.specs.Done.{HearsTimed, ListensTimed}
 use Rattle.osdp_tool_inputs.specs.Heard.{names_run, told_line}
 use Rattle.osdp_tool_inputs.specs.Laws.{AreFronts, IsFront, MomentsLeaveLines, lines_after}
 use Rattle.osdp_tool_inputs.specs.Times.{run_of, stamp_at, stamps_of, timed_line}
+
+-- but where memory or the output fails, all of it is printed
+pub listens_timed : (mode : MonitorMode) (text : List ℕ) (output : Stream) (result : Result Bool ToolFault) → HearsTimed mode text output result
+    → ListensTimed mode text output result
+listens_timed mode text output (Ok wrong) heard = heard
+listens_timed mode text output (Err NoMemory) heard = tt
+listens_timed mode text output (Err WriteFailed) heard = tt
+listens_timed mode text output (Err fault) heard = heard
 
 -- ---- a line after its front
 

@@ -1,6 +1,6 @@
 -- What is done with an input.
-use Rattle.std.specs.Prelude.{◌≡◌, ◌&&◌, ◌||◌, ℕ, Bool, true, false, List, [], ◌++◌, codes, Option, None, Some, Result, Ok, Err}
-use Rattle.std.specs.Io.KnownBytes.{Keeps}
+use Rattle.std.specs.Prelude.{◌≡◌, ◌&&◌, ℕ, Bool, true, false, List, [], ◌++◌, codes, Option, None, Some, Result, Ok, Err}
+use Rattle.std.specs.Io.KnownBytes.{Appends, Keeps}
 use Rattle.osdp_tool_captures.specs.Captures.{capture_fault, capture_text}
 use Rattle.osdp_tool_captures.specs.Whole.{ReadWhole}
 use Rattle.osdp_tool_captures.specs.declared.fault.BadLine.{BadLine}
@@ -13,6 +13,7 @@ use Rattle.osdp_tool_streams.specs.ToolFault.{status_of as fault_status}
 use Rattle.osdp_tool_streams.specs.declared.fault.ToolFault.{ToolFault}
 use Rattle.osdp_tool_streams.specs.declared.fault.ToolFault.TheVariants.{NoMemory, WriteFailed}
 use Rattle.osdp_tool_inputs.specs.Asked.{form_of, has_lines}
+use Rattle.osdp_tool_inputs.specs.Heard.{printed_of}
 use Rattle.osdp_tool_inputs.specs.Moments.{Tells}
 use Rattle.osdp_tool_inputs.specs.declared.asked.Asked.{Asked}
 use Rattle.osdp_tool_inputs.specs.declared.asked.Task.{Task}
@@ -31,18 +32,39 @@ pub record EndsHeard (mode : MonitorMode) (input output : Stream) (result : Resu
   pub begins : start.last ≡ 0
   pub ends : monitor.Ends Tells mode start end input.before input.after input.failed output.before output.after output.failed result
 
--- with moments, and of objects, nothing is said here of the lines
-abbrev pub Listens : Bool → MonitorMode → Stream → Stream → Result Bool ToolFault → Type 0
-Listens false mode input output result = EndsHeard mode input output result
-Listens true mode input output result = Unit {0}
+-- it did so with all of this text, and printed this
+pub record HearsText (mode : MonitorMode) (text shown : List ℕ) (result : Result Bool ToolFault) : Type 0 where
+  pub input : Stream
+  pub memory : Stream
+  pub text_is : input.before ≡ Some text
+  pub empty : memory.before ≡ Some []
+  pub shown_is : memory.after ≡ Some shown
+  pub ends : EndsHeard mode input memory result
 
--- What is asked is done with a stream of digits or bytes; these are all its bytes, where they were read before. With stamps, nothing is said here of the
--- lines that stand after them.
+-- that is written out with the moments of the text, or as objects, and then the answer times
+pub record HearsTimed (mode : MonitorMode) (text : List ℕ) (output : Stream) (result : Result Bool ToolFault) : Type 0 where
+  pub shown : List ℕ
+  pub hears : HearsText mode text shown result
+  pub written : Appends output.before output.after (printed_of mode.json text shown)
+
+-- but where memory or the output fails
+abbrev pub ListensTimed : MonitorMode → List ℕ → Stream → Result Bool ToolFault → Type 0
+ListensTimed mode text output (Err NoMemory) = Unit {0}
+ListensTimed mode text output (Err WriteFailed) = Unit {0}
+ListensTimed mode text output result = HearsTimed mode text output result
+
+-- by whether moments are told, and else whether objects are: of these nothing is said here
+abbrev pub Listens : Bool → Bool → MonitorMode → List ℕ → Stream → Stream → Result Bool ToolFault → Type 0
+Listens true json mode text input output result = ListensTimed mode text output result
+Listens false true mode text input output result = Unit {0}
+Listens false false mode text input output result = EndsHeard mode input output result
+
+-- What is asked is done with a stream of digits or bytes; these are all its bytes, where they were read before. Of `show` with stamps nothing is said here.
 abbrev pub Does : Task → Format → ℕ → List ℕ → Stream → Stream → Result Bool ToolFault → Type 0
 Does (Print detail join) format limit bytes input output result =
     Ends detail (form_of format join) limit input output result × EndsWhole detail (form_of format join) limit input output result
 Does (Time detail join) format limit bytes input output result = Unit {0}
-Does (Listen mode) format limit bytes input output result = Listens (mode.json || (mode.times && has_lines format)) mode input output result
+Does (Listen mode) format limit bytes input output result = Listens (mode.times && has_lines format) mode.json mode bytes input output result
 
 -- ---- any form
 

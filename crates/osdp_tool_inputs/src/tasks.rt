@@ -1,8 +1,8 @@
 //! What is done with a stream of digits or bytes.
 
-ghost use Rattle.std.specs.Prelude.{◌≡◌, ◌<◌, ◌^◌, ◌++◌, IfOk, OnOk, false, string_bytes};
+ghost use Rattle.std.specs.Prelude.{◌≡◌, ◌<◌, ◌^◌, ◌++◌, [], IfOk, OnOk, false, string_bytes};
 ghost use Rattle.std.specs.Io.KnownBytes.{Appends};
-ghost use Rattle.osdp_tool_inputs.specs.Done.{Does, EndsHeard};
+ghost use Rattle.osdp_tool_inputs.specs.Done.{Does, EndsHeard, HearsText, ListensTimed};
 ghost use Rattle.osdp_tool_inputs.specs.Times.{timed_text};
 ghost use Rattle.osdp_tool_inputs.specs.Heard.{printed_of};
 ghost use Rattle.osdp_tool_show.specs.Ending.{Ends, EndsWhole, watched};
@@ -110,6 +110,21 @@ fn print_heard<W: Write>(
     flush_out(output)
 }
 
+/// Listens to all of a text, and keeps what it tells.
+fn listen_whole(
+    rt: &HostRuntime,
+    mode: MonitorMode,
+    text: &[u8],
+    shown: &mut Vec<u8>,
+) -> Result<bool, ToolFault>
+    requires { shown.old.items ≡ [] }
+    ensures { HearsText mode text.now shown.new.items result }
+{
+    let mut memory = Watched::new(shown);
+    let mut input = Watched::new(text);
+    listen(rt, mode, &mut input, &mut memory)
+}
+
 /// Listens to the digits in a text, and tells what it finds with the moments in the text. True where an end was accused.
 #[inline(never)]
 fn listen_timed<W: Write>(
@@ -117,17 +132,20 @@ fn listen_timed<W: Write>(
     mode: MonitorMode,
     text: &[u8],
     output: &mut Watched<W>,
-) -> Result<bool, ToolFault> {
+) -> Result<bool, ToolFault>
+    ensures { ListensTimed mode text.now (watched W.contents output.old output.new) result }
+{
     let mut shown = Vec::new(rt.alloc());
-    let mut memory = Watched::new(&mut shown);
-    let mut input = Watched::new(text);
-    let answer = listen(rt, mode, &mut input, &mut memory);
+    let answer = listen_whole(rt, mode, text, &mut shown);
     // what was heard before memory ran out is no beginning of the whole: the times would stand before the table
     if answer == Err(ToolFault::WriteFailed) || answer == Err(ToolFault::NoMemory) {
         return Err(ToolFault::NoMemory);
     }
-    print_heard(rt.alloc(), mode.json, text, shown.as_slice(), output)?;
-    answer
+    match print_heard(rt.alloc(), mode.json, text, shown.as_slice(), output) {
+        Ok(()) => answer,
+        Err(ToolFault::WriteFailed) => Err(ToolFault::WriteFailed),
+        Err(_) => Err(ToolFault::NoMemory),
+    }
 }
 
 /// Prints these lines of `show`, each after the moment and the way of its run, which stand in the text.
