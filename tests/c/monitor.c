@@ -143,7 +143,7 @@ static void refuse(void)
     demand(osdp_monitor_free(&monitor) == OSDP_NO_MACHINE);
     demand(osdp_monitor_new(&monitor, 3, 0) == OSDP_MONITOR_OUT_OF_RANGE && osdp_monitor_free(&monitor) == OSDP_NO_MACHINE);
     size_t before = bytes_given;
-    demand(osdp_monitor_new(&monitor, OSDP_PRINTS_TALK, 1) == OSDP_OK && bytes_given - before == 2048 + 20480 + 3720 && osdp_monitor_new(&monitor, OSDP_PRINTS_TALK, 1) == OSDP_IN_USE);
+    demand(osdp_monitor_new(&monitor, OSDP_PRINTS_TALK, 1) == OSDP_OK && bytes_given - before == 2048 + 20480 + 3808 && osdp_monitor_new(&monitor, OSDP_PRINTS_TALK, 1) == OSDP_IN_USE);
     demand(osdp_monitor_bytes(&monitor, NULL, 1) == OSDP_BAD_LENGTH && osdp_monitor_bytes(&monitor, NULL, 0) == OSDP_OK);
     demand(osdp_monitor_next_text(&monitor, NULL, 1, &length) == OSDP_BAD_LENGTH && length == 9);
     demand(osdp_monitor_next_text(&monitor, NULL, 0, &length) == OSDP_OK && length == 0);
