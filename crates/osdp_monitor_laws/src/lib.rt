@@ -84,8 +84,7 @@ pub fn names_panels()
     ensures { NamesPanels }
 {}
 
-/// Where nothing was forgotten since, a packet is told as too little heard exactly where it has the next number, the last one was not answered, and the panel is not
-/// suspected.
+/// A packet is told as too little heard exactly where it has the next number, the last one wasn't answered, and the panel isn't suspected. Nothing was forgotten since.
 pub fn tells_first_doubts()
     ensures { TellsFirstDoubts }
 {}
@@ -122,8 +121,8 @@ pub fn tells_replies()
     ensures { TellsReplies }
 {}
 
-/// Where nothing was forgotten since, a packet without a reply after one that was answered is told as unanswered, at the next packet to the device, but where that is
-/// told as too little heard.
+/// A packet without a reply is told as unanswered at the next one to its device, unless that is told as too little heard. It comes after one that was answered, and
+/// nothing was forgotten since.
 pub fn tells_unanswered()
     ensures { TellsUnanswered }
 {}
