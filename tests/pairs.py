@@ -121,12 +121,14 @@ def keeps_place(program):
         answers = [asked(terminal, 5, 0, 0x61, b"\0"), kept.exists(), asked(terminal, 5, 1, 0x6E, bytes([7]) + (19200).to_bytes(4, "little")),
                    kept.read_text() if kept.exists() else None]
         first.process.kill()
+        first.process.wait()
         terminal.close()
         terminal = Terminal()
         again = Script(program, "--keep", kept, terminal.path, 9600)
         answers += [asked(terminal, 7, 0, 0x61, b"\0"), asked(terminal, 5, 0, 0x61, b"\0")]
         terminal.note_rate()
         again.process.kill()
+        again.process.wait()  # until then it has the port
         kept.write_text("7\n")
         ended = subprocess.run([program, "--keep", kept, terminal.path, "9600"], capture_output=True, text=True, timeout=30)
         terminal.close()
