@@ -20,7 +20,8 @@ ghost use Rattle.osdp_device.specs.declared.program.ProgramAnswers.{ProgramAnswe
 
 use osdp_reader::Handler;
 
-/// What is promised of any calls of a panel's program and of its devices' programs, restarts of either among them, that keep the premises. Of each entry:
+/// Over any calls of a panel's program and of its devices' programs, restarts of either among them, that keep the premises, each entry's commands are
+/// taken once and in order, and its events are reported once and in order. In detail, of each entry:
 ///
 /// - In each session commands are taken once and in order. A settled command has the answer that the device gave to it then.
 /// - Events are reported once and in order, but for those that a restart of the device threw away before they were offered.
@@ -97,7 +98,7 @@ pub fn hands_over_what_is_read()
     ensures { (b : BusState) → HandsOver b }
 {}
 
-/// What restarts cost an entry. Of its device: the events in its queue, but the one in front where it has offered that in this session, and at most
+/// A restart of its device costs an entry the events in its queue, but the one in front where it has offered that in this session, and at most
 /// its session; and nothing else is reported in that session but what was offered before, and what is queued since and not withdrawn. Of the panel: the
 /// command that was outstanding, and those that waited.
 pub fn restarts_cost<H: Handler>()
@@ -156,8 +157,8 @@ pub fn ordinary_is_undisturbed<H: Handler>()
     ensures { OrdinaryCallsDisturbNone H.answer_of H.after }
 {}
 
-/// An event that is told again from one session of an entry to the next is marked (`Bus::is_maybe_again`), and nothing else is marked but an event
-/// equal in bytes to the last one that was reported before, as the first of its session. It holds in one life of the panel, from where it is made, at
+/// In one life of the panel an event that is told again from one session of an entry to the next is marked (`Bus::is_maybe_again`), and nothing else
+/// is marked but an event equal in bytes to the last one that was reported before, as the first of its session. A life is from where it is made, at
 /// set-up or anew, until it is made anew, whatever is called meanwhile: devices may be made anew, sessions begin again and events be withdrawn.
 ///
 /// What the panel's program takes of an entry's events, and then the one that waits, are the events that the sessions of this life have reported,

@@ -34,8 +34,8 @@ pub fn ledger_holds_once<H: Handler>()
     osdp_ledger::tells_in_turn();
 }
 
-/// What restarts cost, whatever has happened before. Of the panel: the commands that are ahead, of which the one on the wire is cut off. Of a device:
-/// the events of its queue.
+/// A restart of the panel costs the commands that are ahead, of which the one on the wire is cut off, and a restart of a device the events of its
+/// queue, whatever has happened before.
 pub fn restarts_cost()
     ensures { RestartsCost }
 {}

@@ -86,12 +86,12 @@ pub fn exchanges_send_few()
     ensures counted { (now : ℕ) (s : Session) (waiting : List Command) → CountsSends now s waiting }
 {}
 
-/// What a tick does from each state, as the deadline is ahead or reached.
+/// A tick does nothing, sends or ends something as the state asks, and as the deadline is ahead or reached.
 pub fn ticks_go_by_the_state()
     ensures { (now : ℕ) (s : Session) (waiting : List Command) → TicksInSteps now s waiting }
 {}
 
-/// What a frame does from each state, where it isn't a plain answer to the exchange.
+/// A frame that isn't a plain answer to the exchange ends a session, holds the exchange or is passed over, as the state asks.
 pub fn frames_go_by_the_state()
     ensures { (p : Packet) (now : ℕ) (s : Session) → FramesInSteps p now s }
 {}

@@ -23,7 +23,7 @@ pub fn tells_in_turn()
     ensures { TellsInTurn }
 {}
 
-/// A run in which each step happens, and what it comes to.
+/// There is a run of allowed steps in which each kind happens, and it comes to what the ledger says of each.
 pub fn steps_happen()
     ensures { StepsHappen }
 {}

@@ -6,7 +6,7 @@ ghost use Rattle.osdp_line_ledger.specs.Laws.{EachKeepsLedger};
 
 use osdp_reader::Handler;
 
-/// Addresses are given as the premise asks, and sessions begin on a quiet line. Then over every list of moves of several links each step that the
+/// Where addresses are given as the premise asks, and sessions begin on a quiet line, over every list of moves of several links each step that the
 /// panel's program and a device's see is one that the ledger of this device allows where it happens, the ledger at the end is that of its link,
 /// and the steps come to what the accounts of its sessions say. So the promises of the ledger hold of each device of a line.
 pub fn each_keeps_ledger<H: Handler>()

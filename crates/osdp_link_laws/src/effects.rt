@@ -4,7 +4,7 @@ ghost use Rattle.osdp_link_laws.specs.Effects.{EachMoveDoes};
 
 use osdp_reader::Handler;
 
-/// What each move does, clause by clause.
+/// Each move of a program, of a power failure or of the line does to the two ends, to the line and to the account what its clause here says.
 ///
 /// `handler`: a device that has another handler keeps its number, its stored reply and its events. A repeat is answered with what was stored, and no
 /// handler is asked. The next command that is taken is answered with the new handler.

@@ -54,10 +54,9 @@ pub fn read_each_other<H: Handler>()
     osdp_reader_laws::answers_plainly::<H>();
 }
 
-/// Within each session, opened by ID on a quiet line, over every list of losses, repeats and detected damage, whatever the device tells, and
-/// whoever restarts: commands are taken once and in order, settled with the answers that the reader gave to them then, and events are
-/// reported once and in order, but those that the device has withdrawn, and those that a restart of the reader threw away before they were
-/// offered.
+/// Within each session, opened by ID on a quiet line, commands are taken once and in order, settled with the answers that the reader gave to them
+/// then, and events are reported once and in order, but those that the device has withdrawn, and those that a restart of the reader threw away
+/// before they were offered. So it is over every list of losses, repeats and detected damage, whatever the device tells, and whoever restarts.
 pub fn holds_once<H: Handler>()
     ensures { HoldsOnce H.answer_of H.after }
 {
@@ -89,7 +88,7 @@ pub fn sessions_in_a_row<H: Handler>()
     read_each_other::<H>();
 }
 
-/// What a restart costs, exactly. Of the reader: the events in its queue, but the one in front where it has offered that in this session, which
+/// A restart of the reader costs exactly the events in its queue, but the one in front where it has offered that in this session, which
 /// is reported already or may be heard later; and at most the session. No command is lost. Nothing else is reported in that session but what
 /// was offered before, and what is queued since and not withdrawn.
 ///

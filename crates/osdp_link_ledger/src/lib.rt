@@ -7,9 +7,9 @@ ghost use Rattle.osdp_link_ledger.specs.Laws.{HoldsByLedger, LinkKeepsLedger};
 
 use osdp_reader::Handler;
 
-/// From a first session that has begun, over every list of moves of a link: losses, repeats and detected damage, whatever the device tells,
-/// withdrawals, other addresses, sessions that end and begin again, and restarts of either end. Each step that the two programs see is one
-/// that the ledger allows where it happens, and the ledger at the end is the link's.
+/// From a first session that has begun, over every list of moves of a link, each step that the two programs see is one that the ledger allows where
+/// it happens, and the ledger at the end is the link's. The moves are losses, repeats and detected damage, whatever the device tells, withdrawals,
+/// other addresses, sessions that end and begin again, and restarts of either end.
 pub fn link_keeps_ledger<H: Handler>()
     ensures { LinkKeepsLedger H.answer_of H.after }
 {

@@ -16,7 +16,7 @@ pub fn command_of_reads_the_table()
     ensures faults { ReadsTheFaults command_fault command_of }
 {}
 
-/// Why a code and data are no command. M1 exactly where no command has the code. M2 exactly where some has it, and there are more than 1432
+/// A code and data are refused as a command with M1, M2 or M3, each exactly for its cause. M1 exactly where no command has the code. M2 exactly where some has it, and there are more than 1432
 /// data bytes or the table doesn't allow so many; then no command with the code has so many. M3 exactly where some has it, there are 1432
 /// data bytes at most, the table allows so many, and a count inside them says otherwise.
 pub fn command_faults_have_causes()
@@ -53,7 +53,7 @@ pub fn reply_of_reads_the_table()
     ensures faults { ReadsTheFaults reply_fault reply_of }
 {}
 
-/// Why a code and data are no reply. M1 exactly where no reply has the code. M2 exactly where some has it, and there are more than 1432
+/// A code and data are refused as a reply with M1, M2 or M3, each exactly for its cause. M1 exactly where no reply has the code. M2 exactly where some has it, and there are more than 1432
 /// data bytes or the table doesn't allow so many; then no reply with the code has so many. M3 exactly where some has it, there are 1432
 /// data bytes at most, the table allows so many, and a count inside them says otherwise.
 pub fn reply_faults_have_causes()

@@ -31,6 +31,8 @@ impl Queue {
     }
 
     /// Why an order isn't held back, where so many wait in the controller.
+    // its place of a spelling is no part of the stack of what calls it
+    #[inline(never)]
     pub(crate) fn refusal(&self, before: usize, command: &Command<'_>) -> Option<BusFault>
         ensures { result ≡ hold_refusal before command.now self.now }
     {
@@ -52,6 +54,7 @@ impl Queue {
     }
 
     /// Holds an order back, after those that are.
+    #[inline(never)]
     pub(crate) fn hold(&mut self, before: usize, command: &Command<'_>)
         requires { hold_refusal before command.now self.old ≡ None }
         ensures { self.new ≡ after_hold command.now self.old }

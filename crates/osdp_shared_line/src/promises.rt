@@ -4,7 +4,7 @@ ghost use Rattle.osdp_shared_line.specs.Runs.{EachHasSessionsInARow, EachHoldsOn
 
 use osdp_reader::Handler;
 
-/// Addresses are given as the premise asks, and sessions begin on a quiet line. Then within each session of each reader its commands are taken once
+/// Where addresses are given as the premise asks, and sessions begin on a quiet line, within each session of each reader its commands are taken once
 /// and in order, and settled with the answers that it gave to them then. Its events are reported once and in order, but for those that it has
 /// withdrawn and those that a restart of it threw away before they were offered. So it is over every list of losses, repeats and detected damage, whatever the devices tell, and
 /// whoever restarts.

@@ -27,6 +27,13 @@ impl<T> Watched<T> {
         }
     }
 
+    /// The stream that is watched.
+    pub fn get_ref(&self) -> &T
+        ensures { result.now ≡ inner_of self.now }
+    {
+        &self.inner
+    }
+
     /// Whether a read, a write or a flush has answered an error, or a write has taken none of one
     /// or more bytes.
     pub fn failed(&self) -> bool
