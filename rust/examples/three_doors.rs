@@ -3,7 +3,8 @@
 mod port;
 
 use osdp::{
-    Card, Command, Entry, Moment, Panel, PanelConfig, Presence, Reply, Report, Site, color, state,
+    Card, Command, EntryNumber, Moment, Panel, PanelConfig, Presence, Reply, Report, Site, color,
+    state,
 };
 use port::{Came, Port, run_on_port};
 use std::error::Error;
@@ -56,7 +57,7 @@ impl Doors {
     }
 
     /// The strike, output 0, and a green LED, both for a time: orders, which a reader that comes back doesn't get again.
-    fn unlock(&mut self, door: Entry) -> Done {
+    fn unlock(&mut self, door: EntryNumber) -> Done {
         let strike = Command::output_for(0, UNLOCK)?;
         if self.site.order(&mut self.panel, door, &strike)? {
             let green = Command::color_for(color::GREEN, UNLOCK)?;
@@ -66,7 +67,7 @@ impl Doors {
     }
 
     /// The door's contact, as an event or an answer tells it. A buzzer is silent from then on: a state, which a reader that comes back gets again.
-    fn take_contact(&mut self, door: Entry, states: &[u8], now: Moment) -> Done {
+    fn take_contact(&mut self, door: EntryNumber, states: &[u8], now: Moment) -> Done {
         let is_open = states.first() == Some(&state::ACTIVE);
         self.held[door.index()] = is_open.then_some(now + HELD);
         Ok(self.site.wants(door, &Command::sound(false))?)

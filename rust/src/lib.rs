@@ -5,7 +5,7 @@
 //!
 //! ```no_run
 //! use core::time::Duration;
-//! use osdp::{Card, Command, Entry, Error, Moment, Panel, PanelConfig, Reply, Report, Site, color};
+//! use osdp::{Card, Command, EntryNumber, Error, Moment, Panel, PanelConfig, Reply, Report, Site, color};
 //!
 //! # fn read(_: &mut [u8], _: Moment) -> usize { 0 }
 //! # fn write(_: &[u8]) -> Result<(), Error> { Ok(()) }
@@ -17,7 +17,7 @@
 //! }
 //!
 //! /// The strike is on for three seconds. Where the door is offline, or as many orders wait as may, it stays closed.
-//! fn open(panel: &mut Panel, site: &Site<1>, door: Entry) -> Result<(), Error> {
+//! fn open(panel: &mut Panel, site: &Site<1>, door: EntryNumber) -> Result<(), Error> {
 //!     site.order(panel, door, &Command::output_for(0, 30)?)?;
 //!     Ok(())
 //! }
@@ -81,6 +81,6 @@ pub use fields::{
 pub use message::{Command, RawReply, Unsent};
 pub use monitor::{Monitor, Prints};
 pub use named::{card, color, function, led, output, reader, state, text, tone};
-pub use panel::{Check, Entry, LostCause, Panel, PanelConfig, Report};
+pub use panel::{Check, EntryNumber, LostCause, Panel, PanelConfig, Report};
 pub use site::{Presence, Site, SiteError};
 pub use time::Moment;

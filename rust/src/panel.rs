@@ -100,12 +100,12 @@ impl Default for PanelConfig {
 
 /// A device of a panel. Another panel refuses it.
 #[derive(Clone, Copy, Debug, PartialEq, Eq, PartialOrd, Ord, Hash)]
-pub struct Entry {
+pub struct EntryNumber {
     panel: u32,
     index: usize,
 }
 
-impl Entry {
+impl EntryNumber {
     /// Its number, in the order of adding, from 0.
     pub fn index(self) -> usize {
         self.index
@@ -160,7 +160,7 @@ pub enum Report {
     Lost(LostCause, Option<Command>),
 }
 
-fn report_of(panel: u32, raw: &sys::osdp_report) -> Option<(Entry, Report)> {
+fn report_of(panel: u32, raw: &sys::osdp_report) -> Option<(EntryNumber, Report)> {
     let command = Command::from_sys(&raw.command);
     let reply = Reply::from_sys(&raw.reply);
     let report = match raw.kind {
@@ -183,7 +183,7 @@ fn report_of(panel: u32, raw: &sys::osdp_report) -> Option<(Entry, Report)> {
         _ => return None,
     };
     let index = raw.entry;
-    Some((Entry { panel, index }, report))
+    Some((EntryNumber { panel, index }, report))
 }
 
 /// The panel's end of a line with up to sixteen devices. It reads and writes nothing: its program hands bytes and moments in.
@@ -244,7 +244,7 @@ impl Panel {
     }
 
     /// The number of a device of this panel.
-    fn index(&self, entry: Entry) -> Result<usize, Error> {
+    fn index(&self, entry: EntryNumber) -> Result<usize, Error> {
         match entry.panel == self.number {
             true => Ok(entry.index),
             false => Err(Error::NoEntry),
@@ -256,11 +256,11 @@ impl Panel {
     /// # Errors
     ///
     /// `TooManyDevices`, `OutOfRange`, `AddressTaken`, `NoMemory`.
-    pub fn add(&mut self, address: u8) -> Result<Entry, Error> {
+    pub fn add(&mut self, address: u8) -> Result<EntryNumber, Error> {
         let mut entry = 0;
         // SAFETY: the handle is ours alone, and the entry is written.
         check(unsafe { sys::osdp_panel_add(self.handle.get(), address.into(), &mut entry) })?;
-        Ok(Entry {
+        Ok(EntryNumber {
             panel: self.number,
             index: entry,
         })
@@ -271,7 +271,7 @@ impl Panel {
     /// # Errors
     ///
     /// `NoEntry`, `NotClosed`, `MomentTooFar`.
-    pub fn begin(&mut self, entry: Entry, now: Moment) -> Result<(), Error> {
+    pub fn begin(&mut self, entry: EntryNumber, now: Moment) -> Result<(), Error> {
         let index = self.index(entry)?;
         // SAFETY: the handle is ours alone.
         check(unsafe { sys::osdp_panel_begin(self.handle.get(), index, now.as_millis()) })
@@ -283,7 +283,7 @@ impl Panel {
     ///
     /// `NoEntry`; `PollSubmitted`; `AddressOutOfRange` for a COMSET to an address above 126, where the device would be out of reach; `AddressTaken`;
     /// `Full`.
-    pub fn submit(&mut self, entry: Entry, command: &Command) -> Result<(), Error> {
+    pub fn submit(&mut self, entry: EntryNumber, command: &Command) -> Result<(), Error> {
         let index = self.index(entry)?;
         let (code, data) = (command.code(), command.data());
         // SAFETY: the handle is ours alone, and the data have so many bytes.
@@ -303,7 +303,7 @@ impl Panel {
     /// # Errors
     ///
     /// `BadText`, and those of `submit`.
-    pub fn submit_text(&mut self, entry: Entry, text: &str) -> Result<(), Error> {
+    pub fn submit_text(&mut self, entry: EntryNumber, text: &str) -> Result<(), Error> {
         let index = self.index(entry)?;
         // SAFETY: the handle is ours alone, and the text has so many bytes.
         check(unsafe {
@@ -321,7 +321,7 @@ impl Panel {
     /// # Errors
     ///
     /// `NoEntry`.
-    pub fn withdraw(&mut self, entry: Entry) -> Result<Option<Command>, Error> {
+    pub fn withdraw(&mut self, entry: EntryNumber) -> Result<Option<Command>, Error> {
         let index = self.index(entry)?;
         let mut command = no_message();
         // SAFETY: the handle is ours alone, and the command is one.
@@ -334,19 +334,19 @@ impl Panel {
     /// # Errors
     ///
     /// `NoEntry`, `NotClosed`, `OutOfRange`, `AddressTaken`.
-    pub fn retarget(&mut self, entry: Entry, address: u8) -> Result<(), Error> {
+    pub fn retarget(&mut self, entry: EntryNumber, address: u8) -> Result<(), Error> {
         let index = self.index(entry)?;
         // SAFETY: the handle is ours alone.
         check(unsafe { sys::osdp_panel_retarget(self.handle.get(), index, address.into()) })
     }
 
     /// The devices, in the order of adding.
-    pub fn entries(&self) -> impl Iterator<Item = Entry> + use<> {
+    pub fn entries(&self) -> impl Iterator<Item = EntryNumber> + use<> {
         let panel = self.number;
         let mut count = 0;
         // SAFETY: the handle is ours alone, and the count is one. It holds a machine, so the call isn't refused.
         let _ = unsafe { sys::osdp_panel_entries(self.handle.get(), &mut count) };
-        (0..count).map(move |index| Entry { panel, index })
+        (0..count).map(move |index| EntryNumber { panel, index })
     }
 
     /// The address that a device has now.
@@ -354,7 +354,7 @@ impl Panel {
     /// # Errors
     ///
     /// `NoEntry`.
-    pub fn address(&self, entry: Entry) -> Result<u8, Error> {
+    pub fn address(&self, entry: EntryNumber) -> Result<u8, Error> {
         let index = self.index(entry)?;
         let mut address = 0;
         // SAFETY: the handle is ours alone, and the address is one.
@@ -367,7 +367,7 @@ impl Panel {
     /// # Errors
     ///
     /// `NoEntry`.
-    pub fn waiting(&self, entry: Entry) -> Result<usize, Error> {
+    pub fn waiting(&self, entry: EntryNumber) -> Result<usize, Error> {
         let index = self.index(entry)?;
         let mut count = 0;
         // SAFETY: the handle is ours alone, and the count is one.
@@ -380,7 +380,7 @@ impl Panel {
     /// # Errors
     ///
     /// `NoEntry`.
-    pub fn is_closed(&self, entry: Entry) -> Result<bool, Error> {
+    pub fn is_closed(&self, entry: EntryNumber) -> Result<bool, Error> {
         let index = self.index(entry)?;
         let mut closed = 0;
         // SAFETY: the handle is ours alone, and the number is one.
@@ -472,7 +472,7 @@ impl Panel {
     }
 
     /// Takes the report that waits, with the device of which it tells.
-    pub fn next_report(&mut self) -> Option<(Entry, Report)> {
+    pub fn next_report(&mut self) -> Option<(EntryNumber, Report)> {
         let mut report = sys::osdp_report {
             entry: 0,
             kind: sys::OSDP_REPORT_NONE,

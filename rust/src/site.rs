@@ -5,7 +5,7 @@ use crate::error::Error;
 use crate::fields::{Buzzer, Led, LedState, Output};
 use crate::message::Command;
 use crate::named::{led, output, tone};
-use crate::panel::{Entry, Panel, Report};
+use crate::panel::{EntryNumber, Panel, Report};
 use crate::sys;
 use crate::time::Moment;
 use core::fmt;
@@ -163,7 +163,7 @@ impl Place {
     }
 
     /// What is wanted and not submitted yet goes to the panel, up to the first that it refuses.
-    fn refresh(&mut self, panel: &mut Panel, entry: Entry) {
+    fn refresh(&mut self, panel: &mut Panel, entry: EntryNumber) {
         for state in &self.wanted[self.done..self.count] {
             match state.command().and_then(|it| panel.submit(entry, &it)) {
                 Ok(()) => self.done += 1,
@@ -173,7 +173,7 @@ impl Place {
     }
 
     /// Begins a session that is due, and submits what is wanted to a device that is online.
-    fn act(&mut self, panel: &mut Panel, entry: Entry, now: Moment) -> Result<(), Error> {
+    fn act(&mut self, panel: &mut Panel, entry: EntryNumber, now: Moment) -> Result<(), Error> {
         if self.begins.is_some_and(|begins| begins <= now) {
             while panel.withdraw(entry)?.is_some() {}
             match panel.begin(entry, now) {
@@ -218,7 +218,7 @@ impl<const ENTRIES: usize> Site<ENTRIES> {
         Site { pause, ..self }
     }
 
-    fn place(&self, entry: Entry) -> Option<&Place> {
+    fn place(&self, entry: EntryNumber) -> Option<&Place> {
         self.places.get(entry.index())
     }
 
@@ -229,14 +229,14 @@ impl<const ENTRIES: usize> Site<ENTRIES> {
     ///
     /// `NoEntry`; `Several`; `Timed` for what lasts for a time: it is an order, and an OUT that opens a door for five seconds would open it again after each
     /// session that was lost; `NoState` for a command that says nothing that holds from then on; `Full`.
-    pub fn wants(&mut self, entry: Entry, command: &Command) -> Result<(), SiteError> {
+    pub fn wants(&mut self, entry: EntryNumber, command: &Command) -> Result<(), SiteError> {
         let place = self.places.get_mut(entry.index());
         place.ok_or(SiteError::NoEntry)?.wants(State::of(command)?)
     }
 
     /// A report of the panel, at the moment at which it came. Where the device is online or offline by it and wasn't before, that is told, once. A session that is
     /// lost or moved makes the next one due after the pause.
-    pub fn heed(&mut self, entry: Entry, report: &Report, now: Moment) -> Option<Presence> {
+    pub fn heed(&mut self, entry: EntryNumber, report: &Report, now: Moment) -> Option<Presence> {
         let place = self.places.get_mut(entry.index())?;
         let presence = match report {
             Report::Opened(_) => {
@@ -261,7 +261,7 @@ impl<const ENTRIES: usize> Site<ENTRIES> {
         &mut self,
         panel: &mut Panel,
         now: Moment,
-    ) -> Option<(Entry, Report, Option<Presence>)> {
+    ) -> Option<(EntryNumber, Report, Option<Presence>)> {
         let (entry, report) = panel.next_report()?;
         let change = self.heed(entry, &report, now);
         Some((entry, report, change))
@@ -273,7 +273,12 @@ impl<const ENTRIES: usize> Site<ENTRIES> {
     /// # Errors
     ///
     /// Those of `Panel::submit` but `Full`.
-    pub fn order(&self, panel: &mut Panel, entry: Entry, command: &Command) -> Result<bool, Error> {
+    pub fn order(
+        &self,
+        panel: &mut Panel,
+        entry: EntryNumber,
+        command: &Command,
+    ) -> Result<bool, Error> {
         if !self.presence(entry).is_some_and(Presence::is_online) {
             return Ok(false);
         }
@@ -310,18 +315,18 @@ impl<const ENTRIES: usize> Site<ENTRIES> {
     }
 
     /// Whether a session of a device is due: the next `act` begins it. A program whose device may be elsewhere sets its address and its rate before.
-    pub fn is_due(&self, entry: Entry, now: Moment) -> bool {
+    pub fn is_due(&self, entry: EntryNumber, now: Moment) -> bool {
         let begins = self.place(entry).and_then(|place| place.begins);
         begins.is_some_and(|begins| begins <= now)
     }
 
     /// Whether a device is online, and since when. None where there is no such entry.
-    pub fn presence(&self, entry: Entry) -> Option<Presence> {
+    pub fn presence(&self, entry: EntryNumber) -> Option<Presence> {
         Some(self.place(entry)?.presence)
     }
 
     /// Whether a device is online, and all that is wanted of it was submitted since its session opened.
-    pub fn is_refreshed(&self, entry: Entry) -> bool {
+    pub fn is_refreshed(&self, entry: EntryNumber) -> bool {
         self.place(entry)
             .is_some_and(|place| place.presence.is_online() && place.done == place.count)
     }

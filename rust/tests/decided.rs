@@ -2,8 +2,8 @@
 mod settings;
 
 use osdp::{
-    Card, Command, Device, DeviceAnswer, Entry, Error, Moment, NakReason, Order, Output, Panel,
-    PanelConfig, Reply,
+    Card, Command, Device, DeviceAnswer, EntryNumber, Error, Moment, NakReason, Order, Output,
+    Panel, PanelConfig, Reply,
 };
 use settings::DEVICE;
 use std::io::Write;
@@ -75,7 +75,7 @@ fn the_program_answers() {
 #[test]
 fn entries_are_of_their_panel() {
     let (mut here, mut there) = (panel(), panel());
-    let entry: Entry = here.add(5).unwrap();
+    let entry: EntryNumber = here.add(5).unwrap();
     there.add(5).unwrap();
     assert_eq!(there.address(entry), Err(Error::NoEntry));
     assert_eq!(here.address(entry), Ok(5));
@@ -93,6 +93,6 @@ fn panel() -> Panel {
 #[test]
 fn a_panel_goes_to_another_thread() {
     let mut panel = panel();
-    let added = spawn(move || panel.add(5).map(Entry::index)).join();
+    let added = spawn(move || panel.add(5).map(EntryNumber::index)).join();
     assert_eq!(added.ok(), Some(Ok(0)));
 }

@@ -3,7 +3,7 @@
 mod settings;
 
 use osdp::{
-    Buzzer, Command, Device, DeviceConfig, Entry, Error, Led, Moment, Order, Output, Panel,
+    Buzzer, Command, Device, DeviceConfig, EntryNumber, Error, Led, Moment, Order, Output, Panel,
     PanelConfig, Presence, Report, Site, SiteError, Step, Text, color,
 };
 use settings::DEVICE;
@@ -17,7 +17,7 @@ fn at(milliseconds: u64) -> Moment {
 struct Line {
     panel: Panel,
     site: Site<1>,
-    door: Entry,
+    door: EntryNumber,
     device: Device,
     is_there: bool,
     answered: Vec<u8>,

@@ -4,7 +4,7 @@ use Rattle.std.specs.Prelude.{slice_get, slice_set}
 use Rattle.std.specs.Option.{option_map_or}
 use Rattle.osdp_controller.specs.declared.report.Report.{Report}
 use Rattle.osdp_controller.specs.declared.report.Report.TheVariants as report
-use Rattle.osdp_bus.specs.declared.device.Device.{Device}
+use Rattle.osdp_bus.specs.declared.entry.Entry.{Entry}
 use Rattle.osdp_bus.specs.Private.{memories_of}
 use Rattle.osdp_bus.specs.Remembering.{Remembered, may_be_again, memory_at, nothing_yet, remembers, remembers_at}
 
@@ -66,12 +66,12 @@ set_length [] k m = refl
 set_length (x ∷ ms) zero m = refl
 set_length (x ∷ ms) (suc k) m = ap suc (set_length ms k m)
 
-is_there : (ds : List Device) (k : ℕ) → k < length ds → (d : Device) × (slice_get ds k ≡ Some d)
+is_there : (ds : List Entry) (k : ℕ) → k < length ds → (d : Entry) × (slice_get ds k ≡ Some d)
 is_there [] k within = absurd (omega (arith, within))
 is_there (d ∷ ds) zero within = (d, refl)
 is_there (d ∷ ds) (suc k) within = is_there ds k (omega (arith, within))
 
-pub remembered_there : (ms : List Remembered) (ds : List Device) (k : ℕ) (m : Remembered) (r : Report) → slice_get ms k ≡ Some m → k < length ds
+pub remembered_there : (ms : List Remembered) (ds : List Entry) (k : ℕ) (m : Remembered) (r : Report) → slice_get ms k ≡ Some m → k < length ds
     → memories_of (slice_set ms k (remembers r m)) ≡ option_map_or (λ d. remembers_at k r (memories_of ms)) (slice_get ds k) (memories_of ms)
 remembered_there ms ds k m r at within =
     let d = is_there ds k within in
@@ -79,12 +79,12 @@ remembered_there ms ds k m r at within =
     ∙ set_there ms (replicate (16 - length ms) nothing_yet) k m r at
     ∙ sym (ap (λ o. option_map_or (λ d. remembers_at k r (memories_of ms)) o (memories_of ms)) d.1)
 
-gone : (ds : List Device) (k : ℕ) → length ds ≤ k → slice_get ds k ≡ None
+gone : (ds : List Entry) (k : ℕ) → length ds ≤ k → slice_get ds k ≡ None
 gone [] k beyond = refl
 gone (d ∷ ds) zero beyond = absurd (omega (arith, beyond))
 gone (d ∷ ds) (suc k) beyond = gone ds k (omega (arith, beyond))
 
-pub nowhere_remembered : (ms : List Remembered) (ds : List Device) (k : ℕ) (r : Report) → length ds ≤ k
+pub nowhere_remembered : (ms : List Remembered) (ds : List Entry) (k : ℕ) (r : Report) → length ds ≤ k
     → memories_of ms ≡ option_map_or (λ d. remembers_at k r (memories_of ms)) (slice_get ds k) (memories_of ms)
 nowhere_remembered ms ds k r beyond = sym (ap (λ o. option_map_or (λ d. remembers_at k r (memories_of ms)) o (memories_of ms)) (gone ds k beyond))
 

@@ -11,11 +11,11 @@ use Rattle.osdp_frame_laws.proofs.LeftOver.{items_nothing}
 use Rattle.osdp_controller.specs.Machine.{IsDeadline as IsDeadlineOf, Machine, is_due}
 use Rattle.osdp_controller.specs.declared.report.Report.{Report}
 use Rattle.osdp_bus.specs.declared.config.BusConfig.{BusConfig}
-use Rattle.osdp_bus.specs.declared.device.Device.{Device}
+use Rattle.osdp_bus.specs.declared.entry.Entry.{Entry}
 use Rattle.osdp_bus.specs.Buses.{BusState, device_of, has_report, holder, is_silent, waiting_after}
 use Rattle.osdp_bus.specs.Deadlines.{IsDeadline, acts, has_acted, is_run_ended}
 use Rattle.osdp_bus.specs.Remembering.{Remembered}
-use Rattle.osdp_bus.specs.Devices.{first_around, first_from, holds, is_device_due, step_of}
+use Rattle.osdp_bus.specs.Entries.{first_around, first_from, holds, is_device_due, step_of}
 use Rattle.osdp_bus.specs.Hearing.{ends_run, ends_silent, hears_items}
 use Rattle.osdp_bus.specs.Ticking.{BusTicked, is_due_at, is_held_and_due, next_due, stays, ticks_at, ticks_by, ticks_free, ticks_held, ticks_on, ticks_with}
 use Rattle.osdp_bus.specs.Waits.{IsDueFrom, IsHolderDeadline, any_due, earlier}
@@ -66,7 +66,7 @@ due_earlier f g h now (Some a) (Some b) x y both = (
 
 -- ---- the devices in their order
 
-any_push : (test : Device → Bool) (xs : List Device) (d : Device) → list_any test (xs ++ d ∷ []) ≡ (list_any test xs || test d)
+any_push : (test : Entry → Bool) (xs : List Entry) (d : Entry) → list_any test (xs ++ d ∷ []) ≡ (list_any test xs || test d)
 any_push test [] d = or_false (test d)
 any_push test (x ∷ xs) d = by_test (test x) (any_push test xs d)
   where
@@ -74,7 +74,7 @@ any_push test (x ∷ xs) d = by_test (test x) (any_push test xs d)
     by_test true others = refl
     by_test false others = others
 
-pub due_more : (ds : List Device) (now i : ℕ) (d : Device) (a b : Option ℕ) → i < length ds → d ≡ get_or ds i d
+pub due_more : (ds : List Entry) (now i : ℕ) (d : Entry) (a b : Option ℕ) → i < length ds → d ≡ get_or ds i d
     → IsDueFrom (any_due (take i ds)) now a → IsDueFrom (λ at. is_device_due at d) now b → IsDueFrom (any_due (take (i + 1) ds)) now (earlier a b)
 due_more ds now i d a b within is before here =
     due_earlier (any_due (take i ds)) (λ at. is_device_due at d) (any_due (take (i + 1) ds)) now a b before here
@@ -83,16 +83,16 @@ due_more ds now i d a b within is before here =
 -- ---- what is first
 
 -- what a search gives: nobody where no device passes, else one that does
-abbrev pub IsFound : (Device → Bool) → ℕ → List Device → Option ℕ → Type 0
+abbrev pub IsFound : (Entry → Bool) → ℕ → List Entry → Option ℕ → Type 0
 IsFound test at ds None = list_any test ds ≡ false
-IsFound test at ds (Some n) = (k : ℕ) × ((d : Device) × ((n ≡ at + k) × (slice_get ds k ≡ Some d) × (test d ≡ true)))
+IsFound test at ds (Some n) = (k : ℕ) × ((d : Entry) × ((n ≡ at + k) × (slice_get ds k ≡ Some d) × (test d ≡ true)))
 
-found_later : (test : Device → Bool) (at : ℕ) (d : Device) (ds : List Device) (o : Option ℕ) → test d ≡ false → IsFound test (at + 1) ds o
+found_later : (test : Entry → Bool) (at : ℕ) (d : Entry) (ds : List Entry) (o : Option ℕ) → test d ≡ false → IsFound test (at + 1) ds o
     → IsFound test at (d ∷ ds) o
 found_later test at d ds None is none = ap (λ t. t || list_any test ds) is ∙ none
 found_later test at d ds (Some n) is here = (suc here.0, (here.1.0, ((let e = here.1.1.0 in omega arith), here.1.1.1, here.1.1.2)))
 
-pub found : (test : Device → Bool) (at : ℕ) (ds : List Device) → IsFound test at ds (first_from at test ds)
+pub found : (test : Entry → Bool) (at : ℕ) (ds : List Entry) → IsFound test at ds (first_from at test ds)
 found test at [] = refl
 found test at (d ∷ ds) = by_test (test d) refl (found test (at + 1) ds)
   where
@@ -102,22 +102,22 @@ found test at (d ∷ ds) = by_test (test d) refl (found test (at + 1) ds)
     by_test false is others = found_later test at d ds (first_from (at + 1) test ds) is others
 
 -- the same around the list
-abbrev pub IsAround : (Device → Bool) → List Device → Option ℕ → Type 0
+abbrev pub IsAround : (Entry → Bool) → List Entry → Option ℕ → Type 0
 IsAround test ds None = list_any test ds ≡ false
-IsAround test ds (Some n) = (d : Device) × ((slice_get ds n ≡ Some d) × (test d ≡ true))
+IsAround test ds (Some n) = (d : Entry) × ((slice_get ds n ≡ Some d) × (test d ≡ true))
 
-get_dropped : (n k : ℕ) (ds : List Device) (d : Device) → slice_get (drop n ds) k ≡ Some d → slice_get ds (n + k) ≡ Some d
+get_dropped : (n k : ℕ) (ds : List Entry) (d : Entry) → slice_get (drop n ds) k ≡ Some d → slice_get ds (n + k) ≡ Some d
 get_dropped zero k ds d is = ap (slice_get ds) (let e : zero + k ≡ k = omega arith in e) ∙ is
 get_dropped (suc n) k [] d is = absurd cc
 get_dropped (suc n) k (x ∷ ds) d is = ap (slice_get (x ∷ ds)) (let e : suc n + k ≡ suc (n + k) = omega arith in e) ∙ get_dropped n k ds d is
 
-get_taken : (n k : ℕ) (ds : List Device) (d : Device) → slice_get (take n ds) k ≡ Some d → slice_get ds k ≡ Some d
+get_taken : (n k : ℕ) (ds : List Entry) (d : Entry) → slice_get (take n ds) k ≡ Some d → slice_get ds k ≡ Some d
 get_taken zero k ds d is = absurd cc
 get_taken (suc n) k [] d is = absurd cc
 get_taken (suc n) zero (x ∷ ds) d is = is
 get_taken (suc n) (suc k) (x ∷ ds) d is = get_taken n k ds d is
 
-any_append : (test : Device → Bool) (xs ys : List Device) → list_any test xs ≡ false → list_any test ys ≡ false → list_any test (xs ++ ys) ≡ false
+any_append : (test : Entry → Bool) (xs ys : List Entry) → list_any test xs ≡ false → list_any test ys ≡ false → list_any test (xs ++ ys) ≡ false
 any_append test [] ys none others = others
 any_append test (x ∷ xs) ys none others = by_test (test x) none (λ e. any_append test xs ys e others)
   where
@@ -126,7 +126,7 @@ any_append test (x ∷ xs) ys none others = by_test (test x) none (λ e. any_app
     by_test true e on = e
     by_test false e on = on e
 
-around_by : (test : Device → Bool) (first : ℕ) (ds : List Device) (o p : Option ℕ) → IsFound test first (drop first ds) o → IsFound test 0 (take first ds) p
+around_by : (test : Entry → Bool) (first : ℕ) (ds : List Entry) (o p : Option ℕ) → IsFound test first (drop first ds) o → IsFound test 0 (take first ds) p
     → IsAround test ds (option_or o p)
 around_by test first ds (Some n) p here after =
     (here.1.0, (ap (slice_get ds) here.1.1.0 ∙ get_dropped first here.0 ds here.1.0 here.1.1.1, here.1.1.2))
@@ -136,11 +136,11 @@ around_by test first ds None (Some n) none here =
 around_by test first ds None None none others =
     ap (list_any test) (sym (take-append-drop first ds)) ∙ any_append test (take first ds) (drop first ds) others none
 
-pub around : (test : Device → Bool) (first : ℕ) (ds : List Device) → IsAround test ds (first_around first test ds)
+pub around : (test : Entry → Bool) (first : ℕ) (ds : List Entry) → IsAround test ds (first_around first test ds)
 around test first ds = around_by test first ds (first_from first test (drop first ds)) (first_from 0 test (take first ds))
     (found test first (drop first ds)) (found test 0 (take first ds))
 
-pub any_at : (test : Device → Bool) (ds : List Device) (n : ℕ) (d : Device) → slice_get ds n ≡ Some d → test d ≡ true → list_any test ds ≡ true
+pub any_at : (test : Entry → Bool) (ds : List Entry) (n : ℕ) (d : Entry) → slice_get ds n ≡ Some d → test d ≡ true → list_any test ds ≡ true
 any_at test [] n d is passes = absurd cc
 any_at test (x ∷ ds) zero d is passes =
     let same : x ≡ d = cc in
@@ -153,7 +153,7 @@ any_at test (x ∷ ds) (suc n) d is passes = by_test (test x) (any_at test ds n 
 
 -- ---- what a bus without a report does at a moment
 
-abbrev bus : BusConfig → List Remembered → List Device → ℕ → ℕ → List ℕ → ℕ → BusState
+abbrev bus : BusConfig → List Remembered → List Entry → ℕ → ℕ → List ℕ → ℕ → BusState
 bus c m ds first last held greatest = record {
   config = c;
   devices = record { entries = ds; report = None };
@@ -173,7 +173,7 @@ told_some : (n : ℕ) (report : Option Report) → is_some (waiting_after n repo
 told_some n None = refl
 told_some n (Some report) = refl
 
-ticked_acts : (c : BusConfig) (m : List Remembered) (ds : List Device) (first last greatest n : ℕ) (old : BusState) (d : Device) → slice_get ds n ≡ Some d
+ticked_acts : (c : BusConfig) (m : List Remembered) (ds : List Entry) (first last greatest n : ℕ) (old : BusState) (d : Entry) → slice_get ds n ≡ Some d
     → is_device_due greatest d ≡ true → has_acted old (ticks_at (Some n) (bus c m ds first last [] greatest)) ≡ true
 ticked_acts c m ds first last greatest n old d there due =
     ap (λ o. has_acted old (ticks_with n o (bus c m ds first last [] greatest))) there
@@ -195,7 +195,7 @@ nothing_silent b held = by_test (is_silent b)
     by_test false = refl
 
 -- nobody holds the line and nothing is held: it does something where a device is due
-pub free_acts : (c : BusConfig) (m : List Remembered) (ds : List Device) (first last greatest now : ℕ) → first_from 0 holds ds ≡ None
+pub free_acts : (c : BusConfig) (m : List Remembered) (ds : List Entry) (first last greatest now : ℕ) → first_from 0 holds ds ≡ None
     → acts now (bus c m ds first last [] greatest) ≡ any_due ds (max greatest now)
 free_acts c m ds first last greatest now nobody =
     let g = max greatest now in
@@ -214,7 +214,7 @@ free_acts c m ds first last greatest now nobody =
         ∙ sym (any_at (is_device_due (max greatest now)) ds n here.0 here.1.0 here.1.1)
 
 -- a device holds the line and nothing is held: it does something where this device is due
-pub held_acts : (c : BusConfig) (m : List Remembered) (ds : List Device) (first last greatest now n : ℕ) (d : Device) → first_from 0 holds ds ≡ Some n
+pub held_acts : (c : BusConfig) (m : List Remembered) (ds : List Entry) (first last greatest now n : ℕ) (d : Entry) → first_from 0 holds ds ≡ Some n
     → slice_get ds n ≡ Some d → holds d ≡ true → acts now (bus c m ds first last [] greatest) ≡ is_device_due (max greatest now) d
 held_acts c m ds first last greatest now n d holder_is there stands =
     let g = max greatest now in
@@ -253,7 +253,7 @@ at_empty : (o : Option ℕ) (s : BusState) → s.held ≡ [] → (ticks_at o s).
 at_empty None s none = none
 at_empty (Some n) s none = by_device (device_of n s)
   where
-    by_device : (o : Option Device) → (ticks_with n o s).bus.held ≡ []
+    by_device : (o : Option Entry) → (ticks_with n o s).bus.held ≡ []
     by_device None = none
     by_device (Some d) = none
 
@@ -272,7 +272,7 @@ by_empty None s none = free_empty (ends_run s) refl
 by_empty (Some n) s none = choice_empty (is_due_at n s) (ticks_held n (ends_run s)) (stays s) (held_empty n (ends_run s) refl) none
 
 -- nobody holds the line and bytes are held: a tick ends their run at once
-pub free_ends : (c : BusConfig) (m : List Remembered) (ds : List Device) (first last greatest now byte : ℕ) (bytes : List ℕ) → first_from 0 holds ds ≡ None
+pub free_ends : (c : BusConfig) (m : List Remembered) (ds : List Entry) (first last greatest now byte : ℕ) (bytes : List ℕ) → first_from 0 holds ds ≡ None
     → acts now (bus c m ds first last (byte ∷ bytes) greatest) ≡ true
 free_ends c m ds first last greatest now byte bytes nobody = by_silent (is_silent (bus c m ds first last (byte ∷ bytes) (max greatest now)))
   where
@@ -287,7 +287,7 @@ free_ends c m ds first last greatest now byte bytes nobody = by_silent (is_silen
         (ap (λ o. (ticks_by o s).bus.held) nobody ∙ free_empty (ends_run s) refl)
 
 -- a device holds the line and bytes are held: their run ends where the line was silent long enough, or where this device is due
-pub held_ends : (c : BusConfig) (m : List Remembered) (ds : List Device) (first last greatest now byte n : ℕ) (bytes : List ℕ) (d : Device) → first_from 0 holds ds ≡ Some n
+pub held_ends : (c : BusConfig) (m : List Remembered) (ds : List Entry) (first last greatest now byte n : ℕ) (bytes : List ℕ) (d : Entry) → first_from 0 holds ds ≡ Some n
     → slice_get ds n ≡ Some d
     → acts now (bus c m ds first last (byte ∷ bytes) greatest) ≡ (is_device_due (max greatest now) d || is_silent_for c.gap last (max greatest now))
 held_ends c m ds first last greatest now byte n bytes d holder_is there =
@@ -353,7 +353,7 @@ deadline_now b none nobody some = by_held b.held refl
 
 -- a device holds the line
 pub deadline_held : (b : BusState) (n : ℕ) (moment : Option ℕ) → has_report b ≡ false → holder b ≡ Some n → b.greatest < 2 ^ 64
-    → ((d : Device) → slice_get b.devices.entries n ≡ Some d → IsHolderDeadline (length b.held == 0) b d moment) → IsDeadline b moment
+    → ((d : Entry) → slice_get b.devices.entries n ≡ Some d → IsHolderDeadline (length b.held == 0) b d moment) → IsDeadline b moment
 deadline_held b n moment none holder_is fits due =
     let here = subst (IsFound holds 0 b.devices.entries) holder_is (found holds 0 b.devices.entries) in
     let at : n ≡ here.0 = (let e = here.1.1.0 in omega arith) in
@@ -361,7 +361,7 @@ deadline_held b n moment none holder_is fits due =
     let there : slice_get b.devices.entries n ≡ Some d = ap (slice_get b.devices.entries) at ∙ here.1.1.1 in
     by_held d there here.1.1.2 b.held refl (due d there)
   where
-    by_held : (d : Device) → slice_get b.devices.entries n ≡ Some d → holds d ≡ true → (held : List ℕ) → b.held ≡ held
+    by_held : (d : Entry) → slice_get b.devices.entries n ≡ Some d → holds d ≡ true → (held : List ℕ) → b.held ≡ held
         → IsHolderDeadline (length b.held == 0) b d moment → IsDeadline b moment
     by_held d there stands [] is from =
         as_deadline b (λ at. is_device_due at d) moment none fits

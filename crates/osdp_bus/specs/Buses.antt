@@ -3,14 +3,14 @@ use Rattle.std.specs.Prelude.{ℕ, Bool, false, max, List, [], replicate, Option
 use Rattle.osdp_controller.specs.declared.report.Report.{Report}
 use Rattle.osdp_frame.specs.Silence.{is_silent_for}
 use Rattle.osdp_bus.specs.declared.config.BusConfig.{BusConfig}
-use Rattle.osdp_bus.specs.declared.device.Device.{Device}
-use Rattle.osdp_bus.specs.Devices.{first_from, holds}
+use Rattle.osdp_bus.specs.declared.entry.Entry.{Entry}
+use Rattle.osdp_bus.specs.Entries.{first_from, holds}
 use Rattle.osdp_bus.specs.Remembering.{Remembered, may_be_again, memory_at, nothing_yet}
 
 -- the devices in the order of adding, so that an entry is a place in this list, and the report that waits to be taken, with
 -- the entry whose controller told it
 pub record Devices : Type 0 where
-  pub entries : List Device
+  pub entries : List Entry
   pub report : Option (ℕ × Report)
 
 pub record BusState : Type 0 where
@@ -54,7 +54,7 @@ has_report b = is_some b.devices.report
 abbrev pub is_silent : BusState → Bool
 is_silent b = is_silent_for b.config.gap b.last b.greatest
 
-abbrev pub device_of : ℕ → BusState → Option Device
+abbrev pub device_of : ℕ → BusState → Option Entry
 device_of entry b = slice_get b.devices.entries entry
 
 -- what is told waits; where nothing is told, what waited stays

@@ -3,12 +3,12 @@ use Rattle.std.specs.Prelude.{ℕ, true, false, if◌then◌else◌, List, [], �
 use Rattle.osdp_frame.specs.Items.{items, left_over}
 use Rattle.osdp_frame.specs.Packet.{Packet}
 use Rattle.osdp_frame.specs.Reading.{RunItem, PacketItem, SkippedItem, RefusedItem}
-use Rattle.osdp_bus.specs.declared.device.Device.{Device}
+use Rattle.osdp_bus.specs.declared.entry.Entry.{Entry}
 use Rattle.osdp_bus.specs.Buses.{BusState, Devices, is_silent, seen, waiting_after}
-use Rattle.osdp_bus.specs.Devices.{device_hears, first_from, is_at, told_of}
+use Rattle.osdp_bus.specs.Entries.{device_hears, first_from, is_at, told_of}
 
 -- a packet reaches the device of an entry
-abbrev pub hears_with : Packet → ℕ → ℕ → Option Device → Devices → Devices
+abbrev pub hears_with : Packet → ℕ → ℕ → Option Entry → Devices → Devices
 hears_with p now entry None ds = ds
 hears_with p now entry (Some d) ds = record {
   entries = slice_set ds.entries entry (device_hears p now d);

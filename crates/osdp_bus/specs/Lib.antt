@@ -1,5 +1,5 @@
 pub mod Settings
-pub mod Devices
+pub mod Entries
 pub mod Remembering
 pub mod Buses
 pub mod Hearing

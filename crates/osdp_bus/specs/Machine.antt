@@ -12,11 +12,11 @@ use Rattle.osdp_controller.specs.Machine.{after_begin, after_retarget, after_sub
 -- what a call answers, and what it leaves, is as with a controller's
 pub use Rattle.osdp_controller.specs.Machine.{changed_unless, unless_refused}
 use Rattle.osdp_bus.specs.declared.config.BusConfig.{BusConfig}
-use Rattle.osdp_bus.specs.declared.device.Device.{Device}
+use Rattle.osdp_bus.specs.declared.entry.Entry.{Entry}
 use Rattle.osdp_bus.specs.declared.fault.BusFault.{BusFault}
 use Rattle.osdp_bus.specs.declared.fault.BusFault.TheVariants.{NoMemory, TooMany, AddressTaken, NoEntry, OutOfRange, AddressOutOfRange, Full, PollSubmitted, NotClosed}
 use Rattle.osdp_bus.specs.Buses.{BusState, device_of, new_bus, seen}
-use Rattle.osdp_bus.specs.Devices.{freed_with, is_taken, is_taken_beside, reserved_for}
+use Rattle.osdp_bus.specs.Entries.{freed_with, is_taken, is_taken_beside, reserved_for}
 use Rattle.osdp_bus.specs.Remembering.{Remembered, remembers_at}
 use Rattle.osdp_bus.specs.Settings.{IsBusConfig, controller_config}
 
@@ -33,7 +33,7 @@ bus_fault controllers.PollSubmitted = PollSubmitted
 bus_fault controllers.NotClosed = NotClosed
 
 -- the device of an entry is changed
-abbrev pub changes_device : ℕ → (Device → Device) → BusState → BusState
+abbrev pub changes_device : ℕ → (Entry → Entry) → BusState → BusState
 changes_device entry change b =
     option_map_or (λ d. record b {
       devices = record b.devices { entries = slice_set b.devices.entries entry (change d) };
@@ -54,7 +54,7 @@ add_refusal address b =
     else Some OutOfRange)
 
 -- a new device: closed, nothing waits and nothing is reserved
-abbrev pub new_device : ℕ → BusConfig → Device
+abbrev pub new_device : ℕ → BusConfig → Entry
 new_device address config = record {
   controller = new_machine (controller_config address config) config.room.messages config.room.bytes;
   reserved = None;
@@ -72,28 +72,28 @@ AddEnds address old new (Err NoMemory) = (add_refusal address old ≡ None) × (
 AddEnds address old new (Err fault) = (add_refusal address old ≡ Some fault) × (new ≡ old)
 
 -- beginning a session of an entry
-abbrev pub begin_refusal_of : Option Device → Option BusFault
+abbrev pub begin_refusal_of : Option Entry → Option BusFault
 begin_refusal_of None = Some NoEntry
 begin_refusal_of (Some d) = option_map bus_fault (begin_refusal d.controller)
 
 abbrev pub begin_refusal_at : ℕ → BusState → Option BusFault
 begin_refusal_at entry b = begin_refusal_of (device_of entry b)
 
-abbrev pub device_begins : ℕ → Device → Device
+abbrev pub device_begins : ℕ → Entry → Entry
 device_begins now d = record d { controller = after_begin now d.controller }
 
 abbrev pub after_begin_at : ℕ → ℕ → BusState → BusState
 after_begin_at entry now b = changes_device entry (device_begins (max b.greatest now)) (seen now b)
 
 -- a COMSET whose address another device takes up, or of a device for which an address is reserved already
-abbrev pub is_comset_refused : Option Communication → ℕ → Device → BusState → Bool
+abbrev pub is_comset_refused : Option Communication → ℕ → Entry → BusState → Bool
 is_comset_refused None entry d b = false
 is_comset_refused (Some asked) entry d b =
     is_taken_beside entry asked.address b.devices.entries || is_some d.reserved
 
 -- submitting: such a COMSET is refused, and as its controller any command: a POLL, which is no COMSET, and then where as
 -- many wait as there is room for
-abbrev pub submit_refusal_of : ℕ → Command → Option Device → BusState → Option BusFault
+abbrev pub submit_refusal_of : ℕ → Command → Option Entry → BusState → Option BusFault
 submit_refusal_of entry command None b = Some NoEntry
 submit_refusal_of entry command (Some d) b =
     if is_comset_refused (comset_of command) entry d b then Some AddressTaken
@@ -108,7 +108,7 @@ leads_nowhere None = false
 leads_nowhere (Some asked) = nat_le 127 asked.address
 
 -- a panel's order: such a COMSET is refused, since a device that follows it is out of reach; else as submitting is
-abbrev pub order_refusal_of : ℕ → Command → Option Device → BusState → Option BusFault
+abbrev pub order_refusal_of : ℕ → Command → Option Entry → BusState → Option BusFault
 order_refusal_of entry command None b = Some NoEntry
 order_refusal_of entry command (Some d) b =
     if leads_nowhere (comset_of command) then Some AddressOutOfRange else submit_refusal_of entry command (Some d) b
@@ -117,7 +117,7 @@ abbrev pub order_refusal_at : ℕ → Command → BusState → Option BusFault
 order_refusal_at entry command b = order_refusal_of entry command (device_of entry b) b
 
 -- the command waits, and a COMSET reserves its address
-abbrev pub device_submits : Command → Device → Device
+abbrev pub device_submits : Command → Entry → Entry
 device_submits command d = record {
   controller = after_submit command d.controller;
   reserved = reserved_for (comset_of command) d.reserved;
@@ -131,7 +131,7 @@ abbrev pub or_taken : Option BusFault → Bool → Option BusFault
 or_taken (Some fault) taken = Some fault
 or_taken None taken = if taken then Some AddressTaken else None
 
-abbrev pub retarget_refusal_of : ℕ → ℕ → Option Device → BusState → Option BusFault
+abbrev pub retarget_refusal_of : ℕ → ℕ → Option Entry → BusState → Option BusFault
 retarget_refusal_of entry address None b = Some NoEntry
 retarget_refusal_of entry address (Some d) b =
     or_taken (option_map bus_fault (retarget_refusal address d.controller))
@@ -141,7 +141,7 @@ abbrev pub retarget_refusal_at : ℕ → ℕ → BusState → Option BusFault
 retarget_refusal_at entry address b = retarget_refusal_of entry address (device_of entry b) b
 
 -- the device is at the address, and nothing is reserved for it
-abbrev pub device_retargets : ℕ → Device → Device
+abbrev pub device_retargets : ℕ → Entry → Entry
 device_retargets address d = record { controller = after_retarget address d.controller; reserved = None }
 
 abbrev pub after_retarget_at : ℕ → ℕ → BusState → BusState
@@ -152,16 +152,16 @@ abbrev pub reserved_without : Option Command → Option ℕ → Option ℕ
 reserved_without None reserved = reserved
 reserved_without (Some command) reserved = freed_with command reserved
 
-abbrev pub withdrawn_of : Device → Option Command
+abbrev pub withdrawn_of : Entry → Option Command
 withdrawn_of d = withdrawn_in d.controller.session.state d.controller.waiting
 
-abbrev pub device_withdraws : Device → Device
+abbrev pub device_withdraws : Entry → Entry
 device_withdraws d = record {
   controller = after_withdraw d.controller;
   reserved = reserved_without (withdrawn_of d) d.reserved;
 }
 
-abbrev pub withdrawal_of : Option Device → Result (Option Command) BusFault
+abbrev pub withdrawal_of : Option Entry → Result (Option Command) BusFault
 withdrawal_of None = Err NoEntry
 withdrawal_of (Some d) = Ok (withdrawn_of d)
 
@@ -169,7 +169,7 @@ abbrev pub withdrawal_at : ℕ → BusState → Result (Option Command) BusFault
 withdrawal_at entry b = withdrawal_of (device_of entry b)
 
 -- .. and whether one is
-abbrev pub is_withdrawn_of : Option Device → Result Bool BusFault
+abbrev pub is_withdrawn_of : Option Entry → Result Bool BusFault
 is_withdrawn_of None = Err NoEntry
 is_withdrawn_of (Some d) = Ok (is_some (withdrawn_of d))
 

@@ -2,7 +2,7 @@
 use Rattle.std.specs.Prelude.{◌≡◌, ◌≤◌, ◌-◌, ℕ, false, List, ◌++◌, length, drop, replicate, vec_capacity}
 use Rattle.osdp_frame.specs.Items.{items, left_over}
 use Rattle.osdp_frame.specs.Receiving.{IsAllRead, Received}
-use Rattle.osdp_bus.specs.declared.device_list.DeviceList.{DeviceList}
+use Rattle.osdp_bus.specs.declared.entry_list.EntryList.{EntryList}
 use Rattle.osdp_bus.specs.declared.line.Line.{Line}
 use Rattle.osdp_bus.specs.Buses.{BusState, Devices}
 use Rattle.osdp_bus.specs.Hearing.{hears_items}
@@ -10,7 +10,7 @@ use Rattle.osdp_bus.specs.Machine.{most_devices}
 use Rattle.osdp_bus.specs.Remembering.{Remembered, nothing_yet}
 use Rattle.osdp_bus.specs.Settings.{IsBusConfig}
 
-abbrev pub devices_of : DeviceList → Devices
+abbrev pub devices_of : EntryList → Devices
 devices_of l = record { entries = l.entries.items; report = l.report }
 
 -- what is remembered of each entry that there may be, by the list of what is remembered of those that are there
@@ -29,7 +29,7 @@ state_of l = record {
 }
 
 -- the list has room for all devices, so that a new one asks for its own block and its queue alone
-pub record HasRoom (l : DeviceList) : Type 0 where
+pub record HasRoom (l : EntryList) : Type 0 where
   pub few : length l.entries.items ≤ most_devices
   pub room : most_devices ≤ vec_capacity l.entries
 

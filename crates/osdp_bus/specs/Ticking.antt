@@ -2,9 +2,9 @@
 use Rattle.std.specs.Prelude.{ℕ, ◌+◌, Bool, false, not, ◌&&◌, ◌||◌, if◌then◌else◌, Option, Some, None, slice_set}
 use Rattle.std.specs.Option.{option_map_or}
 use Rattle.osdp_frame.specs.Packet.{Packet}
-use Rattle.osdp_bus.specs.declared.device.Device.{Device}
+use Rattle.osdp_bus.specs.declared.entry.Entry.{Entry}
 use Rattle.osdp_bus.specs.Buses.{BusState, device_of, has_report, holder, seen, waiting_after}
-use Rattle.osdp_bus.specs.Devices.{device_ticks, first_around, holds, is_device_due, step_of}
+use Rattle.osdp_bus.specs.Entries.{device_ticks, first_around, holds, is_device_due, step_of}
 use Rattle.osdp_bus.specs.Hearing.{ends_run, ends_silent}
 
 -- what comes of a tick: the bus after it, and the frame that goes out
@@ -16,7 +16,7 @@ abbrev pub stays : BusState → BusTicked
 stays b = record { bus = b; sent = None }
 
 -- the device of an entry ticks: it holds the line, or holds it from now on
-abbrev pub ticks_with : ℕ → Option Device → BusState → BusTicked
+abbrev pub ticks_with : ℕ → Option Entry → BusState → BusTicked
 ticks_with entry None b = stays b
 ticks_with entry (Some d) b = record {
   bus = record b {

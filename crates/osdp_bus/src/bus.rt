@@ -2,12 +2,12 @@
 
 ghost use Rattle.std.specs.Prelude.{◌≡◌, ◌≤◌, ◌==◌, IfErr, OnOk, OnErr, is_some, length, option_map, slice_get};
 ghost use Rattle.osdp_controller.specs.States.{is_closed};
-ghost use Rattle.osdp_bus.specs.Devices.{address_of};
+ghost use Rattle.osdp_bus.specs.Entries.{address_of};
 
-use crate::Entry;
-use crate::boxed_device::BoxedDevice;
+use crate::EntryNumber;
+use crate::boxed_entry::BoxedEntry;
 use crate::config::BusConfig;
-use crate::device_list::{DeviceList, is_taken};
+use crate::entry_list::{EntryList, is_taken};
 use crate::fault::BusFault;
 use crate::line::Line;
 use crate::memory::BoxedMemory;
@@ -68,7 +68,7 @@ impl Bus {
         };
         let line = Line {
             config,
-            devices: DeviceList {
+            devices: EntryList {
                 entries,
                 report: Told::new(),
             },
@@ -86,7 +86,7 @@ impl Bus {
     /// where the address is that of a device or reserved for one; else NoMemory (B1) where there is none. Nothing has
     /// changed then.
     #[tactic(auto, using(crate::proofs::Remembering::remembering))]
-    pub fn add(&mut self, address: Address) -> Result<Entry, BusFault>
+    pub fn add(&mut self, address: Address) -> Result<EntryNumber, BusFault>
         ensures { AddEnds address self.old self.new result }
     {
         let entry = self.line.devices.entries.len();
@@ -99,7 +99,7 @@ impl Bus {
         if is_taken(self.line.devices.entries.as_slice(), address.get()) {
             return Err(BusFault::AddressTaken);
         }
-        let device = BoxedDevice::new(self.alloc, address, &self.line.config)?;
+        let device = BoxedEntry::new(self.alloc, address, &self.line.config)?;
         let memory = BoxedMemory::new(self.alloc)?;
         self.line.devices.entries.push_reserved(device);
         self.line.memories.push_reserved(memory);
@@ -110,7 +110,7 @@ impl Bus {
     ///
     /// NoEntry (B4); else NotClosed (C5) where its session has begun. Nothing has changed then, the greatest moment
     /// seen neither.
-    pub fn begin(&mut self, entry: Entry, now: u64) -> Result<(), BusFault>
+    pub fn begin(&mut self, entry: EntryNumber, now: u64) -> Result<(), BusFault>
         ensures result { result ≡ unless_refused (begin_refusal_at entry self.old) }
         ensures bus { self.new ≡ changed_unless (begin_refusal_at entry self.old) self.old (after_begin_at entry now self.old) }
     {
@@ -125,7 +125,7 @@ impl Bus {
     /// device has, 127 and above, where the device would be out of reach; else AddressTaken (B3) for a COMSET to an address
     /// of another device or reserved for one, or where an address is reserved for this device already; else Full (C3) where
     /// as many commands wait as there is room for, or their bytes leave no room for this one's. Nothing has changed then.
-    pub fn submit(&mut self, entry: Entry, command: &Command<'_>) -> Result<(), BusFault>
+    pub fn submit(&mut self, entry: EntryNumber, command: &Command<'_>) -> Result<(), BusFault>
         ensures ok { OnOk result (order_refusal_at entry command.now self.old ≡ None) }
         ensures accepted { OnOk result (self.new ≡ after_submit_at entry command.now self.old) }
         ensures err { IfErr result (λ fault. order_refusal_at entry command.now self.old ≡ Some fault) }
@@ -138,7 +138,11 @@ impl Bus {
     /// answers to one. A device that confirms one to 127 or above is out of reach.
     ///
     /// The refusals of `submit` but for AddressOutOfRange (B6).
-    pub fn submit_anywhere(&mut self, entry: Entry, command: &Command<'_>) -> Result<(), BusFault>
+    pub fn submit_anywhere(
+        &mut self,
+        entry: EntryNumber,
+        command: &Command<'_>,
+    ) -> Result<(), BusFault>
         ensures ok { OnOk result (submit_refusal_at entry command.now self.old ≡ None) }
         ensures accepted { OnOk result (self.new ≡ after_submit_at entry command.now self.old) }
         ensures err { IfErr result (λ fault. submit_refusal_at entry command.now self.old ≡ Some fault) }
@@ -151,7 +155,7 @@ impl Bus {
     /// session has begun.
     ///
     /// NoEntry (B4).
-    pub fn withdrawable(&self, entry: Entry) -> Result<Option<Command<'_>>, BusFault>
+    pub fn withdrawable(&self, entry: EntryNumber) -> Result<Option<Command<'_>>, BusFault>
         ensures { result ≡ withdrawal_at entry self.now }
     {
         self.line.withdrawable(entry)
@@ -161,7 +165,7 @@ impl Bus {
     /// address no longer.
     ///
     /// NoEntry (B4).
-    pub fn withdraw(&mut self, entry: Entry) -> Result<bool, BusFault>
+    pub fn withdraw(&mut self, entry: EntryNumber) -> Result<bool, BusFault>
         ensures result { result ≡ is_withdrawn_at entry self.old }
         ensures bus { self.new ≡ after_withdraw_at entry self.old }
     {
@@ -173,7 +177,7 @@ impl Bus {
     /// NoEntry (B4); else NotClosed (C5) where its session has begun; else OutOfRange (B5) for the configuration address;
     /// else AddressTaken (B3) where the address is that of another device or reserved for one, or where a COMSET waits for
     /// this one. Nothing has changed then.
-    pub fn retarget(&mut self, entry: Entry, address: Address) -> Result<(), BusFault>
+    pub fn retarget(&mut self, entry: EntryNumber, address: Address) -> Result<(), BusFault>
         ensures result { result ≡ unless_refused (retarget_refusal_at entry address self.old) }
         ensures bus { self.new ≡ changed_unless (retarget_refusal_at entry address self.old) self.old (after_retarget_at entry address self.old) }
     {
@@ -215,7 +219,7 @@ impl Bus {
     }
 
     /// The report that waits, where it lies, with the entry of the device whose controller told it. It waits until `settle`.
-    pub fn report(&self) -> Option<(Entry, Report<'_>)>
+    pub fn report(&self) -> Option<(EntryNumber, Report<'_>)>
         ensures { result ≡ self.now.devices.report }
     {
         self.line.devices.report.read()
@@ -246,7 +250,7 @@ impl Bus {
     }
 
     /// The address of a device. None where there is no such entry.
-    pub fn address(&self, entry: Entry) -> Option<Address>
+    pub fn address(&self, entry: EntryNumber) -> Option<Address>
         ensures { result ≡ option_map address_of (device_of entry self.now) }
     {
         if entry >= self.line.devices.entries.len() {
@@ -256,7 +260,7 @@ impl Bus {
     }
 
     /// How many commands wait for a device; the outstanding one isn't counted. None where there is no such entry.
-    pub fn waiting(&self, entry: Entry) -> Option<usize>
+    pub fn waiting(&self, entry: EntryNumber) -> Option<usize>
         ensures { result ≡ option_map (λ d. length d.controller.waiting) (device_of entry self.now) }
     {
         if entry >= self.line.devices.entries.len() {
@@ -266,7 +270,7 @@ impl Bus {
     }
 
     /// Whether the session of a device is closed. None where there is no such entry.
-    pub fn is_closed(&self, entry: Entry) -> Option<bool>
+    pub fn is_closed(&self, entry: EntryNumber) -> Option<bool>
         ensures { result ≡ option_map (λ d. is_closed d.controller.session.state) (device_of entry self.now) }
     {
         if entry >= self.line.devices.entries.len() {

@@ -2,13 +2,13 @@
 
 ghost use Rattle.std.specs.Prelude.{◌≡◌, ◌<◌, None, Some, IfErr, OnOk, length, slice_get};
 ghost use Rattle.osdp_controller.specs.Hearing.{comset_of};
-ghost use Rattle.osdp_bus.specs.declared.device.Device.{Device};
+ghost use Rattle.osdp_bus.specs.declared.entry.Entry.{Entry};
 ghost use Rattle.osdp_bus.specs.Machine.{after_begin_at, after_retarget_at, after_submit_at, after_withdraw_at, begin_refusal_at, changed_unless, is_comset_refused, is_withdrawn_at, leads_nowhere, order_refusal_at, retarget_refusal_at, submit_refusal_at, unless_refused, withdrawal_at};
 ghost use Rattle.osdp_bus.specs.Private.{IsLine, state_of};
 
-use crate::Entry;
-use crate::device::comset_of;
-use crate::device_list::is_taken_beside;
+use crate::EntryNumber;
+use crate::entry::comset_of;
+use crate::entry_list::is_taken_beside;
 use crate::fault::BusFault;
 use crate::line::Line;
 use osdp_frame::Address;
@@ -26,7 +26,7 @@ fn leads_nowhere(asked: Option<Communication>) -> bool
 
 impl Line {
     /// Why a session of the device of an entry may not begin.
-    fn begin_refusal(&self, entry: Entry) -> Option<BusFault>
+    fn begin_refusal(&self, entry: EntryNumber) -> Option<BusFault>
         ensures { result ≡ begin_refusal_at entry (state_of self.now) }
     {
         if entry >= self.devices.entries.len() {
@@ -39,7 +39,7 @@ impl Line {
     }
 
     /// Begins a session of the device of an entry.
-    pub(crate) fn begin(&mut self, entry: Entry, now: u64) -> Result<(), BusFault>
+    pub(crate) fn begin(&mut self, entry: EntryNumber, now: u64) -> Result<(), BusFault>
         requires { IsLine self.old }
         ensures result { result ≡ unless_refused (begin_refusal_at entry (state_of self.old)) }
         ensures line { state_of self.new ≡ changed_unless (begin_refusal_at entry (state_of self.old)) (state_of self.old) (after_begin_at entry now (state_of self.old)) }
@@ -54,9 +54,9 @@ impl Line {
     }
 
     /// Whether a COMSET is refused: another device takes its address up, or one is reserved for this device.
-    fn is_comset_refused(&self, entry: Entry, command: &Command<'_>) -> bool
+    fn is_comset_refused(&self, entry: EntryNumber, command: &Command<'_>) -> bool
         requires { entry < length self.now.devices.entries.items }
-        ensures { (d : Device) → slice_get self.now.devices.entries.items entry ≡ Some d → result ≡ is_comset_refused (comset_of command.now) entry d (state_of self.now) }
+        ensures { (d : Entry) → slice_get self.now.devices.entries.items entry ≡ Some d → result ≡ is_comset_refused (comset_of command.now) entry d (state_of self.now) }
     {
         match comset_of(command) {
             None => false,
@@ -68,7 +68,11 @@ impl Line {
     }
 
     /// Puts a command after those that wait for the device of an entry.
-    pub(crate) fn submit(&mut self, entry: Entry, command: &Command<'_>) -> Result<(), BusFault>
+    pub(crate) fn submit(
+        &mut self,
+        entry: EntryNumber,
+        command: &Command<'_>,
+    ) -> Result<(), BusFault>
         requires { IsLine self.old }
         ensures ok { OnOk result (submit_refusal_at entry command.now (state_of self.old) ≡ None) }
         ensures accepted { OnOk result (state_of self.new ≡ after_submit_at entry command.now (state_of self.old)) }
@@ -86,7 +90,11 @@ impl Line {
     }
 
     /// The same for a panel's order, which is no COMSET to an address that no device has.
-    pub(crate) fn order(&mut self, entry: Entry, command: &Command<'_>) -> Result<(), BusFault>
+    pub(crate) fn order(
+        &mut self,
+        entry: EntryNumber,
+        command: &Command<'_>,
+    ) -> Result<(), BusFault>
         requires { IsLine self.old }
         ensures ok { OnOk result (order_refusal_at entry command.now (state_of self.old) ≡ None) }
         ensures accepted { OnOk result (state_of self.new ≡ after_submit_at entry command.now (state_of self.old)) }
@@ -104,7 +112,7 @@ impl Line {
     }
 
     /// The command that may be withdrawn of the device of an entry.
-    pub(crate) fn withdrawable(&self, entry: Entry) -> Result<Option<Command<'_>>, BusFault>
+    pub(crate) fn withdrawable(&self, entry: EntryNumber) -> Result<Option<Command<'_>>, BusFault>
         ensures { result ≡ withdrawal_at entry (state_of self.now) }
     {
         if entry >= self.devices.entries.len() {
@@ -114,7 +122,7 @@ impl Line {
     }
 
     /// Takes it back. Whether there was one.
-    pub(crate) fn withdraw(&mut self, entry: Entry) -> Result<bool, BusFault>
+    pub(crate) fn withdraw(&mut self, entry: EntryNumber) -> Result<bool, BusFault>
         requires { IsLine self.old }
         ensures result { result ≡ is_withdrawn_at entry (state_of self.old) }
         ensures line { state_of self.new ≡ after_withdraw_at entry (state_of self.old) }
@@ -127,7 +135,7 @@ impl Line {
     }
 
     /// Why the device of an entry may not go to this address.
-    fn retarget_refusal(&self, entry: Entry, address: Address) -> Option<BusFault>
+    fn retarget_refusal(&self, entry: EntryNumber, address: Address) -> Option<BusFault>
         ensures { result ≡ retarget_refusal_at entry address (state_of self.now) }
     {
         if entry >= self.devices.entries.len() {
@@ -148,7 +156,7 @@ impl Line {
     }
 
     /// Sets the address of the device of an entry.
-    pub(crate) fn retarget(&mut self, entry: Entry, address: Address) -> Result<(), BusFault>
+    pub(crate) fn retarget(&mut self, entry: EntryNumber, address: Address) -> Result<(), BusFault>
         requires { IsLine self.old }
         ensures result { result ≡ unless_refused (retarget_refusal_at entry address (state_of self.old)) }
         ensures line { state_of self.new ≡ changed_unless (retarget_refusal_at entry address (state_of self.old)) (state_of self.old) (after_retarget_at entry address (state_of self.old)) }

@@ -2,13 +2,13 @@
 
 ghost use Rattle.std.specs.Prelude.{◌≡◌, ◌==◌, ◌≤◌, ℕ, Some, length, slice_get};
 ghost use Rattle.osdp_frame.specs.Silence.{is_silent_for};
-ghost use Rattle.osdp_bus.specs.declared.device.Device.{Device};
+ghost use Rattle.osdp_bus.specs.declared.entry.Entry.{Entry};
 ghost use Rattle.osdp_bus.specs.Deadlines.{IsDeadline};
 ghost use Rattle.osdp_bus.specs.Private.{IsLine, state_of};
 ghost use Rattle.osdp_bus.specs.Waits.{IsDueFrom, IsHolderDeadline};
 
-use crate::Entry;
-use crate::device_list::{earlier, earliest, first_holding};
+use crate::EntryNumber;
+use crate::entry_list::{earlier, earliest, first_holding};
 use crate::line::Line;
 
 impl Line {
@@ -24,8 +24,8 @@ impl Line {
     }
 
     /// From when on the device that holds the line is due, or a run of bytes is over.
-    fn holder_deadline(&self, entry: Entry) -> Option<u64>
-        ensures { (d : Device) → slice_get self.now.devices.entries.items entry ≡ Some d
+    fn holder_deadline(&self, entry: EntryNumber) -> Option<u64>
+        ensures { (d : Entry) → slice_get self.now.devices.entries.items entry ≡ Some d
             → IsHolderDeadline (length self.now.receiver.held.bytes == 0) (state_of self.now) d result }
     {
         if entry >= self.devices.entries.len() {

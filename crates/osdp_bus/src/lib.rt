@@ -22,13 +22,13 @@
 //! What a bus does is the definitions in `specs/`. Only `Bus::new` and `Bus::add` take memory.
 #![tactic(auto)]
 
-mod boxed_device;
+mod boxed_entry;
 mod bus;
 mod calls;
 mod config;
 mod deadlines;
-mod device;
-mod device_list;
+mod entry;
+mod entry_list;
 mod fault;
 mod line;
 mod memory;
@@ -40,4 +40,4 @@ pub use fault::BusFault;
 pub use told::Told;
 
 /// A device of a bus, by its number: 0 to 15, in the order of adding.
-pub type Entry = usize;
+pub type EntryNumber = usize;

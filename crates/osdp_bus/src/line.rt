@@ -10,9 +10,9 @@ ghost use Rattle.osdp_bus.specs.Machine.{after_next_report, remembered_after};
 ghost use Rattle.osdp_bus.specs.Private.{IsLine, ReadsHead, devices_of, state_of};
 ghost use Rattle.osdp_bus.specs.Ticking.{bus_ticks, is_due_at, is_held_and_due, ticks_at, ticks_by};
 
-use crate::Entry;
+use crate::EntryNumber;
 use crate::config::BusConfig;
-use crate::device_list::{DeviceList, first_holding, next_due};
+use crate::entry_list::{EntryList, first_holding, next_due};
 use crate::memory::BoxedMemory;
 use osdp_frame::{Burst, Receiver, whole_item};
 
@@ -20,17 +20,17 @@ use osdp_frame::{Burst, Receiver, whole_item};
 #[derive(Debug, Drop)]
 pub struct Line {
     pub config: BusConfig,
-    pub devices: DeviceList,
+    pub devices: EntryList,
     /// What is remembered of the events of each entry.
     pub memories: Vec<BoxedMemory>,
     /// What has come of the run that goes on, and when.
     pub receiver: Receiver,
     /// The entry that is asked first once nobody holds the line.
-    pub first: Entry,
+    pub first: EntryNumber,
 }
 
 /// Reads all items that the bytes held decide, and hands their packets to the devices.
-fn read_items(devices: &mut DeviceList, receiver: &mut Receiver, now: u64)
+fn read_items(devices: &mut EntryList, receiver: &mut Receiver, now: u64)
     ensures devices { devices_of devices.new ≡ hears_items now (items receiver.old.held.ended receiver.old.held.bytes) (devices_of devices.old) }
     ensures capacity { vec_capacity devices.new.entries ≡ vec_capacity devices.old.entries }
     ensures count { length devices.new.entries.items ≡ length devices.old.entries.items }
@@ -47,7 +47,7 @@ fn read_items(devices: &mut DeviceList, receiver: &mut Receiver, now: u64)
 /// Where no byte is held, reads the packet at the head of the bytes where it lies, or passes over the byte that begins none, and tells how
 /// many bytes that took. 0 where bytes are held, and where nothing at the head is decided by its own bytes.
 #[tactic(auto, using(crate::proofs::Runs::head_none))]
-fn read_whole(devices: &mut DeviceList, receiver: &Receiver, bytes: &[u8], now: u64) -> usize
+fn read_whole(devices: &mut EntryList, receiver: &Receiver, bytes: &[u8], now: u64) -> usize
     ensures heard { ReadsHead bytes.now result receiver.now receiver.now now (devices_of devices.old) (devices_of devices.new) }
     ensures capacity { vec_capacity devices.new.entries ≡ vec_capacity devices.old.entries }
     ensures count { length devices.new.entries.items ≡ length devices.old.entries.items }
@@ -64,7 +64,7 @@ fn read_whole(devices: &mut DeviceList, receiver: &Receiver, bytes: &[u8], now: 
 
 /// Reads what stands at the head of the bytes, where it lies, or else holds as many of them as there is room for and reads the items that they
 /// decide. Tells how many bytes that took.
-fn read_head(devices: &mut DeviceList, receiver: &mut Receiver, bytes: &[u8], now: u64) -> usize
+fn read_head(devices: &mut EntryList, receiver: &mut Receiver, bytes: &[u8], now: u64) -> usize
     requires read { IsAllRead receiver.old }
     requires some { 0 < length bytes.now }
     ensures some { 0 < result }
@@ -84,7 +84,7 @@ fn read_head(devices: &mut DeviceList, receiver: &mut Receiver, bytes: &[u8], no
 }
 
 /// Takes bytes of a run that goes on, and reads the items that they decide.
-fn read_bytes(devices: &mut DeviceList, receiver: &mut Receiver, bytes: &[u8], now: u64)
+fn read_bytes(devices: &mut EntryList, receiver: &mut Receiver, bytes: &[u8], now: u64)
     requires { IsAllRead receiver.old }
     ensures devices { devices_of devices.new ≡ hears_items now (items false (receiver.old.held.bytes ++ bytes.now)) (devices_of devices.old) }
     ensures capacity { vec_capacity devices.new.entries ≡ vec_capacity devices.old.entries }
@@ -172,7 +172,7 @@ impl Line {
     /// The device of an entry, if there is one, does what is due. Whether a packet goes out, whose bytes stand in `out` then. No report
     /// waits before it.
     #[inline(always)]
-    fn tick_at(&mut self, entry: Option<Entry>, out: &mut Burst) -> bool
+    fn tick_at(&mut self, entry: Option<EntryNumber>, out: &mut Burst) -> bool
         requires line { IsLine self.old }
         requires none { is_some self.old.devices.report ≡ false }
         ensures sent { result ≡ is_some (ticks_at entry (state_of self.old)).sent }
@@ -192,7 +192,7 @@ impl Line {
     }
 
     /// Whether the device of an entry would send or report.
-    fn is_due_at(&self, entry: Entry) -> bool
+    fn is_due_at(&self, entry: EntryNumber) -> bool
         ensures { result ≡ is_due_at entry (state_of self.now) }
     {
         let now = self.receiver.greatest();
@@ -200,7 +200,7 @@ impl Line {
     }
 
     /// Whether the exchange of an entry still stands, and its device would send or report.
-    fn is_held_and_due(&self, entry: Entry) -> bool
+    fn is_held_and_due(&self, entry: EntryNumber) -> bool
         ensures { result ≡ is_held_and_due entry (state_of self.now) }
     {
         entry < self.devices.entries.len()
@@ -226,7 +226,7 @@ impl Line {
     }
 
     /// A tick where this entry holds the line. Whether a packet goes out.
-    fn tick_held(&mut self, entry: Entry, out: &mut Burst) -> bool
+    fn tick_held(&mut self, entry: EntryNumber, out: &mut Burst) -> bool
         requires { IsLine self.old }
         ensures sent { result ≡ is_some (ticks_by (Some entry) (state_of self.old)).sent }
         ensures bytes { IsWritten (ticks_by (Some entry) (state_of self.old)).sent out.old.items out.new.items }

@@ -3,10 +3,10 @@
 ghost use Rattle.std.specs.Prelude.{◌≡◌, false, is_some, None, Some};
 ghost use Rattle.osdp_controller.specs.Lent.{IsWritten};
 ghost use Rattle.osdp_bus.specs.Buses.{waiting_after};
-ghost use Rattle.osdp_bus.specs.Devices.{device_hears, device_ticks, step_of, told_of};
+ghost use Rattle.osdp_bus.specs.Entries.{device_hears, device_ticks, step_of, told_of};
 
-use crate::Entry;
-use crate::boxed_device::BoxedDevice;
+use crate::EntryNumber;
+use crate::boxed_entry::BoxedEntry;
 use osdp_controller::{KeptReport, Report};
 use osdp_frame::{Burst, FrameView};
 use std::marker::Model;
@@ -15,7 +15,7 @@ use std::marker::Model;
 /// place, which keeps it as bytes, and it is read where it lies.
 #[derive(Debug, Drop)]
 pub struct Told {
-    entry: Entry,
+    entry: EntryNumber,
     report: KeptReport,
 }
 
@@ -47,14 +47,14 @@ impl Told {
     }
 
     /// The report where it lies, with its entry.
-    pub fn read(&self) -> Option<(Entry, Report<'_>)>
+    pub fn read(&self) -> Option<(EntryNumber, Report<'_>)>
         ensures { result ≡ self.now }
     {
         Some((self.entry, self.report.read()?))
     }
 
     /// Puts a report in place of what stands here.
-    pub fn keep(&mut self, entry: Entry, report: &Report<'_>)
+    pub fn keep(&mut self, entry: EntryNumber, report: &Report<'_>)
         ensures { self.new ≡ Some (entry, report.now) }
     {
         self.entry = entry;
@@ -72,8 +72,8 @@ impl Told {
     #[tactic(auto, using(crate::proofs::Telling::telling))]
     pub(crate) fn hear(
         &mut self,
-        entry: Entry,
-        device: &mut BoxedDevice,
+        entry: EntryNumber,
+        device: &mut BoxedEntry,
         frame: &FrameView<'_>,
         now: u64,
     )
@@ -94,8 +94,8 @@ impl Told {
     #[tactic(auto, using(crate::proofs::Telling::telling))]
     fn hear_beside(
         &mut self,
-        entry: Entry,
-        device: &mut BoxedDevice,
+        entry: EntryNumber,
+        device: &mut BoxedEntry,
         frame: &FrameView<'_>,
         now: u64,
     )
@@ -115,8 +115,8 @@ impl Told {
     #[tactic(auto, using(crate::proofs::Telling::telling))]
     pub(crate) fn tick(
         &mut self,
-        entry: Entry,
-        device: &mut BoxedDevice,
+        entry: EntryNumber,
+        device: &mut BoxedEntry,
         now: u64,
         out: &mut Burst,
     ) -> bool

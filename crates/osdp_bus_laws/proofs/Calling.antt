@@ -16,11 +16,11 @@ use Rattle.osdp_controller_laws.specs.Runs.{Submit as SubmitTo, Begin as BeginOf
 use Rattle.osdp_controller_laws.proofs.Closed.{was_closed}
 use Rattle.osdp_controller_laws.proofs.Well.{keeps_config, keeps_each, stays_well}
 use Rattle.osdp_bus.specs.declared.config.BusConfig.{BusConfig}
-use Rattle.osdp_bus.specs.declared.device.Device.{Device}
+use Rattle.osdp_bus.specs.declared.entry.Entry.{Entry}
 use Rattle.osdp_bus.specs.declared.fault.BusFault.{BusFault}
 use Rattle.osdp_bus.specs.declared.fault.BusFault.TheVariants.{TooMany, AddressTaken, OutOfRange}
 use Rattle.osdp_bus.specs.Buses.{BusState, Devices, device_of, new_bus, seen}
-use Rattle.osdp_bus.specs.Devices.{address_of, is_at, is_reserved, is_taken, is_taken_beside, reserved_for, takes_up}
+use Rattle.osdp_bus.specs.Entries.{address_of, is_at, is_reserved, is_taken, is_taken_beside, reserved_for, takes_up}
 use Rattle.osdp_bus.specs.Machine.{add_refusal, after_add, after_begin_at, after_next_report, after_retarget_at, after_submit_at, begin_refusal_at, begin_refusal_of, bus_fault, changed_unless, changes_device, device_begins, device_retargets, device_submits, device_withdraws, is_comset_refused, most_devices, new_device, or_taken, reserved_without, retarget_refusal_at, retarget_refusal_of, submit_refusal_at, submit_refusal_of, withdrawn_of}
 use Rattle.osdp_bus.specs.Settings.{IsBusConfig, controller_config}
 use Rattle.osdp_bus_laws.specs.Addresses.{Names, comsets_in}
@@ -59,7 +59,7 @@ or_second : (x y : Bool) → y ≡ true → (x || y) ≡ true
 or_second true y h = refl
 or_second false y h = h
 
-pub names_take : (a : ℕ) (d : Device) → Names a d → takes_up a d ≡ true
+pub names_take : (a : ℕ) (d : Entry) → Names a d → takes_up a d ≡ true
 names_take a d (inl is) = ap (λ t. t || is_reserved a d.reserved) (eq-eqb (address_of d) a is)
 names_take a d (inr is) = or_second (is_at a d) (is_reserved a d.reserved) (ap (is_reserved a) is ∙ eq-eqb a a refl)
 
@@ -95,18 +95,18 @@ withdrawn_reserves (Pausing until o) waiting reserved is = is
 
 -- ---- a device of an entry changes
 
-sound_changes : (entry : ℕ) (change : Device → Device) (b : BusState)
-    → ((d : Device) → device_of entry b ≡ Some d → Comes b.devices entry (change d) None) → SoundBus b → SoundBus (changes_device entry change b)
+sound_changes : (entry : ℕ) (change : Entry → Entry) (b : BusState)
+    → ((d : Entry) → device_of entry b ≡ Some d → Comes b.devices entry (change d) None) → SoundBus b → SoundBus (changes_device entry change b)
 sound_changes entry change b comes is = by_device (device_of entry b) refl
   where
-    by_device : (o : Option Device) → device_of entry b ≡ o
+    by_device : (o : Option Entry) → device_of entry b ≡ o
         → SoundBus (option_map_or (λ d. record b { devices = record b.devices { entries = slice_set b.devices.entries entry (change d) } }) o b)
     by_device None at = is
     by_device (Some d) at = record { config = is.config; devices = sound_set b.devices entry (change d) None is.devices (comes d at) }
 
 -- a session begins
 
-comes_begun : (entry now : ℕ) (d : Device) (ds : Devices) → Sound ds → slice_get ds.entries entry ≡ Some d → begin_refusal d.controller ≡ None
+comes_begun : (entry now : ℕ) (d : Entry) (ds : Devices) → Sound ds → slice_get ds.entries entry ≡ Some d → begin_refusal d.controller ≡ None
     → Comes ds entry (device_begins now d) None
 comes_begun entry now d ds sound at ok =
     let is = sound.devices entry d at in
@@ -127,12 +127,12 @@ sound_begin entry now None b ok is =
 
 -- a command is submitted
 
-comset_unreserved : (o : Option Communication) (entry : ℕ) (d : Device) (b : BusState) → is_comset_refused o entry d b ≡ false
+comset_unreserved : (o : Option Communication) (entry : ℕ) (d : Entry) (b : BusState) → is_comset_refused o entry d b ≡ false
     → is_some o ≡ true → is_some d.reserved ≡ false
 comset_unreserved None entry d b ok h = cc
 comset_unreserved (Some asked) entry d b ok h = (both_false (is_taken_beside entry asked.address b.devices.entries) (is_some d.reserved) ok).1
 
-free_submitted : (o : Option Communication) (a entry : ℕ) (d : Device) (b : BusState) → Sound b.devices → device_of entry b ≡ Some d
+free_submitted : (o : Option Communication) (a entry : ℕ) (d : Entry) (b : BusState) → Sound b.devices → device_of entry b ≡ Some d
     → is_comset_refused o entry d b ≡ false → ((address_of d ≡ a) ⊎ (reserved_for o d.reserved ≡ Some a)) → IsFree a entry b.devices
 free_submitted o a entry d b sound at ok (inl is) j f other there named = other (sound.apart a j entry f d there at named (inl is))
 free_submitted None a entry d b sound at ok (inr is) j f other there named = other (sound.apart a j entry f d there at named (inr is))
@@ -149,7 +149,7 @@ submitted_comsets command m =
     ap comsets_in (sym (append_assoc (option_to_list (asked_in m.session.state)) m.waiting (command ∷ [])))
     ∙ comsets_append (pending m) (command ∷ [])
 
-comes_submitted : (entry : ℕ) (command : Command) (d : Device) (b : BusState) → Sound b.devices → device_of entry b ≡ Some d
+comes_submitted : (entry : ℕ) (command : Command) (d : Entry) (b : BusState) → Sound b.devices → device_of entry b ≡ Some d
     → is_comset_refused (comset_of command) entry d b ≡ false → submit_refusal command d.controller ≡ None
     → Comes b.devices entry (device_submits command d) None
 comes_submitted entry command d b sound at free ok =
@@ -179,7 +179,7 @@ sound_submit entry command None b ok is =
 
 -- another address
 
-comes_retargeted : (entry address : ℕ) (d : Device) (b : BusState) → Sound b.devices → device_of entry b ≡ Some d
+comes_retargeted : (entry address : ℕ) (d : Entry) (b : BusState) → Sound b.devices → device_of entry b ≡ Some d
     → is_taken_beside entry address b.devices.entries ≡ false → has_comset d.controller.waiting ≡ false → retarget_refusal address d.controller ≡ None
     → Comes b.devices entry (device_retargets address d) None
 comes_retargeted entry address d b sound at beside none ok =
@@ -222,11 +222,11 @@ kept_without : (o : Option Command) (a : ℕ) (reserved : Option ℕ) → reserv
 kept_without None a reserved is = is
 kept_without (Some command) a reserved is = freed_some (is_some (comset_of command)) a reserved is
 
-names_withdrawn : (a : ℕ) (d : Device) → Names a (device_withdraws d) → Names a d
+names_withdrawn : (a : ℕ) (d : Entry) → Names a (device_withdraws d) → Names a d
 names_withdrawn a d (inl is) = inl is
 names_withdrawn a d (inr is) = inr (kept_without (withdrawn_of d) a d.reserved is)
 
-comes_withdrawn : (entry : ℕ) (d : Device) (ds : Devices) → Sound ds → slice_get ds.entries entry ≡ Some d → Comes ds entry (device_withdraws d) None
+comes_withdrawn : (entry : ℕ) (d : Entry) (ds : Devices) → Sound ds → slice_get ds.entries entry ≡ Some d → Comes ds entry (device_withdraws d) None
 comes_withdrawn entry d ds sound at =
     let is = sound.devices entry d at in
     comes_of ds entry d (device_withdraws d) None sound at

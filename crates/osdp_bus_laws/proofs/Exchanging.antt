@@ -1,7 +1,7 @@
 -- One exchange at most on the line.
 use Rattle.std.proofs.Common.{◌≡◌, ◌∙◌, ap, subst, ℕ, true, Option, Some, None, refl, arith}
 use Rattle.osdp_bus.specs.Buses.{BusState, device_of, has_report, holder}
-use Rattle.osdp_bus.specs.Devices.{holds}
+use Rattle.osdp_bus.specs.Entries.{holds}
 use Rattle.osdp_bus.proofs.Waiting.{IsFound, found}
 use Rattle.osdp_bus_laws.specs.Exchanges.{HasOneExchange, IsOutstandingAt}
 use Rattle.osdp_bus_laws.proofs.Sound.{SoundBus, nobody}

@@ -6,10 +6,10 @@ use Rattle.std.proofs.lemmas.Bool.{eqb-true, eqb-false, ltb-true, ltb-false}
 use Rattle.osdp_frame.specs.Items.{items}
 use Rattle.osdp_controller.proofs.Choices.{either_way}
 use Rattle.osdp_bus.specs.declared.config.BusConfig.{BusConfig}
-use Rattle.osdp_bus.specs.declared.device.Device.{Device}
+use Rattle.osdp_bus.specs.declared.entry.Entry.{Entry}
 use Rattle.osdp_bus.specs.declared.fault.BusFault.{BusFault}
 use Rattle.osdp_bus.specs.Buses.{BusState, Devices, device_of, has_report, holder, is_silent, new_bus, seen}
-use Rattle.osdp_bus.specs.Devices.{device_ticks, holds, is_device_due}
+use Rattle.osdp_bus.specs.Entries.{device_ticks, holds, is_device_due}
 use Rattle.osdp_bus.specs.Hearing.{after_bytes, ends_run, ends_silent, hears_bytes}
 use Rattle.osdp_bus.specs.Machine.{add_refusal, after_add, after_begin_at, after_retarget_at, after_submit_at, begin_refusal_at, changed_unless, changes_device, device_begins, device_retargets, device_submits, device_withdraws, new_device, retarget_refusal_at, submit_refusal_at}
 use Rattle.osdp_bus.specs.Settings.{IsBusConfig}
@@ -66,20 +66,20 @@ quiet_bytes (byte ∷ bytes) now b =
     quiet_on b e (hears_bytes (byte ∷ bytes) e) (quiet_judged now b) (refl, held_items e.greatest (items false (e.held ++ (byte ∷ bytes))) e.devices)
 
 -- a device changes that held the line before, if it does then
-held_set : (entry : ℕ) (d e : Device) (b : BusState) → device_of entry b ≡ Some d → (holds e ≡ true → holds d ≡ true)
-    → (entries : List Device) → entries ≡ slice_set b.devices.entries entry e
-    → (j : ℕ) (f : Device) → slice_get entries j ≡ Some f → holds f ≡ true → HeldBefore j b.devices
+held_set : (entry : ℕ) (d e : Entry) (b : BusState) → device_of entry b ≡ Some d → (holds e ≡ true → holds d ≡ true)
+    → (entries : List Entry) → entries ≡ slice_set b.devices.entries entry e
+    → (j : ℕ) (f : Entry) → slice_get entries j ≡ Some f → holds f ≡ true → HeldBefore j b.devices
 held_set entry d e b at was entries is j f there h = by_place (replaced b.devices.entries entry e j f (sym (ap (λ l. slice_get l j) is) ∙ there))
   where
     by_place : IsAt b.devices.entries entry e j f → HeldBefore j b.devices
     by_place (inl (here, same)) = (d, ap (slice_get b.devices.entries) here ∙ at, was (sym (ap holds same) ∙ h))
     by_place (inr (other, stood)) = (f, stood, h)
 
-quiet_changes : (entry : ℕ) (change : Device → Device) (b : BusState) → ((d : Device) → holds (change d) ≡ true → holds d ≡ true)
+quiet_changes : (entry : ℕ) (change : Entry → Entry) (b : BusState) → ((d : Entry) → holds (change d) ≡ true → holds d ≡ true)
     → Quiet b (changes_device entry change b)
 quiet_changes entry change b was = by_device (device_of entry b) refl
   where
-    by_device : (o : Option Device) → device_of entry b ≡ o
+    by_device : (o : Option Entry) → device_of entry b ≡ o
         → Quiet b (option_map_or (λ d. record b { devices = record b.devices { entries = slice_set b.devices.entries entry (change d) } }) o b)
     by_device None at = quiet b
     by_device (Some d) at = (refl, held_set entry d (change d) b at (was d) (slice_set b.devices.entries entry (change d)) refl)
@@ -88,7 +88,7 @@ quiet_unless : (f : Option BusFault) (b c : BusState) → Quiet b c → Quiet b 
 quiet_unless None b c is = is
 quiet_unless (Some fault) b c is = quiet b
 
-held_added : (e : Device) (b : BusState) → holds e ≡ false → (j : ℕ) (f : Device) → slice_get (b.devices.entries ++ e ∷ []) j ≡ Some f → holds f ≡ true
+held_added : (e : Entry) (b : BusState) → holds e ≡ false → (j : ℕ) (f : Entry) → slice_get (b.devices.entries ++ e ∷ []) j ≡ Some f → holds f ≡ true
     → HeldBefore j b.devices
 held_added e b free j f there h = by_place (added b.devices.entries e j f there)
   where
@@ -99,7 +99,7 @@ held_added e b free j f there h = by_place (added b.devices.entries e j f there)
 -- ---- who begins, or nobody
 
 abbrev pub FirstIs : BusState → Type 0
-FirstIs b = (n : ℕ) (d : Device) → device_of n b ≡ Some d → holds d ≡ true → b.first ≡ n + 1
+FirstIs b = (n : ℕ) (d : Entry) → device_of n b ≡ Some d → holds d ≡ true → b.first ≡ n + 1
 
 abbrev pub Who : Call → BusState → Type 0
 Who call b = ((k : ℕ) × Begins call k b) ⊎ Quiet b (after_call call b)
@@ -108,7 +108,7 @@ quiet_held : (now entry : ℕ) (b : BusState) → FirstIs b → (has_report (ask
     → Quiet b (ticks_at (Some entry) (asking now b)).bus
 quiet_held now entry b first h = by_holder (held_there entry (asking now b) h).1
   where
-    by_holder : ((d : Device) × (device_of entry (asking now b) ≡ Some d) × (holds d ≡ true) × (is_device_due (asking now b).greatest d ≡ true))
+    by_holder : ((d : Entry) × (device_of entry (asking now b) ≡ Some d) × (holds d ≡ true) × (is_device_due (asking now b).greatest d ≡ true))
         → Quiet b (ticks_at (Some entry) (asking now b)).bus
     by_holder (d, at, stands, due) =
         let r = asking now b in
@@ -172,7 +172,7 @@ who NextReport b first = inr (quiet b)
 
 -- ---- the turn after a call
 
-turn_with : (entry : ℕ) (d : Device) (b : BusState) → (ticks_with entry (Some d) b).bus.first ≡ entry + 1
+turn_with : (entry : ℕ) (d : Entry) (b : BusState) → (ticks_with entry (Some d) b).bus.first ≡ entry + 1
 turn_with entry d b = refl
 
 pub begun_ticked : (now k : ℕ) (b : BusState) → IsFree now b → (next : IsNext k (asking now b)) → bus_ticks now b ≡ ticks_with k (Some next.due.device) (asking now b)

@@ -3,14 +3,14 @@ use Rattle.std.proofs.Common.{◌≡◌, ℕ, List, [], ◌∷◌, Option, Some,
 use Rattle.std.specs.Prelude.{slice_get}
 use Rattle.osdp_frame.specs.Packet.{Packet}
 use Rattle.osdp_frame.specs.Reading.{RunItem, PacketItem, SkippedItem, RefusedItem}
-use Rattle.osdp_bus.specs.declared.device.Device.{Device}
+use Rattle.osdp_bus.specs.declared.entry.Entry.{Entry}
 use Rattle.osdp_bus.specs.Buses.{Devices}
-use Rattle.osdp_bus.specs.Devices.{first_from, is_at}
+use Rattle.osdp_bus.specs.Entries.{first_from, is_at}
 use Rattle.osdp_bus.specs.Hearing.{hears_at, hears_item, hears_items, hears_with}
 
 module _ (now : ℕ) (P : Devices → Type 0)
-    (kept : (p : Packet) (i : ℕ) (d : Device) (ds : Devices) → slice_get ds.entries i ≡ Some d → P ds → P (hears_with p now i (Some d) ds)) where
-  with_keeps : (p : Packet) (i : ℕ) (o : Option Device) (ds : Devices) → slice_get ds.entries i ≡ o → P ds → P (hears_with p now i o ds)
+    (kept : (p : Packet) (i : ℕ) (d : Entry) (ds : Devices) → slice_get ds.entries i ≡ Some d → P ds → P (hears_with p now i (Some d) ds)) where
+  with_keeps : (p : Packet) (i : ℕ) (o : Option Entry) (ds : Devices) → slice_get ds.entries i ≡ o → P ds → P (hears_with p now i o ds)
   with_keeps p i None ds at is = is
   with_keeps p i (Some d) ds at is = kept p i d ds at is
 

@@ -16,9 +16,9 @@ use Rattle.osdp_controller.specs.States.{is_closed}
 use Rattle.osdp_controller.specs.Ticking.{Ticked, gives_up, sends_frame, stays as stays_in, ticks_in, ticks, tries_again}
 use Rattle.osdp_controller.proofs.Choices.{either_way}
 use Rattle.osdp_controller_laws.specs.Commands.{asked_in}
-use Rattle.osdp_bus.specs.declared.device.Device.{Device}
+use Rattle.osdp_bus.specs.declared.entry.Entry.{Entry}
 use Rattle.osdp_bus.specs.Buses.{BusState, device_of, has_report, holder, seen, waiting_after}
-use Rattle.osdp_bus.specs.Devices.{device_ticks, holds, is_device_due}
+use Rattle.osdp_bus.specs.Entries.{device_ticks, holds, is_device_due}
 use Rattle.osdp_bus.specs.Ticking.{BusTicked, bus_ticks, is_due_at, is_held_and_due, next_due, stays, ticks_at, ticks_by, ticks_held, ticks_on, ticks_with}
 use Rattle.osdp_bus_laws.specs.Holding.{HoldersTick, HoldsAt, IsStillDue, SendsItsOwn, TellsItsEnd, TicksItsHolder}
 use Rattle.osdp_bus_laws.specs.Turns.{IsDueEntry, asking, judged}
@@ -57,7 +57,7 @@ one_of (Pausing until o) s w stands =
 is_due_here : (entry : ℕ) (b : BusState) → is_due_at entry b ≡ true → IsDueEntry entry b
 is_due_here entry b h = by_device (device_of entry b) refl h
   where
-    by_device : (o : Option Device) → device_of entry b ≡ o → option_map_or (is_device_due b.greatest) o false ≡ true → IsDueEntry entry b
+    by_device : (o : Option Entry) → device_of entry b ≡ o → option_map_or (is_device_due b.greatest) o false ≡ true → IsDueEntry entry b
     by_device None at due = absurd cc
     by_device (Some d) at due = record { device = d; there = at; due = due }
 
@@ -79,7 +79,7 @@ sound_asking : (now : ℕ) (b : BusState) → SoundBus b → SoundBus (asking no
 sound_asking now b sound = sound_run (judged now b) (sound_silent (seen now b) (sound_seen now b sound))
 
 -- no report waits where an exchange stands
-none_waits : (entry : ℕ) (d : Device) (b : BusState) → SoundBus b → device_of entry b ≡ Some d → holds d ≡ true → has_report b ≡ false
+none_waits : (entry : ℕ) (d : Entry) (b : BusState) → SoundBus b → device_of entry b ≡ Some d → holds d ≡ true → has_report b ≡ false
 none_waits entry d b sound at stands = is_false (has_report b) (λ h. let free = sound.devices.waits h entry d at in cc)
 
 both : (x y : Bool) → x ≡ true → y ≡ true → (x && y) ≡ true
@@ -107,7 +107,7 @@ module _ (now entry : ℕ) (b : BusState) (sound : SoundBus b) (is : HoldsAt now
   ticked : bus_ticks now b ≡ after
   ticked = due_tick now entry b is due ∙ still_ticks entry (asking now b) (sound_asking now b sound) still
 
-  abbrev later : Device
+  abbrev later : Entry
   later = device_ticks (asking now b).greatest still.device
 
   there_after : device_of entry after.bus ≡ Some later
@@ -165,7 +165,7 @@ not_still : (entry : ℕ) (b : BusState) → (IsStillDue entry b → ⊥) → ti
 not_still entry b never = either_way (λ (t : BusTicked). t ≡ stays b) (has_report b || not (is_held_and_due entry b)) (stays b) (ticks_at (Some entry) b) (λ h. refl)
     (λ h. absurd (by_holder (held_there entry b h).1))
   where
-    by_holder : ((d : Device) × (device_of entry b ≡ Some d) × (holds d ≡ true) × (is_device_due b.greatest d ≡ true)) → ⊥
+    by_holder : ((d : Entry) × (device_of entry b ≡ Some d) × (holds d ≡ true) × (is_device_due b.greatest d ≡ true)) → ⊥
     by_holder (d, at, stands, due) = never (record { device = d; there = at; outstanding = stands; due = due })
 
 pub holders_tick : (b : BusState) → SoundBus b → HoldersTick b

@@ -9,9 +9,9 @@ use Rattle.osdp_frame.specs.Silence.{is_silent_for}
 use Rattle.osdp_frame_laws.proofs.Readings.{items-append}
 use Rattle.osdp_frame.proofs.Head.{AreBytes-append}
 use Rattle.osdp_bus.specs.declared.config.BusConfig.{BusConfig}
-use Rattle.osdp_bus.specs.declared.device.Device.{Device}
+use Rattle.osdp_bus.specs.declared.entry.Entry.{Entry}
 use Rattle.osdp_bus.specs.Buses.{BusState, Devices, is_silent, seen}
-use Rattle.osdp_bus.specs.Devices.{address_of, device_hears, first_from, is_at}
+use Rattle.osdp_bus.specs.Entries.{address_of, device_hears, first_from, is_at}
 use Rattle.osdp_bus.specs.Hearing.{after_bytes, ends_run, ends_silent, hears_at, hears_bytes, hears_items, hears_packet, hears_with}
 use Rattle.osdp_bus.proofs.Runs.{hears_items-append}
 use Rattle.osdp_frame_laws.proofs.LeftOver.{left_over-append}
@@ -29,13 +29,13 @@ module _ (p : Packet) (now : ℕ) (ds : Devices) (sound : Sound ds) where
   abbrev found_as : Option ℕ → Type 0
   found_as o = first_from 0 (is_at p.address) ds.entries ≡ o
 
-  at_found : (n : ℕ) → found_as (Some n) → (d : Device) × (slice_get ds.entries n ≡ Some d) × (address_of d ≡ p.address)
+  at_found : (n : ℕ) → found_as (Some n) → (d : Entry) × (slice_get ds.entries n ≡ Some d) × (address_of d ≡ p.address)
   at_found n h =
       let here = subst (IsFound (is_at p.address) 0 ds.entries) h (found (is_at p.address) 0 ds.entries) in
       let place : n ≡ here.0 = (let e = here.1.1.0 in omega arith) in
       (here.1.0, ap (slice_get ds.entries) place ∙ here.1.1.1, eqb-true (address_of here.1.0) p.address here.1.1.2)
 
-  not_found : found_as None → (entry : ℕ) (d : Device) → slice_get ds.entries entry ≡ Some d → address_of d ≢ p.address
+  not_found : found_as None → (entry : ℕ) (d : Entry) → slice_get ds.entries entry ≡ Some d → address_of d ≢ p.address
   not_found h entry d at same =
       let none = none_at (is_at p.address) ds.entries entry d (subst (IsFound (is_at p.address) 0 ds.entries) h (found (is_at p.address) 0 ds.entries)) at in
       let some = eq-eqb (address_of d) p.address same in
@@ -44,7 +44,7 @@ module _ (p : Packet) (now : ℕ) (ds : Devices) (sound : Sound ds) where
   heard : (o : Option ℕ) → found_as o → hears_packet p now ds ≡ hears_at p now o ds
   heard o h = ap (λ n. hears_at p now n ds) h
 
-  own_heard : (entry : ℕ) (d : Device) → slice_get ds.entries entry ≡ Some d → address_of d ≡ p.address → (o : Option ℕ) → found_as o
+  own_heard : (entry : ℕ) (d : Entry) → slice_get ds.entries entry ≡ Some d → address_of d ≡ p.address → (o : Option ℕ) → found_as o
       → hears_packet p now ds ≡ hears_with p now entry (Some d) ds
   own_heard entry d at same None h = absurd (not_found h entry d at same)
   own_heard entry d at same (Some n) h =
@@ -52,7 +52,7 @@ module _ (p : Packet) (now : ℕ) (ds : Devices) (sound : Sound ds) where
       let place : n ≡ entry = sound.apart p.address n entry other.0 d other.1 at (inl other.2) (inl same) in
       heard (Some n) h ∙ ap (λ k. hears_with p now k (slice_get ds.entries k) ds) place ∙ ap (λ k. hears_with p now entry k ds) at
 
-  others_kept : (entry : ℕ) (d : Device) → slice_get ds.entries entry ≡ Some d → address_of d ≢ p.address → (o : Option ℕ) → found_as o
+  others_kept : (entry : ℕ) (d : Entry) → slice_get ds.entries entry ≡ Some d → address_of d ≢ p.address → (o : Option ℕ) → found_as o
       → slice_get (hears_packet p now ds).entries entry ≡ Some d
   others_kept entry d at differs None h = ap (λ (e : Devices). slice_get e.entries entry) (heard None h) ∙ at
   others_kept entry d at differs (Some n) h =
@@ -62,7 +62,7 @@ module _ (p : Packet) (now : ℕ) (ds : Devices) (sound : Sound ds) where
       ap (λ (e : Devices). slice_get e.entries entry) (heard (Some n) h ∙ ap (λ k. hears_with p now n k ds) other.1)
       ∙ set_other ds.entries n entry (device_hears p now other.0) apart ∙ at
 
-  nobody_hears : ((entry : ℕ) (d : Device) → slice_get ds.entries entry ≡ Some d → address_of d ≢ p.address) → (o : Option ℕ) → found_as o
+  nobody_hears : ((entry : ℕ) (d : Entry) → slice_get ds.entries entry ≡ Some d → address_of d ≢ p.address) → (o : Option ℕ) → found_as o
       → hears_packet p now ds ≡ ds
   nobody_hears none None h = heard None h
   nobody_hears none (Some n) h = absurd (let other = at_found n h in none n other.0 other.1 other.2)

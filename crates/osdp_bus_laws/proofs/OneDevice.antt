@@ -30,8 +30,8 @@ use Rattle.osdp_controller_laws.proofs.OneCall.{begins_with_frame, keeps_setting
 use Rattle.osdp_controller_laws.proofs.Stepwise.{frames_in_steps}
 use Rattle.osdp_controller_laws.proofs.Ticks.{tells_lost}
 use Rattle.osdp_controller_laws.proofs.Well.{keeps_each}
-use Rattle.osdp_bus.specs.declared.device.Device.{Device}
-use Rattle.osdp_bus.specs.Devices.{address_of, device_hears, device_ticks, holds, reserved_after, step_of, told_of}
+use Rattle.osdp_bus.specs.declared.entry.Entry.{Entry}
+use Rattle.osdp_bus.specs.Entries.{address_of, device_hears, device_ticks, holds, reserved_after, step_of, told_of}
 use Rattle.osdp_bus_laws.specs.Addresses.{Names, ReservesItsComset, comsets_in}
 
 -- ---- COMSETs on their way, and what is reserved
@@ -40,7 +40,7 @@ abbrev pub Reserves : List Communication → Option ℕ → Type 0
 Reserves comsets reserved = (comsets ≡ []) ⊎ ((asked : Communication) × (comsets ≡ asked ∷ []) × (reserved ≡ Some asked.address))
 
 -- what holds of each device of a bus
-pub record IsDevice (d : Device) : Type 0 where
+pub record IsDevice (d : Entry) : Type 0 where
   pub machine : IsMachine d.controller
   pub reserves : ReservesItsComset d
 
@@ -105,7 +105,7 @@ pending_told told m k reserved report is leave reserves =
     ∙ comsets_append (option_to_list (told_command report)) (pending k) in
     reserves_told report (comsets_in (pending k)) reserved (subst (λ l. Reserves l reserved) parts reserves)
 
-pub device_heard : (p : Packet) (now : ℕ) (d : Device) → IsDevice d → IsDevice (device_hears p now d)
+pub device_heard : (p : Packet) (now : ℕ) (d : Entry) → IsDevice d → IsDevice (device_hears p now d)
 device_heard p now d is =
     let m = d.controller in
     let place = commands_by_place m (Hear p now ∷ []) is.machine in
@@ -117,7 +117,7 @@ device_heard p now d is =
           is.reserves;
     }
 
-pub device_ticked : (now : ℕ) (d : Device) → IsDevice d → IsDevice (device_ticks now d)
+pub device_ticked : (now : ℕ) (d : Entry) → IsDevice d → IsDevice (device_ticks now d)
 device_ticked now d is =
     let m = d.controller in
     let place = commands_by_place m (Tick now ∷ []) is.machine in
@@ -158,14 +158,14 @@ was_reserved command asked m reserved outstanding is reserves =
     ap (λ o. comsets_in (option_to_list o ++ m.waiting)) out ∙ ap (λ c. comsets_in (c ∷ m.waiting)) is in
     (only_one asked (comsets_in m.waiting) reserved (subst (λ l. Reserves l reserved) comsets reserves)).1
 
-names_moved : (a new : ℕ) (command : Command) (answered : Communication) (p : Packet) (d : Device) → new ≡ answered.address → IsDevice d
+names_moved : (a new : ℕ) (command : Command) (answered : Communication) (p : Packet) (d : Entry) → new ≡ answered.address → IsDevice d
     → WhyTold (Moved command answered) p d.controller.session → NamesOf a new (reserved_after (Some (Moved command answered)) d.reserved) → Names a d
 names_moved a new command answered p d there is (comes, (asked, is_comset, same, device)) named =
     let was = was_reserved command asked d.controller d.reserved comes.comes.outstanding is_comset is.reserves in
     moved_to a (address_of d) new answered.address d.reserved (reserved_after (Some (Moved command answered)) d.reserved) there
     (was ∙ ap Some (sym same)) (freed_some (is_some (comset_of command)) a d.reserved) named
 
-names_by : (a new : ℕ) (report : Option Report) (p : Packet) (now : ℕ) (d : Device) → IsDevice d → told_of p now d ≡ report
+names_by : (a new : ℕ) (report : Option Report) (p : Packet) (now : ℕ) (d : Entry) → IsDevice d → told_of p now d ≡ report
     → new ≡ told_address report (address_of d) → NamesOf a new (reserved_after report d.reserved) → Names a d
 names_by a new None p now d is told there named = kept a (address_of d) new d.reserved d.reserved there (λ h. h) named
 names_by a new (Some (Opened id)) p now d is told there named = kept a (address_of d) new d.reserved d.reserved there (λ h. h) named
@@ -179,13 +179,13 @@ names_by a new (Some (PollAnswered reply)) p now d is told there named = kept a 
 names_by a new (Some (Unread command code)) p now d is told there named = kept a (address_of d) new d.reserved d.reserved there (λ h. h) named
 names_by a new (Some (Lost cause command)) p now d is told there named = kept a (address_of d) new d.reserved d.reserved there (λ h. h) named
 
-pub names_heard : (a : ℕ) (p : Packet) (now : ℕ) (d : Device) → IsDevice d → Names a (device_hears p now d) → Names a d
+pub names_heard : (a : ℕ) (p : Packet) (now : ℕ) (d : Entry) → IsDevice d → Names a (device_hears p now d) → Names a d
 names_heard a p now d is named =
     names_by a (address_of (device_hears p now d)) (told_of p now d) p now d is refl
     (ap (λ (c : ControllerConfig). c.address) (keeps_settings (Hear p now) d.controller)) named
 
 -- a tick tells of no address
-names_lost : (a new : ℕ) (report : Option Report) (now : ℕ) (d : Device) → (step_of now d).report ≡ report
+names_lost : (a new : ℕ) (report : Option Report) (now : ℕ) (d : Entry) → (step_of now d).report ≡ report
     → new ≡ told_address report (address_of d) → NamesOf a new (reserved_after report d.reserved) → Names a d
 names_lost a new None now d told there named = kept a (address_of d) new d.reserved d.reserved there (λ h. h) named
 names_lost a new (Some report) now d told there named =
@@ -197,7 +197,7 @@ names_lost a new (Some report) now d told there named =
         kept a (address_of d) new d.reserved (reserved_after (Some report) d.reserved)
         (there ∙ ap (λ r. told_address (Some r) (address_of d)) lost) (λ h. sym (ap (λ r. reserved_after (Some r) d.reserved) lost) ∙ h) named
 
-pub names_ticked : (a : ℕ) (now : ℕ) (d : Device) → Names a (device_ticks now d) → Names a d
+pub names_ticked : (a : ℕ) (now : ℕ) (d : Entry) → Names a (device_ticks now d) → Names a d
 names_ticked a now d named =
     names_lost a (address_of (device_ticks now d)) (step_of now d).report now d refl
     (ap (λ (c : ControllerConfig). c.address) (keeps_settings (Tick now) d.controller)) named
@@ -212,7 +212,7 @@ outstanding_exchange state h = absurd cc
 pub closed_exchange : (state : State) → is_closed state ≡ true → is_outstanding state ≡ false
 closed_exchange state h = ap is_outstanding (closed_is state h)
 
-pub heard_holds : (p : Packet) (now : ℕ) (d : Device) → holds (device_hears p now d) ≡ true → holds d ≡ true
+pub heard_holds : (p : Packet) (now : ℕ) (d : Entry) → holds (device_hears p now d) ≡ true → holds d ≡ true
 heard_holds p now d h = by_holds (holds d) refl
   where
     by_holds : (b : Bool) → holds d ≡ b → holds d ≡ true
@@ -220,17 +220,17 @@ heard_holds p now d h = by_holds (holds d) refl
     by_holds false is = absurd (let sent = begins_with_frame (Hear p now) d.controller is h in cc)
 
 -- what is told ends an exchange that was outstanding
-abbrev Ended : Device → Device → Type 0
+abbrev Ended : Entry → Entry → Type 0
 Ended d e = (holds d ≡ true) × (holds e ≡ false)
 
-heard_ends : (p : Packet) (now : ℕ) (d : Device) (x : Exchange) → is_some (told_of p now d) ≡ true
+heard_ends : (p : Packet) (now : ℕ) (d : Entry) (x : Exchange) → is_some (told_of p now d) ≡ true
     → (GoesOn x (hears p now d.controller.session).session.state (hears p now d.controller.session).report
     ⊎ IsAnswered x (hears p now d.controller.session).session.state (hears p now d.controller.session).report)
     → holds (device_hears p now d) ≡ false
 heard_ends p now d x tells (inl on) = absurd (let nothing : told_of p now d ≡ None = on.nothing in let e = ap (λ (o : Option Report). is_some o) nothing in cc)
 heard_ends p now d x tells (inr ended) = none_outstanding (hears p now d.controller.session).session.state ended.ended
 
-pub heard_told : (p : Packet) (now : ℕ) (d : Device) → is_some (told_of p now d) ≡ true → Ended d (device_hears p now d)
+pub heard_told : (p : Packet) (now : ℕ) (d : Entry) → is_some (told_of p now d) ≡ true → Ended d (device_hears p now d)
 heard_told p now d tells = by_holds (holds d) refl
   where
     by_holds : (b : Bool) → holds d ≡ b → Ended d (device_hears p now d)
@@ -242,7 +242,7 @@ heard_told p now d tells = by_holds (holds d) refl
         let e = ap (λ (h : Heard). is_some h.report) ignored in
         cc)
 
-ticked_ends : (now : ℕ) (d : Device) (x : Exchange) → is_some (step_of now d).report ≡ true
+ticked_ends : (now : ℕ) (d : Entry) (x : Exchange) → is_some (step_of now d).report ≡ true
     → (GoesOn x (ticks now d.controller.session d.controller.waiting).session.state (step_of now d).report
     ⊎ IsGivenUp x (ticks now d.controller.session d.controller.waiting).session.state (step_of now d).report)
     → holds (device_ticks now d) ≡ false
@@ -258,7 +258,7 @@ some_is : (report : Option Report) → is_some report ≡ true → (r : Report) 
 some_is None h = absurd cc
 some_is (Some r) h = (r, refl)
 
-pub ticked_told : (now : ℕ) (d : Device) → is_some (step_of now d).report ≡ true → Ended d (device_ticks now d)
+pub ticked_told : (now : ℕ) (d : Entry) → is_some (step_of now d).report ≡ true → Ended d (device_ticks now d)
 ticked_told now d tells =
     let r = some_is (step_of now d).report tells in
     let why = tells_lost now d.controller.session d.controller.waiting r.0 r.1 in

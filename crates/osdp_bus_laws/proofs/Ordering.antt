@@ -3,21 +3,21 @@ use Rattle.std.proofs.Common.{◌≡◌, ap, refl, ℕ, Bool, true, false, [], �
 use Rattle.std.specs.Prelude.{if◌then◌else◌}
 use Rattle.osdp_controller.specs.Hearing.{comset_of}
 use Rattle.osdp_msg.specs.declared.command.Command.{Command}
-use Rattle.osdp_bus.specs.declared.device.Device.{Device}
+use Rattle.osdp_bus.specs.declared.entry.Entry.{Entry}
 use Rattle.osdp_bus.specs.declared.fault.BusFault.TheVariants.{AddressOutOfRange}
 use Rattle.osdp_bus.specs.Buses.{BusState, device_of}
 use Rattle.osdp_bus.specs.Machine.{after_submit_at, changed_unless, leads_nowhere, order_refusal_at, order_refusal_of, submit_refusal_of}
 use Rattle.osdp_bus_laws.specs.Calls.{Submit, after_calls, orders}
 
 -- a COMSET to an address that no device has changes nothing
-pub nowhere_stays : {Changed : Type 0} (entry : ℕ) (command : Command) (o : Option Device) (b : BusState) (old new : Changed)
+pub nowhere_stays : {Changed : Type 0} (entry : ℕ) (command : Command) (o : Option Entry) (b : BusState) (old new : Changed)
     → leads_nowhere (comset_of command) ≡ true → changed_unless (order_refusal_of entry command o b) old new ≡ old
 nowhere_stays entry command None b old new nowhere = refl
 nowhere_stays entry command (Some d) b old new nowhere =
     ap (λ t. changed_unless (if t then Some AddressOutOfRange else submit_refusal_of entry command (Some d) b) old new) nowhere
 
 -- all others are refused as submitting is
-pub elsewhere_same : (entry : ℕ) (command : Command) (o : Option Device) (b : BusState) → leads_nowhere (comset_of command) ≡ false
+pub elsewhere_same : (entry : ℕ) (command : Command) (o : Option Entry) (b : BusState) → leads_nowhere (comset_of command) ≡ false
     → order_refusal_of entry command o b ≡ submit_refusal_of entry command o b
 elsewhere_same entry command None b elsewhere = refl
 elsewhere_same entry command (Some d) b elsewhere =

@@ -4,26 +4,26 @@ use Rattle.std.specs.Prelude.{◌⊎◌, ◌≢◌, nat_lt, if◌then◌else◌,
 use Rattle.std.specs.List.{list_any}
 use Rattle.std.proofs.Math.Dec.{eqb-suc-suc, eqb-suc-zero, eqb-zero-suc}
 use Rattle.std.proofs.lemmas.Bool.{eqb-true, ltb-true, ltb-false}
-use Rattle.osdp_bus.specs.declared.device.Device.{Device}
-use Rattle.osdp_bus.specs.Devices.{is_taken, is_taken_beside, takes_up}
+use Rattle.osdp_bus.specs.declared.entry.Entry.{Entry}
+use Rattle.osdp_bus.specs.Entries.{is_taken, is_taken_beside, takes_up}
 use Rattle.osdp_bus.proofs.Waiting.{any_at}
 
 -- at the place stands the new device, elsewhere what stood there
-abbrev pub IsAt : List Device → ℕ → Device → ℕ → Device → Type 0
+abbrev pub IsAt : List Entry → ℕ → Entry → ℕ → Entry → Type 0
 IsAt ds i e j f = ((j ≡ i) × (f ≡ e)) ⊎ ((j ≢ i) × (slice_get ds j ≡ Some f))
 
-at_next : (ds : List Device) (x : Device) (i : ℕ) (e : Device) (j : ℕ) (f : Device) → IsAt ds i e j f → IsAt (x ∷ ds) (suc i) e (suc j) f
+at_next : (ds : List Entry) (x : Entry) (i : ℕ) (e : Entry) (j : ℕ) (f : Entry) → IsAt ds i e j f → IsAt (x ∷ ds) (suc i) e (suc j) f
 at_next ds x i e j f (inl (same, is)) = inl (ap suc same, is)
 at_next ds x i e j f (inr (other, there)) = inr ((λ h. other (let p : suc j ≡ suc i = h in omega arith)), there)
 
-pub replaced : (ds : List Device) (i : ℕ) (e : Device) (j : ℕ) (f : Device) → slice_get (slice_set ds i e) j ≡ Some f → IsAt ds i e j f
+pub replaced : (ds : List Entry) (i : ℕ) (e : Entry) (j : ℕ) (f : Entry) → slice_get (slice_set ds i e) j ≡ Some f → IsAt ds i e j f
 replaced [] i e j f at = absurd cc
 replaced (x ∷ ds) zero e zero f at = inl (refl, cc)
 replaced (x ∷ ds) zero e (suc j) f at = inr ((λ h. omega arith), at)
 replaced (x ∷ ds) (suc i) e zero f at = inr ((λ h. omega arith), at)
 replaced (x ∷ ds) (suc i) e (suc j) f at = at_next ds x i e j f (replaced ds i e j f at)
 
-pub added : (ds : List Device) (e : Device) (j : ℕ) (f : Device) → slice_get (ds ++ e ∷ []) j ≡ Some f → IsAt ds (length ds) e j f
+pub added : (ds : List Entry) (e : Entry) (j : ℕ) (f : Entry) → slice_get (ds ++ e ∷ []) j ≡ Some f → IsAt ds (length ds) e j f
 added [] e zero f at = inl (refl, cc)
 added [] e (suc j) f at = absurd cc
 added (x ∷ ds) e zero f at = inr ((λ h. omega arith), at)
@@ -39,16 +39,16 @@ pub is_false : (b : Bool) → (b ≡ true → ⊥) → b ≡ false
 is_false false unless = refl
 is_false true unless = absurd (unless refl)
 
-pub none_at : (test : Device → Bool) (ds : List Device) (j : ℕ) (f : Device) → list_any test ds ≡ false → slice_get ds j ≡ Some f → test f ≡ false
+pub none_at : (test : Entry → Bool) (ds : List Entry) (j : ℕ) (f : Entry) → list_any test ds ≡ false → slice_get ds j ≡ Some f → test f ≡ false
 none_at test ds j f none at = is_false (test f) (λ h. let some = any_at test ds j f at h in absurd cc)
 
-pub in_taken : (i j : ℕ) (ds : List Device) (f : Device) → j < i → slice_get ds j ≡ Some f → slice_get (take i ds) j ≡ Some f
+pub in_taken : (i j : ℕ) (ds : List Entry) (f : Entry) → j < i → slice_get ds j ≡ Some f → slice_get (take i ds) j ≡ Some f
 in_taken zero j ds f below at = absurd (omega arith)
 in_taken (suc i) j [] f below at = absurd cc
 in_taken (suc i) zero (x ∷ ds) f below at = at
 in_taken (suc i) (suc j) (x ∷ ds) f below at = in_taken i j ds f (omega arith) at
 
-pub in_dropped : (i k : ℕ) (ds : List Device) (f : Device) → slice_get ds (i + k) ≡ Some f → slice_get (drop i ds) k ≡ Some f
+pub in_dropped : (i k : ℕ) (ds : List Entry) (f : Entry) → slice_get ds (i + k) ≡ Some f → slice_get (drop i ds) k ≡ Some f
 in_dropped zero k ds f at = ap (slice_get ds) (let e : k ≡ zero + k = omega arith in e) ∙ at
 in_dropped (suc i) k [] f at = absurd cc
 in_dropped (suc i) k (x ∷ ds) f at = in_dropped i k ds f (ap (slice_get (x ∷ ds)) (let e : suc (i + k) ≡ suc i + k = omega arith in e) ∙ at)
@@ -61,7 +61,7 @@ past i j above other = by_next (nat_lt i j) refl
     by_next false is = absurd (let le = ltb-false i j is in other (omega arith))
 
 -- an address that no other device takes up
-pub free_beside : (address entry : ℕ) (ds : List Device) (j : ℕ) (f : Device) → is_taken_beside entry address ds ≡ false → j ≢ entry
+pub free_beside : (address entry : ℕ) (ds : List Entry) (j : ℕ) (f : Entry) → is_taken_beside entry address ds ≡ false → j ≢ entry
     → slice_get ds j ≡ Some f → takes_up address f ≡ false
 free_beside address entry ds j f free other at =
     let parts = both_false (is_taken address (take entry ds)) (is_taken address (drop (entry + 1) ds)) free in
@@ -78,10 +78,10 @@ free_beside address entry ds j f free other at =
         (in_dropped (entry + 1) (j - (entry + 1)) ds f (ap (slice_get ds) place ∙ at))
 
 -- what is reserved at a place
-abbrev pub reserved_in : ℕ → List Device → Option ℕ
+abbrev pub reserved_in : ℕ → List Entry → Option ℕ
 reserved_in j ds = option_and_then (λ d. d.reserved) (slice_get ds j)
 
-pub reserved_set : (ds : List Device) (i : ℕ) (d e : Device) (j : ℕ) → slice_get ds i ≡ Some d
+pub reserved_set : (ds : List Entry) (i : ℕ) (d e : Entry) (j : ℕ) → slice_get ds i ≡ Some d
     → reserved_in j (slice_set ds i e) ≡ (if i == j then e.reserved else reserved_in j ds)
 reserved_set [] i d e j at = absurd cc
 reserved_set (x ∷ ds) zero d e zero at = refl
@@ -89,12 +89,12 @@ reserved_set (x ∷ ds) zero d e (suc j) at = let other = eqb-zero-suc j in rw o
 reserved_set (x ∷ ds) (suc i) d e zero at = let other = eqb-suc-zero i in rw other refl
 reserved_set (x ∷ ds) (suc i) d e (suc j) at = let next = eqb-suc-suc i j in rw next (reserved_set ds i d e j at)
 
-pub reserved_there : (ds : List Device) (i : ℕ) (d : Device) (j : ℕ) → slice_get ds i ≡ Some d → (i == j) ≡ true → reserved_in j ds ≡ d.reserved
+pub reserved_there : (ds : List Entry) (i : ℕ) (d : Entry) (j : ℕ) → slice_get ds i ≡ Some d → (i == j) ≡ true → reserved_in j ds ≡ d.reserved
 reserved_there ds i d j at same =
     let there : slice_get ds j ≡ Some d = ap (slice_get ds) (sym (eqb-true i j same)) ∙ at in
     ap (option_and_then (λ x. x.reserved)) there
 
-pub reserved_added : (ds : List Device) (e : Device) (j : ℕ) → e.reserved ≡ None → reserved_in j (ds ++ e ∷ []) ≡ reserved_in j ds
+pub reserved_added : (ds : List Entry) (e : Entry) (j : ℕ) → e.reserved ≡ None → reserved_in j (ds ++ e ∷ []) ≡ reserved_in j ds
 reserved_added [] e zero none = none
 reserved_added [] e (suc j) none = refl
 reserved_added (x ∷ ds) e zero none = refl

@@ -17,11 +17,11 @@ use Rattle.osdp_controller.specs.Hearing.{comset_of}
 use Rattle.osdp_controller.specs.Machine.{Machine, bytes_waiting, command_size, has_room, or_no_device, refused_unless_closed, submit_refusal}
 use Rattle.osdp_controller.specs.States.{is_closed}
 use Rattle.osdp_controller_laws.proofs.Closed.{may_begin}
-use Rattle.osdp_bus.specs.declared.device.Device.{Device}
+use Rattle.osdp_bus.specs.declared.entry.Entry.{Entry}
 use Rattle.osdp_bus.specs.declared.fault.BusFault.{BusFault}
 use Rattle.osdp_bus.specs.declared.fault.BusFault.TheVariants.{TooMany, AddressTaken, OutOfRange, AddressOutOfRange, Full, PollSubmitted, NotClosed}
 use Rattle.osdp_bus.specs.Buses.{BusState, device_of}
-use Rattle.osdp_bus.specs.Devices.{address_of, is_at, is_reserved, is_taken, is_taken_beside, takes_up}
+use Rattle.osdp_bus.specs.Entries.{address_of, is_at, is_reserved, is_taken, is_taken_beside, takes_up}
 use Rattle.osdp_bus.specs.Machine.{add_refusal, after_add, after_begin_at, after_retarget_at, after_submit_at, begin_refusal_at, begin_refusal_of, bus_fault, changed_unless, device_withdraws, is_comset_refused, leads_nowhere, most_devices, or_taken, order_refusal_at, order_refusal_of, retarget_refusal_at, retarget_refusal_of, submit_refusal_at, submit_refusal_of, withdrawal_of}
 use Rattle.osdp_bus_laws.specs.Addresses.{Names, comsets_in}
 use Rattle.osdp_bus_laws.specs.Calls.{Call, Add, Begin, Submit, Withdraw, Retarget, OnBytes, OnSilence, Tick, NextReport, after_call}
@@ -44,7 +44,7 @@ either_true : (x y : Bool) → (x || y) ≡ true → (x ≡ true) ⊎ (y ≡ tru
 either_true true y h = inl refl
 either_true false y h = inr h
 
-taken_names : (a : ℕ) (d : Device) → takes_up a d ≡ true → Names a d
+taken_names : (a : ℕ) (d : Entry) → takes_up a d ≡ true → Names a d
 taken_names a d h = by_either (either_true (is_at a d) (is_reserved a d.reserved) h)
   where
     by_reserved : (o : Option ℕ) → d.reserved ≡ o → is_reserved a o ≡ true → Names a d
@@ -55,10 +55,10 @@ taken_names a d h = by_either (either_true (is_at a d) (is_reserved a d.reserved
     by_either (inl is) = inl (eqb-true (address_of d) a is)
     by_either (inr is) = by_reserved d.reserved refl is
 
-abbrev Found : (Device → Bool) → List Device → Type 0
-Found test ds = (j : ℕ) × (f : Device) × (slice_get ds j ≡ Some f) × (test f ≡ true)
+abbrev Found : (Entry → Bool) → List Entry → Type 0
+Found test ds = (j : ℕ) × (f : Entry) × (slice_get ds j ≡ Some f) × (test f ≡ true)
 
-some_at : (test : Device → Bool) (ds : List Device) → list_any test ds ≡ true → Found test ds
+some_at : (test : Entry → Bool) (ds : List Entry) → list_any test ds ≡ true → Found test ds
 some_at test [] h = absurd cc
 some_at test (x ∷ ds) h = by_test (test x) refl h (λ later. some_at test ds later)
   where
@@ -69,7 +69,7 @@ some_at test (x ∷ ds) h = by_test (test x) refl h (λ later. some_at test ds l
     by_test true passes later others = (zero, x, refl, passes)
     by_test false fails later others = one_on (others later)
 
-of_taken : (i j : ℕ) (ds : List Device) (f : Device) → slice_get (take i ds) j ≡ Some f → (j < i) × (slice_get ds j ≡ Some f)
+of_taken : (i j : ℕ) (ds : List Entry) (f : Entry) → slice_get (take i ds) j ≡ Some f → (j < i) × (slice_get ds j ≡ Some f)
 of_taken zero j ds f at = absurd cc
 of_taken (suc i) j [] f at = absurd cc
 of_taken (suc i) zero (x ∷ ds) f at = (omega arith, at)
@@ -78,7 +78,7 @@ of_taken (suc i) (suc j) (x ∷ ds) f at =
     let below = before.0 in
     (omega arith, before.1)
 
-of_dropped : (i k : ℕ) (ds : List Device) (f : Device) → slice_get (drop i ds) k ≡ Some f → slice_get ds (i + k) ≡ Some f
+of_dropped : (i k : ℕ) (ds : List Entry) (f : Entry) → slice_get (drop i ds) k ≡ Some f → slice_get ds (i + k) ≡ Some f
 of_dropped zero k ds f at = ap (slice_get ds) (let e : zero + k ≡ k = omega arith in e) ∙ at
 of_dropped (suc i) k [] f at = absurd cc
 of_dropped (suc i) k (x ∷ ds) f at = ap (slice_get (x ∷ ds)) (let e : suc i + k ≡ suc (i + k) = omega arith in e) ∙ of_dropped i k ds f at
@@ -123,16 +123,16 @@ not_taken_by_another entry address b free (j, apart, (f, there, named)) =
 
 -- ---- whether there is an entry
 
-no_entry : (ds : List Device) (n : ℕ) → slice_get ds n ≡ None → length ds ≤ n
+no_entry : (ds : List Entry) (n : ℕ) → slice_get ds n ≡ None → length ds ≤ n
 no_entry [] n at = omega arith
 no_entry (x ∷ ds) zero at = absurd cc
 no_entry (x ∷ ds) (suc n) at = let later = no_entry ds n at in omega arith
 
-is_entry : (entry : ℕ) (d : Device) (b : BusState) → device_of entry b ≡ Some d → IsNoEntry entry b → ⊥
+is_entry : (entry : ℕ) (d : Entry) (b : BusState) → device_of entry b ≡ Some d → IsNoEntry entry b → ⊥
 is_entry entry d b at none = let within = slice_get_within b.devices.entries entry d at in omega arith
 
 -- the device of an entry is one
-same_device : (entry : ℕ) (d e : Device) (b : BusState) → device_of entry b ≡ Some d → device_of entry b ≡ Some e → d ≡ e
+same_device : (entry : ℕ) (d e : Entry) (b : BusState) → device_of entry b ≡ Some d → device_of entry b ≡ Some e → d ≡ e
 same_device entry d e b at there = let same : Some d ≡ Some e = sym at ∙ there in cc
 
 -- ---- each call
@@ -161,28 +161,28 @@ begun_is_open (Idle due) h = refl
 begun_is_open (Waiting until sends o) h = refl
 begun_is_open (Pausing until o) h = refl
 
-not_open : (entry : ℕ) (d : Device) (b : BusState) → device_of entry b ≡ Some d → is_closed d.controller.session.state ≡ true → IsOpen entry b → ⊥
+not_open : (entry : ℕ) (d : Entry) (b : BusState) → device_of entry b ≡ Some d → is_closed d.controller.session.state ≡ true → IsOpen entry b → ⊥
 not_open entry d b at closed (e, there, open_there) =
-    let same = ap (λ (x : Device). is_closed x.controller.session.state) (same_device entry d e b at there) in
+    let same = ap (λ (x : Entry). is_closed x.controller.session.state) (same_device entry d e b at there) in
     let both = sym closed ∙ same ∙ open_there in
     cc
 
 judges_begin : (entry now : ℕ) (b : BusState) → JudgesInOrder (Begin entry now) b (begin_refusal_at entry b)
 judges_begin entry now b = by_device (device_of entry b) refl
   where
-    by_state : (d : Device) → device_of entry b ≡ Some d → (t : Bool) → is_closed d.controller.session.state ≡ t
+    by_state : (d : Entry) → device_of entry b ≡ Some d → (t : Bool) → is_closed d.controller.session.state ≡ t
         → Judges NotClosed (IsOpen entry b) Accepts (begin_refusal_of (Some d))
     by_state d at true closed = inr (not_open entry d b at closed, ap (option_map bus_fault) (may_begin d.controller.session.state closed))
     by_state d at false begun = inl ((d, at, begun), ap (option_map bus_fault) (begun_is_open d.controller.session.state begun))
 
-    by_device : (o : Option Device) → device_of entry b ≡ o → JudgesInOrder (Begin entry now) b (begin_refusal_of o)
+    by_device : (o : Option Entry) → device_of entry b ≡ o → JudgesInOrder (Begin entry now) b (begin_refusal_of o)
     by_device None at = inl (no_entry b.devices.entries entry at, refl)
     by_device (Some d) at = inr (is_entry entry d b at, by_state d at (is_closed d.controller.session.state) refl)
 
 judges_withdraw : (entry : ℕ) (b : BusState) → JudgesInOrder (Withdraw entry) b (refusal_of (Withdraw entry) b)
 judges_withdraw entry b = by_device (device_of entry b) refl
   where
-    by_device : (o : Option Device) → device_of entry b ≡ o → JudgesInOrder (Withdraw entry) b (refused_with (withdrawal_of o))
+    by_device : (o : Option Entry) → device_of entry b ≡ o → JudgesInOrder (Withdraw entry) b (refused_with (withdrawal_of o))
     by_device None at = inl (no_entry b.devices.entries entry at, refl)
     by_device (Some d) at = inr (is_entry entry d b at, refl)
 
@@ -197,7 +197,7 @@ comset_is : (command : Command) (asked : Communication) → comset_of command �
 comset_is (Comset other) asked h = ap Comset (let same : other ≡ asked = cc in same)
 comset_is command asked h = absurd cc
 
-barred : (entry : ℕ) (command : Command) (d : Device) (b : BusState) → device_of entry b ≡ Some d → (o : Option Communication) → comset_of command ≡ o
+barred : (entry : ℕ) (command : Command) (d : Entry) (b : BusState) → device_of entry b ≡ Some d → (o : Option Communication) → comset_of command ≡ o
     → is_comset_refused o entry d b ≡ true → IsBarredComset entry command b
 barred entry command d b at None none h = absurd cc
 barred entry command d b at (Some asked) some h =
@@ -212,7 +212,7 @@ barred entry command d b at (Some asked) some h =
     by_either (inl taken) = inl (taken_by_another entry asked.address b taken)
     by_either (inr is) = inr (d, at, by_reserved d.reserved refl is)
 
-not_barred : (entry : ℕ) (command : Command) (d : Device) (b : BusState) → device_of entry b ≡ Some d
+not_barred : (entry : ℕ) (command : Command) (d : Entry) (b : BusState) → device_of entry b ≡ Some d
     → is_comset_refused (comset_of command) entry d b ≡ false → IsBarredComset entry command b → ⊥
 not_barred entry command d b at h (asked, is, why) =
     by_either why (both_false (is_taken_beside entry asked.address b.devices.entries) (is_some d.reserved)
@@ -222,7 +222,7 @@ not_barred entry command d b at h (asked, is, why) =
         → (is_taken_beside entry asked.address b.devices.entries ≡ false) × (is_some d.reserved ≡ false) → ⊥
     by_either (inl taken) free = not_taken_by_another entry asked.address b free.0 taken
     by_either (inr (e, there, (address, reserved))) free =
-        let same = ap (λ (x : Device). is_some x.reserved) (same_device entry d e b at there) in
+        let same = ap (λ (x : Entry). is_some x.reserved) (same_device entry d e b at there) in
         let some = ap (λ (o : Option ℕ). is_some o) reserved in
         let none = sym free.1 ∙ same ∙ some in
         cc
@@ -235,10 +235,10 @@ room_for : (place bytes : Bool) → (place && bytes) ≡ true → (place ≡ tru
 room_for true bytes h = (refl, h)
 room_for false bytes h = absurd cc
 
-abbrev LacksRoom : Room → Command → Device → Type 0
+abbrev LacksRoom : Room → Command → Entry → Type 0
 LacksRoom room command d = (room.messages ≤ length d.controller.waiting) ⊎ (room.bytes - bytes_waiting d.controller.waiting < command_size command)
 
-judges_room : (entry : ℕ) (command : Command) (d : Device) (b : BusState) → HasRooms b → device_of entry b ≡ Some d
+judges_room : (entry : ℕ) (command : Command) (d : Entry) (b : BusState) → HasRooms b → device_of entry b ≡ Some d
     → Judges Full (HasNoRoom entry command b) Accepts (option_map bus_fault (if has_room command d.controller then None else Some FullOf))
 judges_room entry command d b rooms at = by_test (has_room command d.controller) refl
   where
@@ -267,7 +267,7 @@ judges_room entry command d b rooms at = by_test (has_room command d.controller)
         by_lack (inl place) = let many = ltb-false (length d.controller.waiting) d.controller.capacity place in inl (omega (arith, many, places))
         by_lack (inr room) = let long = leb-false (command_size command) (d.controller.room - bytes_waiting d.controller.waiting) room in inr (omega (arith, long, bytes))
 
-judges_comset : (entry : ℕ) (command : Command) (d : Device) (b : BusState) → HasRooms b → device_of entry b ≡ Some d
+judges_comset : (entry : ℕ) (command : Command) (d : Entry) (b : BusState) → HasRooms b → device_of entry b ≡ Some d
     → ((m : Machine) → submit_refusal command m ≡ (if has_room command m then None else Some FullOf))
     → Judges AddressTaken (IsBarredComset entry command b) (Judges Full (HasNoRoom entry command b) Accepts) (submit_refusal_of entry command (Some d) b)
 judges_comset entry command d b rooms at rule =
@@ -278,14 +278,14 @@ judges_comset entry command d b rooms at rule =
 judges_submit : (entry : ℕ) (command : Command) (b : BusState) → HasRooms b → JudgesInOrder (Submit entry command) b (submit_refusal_at entry command b)
 judges_submit entry command b rooms = by_device (device_of entry b) refl
   where
-    by_poll : (d : Device) → device_of entry b ≡ Some d → (command ≡ Poll) ⊎ ((command ≢ Poll)
+    by_poll : (d : Entry) → device_of entry b ≡ Some d → (command ≡ Poll) ⊎ ((command ≢ Poll)
         × ((m : Machine) → submit_refusal command m ≡ (if has_room command m then None else Some FullOf)))
         → Judges PollSubmitted (command ≡ Poll) (Judges AddressTaken (IsBarredComset entry command b) (Judges Full (HasNoRoom entry command b) Accepts))
         (submit_refusal_of entry command (Some d) b)
     by_poll d at (inl is) = inl (is, ap (λ c. submit_refusal_of entry c (Some d) b) is)
     by_poll d at (inr (other, rule)) = inr (other, judges_comset entry command d b rooms at rule)
 
-    by_device : (o : Option Device) → device_of entry b ≡ o → JudgesInOrder (Submit entry command) b (submit_refusal_of entry command o b)
+    by_device : (o : Option Entry) → device_of entry b ≡ o → JudgesInOrder (Submit entry command) b (submit_refusal_of entry command o b)
     by_device None at = inl (no_entry b.devices.entries entry at, refl)
     by_device (Some d) at = inr (is_entry entry d b at, by_poll d at (poll_or command))
 
@@ -303,7 +303,7 @@ not_nowhere command h (asked, is, above) =
 judges_order : (entry : ℕ) (command : Command) (b : BusState) → HasRooms b → JudgesOrder entry command b (order_refusal_at entry command b)
 judges_order entry command b rooms = by_device (device_of entry b) refl
   where
-    by_poll : (d : Device) → device_of entry b ≡ Some d → (command ≡ Poll) ⊎ ((command ≢ Poll)
+    by_poll : (d : Entry) → device_of entry b ≡ Some d → (command ≡ Poll) ⊎ ((command ≢ Poll)
         × ((m : Machine) → submit_refusal command m ≡ (if has_room command m then None else Some FullOf)))
         → Judges PollSubmitted (command ≡ Poll) (Judges AddressOutOfRange (IsNowhere command)
         (Judges AddressTaken (IsBarredComset entry command b) (Judges Full (HasNoRoom entry command b) Accepts)))
@@ -316,7 +316,7 @@ judges_order entry command b rooms = by_device (device_of entry b) refl
           (judges_comset entry command d b rooms at rule),
     )
 
-    by_device : (o : Option Device) → device_of entry b ≡ o → JudgesOrder entry command b (order_refusal_of entry command o b)
+    by_device : (o : Option Entry) → device_of entry b ≡ o → JudgesOrder entry command b (order_refusal_of entry command o b)
     by_device None at = inl (no_entry b.devices.entries entry at, refl)
     by_device (Some d) at = inr (is_entry entry d b at, by_poll d at (poll_or command))
 
@@ -334,7 +334,7 @@ some_comset (command ∷ commands) h = by_comset (comset_of command) h (λ later
 judges_retarget : (entry address : ℕ) (b : BusState) → JudgesInOrder (Retarget entry address) b (retarget_refusal_at entry address b)
 judges_retarget entry address b = by_device (device_of entry b) refl
   where
-    bars : (d : Device) → device_of entry b ≡ Some d → (is_taken_beside entry address b.devices.entries || has_comset d.controller.waiting) ≡ true
+    bars : (d : Entry) → device_of entry b ≡ Some d → (is_taken_beside entry address b.devices.entries || has_comset d.controller.waiting) ≡ true
         → IsTakenByAnother entry address b ⊎ AwaitsMove entry b
     bars d at h = by_either (either_true (is_taken_beside entry address b.devices.entries) (has_comset d.controller.waiting) h)
       where
@@ -343,7 +343,7 @@ judges_retarget entry address b = by_device (device_of entry b) refl
         by_either (inl taken) = inl (taken_by_another entry address b taken)
         by_either (inr waits) = inr (d, at, some_comset d.controller.waiting waits)
 
-    bars_not : (d : Device) → device_of entry b ≡ Some d → (is_taken_beside entry address b.devices.entries || has_comset d.controller.waiting) ≡ false
+    bars_not : (d : Entry) → device_of entry b ≡ Some d → (is_taken_beside entry address b.devices.entries || has_comset d.controller.waiting) ≡ false
         → IsTakenByAnother entry address b ⊎ AwaitsMove entry b → ⊥
     bars_not d at h why = by_either why (both_false (is_taken_beside entry address b.devices.entries) (has_comset d.controller.waiting) h)
       where
@@ -351,9 +351,9 @@ judges_retarget entry address b = by_device (device_of entry b) refl
             → (is_taken_beside entry address b.devices.entries ≡ false) × (has_comset d.controller.waiting ≡ false) → ⊥
         by_either (inl taken) free = not_taken_by_another entry address b free.0 taken
         by_either (inr (e, there, waits)) free =
-            waits (ap (λ (x : Device). comsets_in x.controller.waiting) (sym (same_device entry d e b at there)) ∙ no_comsets d.controller.waiting free.1)
+            waits (ap (λ (x : Entry). comsets_in x.controller.waiting) (sym (same_device entry d e b at there)) ∙ no_comsets d.controller.waiting free.1)
 
-    by_address : (d : Device) → device_of entry b ≡ Some d → (t : Bool) → nat_lt address 127 ≡ t
+    by_address : (d : Entry) → device_of entry b ≡ Some d → (t : Bool) → nat_lt address 127 ≡ t
         → Judges OutOfRange (127 ≤ address) (Judges AddressTaken (IsTakenByAnother entry address b ⊎ AwaitsMove entry b) Accepts)
         (or_taken (option_map bus_fault (if t then None else Some OutOfRangeOf))
         (is_taken_beside entry address b.devices.entries || has_comset d.controller.waiting))
@@ -364,7 +364,7 @@ judges_retarget entry address b = by_device (device_of entry b) refl
     )
     by_address d at false h = inl (ltb-false address 127 h, refl)
 
-    by_state : (d : Device) → device_of entry b ≡ Some d → (t : Bool) → is_closed d.controller.session.state ≡ t
+    by_state : (d : Entry) → device_of entry b ≡ Some d → (t : Bool) → is_closed d.controller.session.state ≡ t
         → Judges NotClosed (IsOpen entry b) (Judges OutOfRange (127 ≤ address) (Judges AddressTaken (IsTakenByAnother entry address b ⊎ AwaitsMove entry b) Accepts))
         (retarget_refusal_of entry address (Some d) b)
     by_state d at true closed = inr (
@@ -379,7 +379,7 @@ judges_retarget entry address b = by_device (device_of entry b) refl
           (begun_is_open d.controller.session.state begun),
     )
 
-    by_device : (o : Option Device) → device_of entry b ≡ o → JudgesInOrder (Retarget entry address) b (retarget_refusal_of entry address o b)
+    by_device : (o : Option Entry) → device_of entry b ≡ o → JudgesInOrder (Retarget entry address) b (retarget_refusal_of entry address o b)
     by_device None at = inl (no_entry b.devices.entries entry at, refl)
     by_device (Some d) at = inr (is_entry entry d b at, by_state d at (is_closed d.controller.session.state) refl)
 
@@ -402,7 +402,7 @@ unchanged (Begin entry now) fault b h = ap (λ f. changed_unless f b (after_begi
 unchanged (Submit entry command) fault b h = ap (λ f. changed_unless f b (after_submit_at entry command b)) h
 unchanged (Withdraw entry) fault b h = by_device (device_of entry b) h
   where
-    by_device : (o : Option Device) → refused_with (withdrawal_of o) ≡ Some fault
+    by_device : (o : Option Entry) → refused_with (withdrawal_of o) ≡ Some fault
         → option_map_or (λ d. record b { devices = record b.devices { entries = slice_set b.devices.entries entry (device_withdraws d) } }) o b ≡ b
     by_device None refused = refl
     by_device (Some d) refused = absurd cc

@@ -12,10 +12,10 @@ use Rattle.osdp_controller.proofs.Choices.{either_way}
 use Rattle.osdp_controller.specs.declared.report.Report.{Report}
 use Rattle.osdp_controller.specs.declared.report.Report.TheVariants as report
 use Rattle.osdp_msg.specs.declared.event.Event.{Event}
-use Rattle.osdp_bus.specs.declared.device.Device.{Device}
+use Rattle.osdp_bus.specs.declared.entry.Entry.{Entry}
 use Rattle.osdp_bus.specs.declared.fault.BusFault.{BusFault}
 use Rattle.osdp_bus.specs.Buses.{BusState, Devices, device_of, has_report, holder, is_silent, is_told_maybe_again, new_bus, seen, waiting_after}
-use Rattle.osdp_bus.specs.Devices.{device_hears, device_ticks, step_of, told_of}
+use Rattle.osdp_bus.specs.Entries.{device_hears, device_ticks, step_of, told_of}
 use Rattle.osdp_bus.specs.Hearing.{after_bytes, ends_run, ends_silent, hears_bytes, hears_with}
 use Rattle.osdp_bus.specs.Machine.{add_refusal, after_add, after_begin_at, after_next_report, after_retarget_at, after_submit_at, begin_refusal_at, changed_unless, changes_device, device_begins, device_retargets, device_submits, device_withdraws, remembered_after, retarget_refusal_at, submit_refusal_at}
 use Rattle.osdp_bus.specs.Remembering.{Remembered, event_bytes, may_be_again, memory_at, nothing_yet, remembers, remembers_at}
@@ -188,17 +188,17 @@ came e rs marked = by_told (all_told [] rs nothing_yet (inl refl))
 abbrev pub Within : Devices → Type 0
 Within ds = (k : ℕ) (r : Report) → ds.report ≡ Some (k, r) → k < length ds.entries
 
-set_length : (ds : List Device) (i : ℕ) (e : Device) → length (slice_set ds i e) ≡ length ds
+set_length : (ds : List Entry) (i : ℕ) (e : Entry) → length (slice_set ds i e) ≡ length ds
 set_length [] i e = refl
 set_length (d ∷ ds) zero e = refl
 set_length (d ∷ ds) (suc i) e = ap suc (set_length ds i e)
 
-within_put : (ds : Devices) (i : ℕ) (e : Device) (told : Option Report) → i < length ds.entries → Within ds
+within_put : (ds : Devices) (i : ℕ) (e : Entry) (told : Option Report) → i < length ds.entries → Within ds
     → Within (record { entries = slice_set ds.entries i e; report = waiting_after i told ds.report })
 within_put ds i e None inside within = λ k r is. let at = within k r is in omega (arith, at, set_length ds.entries i e)
 within_put ds i e (Some report) inside within = λ k r is. let same : i ≡ k = ap (λ o. option_map_or (λ (told : ℕ × Report). told.0) o 0) is in omega (arith, inside, same, set_length ds.entries i e)
 
-within_packet : (now : ℕ) (p : Packet) (i : ℕ) (d : Device) (ds : Devices) → slice_get ds.entries i ≡ Some d → Within ds
+within_packet : (now : ℕ) (p : Packet) (i : ℕ) (d : Entry) (ds : Devices) → slice_get ds.entries i ≡ Some d → Within ds
     → Within (hears_with p now i (Some d) ds)
 within_packet now p i d ds at within = within_put ds i (device_hears p now d) (told_of p now d) (slice_get_within ds.entries i d at) within
 
@@ -218,10 +218,10 @@ keeps_unless : (f : Option BusFault) (old new : BusState) → Keeps old new → 
 keeps_unless None old new same = same
 keeps_unless (Some fault) old new same = as_it_is old
 
-keeps_changed : (entry : ℕ) (change : Device → Device) (b : BusState) → Keeps b (changes_device entry change b)
+keeps_changed : (entry : ℕ) (change : Entry → Entry) (b : BusState) → Keeps b (changes_device entry change b)
 keeps_changed entry change b = by_device (device_of entry b) refl
   where
-    by_device : (o : Option Device) → device_of entry b ≡ o
+    by_device : (o : Option Entry) → device_of entry b ≡ o
         → Keeps b (option_map_or (λ d. record b { devices = record b.devices { entries = slice_set b.devices.entries entry (change d) } }) o b)
     by_device None at = as_it_is b
     by_device (Some d) at = record {
@@ -251,7 +251,7 @@ keeps_bytes (byte ∷ bytes) now b =
 abbrev TickKeeps : BusState → BusTicked → Type 0
 TickKeeps b t = Keeps b t.bus
 
-keeps_with : (entry : ℕ) (o : Option Device) (b : BusState) → device_of entry b ≡ o → TickKeeps b (ticks_with entry o b)
+keeps_with : (entry : ℕ) (o : Option Entry) (b : BusState) → device_of entry b ≡ o → TickKeeps b (ticks_with entry o b)
 keeps_with entry None b at = as_it_is b
 keeps_with entry (Some d) b at = record {
   remembered = refl;
@@ -282,10 +282,10 @@ keeps_tick now b =
     (either_way (TickKeeps s) (has_report b) (stays s) (ticks_on e) (λ h. as_it_is s)
     (λ h. keeps_then s e (ticks_on e).bus (keeps_silent s) (keeps_by (holder e) e)))
 
-longer : (ds : Devices) (d : Device) → Within ds → Within (record { entries = ds.entries ++ d ∷ []; report = ds.report })
+longer : (ds : Devices) (d : Entry) → Within ds → Within (record { entries = ds.entries ++ d ∷ []; report = ds.report })
 longer ds d within = λ k r is. let at = within k r is in omega (arith, at, one_longer ds.entries)
   where
-    one_longer : (xs : List Device) → length (xs ++ d ∷ []) ≡ suc (length xs)
+    one_longer : (xs : List Entry) → length (xs ++ d ∷ []) ≡ suc (length xs)
     one_longer [] = refl
     one_longer (x ∷ xs) = ap suc (one_longer xs)
 
@@ -306,7 +306,7 @@ entry_more k entry r ((other, told) ∷ more) = by_test (k == other) (entry_more
     by_test true h = ap (λ l. told ∷ l) h
     by_test false h = h
 
-there : (xs : List Device) (k : ℕ) → k < length xs → (d : Device) × (slice_get xs k ≡ Some d)
+there : (xs : List Entry) (k : ℕ) → k < length xs → (d : Entry) × (slice_get xs k ≡ Some d)
 there [] k within = absurd (omega (arith, within))
 there (x ∷ xs) zero within = (x, refl)
 there (x ∷ xs) (suc k) within = there xs k (omega (arith, within))

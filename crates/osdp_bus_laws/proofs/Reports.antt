@@ -5,9 +5,9 @@ use Rattle.osdp_frame.specs.Items.{items}
 use Rattle.osdp_frame.specs.Packet.{Packet}
 use Rattle.osdp_frame.specs.Reading.{RunItem, PacketItem, SkippedItem, RefusedItem}
 use Rattle.osdp_controller.specs.declared.report.Report.{Report}
-use Rattle.osdp_bus.specs.declared.device.Device.{Device}
+use Rattle.osdp_bus.specs.declared.entry.Entry.{Entry}
 use Rattle.osdp_bus.specs.Buses.{BusState, Devices, device_of, has_report, holder, is_silent, new_bus, seen, waiting_after}
-use Rattle.osdp_bus.specs.Devices.{first_from, is_at, step_of, told_of}
+use Rattle.osdp_bus.specs.Entries.{first_from, is_at, step_of, told_of}
 use Rattle.osdp_bus.specs.Hearing.{after_bytes, ends_run, ends_silent, hears_at, hears_bytes, hears_item, hears_items, hears_with}
 use Rattle.osdp_bus.specs.Machine.{add_refusal, after_add, after_begin_at, after_retarget_at, after_submit_at, begin_refusal_at, device_begins, device_retargets, device_submits, device_withdraws, retarget_refusal_at, submit_refusal_at}
 use Rattle.osdp_bus.specs.Ticking.{BusTicked, bus_ticks, is_due_at, is_held_and_due, next_due, stays, ticks_at, ticks_by, ticks_free, ticks_held, ticks_on, ticks_with}
@@ -40,7 +40,7 @@ waits_told entry (Some report) (Some waiting) free = absurd (free refl refl)
 
 -- ---- packets
 
-waits_with : (p : Packet) (now i : ℕ) (o : Option Device) (ds : Devices) → slice_get ds.entries i ≡ o → Sound ds
+waits_with : (p : Packet) (now i : ℕ) (o : Option Entry) (ds : Devices) → slice_get ds.entries i ≡ o → Sound ds
     → Waits ds.report (hears_with p now i o ds).report (told_with p now i o)
 waits_with p now i None ds at sound = nothing_told ds.report
 waits_with p now i (Some d) ds at sound =
@@ -89,7 +89,7 @@ waits_bytes (byte ∷ bytes) now b is =
 
 -- ---- ticks
 
-waits_ticks_with : (i : ℕ) (o : Option Device) (b : BusState) → has_report b ≡ false → BusWaits b (ticks_with i o b).bus (told_by_device i o b)
+waits_ticks_with : (i : ℕ) (o : Option Entry) (b : BusState) → has_report b ≡ false → BusWaits b (ticks_with i o b).bus (told_by_device i o b)
 waits_ticks_with i None b none = nothing_told b.devices.report
 waits_ticks_with i (Some d) b none = waits_told i (step_of b.greatest d).report b.devices.report (λ tells some. cc)
 

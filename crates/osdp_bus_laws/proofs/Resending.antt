@@ -18,10 +18,10 @@ use Rattle.osdp_controller_laws.specs.Runs.{Call as CallOf, Tick as TickOf, Hear
 use Rattle.osdp_controller_laws.proofs.Closed.{was_closed}
 use Rattle.osdp_controller_laws.proofs.Lasting.{Holds, holds_call, more}
 use Rattle.osdp_controller_laws.proofs.OneCall.{begins_with_frame}
-use Rattle.osdp_bus.specs.declared.device.Device.{Device}
+use Rattle.osdp_bus.specs.declared.entry.Entry.{Entry}
 use Rattle.osdp_bus.specs.declared.fault.BusFault.{BusFault}
 use Rattle.osdp_bus.specs.Buses.{BusState, Devices, device_of, has_report, holder, is_silent, new_bus, seen}
-use Rattle.osdp_bus.specs.Devices.{device_hears, device_ticks, holds, is_taken_beside, step_of}
+use Rattle.osdp_bus.specs.Entries.{device_hears, device_ticks, holds, is_taken_beside, step_of}
 use Rattle.osdp_bus.specs.Hearing.{after_bytes, ends_run, ends_silent, hears_bytes, hears_items, hears_with}
 use Rattle.osdp_bus.specs.Machine.{add_refusal, after_add, after_begin_at, after_retarget_at, after_submit_at, begin_refusal_at, bus_fault, changed_unless, changes_device, device_begins, device_retargets, device_submits, device_withdraws, new_device, retarget_refusal_at, retarget_refusal_of, submit_refusal_at}
 use Rattle.osdp_bus.specs.Ticking.{BusTicked, bus_ticks, is_due_at, next_due, stays, ticks_at, ticks_by, ticks_free, ticks_held, ticks_on, ticks_with}
@@ -81,19 +81,19 @@ kept_frame call m before after =
     own.1
     ∙ sym (from_holds (after_call_of call m).session.state (after_call_of call m).session m.session own.0 (more (sent_in m.session.state) (sent_by_of call m)) after later.1)
 
-frame_heard : (p : Packet) (now : ℕ) (d : Device) → holds (device_hears p now d) ≡ true → own_frame d ≡ own_frame (device_hears p now d)
+frame_heard : (p : Packet) (now : ℕ) (d : Entry) → holds (device_hears p now d) ≡ true → own_frame d ≡ own_frame (device_hears p now d)
 frame_heard p now d h = kept_frame (Hear p now) d.controller (heard_holds p now d h) h
 
-frame_ticked : (now : ℕ) (d : Device) → holds d ≡ true → holds (device_ticks now d) ≡ true → own_frame d ≡ own_frame (device_ticks now d)
+frame_ticked : (now : ℕ) (d : Entry) → holds d ≡ true → holds (device_ticks now d) ≡ true → own_frame d ≡ own_frame (device_ticks now d)
 frame_ticked now d before after = kept_frame (TickOf now) d.controller before after
 
 -- ---- the devices: where nothing goes out, who holds the line held it before, with the same frame
 
-abbrev SameFrame : ℕ → Device → Devices → Type 0
-SameFrame j f ds = (d : Device) × (slice_get ds.entries j ≡ Some d) × (holds d ≡ true) × (own_frame d ≡ own_frame f)
+abbrev SameFrame : ℕ → Entry → Devices → Type 0
+SameFrame j f ds = (d : Entry) × (slice_get ds.entries j ≡ Some d) × (holds d ≡ true) × (own_frame d ≡ own_frame f)
 
 abbrev KeepFrames : Devices → Devices → Type 0
-KeepFrames ds es = (j : ℕ) (f : Device) → slice_get es.entries j ≡ Some f → holds f ≡ true → SameFrame j f ds
+KeepFrames ds es = (j : ℕ) (f : Entry) → slice_get es.entries j ≡ Some f → holds f ≡ true → SameFrame j f ds
 
 keep : (ds : Devices) → KeepFrames ds ds
 keep ds j f at h = (f, at, h, refl)
@@ -105,8 +105,8 @@ keep_on ds es fs before after j f at h =
     (first.0, first.1, first.2, first.3 ∙ later.3)
 
 -- a device changes
-keep_set : (i : ℕ) (d e : Device) (ds : Devices) → slice_get ds.entries i ≡ Some d → (holds e ≡ true → (holds d ≡ true) × (own_frame d ≡ own_frame e))
-    → (j : ℕ) (f : Device) → slice_get (slice_set ds.entries i e) j ≡ Some f → holds f ≡ true → SameFrame j f ds
+keep_set : (i : ℕ) (d e : Entry) (ds : Devices) → slice_get ds.entries i ≡ Some d → (holds e ≡ true → (holds d ≡ true) × (own_frame d ≡ own_frame e))
+    → (j : ℕ) (f : Entry) → slice_get (slice_set ds.entries i e) j ≡ Some f → holds f ≡ true → SameFrame j f ds
 keep_set i d e ds at same j f there h = by_place (replaced ds.entries i e j f there)
   where
     by_place : IsAt ds.entries i e j f → SameFrame j f ds
@@ -115,7 +115,7 @@ keep_set i d e ds at same j f there h = by_place (replaced ds.entries i e j f th
         (d, ap (slice_get ds.entries) here ∙ at, before.0, before.1 ∙ sym (ap own_frame is))
     by_place (inr (other, was)) = (f, was, h, refl)
 
-keep_packet : (first : Devices) (now : ℕ) (p : Packet) (i : ℕ) (d : Device) (ds : Devices) → slice_get ds.entries i ≡ Some d → KeepFrames first ds
+keep_packet : (first : Devices) (now : ℕ) (p : Packet) (i : ℕ) (d : Entry) (ds : Devices) → slice_get ds.entries i ≡ Some d → KeepFrames first ds
     → KeepFrames first (hears_with p now i (Some d) ds)
 keep_packet first now p i d ds at kept =
     keep_on first ds (hears_with p now i (Some d) ds) kept
@@ -146,7 +146,7 @@ keep_bytes (byte ∷ bytes) now b =
 -- ---- the frame that went out last
 
 abbrev LastIs : Option Packet → Devices → Type 0
-LastIs last ds = (j : ℕ) (f : Device) → slice_get ds.entries j ≡ Some f → holds f ≡ true → own_frame f ≡ last
+LastIs last ds = (j : ℕ) (f : Entry) → slice_get ds.entries j ≡ Some f → holds f ≡ true → own_frame f ≡ last
 
 still_last : (last : Option Packet) (ds es : Devices) → KeepFrames ds es → LastIs last ds → LastIs last es
 still_last last ds es kept is j f at h =
@@ -157,7 +157,7 @@ abbrev TickLast : Option Packet → BusTicked → Type 0
 TickLast last t = LastIs (option_or t.sent last) t.bus.devices
 
 -- a device ticks, and no other holds the line
-ticked_last : (now : ℕ) (d : Device) (last sent : Option Packet) → (step_of now d).frame ≡ sent → (holds d ≡ true → own_frame d ≡ last)
+ticked_last : (now : ℕ) (d : Entry) (last sent : Option Packet) → (step_of now d).frame ≡ sent → (holds d ≡ true → own_frame d ≡ last)
     → holds (device_ticks now d) ≡ true → own_frame (device_ticks now d) ≡ option_or sent last
 ticked_last now d last (Some p) is before h = frame_sent now d p is
 ticked_last now d last None is before h = by_held (holds d) refl
@@ -169,12 +169,12 @@ ticked_last now d last None is before h = by_held (holds d) refl
         let none = ap (λ (o : Option Packet). is_some o) is in
         cc)
 
-last_with : (last : Option Packet) (entry : ℕ) (o : Option Device) (b : BusState) → device_of entry b ≡ o → HoldsAlone entry b.devices → LastIs last b.devices
+last_with : (last : Option Packet) (entry : ℕ) (o : Option Entry) (b : BusState) → device_of entry b ≡ o → HoldsAlone entry b.devices → LastIs last b.devices
     → TickLast last (ticks_with entry o b)
 last_with last entry None b at alone is = is
 last_with last entry (Some d) b at alone is = λ j f there h. by_place j f h (replaced b.devices.entries entry (device_ticks b.greatest d) j f there)
   where
-    by_place : (j : ℕ) (f : Device) → holds f ≡ true → IsAt b.devices.entries entry (device_ticks b.greatest d) j f
+    by_place : (j : ℕ) (f : Entry) → holds f ≡ true → IsAt b.devices.entries entry (device_ticks b.greatest d) j f
         → own_frame f ≡ option_or (step_of b.greatest d).frame last
     by_place j f h (inl (here, same)) =
         ap own_frame same ∙ ticked_last b.greatest d last (step_of b.greatest d).frame refl (λ stands. is entry d at stands) (sym (ap holds same) ∙ h)
@@ -209,12 +209,12 @@ last_tick last now b sound is =
 
 -- ---- each call
 
-keep_changes : (entry : ℕ) (change : Device → Device) (b : BusState)
-    → ((d : Device) → device_of entry b ≡ Some d → holds (change d) ≡ true → (holds d ≡ true) × (own_frame d ≡ own_frame (change d)))
+keep_changes : (entry : ℕ) (change : Entry → Entry) (b : BusState)
+    → ((d : Entry) → device_of entry b ≡ Some d → holds (change d) ≡ true → (holds d ≡ true) × (own_frame d ≡ own_frame (change d)))
     → KeepFrames b.devices (changes_device entry change b).devices
 keep_changes entry change b same = by_device (device_of entry b) refl
   where
-    by_device : (o : Option Device) → device_of entry b ≡ o
+    by_device : (o : Option Entry) → device_of entry b ≡ o
         → KeepFrames b.devices (option_map_or (λ d. record b { devices = record b.devices { entries = slice_set b.devices.entries entry (change d) } }) o b).devices
     by_device None at = keep b.devices
     by_device (Some d) at = keep_set entry d (change d) b.devices at (same d at)
@@ -284,7 +284,7 @@ sends_the_same config calls is = record { last = last; again = again }
     along : LastIs (last_sent calls (new_bus config) None) (after_calls calls (new_bus config)).devices
     along = last_calls calls None (new_bus config) (sound_new config is) (λ j f at h. absurd cc)
 
-    last : (entry : ℕ) (d : Device) → device_of entry (after_calls calls (new_bus config)) ≡ Some d → holds d ≡ true
+    last : (entry : ℕ) (d : Entry) → device_of entry (after_calls calls (new_bus config)) ≡ Some d → holds d ≡ true
         → (p : Packet) × (own_frame d ≡ Some p) × (last_sent calls (new_bus config) None ≡ Some p)
     last entry d at stands =
         let own = has_frame d.controller.session.state d.controller.session stands in

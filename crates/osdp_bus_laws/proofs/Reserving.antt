@@ -9,11 +9,11 @@ use Rattle.osdp_controller.specs.declared.report.Report.TheVariants.{Opened}
 use Rattle.osdp_controller.specs.Comsets.{is_comset}
 use Rattle.osdp_controller.specs.Hearing.{comset_of}
 use Rattle.osdp_controller.specs.Machine.{submit_refusal}
-use Rattle.osdp_bus.specs.declared.device.Device.{Device}
+use Rattle.osdp_bus.specs.declared.entry.Entry.{Entry}
 use Rattle.osdp_bus.specs.declared.fault.BusFault.{BusFault}
 use Rattle.osdp_bus.specs.declared.fault.BusFault.TheVariants.{AddressTaken}
 use Rattle.osdp_bus.specs.Buses.{BusState, device_of, seen}
-use Rattle.osdp_bus.specs.Devices.{is_taken_beside, reserved_for, reserved_told}
+use Rattle.osdp_bus.specs.Entries.{is_taken_beside, reserved_for, reserved_told}
 use Rattle.osdp_bus.specs.Machine.{add_refusal, after_add, after_begin_at, after_retarget_at, after_submit_at, begin_refusal_at, bus_fault, changed_unless, changes_device, device_begins, device_retargets, device_submits, device_withdraws, is_comset_refused, new_device, reserved_without, retarget_refusal_at, retarget_refusal_of, submit_refusal_at, submit_refusal_of, withdrawn_of}
 use Rattle.osdp_bus_laws.specs.Addresses.{NoneFrees, ReservationsLast, accepts, frees, is_comset_done, is_some_comset, reserved_at, tells_done, withdraws_comset}
 use Rattle.osdp_bus_laws.specs.Calls.{Call, Add, Begin, Submit, Withdraw, Retarget, OnBytes, OnSilence, Tick, NextReport, after_call, after_calls, arisen}
@@ -60,13 +60,13 @@ line_steps old new j follows = by_report old.devices.report refl
 
 -- ---- a device of an entry changes
 
-changed_at : (entry j : ℕ) (change : Device → Device) (b : BusState) (d : Device) → device_of entry b ≡ Some d
+changed_at : (entry j : ℕ) (change : Entry → Entry) (b : BusState) (d : Entry) → device_of entry b ≡ Some d
     → reserved_at j (changes_device entry change b) ≡ (if entry == j then (change d).reserved else reserved_at j b)
 changed_at entry j change b d at =
     ap (λ o. reserved_at j (option_map_or (λ d. record b { devices = record b.devices { entries = slice_set b.devices.entries entry (change d) } }) o b)) at
     ∙ reserved_set b.devices.entries entry d (change d) j at
 
-not_there : (entry j : ℕ) (change : Device → Device) (b : BusState) → device_of entry b ≡ None → reserved_at j (changes_device entry change b) ≡ reserved_at j b
+not_there : (entry j : ℕ) (change : Entry → Entry) (b : BusState) → device_of entry b ≡ None → reserved_at j (changes_device entry change b) ≡ reserved_at j b
 not_there entry j change b at =
     ap (λ o. reserved_at j (option_map_or (λ d. record b { devices = record b.devices { entries = slice_set b.devices.entries entry (change d) } }) o b)) at
 
@@ -80,7 +80,7 @@ begin_steps : (entry now j : ℕ) (f : Option BusFault) (b : BusState) → reser
 begin_steps entry now j (Some fault) b = refl
 begin_steps entry now j None b = by_device (device_of entry b) refl
   where
-    by_device : (o : Option Device) → device_of entry b ≡ o → reserved_at j (after_begin_at entry now b) ≡ reserved_at j b
+    by_device : (o : Option Entry) → device_of entry b ≡ o → reserved_at j (after_begin_at entry now b) ≡ reserved_at j b
     by_device None at = not_there entry j (device_begins (max b.greatest now)) (seen now b) at
     by_device (Some d) at =
         changed_at entry j (device_begins (max b.greatest now)) (seen now b) d at
@@ -103,7 +103,7 @@ no_reservation : (o : Option ℕ) → is_some o ≡ false → o ≡ None
 no_reservation None h = refl
 no_reservation (Some a) h = cc
 
-unreserved : (x : Bool) (o : Option Communication) (entry : ℕ) (d : Device) (b : BusState) (j : ℕ) (asked : Communication) → (x ≡ true → reserved_at j b ≡ d.reserved)
+unreserved : (x : Bool) (o : Option Communication) (entry : ℕ) (d : Entry) (b : BusState) (j : ℕ) (asked : Communication) → (x ≡ true → reserved_at j b ≡ d.reserved)
     → is_comset_refused o entry d b ≡ false → (if x && true then o else None) ≡ Some asked → reserved_at j b ≡ None
 unreserved true None entry d b j asked there ok h = cc
 unreserved true (Some other) entry d b j asked there ok h =
@@ -125,7 +125,7 @@ submit_steps entry j command (Some fault) b refused = (by_test (entry == j), λ 
     not_taken false asked h = cc
 submit_steps entry j command None b ok = by_device (device_of entry b) refl
   where
-    by_device : (o : Option Device) → device_of entry b ≡ o
+    by_device : (o : Option Entry) → device_of entry b ≡ o
         → (reserved_at j (after_submit_at entry command b) ≡ reserved_for (if entry == j && true then comset_of command else None) (reserved_at j b))
         × ((asked : Communication) → (if entry == j && true then comset_of command else None) ≡ Some asked → reserved_at j b ≡ None)
     by_device None at = absurd (let e = sym (ap (λ o. submit_refusal_of entry command o b) at) ∙ ok in cc)
@@ -153,7 +153,7 @@ withdraw_steps : (entry j : ℕ) (b : BusState) → reserved_at j (changes_devic
     ≡ (if entry == j && withdraws_comset (device_of entry b) then None else reserved_at j b)
 withdraw_steps entry j b = by_device (device_of entry b) refl
   where
-    by_device : (o : Option Device) → device_of entry b ≡ o → reserved_at j (changes_device entry device_withdraws b)
+    by_device : (o : Option Entry) → device_of entry b ≡ o → reserved_at j (changes_device entry device_withdraws b)
         ≡ (if entry == j && withdraws_comset o then None else reserved_at j b)
     by_device None at = not_there entry j device_withdraws b at ∙ by_test (entry == j)
       where
@@ -175,7 +175,7 @@ retarget_steps entry address j (Some fault) b refused = by_test (entry == j)
     by_test false = refl
 retarget_steps entry address j None b ok = by_device (device_of entry b) refl
   where
-    by_device : (o : Option Device) → device_of entry b ≡ o
+    by_device : (o : Option Entry) → device_of entry b ≡ o
         → reserved_at j (after_retarget_at entry address b) ≡ (if entry == j && true then None else reserved_at j b)
     by_device None at = absurd (let e = sym (ap (λ o. retarget_refusal_of entry address o b) at) ∙ ok in cc)
     by_device (Some d) at = changed_at entry j (device_retargets address) b d at ∙ by_test (entry == j)
@@ -251,10 +251,10 @@ pub kept_unless : (f : Option BusFault) (old new : BusState) → new.devices.rep
 kept_unless None old new same = same
 kept_unless (Some fault) old new same = refl
 
-pub changed_report : (entry : ℕ) (change : Device → Device) (b : BusState) → (changes_device entry change b).devices.report ≡ b.devices.report
+pub changed_report : (entry : ℕ) (change : Entry → Entry) (b : BusState) → (changes_device entry change b).devices.report ≡ b.devices.report
 changed_report entry change b = by_device (device_of entry b)
   where
-    by_device : (o : Option Device)
+    by_device : (o : Option Entry)
         → (option_map_or (λ d. record b { devices = record b.devices { entries = slice_set b.devices.entries entry (change d) } }) o b).devices.report ≡ b.devices.report
     by_device None = refl
     by_device (Some d) = refl

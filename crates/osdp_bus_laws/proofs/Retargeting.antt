@@ -2,14 +2,14 @@
 use Rattle.std.proofs.Common.{◌≡◌, ◌∙◌, ap, ℕ, Option, Some, None, refl}
 use Rattle.std.specs.Prelude.{slice_set}
 use Rattle.std.specs.Option.{option_map_or}
-use Rattle.osdp_bus.specs.declared.device.Device.{Device}
+use Rattle.osdp_bus.specs.declared.entry.Entry.{Entry}
 use Rattle.osdp_bus.specs.Buses.{BusState, device_of}
 use Rattle.osdp_bus.specs.Machine.{after_retarget_at, changed_unless, device_retargets, retarget_refusal_at, retarget_refusal_of}
 use Rattle.osdp_bus_laws.specs.Calls.{Retarget, after_call}
 use Rattle.osdp_bus_laws.specs.Retargeting.{IsSentTo, RetargetsSetTheAddress}
 use Rattle.osdp_bus_laws.proofs.Turning.{set_here, set_other}
 
-sent_to : (b : BusState) (entry address : ℕ) (o : Option Device) → device_of entry b ≡ o → retarget_refusal_of entry address o b ≡ None
+sent_to : (b : BusState) (entry address : ℕ) (o : Option Entry) → device_of entry b ≡ o → retarget_refusal_of entry address o b ≡ None
     → retarget_refusal_at entry address b ≡ None → IsSentTo entry address b (after_call (Retarget entry address) b)
 sent_to b entry address None at of ok = absurd cc
 sent_to b entry address (Some d) at of ok =

@@ -7,10 +7,10 @@ use Rattle.osdp_frame.specs.Reading.{RunItem}
 use Rattle.osdp_controller.proofs.Choices.{either_way}
 use Rattle.osdp_msg.specs.declared.limits.Room.{Room}
 use Rattle.osdp_bus.specs.declared.config.BusConfig.{BusConfig}
-use Rattle.osdp_bus.specs.declared.device.Device.{Device}
+use Rattle.osdp_bus.specs.declared.entry.Entry.{Entry}
 use Rattle.osdp_bus.specs.declared.fault.BusFault.{BusFault}
 use Rattle.osdp_bus.specs.Buses.{BusState, Devices, device_of, has_report, holder, is_silent, new_bus, seen}
-use Rattle.osdp_bus.specs.Devices.{device_hears, device_ticks}
+use Rattle.osdp_bus.specs.Entries.{device_hears, device_ticks}
 use Rattle.osdp_bus.specs.Hearing.{after_bytes, ends_run, ends_silent, hears_items}
 use Rattle.osdp_bus.specs.Machine.{add_refusal, after_add, after_begin_at, after_retarget_at, after_submit_at, begin_refusal_at, changed_unless, changes_device, device_begins, device_retargets, device_submits, device_withdraws, new_device, retarget_refusal_at, submit_refusal_at}
 use Rattle.osdp_bus.specs.Ticking.{BusTicked, bus_ticks, is_due_at, is_held_and_due, next_due, stays, ticks_at, ticks_by, ticks_held, ticks_on, ticks_with}
@@ -18,21 +18,21 @@ use Rattle.osdp_bus_laws.specs.Calls.{Call, Add, Begin, Submit, Withdraw, Retarg
 use Rattle.osdp_bus_laws.proofs.Hearing.{items_keep}
 use Rattle.osdp_bus_laws.proofs.Places.{IsAt, added, replaced}
 
-abbrev room_of : Device → Room
+abbrev room_of : Entry → Room
 room_of d = record { messages = d.controller.capacity; bytes = d.controller.room }
 
-abbrev RoomsAre : Room → List Device → Type 0
-RoomsAre room ds = (j : ℕ) (f : Device) → slice_get ds j ≡ Some f → room_of f ≡ room
+abbrev RoomsAre : Room → List Entry → Type 0
+RoomsAre room ds = (j : ℕ) (f : Entry) → slice_get ds j ≡ Some f → room_of f ≡ room
 
 abbrev pub HasRooms : BusState → Type 0
 HasRooms b = RoomsAre b.config.room b.devices.entries
 
 -- a device takes the place of one with the same room
-rooms_set : (room : Room) (i : ℕ) (d e : Device) (ds : List Device) → slice_get ds i ≡ Some d → room_of e ≡ room_of d → RoomsAre room ds
+rooms_set : (room : Room) (i : ℕ) (d e : Entry) (ds : List Entry) → slice_get ds i ≡ Some d → room_of e ≡ room_of d → RoomsAre room ds
     → RoomsAre room (slice_set ds i e)
 rooms_set room i d e ds at same are = λ j f there. by_place j f (replaced ds i e j f there)
   where
-    by_place : (j : ℕ) (f : Device) → IsAt ds i e j f → room_of f ≡ room
+    by_place : (j : ℕ) (f : Entry) → IsAt ds i e j f → room_of f ≡ room
     by_place j f (inl (here, is)) = ap room_of is ∙ same ∙ are i d at
     by_place j f (inr (other, was)) = are j f was
 
@@ -57,7 +57,7 @@ rooms_bytes (byte ∷ bytes) now b are =
 abbrev TickRooms : BusTicked → Type 0
 TickRooms t = HasRooms t.bus
 
-rooms_ticks_with : (i : ℕ) (o : Option Device) (b : BusState) → device_of i b ≡ o → HasRooms b → TickRooms (ticks_with i o b)
+rooms_ticks_with : (i : ℕ) (o : Option Entry) (b : BusState) → device_of i b ≡ o → HasRooms b → TickRooms (ticks_with i o b)
 rooms_ticks_with i None b at are = are
 rooms_ticks_with i (Some d) b at are = rooms_set b.config.room i d (device_ticks b.greatest d) b.devices.entries at refl are
 
@@ -83,11 +83,11 @@ rooms_tick now b are =
 
 -- each call
 
-rooms_changes : (entry : ℕ) (change : Device → Device) (b : BusState) → ((d : Device) → room_of (change d) ≡ room_of d) → HasRooms b
+rooms_changes : (entry : ℕ) (change : Entry → Entry) (b : BusState) → ((d : Entry) → room_of (change d) ≡ room_of d) → HasRooms b
     → HasRooms (changes_device entry change b)
 rooms_changes entry change b same are = by_device (device_of entry b) refl
   where
-    by_device : (o : Option Device) → device_of entry b ≡ o
+    by_device : (o : Option Entry) → device_of entry b ≡ o
         → HasRooms (option_map_or (λ d. record b { devices = record b.devices { entries = slice_set b.devices.entries entry (change d) } }) o b)
     by_device None at = are
     by_device (Some d) at = rooms_set b.config.room entry d (change d) b.devices.entries at (same d) are
@@ -99,7 +99,7 @@ rooms_unless (Some fault) b c before after = before
 rooms_added : (address : ℕ) (b : BusState) → HasRooms b → HasRooms (after_add address b)
 rooms_added address b are = λ j f there. by_place j f (added b.devices.entries (new_device address b.config) j f there)
   where
-    by_place : (j : ℕ) (f : Device) → IsAt b.devices.entries (length b.devices.entries) (new_device address b.config) j f → room_of f ≡ b.config.room
+    by_place : (j : ℕ) (f : Entry) → IsAt b.devices.entries (length b.devices.entries) (new_device address b.config) j f → room_of f ≡ b.config.room
     by_place j f (inl (here, same)) = ap room_of same
     by_place j f (inr (other, was)) = are j f was
 

@@ -14,9 +14,9 @@ use Rattle.osdp_controller.specs.States.{moment_of}
 use Rattle.osdp_controller.specs.Ticking.{Ticked, gives_up, sends_frame, stays as stays_in, ticks_in, tries_again}
 use Rattle.osdp_controller.proofs.Choices.{either_way}
 use Rattle.osdp_controller_laws.specs.Laws.{exchange_in}
-use Rattle.osdp_bus.specs.declared.device.Device.{Device}
+use Rattle.osdp_bus.specs.declared.entry.Entry.{Entry}
 use Rattle.osdp_bus.specs.Buses.{BusState, device_of, has_report, holder, seen}
-use Rattle.osdp_bus.specs.Devices.{holds}
+use Rattle.osdp_bus.specs.Entries.{holds}
 use Rattle.osdp_bus.specs.Machine.{after_begin_at, changed_unless, device_begins}
 use Rattle.osdp_bus.specs.Ticking.{BusTicked, bus_ticks, is_due_at, stays, ticks_at, ticks_by, ticks_held, ticks_on, ticks_with}
 use Rattle.osdp_bus_laws.specs.Calls.{Begin, after_call}
@@ -47,9 +47,9 @@ frame_in (Pausing until o) s w p stands =
 
 module _ (now entry : ℕ) (b : BusState) (p : Packet) where
   abbrev Sends : BusTicked → Type 0
-  Sends t = t.sent ≡ Some p → (d : Device) × (device_of entry (asking now b) ≡ Some d) × (own_frame d ≡ Some p) × IsReached (asking now b) d
+  Sends t = t.sent ≡ Some p → (d : Entry) × (device_of entry (asking now b) ≡ Some d) × (own_frame d ≡ Some p) × IsReached (asking now b) d
 
-  by_device : (d : Device) → device_of entry (asking now b) ≡ Some d → holds d ≡ true → Sends (ticks_at (Some entry) (asking now b))
+  by_device : (d : Entry) → device_of entry (asking now b) ≡ Some d → holds d ≡ true → Sends (ticks_at (Some entry) (asking now b))
   by_device d at stands =
       subst Sends (sym (ap (λ o. ticks_with entry o (asking now b)) at))
       (λ h. let own = frame_in d.controller.session.state (seen_by (asking now b).greatest d.controller.session) d.controller.waiting p stands h in

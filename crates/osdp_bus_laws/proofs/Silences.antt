@@ -6,7 +6,7 @@ use Rattle.osdp_frame_laws.proofs.LeftOver.{items_nothing}
 use Rattle.osdp_frame_laws.proofs.Silences.{change_of, changes_at_gap}
 use Rattle.osdp_bus.specs.declared.fault.BusFault.{BusFault}
 use Rattle.osdp_bus.specs.Buses.{BusState, has_report, holder, is_silent, seen}
-use Rattle.osdp_bus.specs.Devices.{holds}
+use Rattle.osdp_bus.specs.Entries.{holds}
 use Rattle.osdp_bus.specs.Hearing.{ends_run, ends_silent, hears_bytes, hears_items}
 use Rattle.osdp_bus.specs.Machine.{after_begin_at, begin_refusal_at, changed_unless}
 use Rattle.osdp_bus.specs.Ticking.{bus_ticks, stays, ticks_by, ticks_free, ticks_on}

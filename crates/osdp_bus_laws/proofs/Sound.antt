@@ -5,9 +5,9 @@ use Rattle.std.specs.Option.{option_map_or}
 use Rattle.osdp_frame.specs.Items.{items}
 use Rattle.osdp_frame.specs.Packet.{Packet}
 use Rattle.osdp_frame.specs.Reading.{RunItem}
-use Rattle.osdp_bus.specs.declared.device.Device.{Device}
+use Rattle.osdp_bus.specs.declared.entry.Entry.{Entry}
 use Rattle.osdp_bus.specs.Buses.{BusState, Devices, device_of, has_report, holder, is_silent, seen}
-use Rattle.osdp_bus.specs.Devices.{device_hears, device_ticks, holds, is_device_due, step_of, told_of}
+use Rattle.osdp_bus.specs.Entries.{device_hears, device_ticks, holds, is_device_due, step_of, told_of}
 use Rattle.osdp_bus.specs.Hearing.{after_bytes, ends_run, ends_silent, hears_bytes, hears_item, hears_items, hears_with}
 use Rattle.osdp_bus.specs.Settings.{IsBusConfig}
 use Rattle.osdp_bus.specs.Ticking.{BusTicked, bus_ticks, is_due_at, is_held_and_due, next_due, stays, ticks_at, ticks_by, ticks_free, ticks_held, ticks_on, ticks_with}
@@ -20,13 +20,13 @@ use Rattle.osdp_bus_laws.proofs.Places.{IsAt, none_at, replaced}
 
 -- ---- a packet
 
-comes_heard : (p : Packet) (now i : ℕ) (d : Device) (ds : Devices) → Sound ds → slice_get ds.entries i ≡ Some d → Comes ds i (device_hears p now d) (told_of p now d)
+comes_heard : (p : Packet) (now i : ℕ) (d : Entry) (ds : Devices) → Sound ds → slice_get ds.entries i ≡ Some d → Comes ds i (device_hears p now d) (told_of p now d)
 comes_heard p now i d ds sound at =
     let is = sound.devices i d at in
     comes_of ds i d (device_hears p now d) (told_of p now d) sound at (device_heard p now d is) (λ a. names_heard a p now d is)
     (heard_holds p now d) (heard_told p now d)
 
-pub sound_packet : (now : ℕ) (p : Packet) (i : ℕ) (d : Device) (ds : Devices) → slice_get ds.entries i ≡ Some d → Sound ds
+pub sound_packet : (now : ℕ) (p : Packet) (i : ℕ) (d : Entry) (ds : Devices) → slice_get ds.entries i ≡ Some d → Sound ds
     → Sound (hears_with p now i (Some d) ds)
 sound_packet now p i d ds at sound = sound_set ds i (device_hears p now d) (told_of p now d) sound (comes_heard p now i d ds sound at)
 
@@ -38,19 +38,19 @@ sound_items now = items_keep now Sound (sound_packet now)
 
 -- who holds the line then held it before
 abbrev pub HeldBefore : ℕ → Devices → Type 0
-HeldBefore j ds = (d : Device) × (slice_get ds.entries j ≡ Some d) × (holds d ≡ true)
+HeldBefore j ds = (d : Entry) × (slice_get ds.entries j ≡ Some d) × (holds d ≡ true)
 
 abbrev pub WereHeld : Devices → Devices → Type 0
-WereHeld ds es = (j : ℕ) (f : Device) → slice_get es.entries j ≡ Some f → holds f ≡ true → HeldBefore j ds
+WereHeld ds es = (j : ℕ) (f : Entry) → slice_get es.entries j ≡ Some f → holds f ≡ true → HeldBefore j ds
 
 pub same_held : (ds : Devices) → WereHeld ds ds
 same_held ds j f at h = (f, at, h)
 
-held_packet : (first : Devices) (now : ℕ) (p : Packet) (i : ℕ) (d : Device) (ds : Devices) → slice_get ds.entries i ≡ Some d → WereHeld first ds
+held_packet : (first : Devices) (now : ℕ) (p : Packet) (i : ℕ) (d : Entry) (ds : Devices) → slice_get ds.entries i ≡ Some d → WereHeld first ds
     → WereHeld first (hears_with p now i (Some d) ds)
 held_packet first now p i d ds at were = λ j f there h. by_place j f h (replaced ds.entries i (device_hears p now d) j f there)
   where
-    by_place : (j : ℕ) (f : Device) → holds f ≡ true → IsAt ds.entries i (device_hears p now d) j f → HeldBefore j first
+    by_place : (j : ℕ) (f : Entry) → holds f ≡ true → IsAt ds.entries i (device_hears p now d) j f → HeldBefore j first
     by_place j f h (inl (here, same)) = were j d (ap (slice_get ds.entries) here ∙ at) (heard_holds p now d (sym (ap holds same) ∙ h))
     by_place j f h (inr (other, was)) = were j f was h
 
@@ -85,7 +85,7 @@ some_not : {A : Type 0} (o : Option A) → is_some o ≡ false → o ≡ None
 some_not None h = refl
 some_not (Some a) h = cc
 
-comes_ticked : (now i : ℕ) (d : Device) (ds : Devices) → Sound ds → slice_get ds.entries i ≡ Some d → is_some ds.report ≡ false → HoldsAlone i ds
+comes_ticked : (now i : ℕ) (d : Entry) (ds : Devices) → Sound ds → slice_get ds.entries i ≡ Some d → is_some ds.report ≡ false → HoldsAlone i ds
     → Comes ds i (device_ticks now d) (step_of now d).report
 comes_ticked now i d ds sound at none alone = record {
   device = device_ticked now d (sound.devices i d at);
@@ -95,7 +95,7 @@ comes_ticked now i d ds sound at none alone = record {
   quiet = λ some. cc;
 }
 
-sound_ticks_with : (i : ℕ) (o : Option Device) (b : BusState) → device_of i b ≡ o → has_report b ≡ false → HoldsAlone i b.devices → SoundBus b
+sound_ticks_with : (i : ℕ) (o : Option Entry) (b : BusState) → device_of i b ≡ o → has_report b ≡ false → HoldsAlone i b.devices → SoundBus b
     → SoundBus (ticks_with i o b).bus
 sound_ticks_with i None b at none alone is = is
 sound_ticks_with i (Some d) b at none alone is = record {
@@ -111,7 +111,7 @@ sound_ticks_at (Some i) b none alone is = sound_ticks_with i (device_of i b) b r
 
 -- nobody holds the line
 abbrev pub IsNobody : Devices → Type 0
-IsNobody ds = (j : ℕ) (f : Device) → slice_get ds.entries j ≡ Some f → holds f ≡ true → ⊥
+IsNobody ds = (j : ℕ) (f : Entry) → slice_get ds.entries j ≡ Some f → holds f ≡ true → ⊥
 
 pub nobody : (b : BusState) → holder b ≡ None → IsNobody b.devices
 nobody b none j f at h =
@@ -139,11 +139,11 @@ by_tests true false e = cc
 by_tests false y e = cc
 
 pub held_there : (entry : ℕ) (b : BusState) → (has_report b || not (is_held_and_due entry b)) ≡ false
-    → (has_report b ≡ false) × ((d : Device) × (device_of entry b ≡ Some d) × (holds d ≡ true) × (is_device_due b.greatest d ≡ true))
+    → (has_report b ≡ false) × ((d : Entry) × (device_of entry b ≡ Some d) × (holds d ≡ true) × (is_device_due b.greatest d ≡ true))
 held_there entry b h = by_device (device_of entry b) (has_report b) h
   where
-    by_device : (o : Option Device) (r : Bool) → (r || not (option_map_or holds o false && option_map_or (is_device_due b.greatest) o false)) ≡ false
-        → (r ≡ false) × ((d : Device) × (o ≡ Some d) × (holds d ≡ true) × (is_device_due b.greatest d ≡ true))
+    by_device : (o : Option Entry) (r : Bool) → (r || not (option_map_or holds o false && option_map_or (is_device_due b.greatest) o false)) ≡ false
+        → (r ≡ false) × ((d : Entry) × (o ≡ Some d) × (holds d ≡ true) × (is_device_due b.greatest d ≡ true))
     by_device o true e = cc
     by_device None false e = absurd cc
     by_device (Some d) false e =
@@ -152,7 +152,7 @@ held_there entry b h = by_device (device_of entry b) (has_report b) h
 
 -- what holds of a bus that stays, and of the tick of an entry that holds the line
 pub either_held : (P : BusTicked → Type 0) (entry : ℕ) (b : BusState) → P (stays b)
-    → (has_report b ≡ false → (d : Device) → device_of entry b ≡ Some d → holds d ≡ true → P (ticks_at (Some entry) b)) → P (ticks_held entry b)
+    → (has_report b ≡ false → (d : Entry) → device_of entry b ≡ Some d → holds d ≡ true → P (ticks_at (Some entry) b)) → P (ticks_held entry b)
 either_held P entry b rests ticks =
     either_way P (has_report b || not (is_held_and_due entry b)) (stays b) (ticks_at (Some entry) b) (λ h. rests)
     (λ h. let there = held_there entry b h in ticks there.0 there.1.0 there.1.1 there.1.2)

@@ -2,7 +2,7 @@
 use Rattle.std.proofs.Common.{◌≡◌, ◌∙◌, ℕ, max, Option, Some, None, refl}
 use Rattle.std.specs.Prelude.{slice_set}
 use Rattle.std.specs.Option.{option_map_or}
-use Rattle.osdp_bus.specs.declared.device.Device.{Device}
+use Rattle.osdp_bus.specs.declared.entry.Entry.{Entry}
 use Rattle.osdp_bus.specs.declared.fault.BusFault.{BusFault}
 use Rattle.osdp_bus.specs.Buses.{BusState, device_of, has_report, holder, is_silent, seen}
 use Rattle.osdp_bus.specs.Hearing.{ends_run, ends_silent}
@@ -31,10 +31,10 @@ stays_unless : (f : Option BusFault) (old new : BusState) → Stays old new → 
 stays_unless None old new same = same
 stays_unless (Some fault) old new same = as_it_is old
 
-stays_changed : (entry : ℕ) (change : Device → Device) (b : BusState) → Stays b (changes_device entry change b)
+stays_changed : (entry : ℕ) (change : Entry → Entry) (b : BusState) → Stays b (changes_device entry change b)
 stays_changed entry change b = by_device (device_of entry b)
   where
-    by_device : (o : Option Device)
+    by_device : (o : Option Entry)
         → Stays b (option_map_or (λ d. record b { devices = record b.devices { entries = slice_set b.devices.entries entry (change d) } }) o b)
     by_device None = as_it_is b
     by_device (Some d) = record { config = refl; last = refl; greatest = refl }
@@ -50,7 +50,7 @@ stays_silent b = either_way (Stays b) (is_silent b) (ends_run b) b (λ h. run_en
 abbrev TickStays : BusState → BusTicked → Type 0
 TickStays b t = Stays b t.bus
 
-stays_with : (entry : ℕ) (o : Option Device) (b : BusState) → TickStays b (ticks_with entry o b)
+stays_with : (entry : ℕ) (o : Option Entry) (b : BusState) → TickStays b (ticks_with entry o b)
 stays_with entry None b = as_it_is b
 stays_with entry (Some d) b = record { config = refl; last = refl; greatest = refl }
 

@@ -6,9 +6,9 @@ use Rattle.osdp_frame.specs.Packet.{Packet}
 use Rattle.osdp_frame.specs.Reading.{RunItem}
 use Rattle.osdp_controller.specs.declared.report.Report.{Report}
 use Rattle.osdp_controller.proofs.Choices.{either_way}
-use Rattle.osdp_bus.specs.declared.device.Device.{Device}
+use Rattle.osdp_bus.specs.declared.entry.Entry.{Entry}
 use Rattle.osdp_bus.specs.Buses.{BusState, Devices, device_of, has_report, holder, is_silent, seen, waiting_after}
-use Rattle.osdp_bus.specs.Devices.{device_hears, device_ticks, reserved_after, reserved_told, step_of, told_of}
+use Rattle.osdp_bus.specs.Entries.{device_hears, device_ticks, reserved_after, reserved_told, step_of, told_of}
 use Rattle.osdp_bus.specs.Hearing.{after_bytes, ends_run, ends_silent, hears_bytes, hears_items, hears_with}
 use Rattle.osdp_bus.specs.Ticking.{BusTicked, bus_ticks, is_due_at, is_held_and_due, next_due, stays, ticks_at, ticks_by, ticks_free, ticks_held, ticks_on, ticks_with}
 use Rattle.osdp_bus_laws.proofs.Changing.{Sound}
@@ -71,7 +71,7 @@ unmoved i j was before same = by_test (i == j) same
     by_test true there = sym (there refl)
     by_test false there = refl
 
-pub follows_told : (ds : Devices) (i : ℕ) (d e : Device) (told : Option Report) → slice_get ds.entries i ≡ Some d
+pub follows_told : (ds : Devices) (i : ℕ) (d e : Entry) (told : Option Report) → slice_get ds.entries i ≡ Some d
     → e.reserved ≡ reserved_after told d.reserved → (is_some ds.report ≡ true → told ≡ None)
     → ReservesByReport ds (record { entries = slice_set ds.entries i e; report = waiting_after i told ds.report })
 follows_told ds i d e told at is quiet = record {
@@ -98,7 +98,7 @@ none_told (Some report) h = cc
 abbrev SoundlyReservesByReport : Devices → Devices → Type 0
 SoundlyReservesByReport first ds = Sound ds × ReservesByReport first ds
 
-follows_packet : (first : Devices) (now : ℕ) (p : Packet) (i : ℕ) (d : Device) (ds : Devices) → slice_get ds.entries i ≡ Some d → SoundlyReservesByReport first ds
+follows_packet : (first : Devices) (now : ℕ) (p : Packet) (i : ℕ) (d : Entry) (ds : Devices) → slice_get ds.entries i ≡ Some d → SoundlyReservesByReport first ds
     → SoundlyReservesByReport first (hears_with p now i (Some d) ds)
 follows_packet first now p i d ds at (sound, follows) = (
   sound_packet now p i d ds at sound,
@@ -127,7 +127,7 @@ follows_bytes (byte ∷ bytes) now b is =
 
 -- ---- ticks
 
-follows_ticks_with : (i : ℕ) (o : Option Device) (b : BusState) → device_of i b ≡ o → has_report b ≡ false
+follows_ticks_with : (i : ℕ) (o : Option Entry) (b : BusState) → device_of i b ≡ o → has_report b ≡ false
     → ReservesByReport b.devices (ticks_with i o b).bus.devices
 follows_ticks_with i None b at none = same_follows b.devices
 follows_ticks_with i (Some d) b at none =

@@ -10,9 +10,9 @@ use Rattle.osdp_controller.specs.Sessions.{frame_of}
 use Rattle.osdp_controller.specs.Ticking.{ticks}
 use Rattle.osdp_controller_laws.proofs.Stepwise.{sends_its_frame}
 use Rattle.osdp_controller_laws.proofs.Ticks.{counts_sends}
-use Rattle.osdp_bus.specs.declared.device.Device.{Device}
+use Rattle.osdp_bus.specs.declared.entry.Entry.{Entry}
 use Rattle.osdp_bus.specs.Buses.{BusState, device_of, has_report, seen, waiting_after}
-use Rattle.osdp_bus.specs.Devices.{device_ticks, first_from, holds, is_device_due, step_of}
+use Rattle.osdp_bus.specs.Entries.{device_ticks, first_from, holds, is_device_due, step_of}
 use Rattle.osdp_bus.specs.Ticking.{bus_ticks, next_due, stays, ticks_at, ticks_by, ticks_on, ticks_with}
 use Rattle.osdp_bus.proofs.Waiting.{IsAround, IsFound, around, found}
 use Rattle.osdp_bus_laws.specs.Exchanges.{own_frame}
@@ -23,7 +23,7 @@ use Rattle.osdp_bus_laws.proofs.Sound.{IsNobody, nobody, still_nobody}
 
 -- ---- the first of a list and around it
 
-least : (test : Device → Bool) (at n k : ℕ) (ds : List Device) (d : Device) → first_from at test ds ≡ Some n → slice_get ds k ≡ Some d → test d ≡ true → n ≤ at + k
+least : (test : Entry → Bool) (at n k : ℕ) (ds : List Entry) (d : Entry) → first_from at test ds ≡ Some n → slice_get ds k ≡ Some d → test d ≡ true → n ≤ at + k
 least test at n k [] d is there passes = absurd cc
 least test at n k (x ∷ ds) d is there passes = by_test (test x) refl k there is (λ m first at_m. least test (at + 1) n m ds d first at_m passes)
   where
@@ -41,7 +41,7 @@ strictly a b le differ = by_test (nat_lt a b) refl
     by_test false ge = absurd (let back = ltb-false a b ge in differ (omega arith))
 
 -- of the two parts of a list, from the place that is asked first on and up to it
-nearest : (test : Device → Bool) (first n j : ℕ) (ds : List Device) (d : Device) (o p : Option ℕ) → first_from first test (drop first ds) ≡ o
+nearest : (test : Entry → Bool) (first n j : ℕ) (ds : List Entry) (d : Entry) (o p : Option ℕ) → first_from first test (drop first ds) ≡ o
     → first_from 0 test (take first ds) ≡ p → option_or o p ≡ Some n → slice_get ds j ≡ Some d → test d ≡ true → j ≢ n → IsBefore first n j
 nearest test first n j ds d (Some m) p is other chosen there passes apart = by_side (nat_lt j first) refl
   where
@@ -129,22 +129,22 @@ no_report true report h e = refl
 no_report false report h e = absurd cc
 
 -- a device whose exchange isn't outstanding tells nothing at a tick
-tells_nothing : (now : ℕ) (d : Device) → holds d ≡ false → is_some (step_of now d).report ≡ false
+tells_nothing : (now : ℕ) (d : Entry) → holds d ≡ false → is_some (step_of now d).report ≡ false
 tells_nothing now d free = is_false (is_some (step_of now d).report) (λ h. let stands = (ticked_told now d h).0 in cc)
 
-pub begins_frame : (now : ℕ) (d : Device) → holds d ≡ false → is_device_due now d ≡ true → is_some (step_of now d).frame ≡ true
+pub begins_frame : (now : ℕ) (d : Entry) → holds d ≡ false → is_device_due now d ≡ true → is_some (step_of now d).frame ≡ true
 begins_frame now d free due =
     no_report (is_some (step_of now d).frame) (is_some (step_of now d).report) due (tells_nothing now d free)
 
-pub begins_exchange : (now : ℕ) (d : Device) → holds d ≡ false → is_device_due now d ≡ true → holds (device_ticks now d) ≡ true
+pub begins_exchange : (now : ℕ) (d : Entry) → holds d ≡ false → is_device_due now d ≡ true → holds (device_ticks now d) ≡ true
 begins_exchange now d free due = (counts_sends now d.controller.session d.controller.waiting).outstanding (begins_frame now d free due)
 
-pub set_here : (ds : List Device) (i : ℕ) (d e : Device) → slice_get ds i ≡ Some d → slice_get (slice_set ds i e) i ≡ Some e
+pub set_here : (ds : List Entry) (i : ℕ) (d e : Entry) → slice_get ds i ≡ Some d → slice_get (slice_set ds i e) i ≡ Some e
 set_here [] i d e at = absurd cc
 set_here (x ∷ ds) zero d e at = refl
 set_here (x ∷ ds) (suc i) d e at = set_here ds i d e at
 
-pub set_other : (ds : List Device) (i j : ℕ) (e : Device) → j ≢ i → slice_get (slice_set ds i e) j ≡ slice_get ds j
+pub set_other : (ds : List Entry) (i j : ℕ) (e : Entry) → j ≢ i → slice_get (slice_set ds i e) j ≡ slice_get ds j
 set_other [] i j e other = refl
 set_other (x ∷ ds) zero zero e other = absurd (other refl)
 set_other (x ∷ ds) zero (suc j) e other = refl
@@ -158,7 +158,7 @@ free_tick now b free =
     ∙ ap (λ t. if t then stays (asking now b) else ticks_at (next_due (asking now b)) (asking now b)) free.after
 
 -- what a tick sends is the frame of the exchange that is outstanding then
-pub frame_sent : (now : ℕ) (d : Device) (p : Packet) → (step_of now d).frame ≡ Some p → own_frame (device_ticks now d) ≡ Some p
+pub frame_sent : (now : ℕ) (d : Entry) (p : Packet) → (step_of now d).frame ≡ Some p → own_frame (device_ticks now d) ≡ Some p
 frame_sent now d p sent =
     let s = (ticks now d.controller.session d.controller.waiting).session in
     let own = sends_its_frame now d.controller.session d.controller.waiting p sent in
@@ -174,7 +174,7 @@ none_waits : (entry : ℕ) (told : Option Report) (waiting : Option (ℕ × Repo
 none_waits entry None waiting h none = none
 none_waits entry (Some report) waiting h none = absurd cc
 
-began_with : (entry : ℕ) (d : Device) (b : BusState) → device_of entry b ≡ Some d → holds d ≡ false → is_device_due b.greatest d ≡ true
+began_with : (entry : ℕ) (d : Entry) (b : BusState) → device_of entry b ≡ Some d → holds d ≡ false → is_device_due b.greatest d ≡ true
     → has_report b ≡ false → BeginsExchange entry b (ticks_with entry (Some d) b)
 began_with entry d b at free due none =
     let sends = some_frame (step_of b.greatest d).frame (begins_frame b.greatest d free due) in

@@ -7,19 +7,19 @@ use Rattle.osdp_controller.specs.Hearing.{comset_of}
 use Rattle.osdp_controller_laws.specs.Commands.{asked_in}
 use Rattle.osdp_msg.specs.declared.command.Command.{Command}
 use Rattle.osdp_msg.specs.declared.command_fields.Communication.{Communication}
-use Rattle.osdp_bus.specs.declared.device.Device.{Device}
+use Rattle.osdp_bus.specs.declared.entry.Entry.{Entry}
 use Rattle.osdp_bus.specs.Buses.{BusState, device_of}
-use Rattle.osdp_bus.specs.Devices.{address_of}
+use Rattle.osdp_bus.specs.Entries.{address_of}
 use Rattle.osdp_bus.specs.Machine.{retarget_refusal_at, submit_refusal_at, withdrawn_of}
 use Rattle.osdp_bus_laws.specs.Calls.{Call, Submit, Withdraw, Retarget, OnBytes, OnSilence, Tick, after_call, after_calls, arises}
 
 -- an address is that of a device, or reserved for it
-abbrev pub Names : ℕ → Device → Type 0
+abbrev pub Names : ℕ → Entry → Type 0
 Names address d = (address_of d ≡ address) ⊎ (d.reserved ≡ Some address)
 
 -- no address is that of two entries, or reserved for two, or that of one and reserved for another
 abbrev pub NoAddressOfTwo : BusState → Type 0
-NoAddressOfTwo b = (address i j : ℕ) (d e : Device) → device_of i b ≡ Some d → device_of j b ≡ Some e
+NoAddressOfTwo b = (address i j : ℕ) (d e : Entry) → device_of i b ≡ Some d → device_of j b ≡ Some e
     → Names address d → Names address e → i ≡ j
 
 -- where COMSETs among commands ask to go
@@ -28,16 +28,16 @@ comsets_in [] = []
 comsets_in (command ∷ commands) = option_to_list (comset_of command) ++ comsets_in commands
 
 -- the COMSETs of a device that are on their way: the outstanding one, and those that wait
-abbrev pub comsets_of : Device → List Communication
+abbrev pub comsets_of : Entry → List Communication
 comsets_of d = comsets_in (option_to_list (asked_in d.controller.session.state) ++ d.controller.waiting)
 
 -- there is one at most, and its address is reserved
-abbrev pub ReservesItsComset : Device → Type 0
+abbrev pub ReservesItsComset : Entry → Type 0
 ReservesItsComset d =
     (comsets_of d ≡ []) ⊎ ((asked : Communication) × (comsets_of d ≡ asked ∷ []) × (d.reserved ≡ Some asked.address))
 
 abbrev pub ReserveTheirComsets : BusState → Type 0
-ReserveTheirComsets b = (entry : ℕ) (d : Device) → device_of entry b ≡ Some d → ReservesItsComset d
+ReserveTheirComsets b = (entry : ℕ) (d : Entry) → device_of entry b ≡ Some d → ReservesItsComset d
 
 -- the address that is reserved for an entry
 abbrev pub reserved_at : ℕ → BusState → Option ℕ
@@ -64,7 +64,7 @@ abbrev pub is_some_comset : Option Command → Bool
 is_some_comset None = false
 is_some_comset (Some command) = is_comset command
 
-abbrev pub withdraws_comset : Option Device → Bool
+abbrev pub withdraws_comset : Option Entry → Bool
 withdraws_comset None = false
 withdraws_comset (Some d) = is_some_comset (withdrawn_of d)
 

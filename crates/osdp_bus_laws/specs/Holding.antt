@@ -5,9 +5,9 @@ use Rattle.osdp_controller.specs.declared.report.LostCause.TheVariants.{NoReply}
 use Rattle.osdp_controller.specs.declared.report.Report.TheVariants.{Lost}
 use Rattle.osdp_controller.specs.States.{is_closed}
 use Rattle.osdp_controller_laws.specs.Commands.{asked_in}
-use Rattle.osdp_bus.specs.declared.device.Device.{Device}
+use Rattle.osdp_bus.specs.declared.entry.Entry.{Entry}
 use Rattle.osdp_bus.specs.Buses.{BusState, device_of, has_report, holder, seen}
-use Rattle.osdp_bus.specs.Devices.{holds, is_device_due}
+use Rattle.osdp_bus.specs.Entries.{holds, is_device_due}
 use Rattle.osdp_bus.specs.Ticking.{BusTicked, bus_ticks, stays}
 use Rattle.osdp_bus_laws.specs.Exchanges.{IsOutstandingAt}
 use Rattle.osdp_bus_laws.specs.Exchanges.{own_frame}
@@ -20,13 +20,13 @@ pub record HoldsAt (now entry : ℕ) (b : BusState) : Type 0 where
 
 -- the exchange of an entry still stands, and it is still due
 pub record IsStillDue (entry : ℕ) (b : BusState) : Type 0 where
-  pub device : Device
+  pub device : Entry
   pub there : device_of entry b ≡ Some device
   pub outstanding : holds device ≡ true
   pub due : is_device_due b.greatest device ≡ true
 
 -- the burst of its exchange goes out, the exchange stands on, and nothing is told
-pub record SendsItsOwn (entry : ℕ) (d : Device) (t : BusTicked) : Type 0 where
+pub record SendsItsOwn (entry : ℕ) (d : Entry) (t : BusTicked) : Type 0 where
   pub frame : Packet
   pub sent : t.sent ≡ Some frame
   pub own : own_frame d ≡ Some frame
@@ -35,16 +35,16 @@ pub record SendsItsOwn (entry : ℕ) (d : Device) (t : BusTicked) : Type 0 where
 
 -- or nothing goes out: its session has ended without a reply, this waits to be taken with the command that was outstanding,
 -- and the line is free
-pub record TellsItsEnd (entry : ℕ) (d : Device) (t : BusTicked) : Type 0 where
+pub record TellsItsEnd (entry : ℕ) (d : Entry) (t : BusTicked) : Type 0 where
   pub nothing : t.sent ≡ None
   pub told : t.bus.devices.report ≡ Some (entry, Lost NoReply (asked_in d.controller.session.state))
-  pub after : Device
+  pub after : Entry
   pub there : device_of entry t.bus ≡ Some after
   pub closed : is_closed after.controller.session.state ≡ true
   pub free : holder t.bus ≡ None
 
 -- the tick is the holder's, and no other device changes in it
-pub record TicksItsHolder (now entry : ℕ) (d : Device) (b : BusState) : Type 0 where
+pub record TicksItsHolder (now entry : ℕ) (d : Entry) (b : BusState) : Type 0 where
   pub own : SendsItsOwn entry d (bus_ticks now b) ⊎ TellsItsEnd entry d (bus_ticks now b)
   pub others : (other : ℕ) → other ≢ entry → device_of other (bus_ticks now b).bus ≡ device_of other (asking now b)
 

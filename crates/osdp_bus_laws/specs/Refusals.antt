@@ -5,7 +5,7 @@ use Rattle.osdp_controller.specs.States.{is_closed}
 use Rattle.osdp_msg.specs.declared.command.Command.{Command}
 use Rattle.osdp_msg.specs.declared.command.Command.TheVariants.{Poll, Comset}
 use Rattle.osdp_msg.specs.declared.command_fields.Communication.{Communication}
-use Rattle.osdp_bus.specs.declared.device.Device.{Device}
+use Rattle.osdp_bus.specs.declared.entry.Entry.{Entry}
 use Rattle.osdp_bus.specs.declared.fault.BusFault.{BusFault}
 use Rattle.osdp_bus.specs.declared.fault.BusFault.TheVariants.{TooMany, AddressTaken, NoEntry, OutOfRange, AddressOutOfRange, Full, PollSubmitted, NotClosed}
 use Rattle.osdp_bus.specs.Buses.{BusState, device_of}
@@ -25,8 +25,8 @@ Accepts refusal = refusal ≡ None
 abbrev pub IsNoEntry : ℕ → BusState → Type 0
 IsNoEntry entry b = length b.devices.entries ≤ entry
 
-abbrev pub OfEntry : ℕ → (Device → Type 0) → BusState → Type 0
-OfEntry entry P b = (d : Device) × (device_of entry b ≡ Some d) × P d
+abbrev pub OfEntry : ℕ → (Entry → Type 0) → BusState → Type 0
+OfEntry entry P b = (d : Entry) × (device_of entry b ≡ Some d) × P d
 
 -- its session has begun
 abbrev pub IsOpen : ℕ → BusState → Type 0

@@ -5,9 +5,9 @@ use Rattle.osdp_frame.specs.Packet.{Packet}
 use Rattle.osdp_frame.specs.Reading.{RunItem, PacketItem, SkippedItem, RefusedItem}
 use Rattle.osdp_controller.specs.declared.report.Report.{Report}
 use Rattle.osdp_bus.specs.declared.config.BusConfig.{BusConfig}
-use Rattle.osdp_bus.specs.declared.device.Device.{Device}
+use Rattle.osdp_bus.specs.declared.entry.Entry.{Entry}
 use Rattle.osdp_bus.specs.Buses.{BusState, Devices, device_of, has_report, holder, is_silent, new_bus, seen}
-use Rattle.osdp_bus.specs.Devices.{first_from, is_at, step_of, told_of}
+use Rattle.osdp_bus.specs.Entries.{first_from, is_at, step_of, told_of}
 use Rattle.osdp_bus.specs.Hearing.{ends_run, ends_silent, hears_item}
 use Rattle.osdp_bus.specs.Settings.{IsBusConfig}
 use Rattle.osdp_bus.specs.Ticking.{asks_free, asks_holder, is_due_at}
@@ -19,7 +19,7 @@ told_at entry None = []
 told_at entry (Some report) = (entry, report) ∷ []
 
 -- of a packet: the controller of its address
-abbrev pub told_with : Packet → ℕ → ℕ → Option Device → List (ℕ × Report)
+abbrev pub told_with : Packet → ℕ → ℕ → Option Entry → List (ℕ × Report)
 told_with p now entry None = []
 told_with p now entry (Some d) = told_at entry (told_of p now d)
 
@@ -51,7 +51,7 @@ told_by_bytes (byte ∷ bytes) b =
     told_by_silence b ++ told_by_items (ends_silent b).greatest (items false ((ends_silent b).held ++ (byte ∷ bytes))) (ends_silent b).devices
 
 -- of a tick: the device that ticks
-abbrev pub told_by_device : ℕ → Option Device → BusState → List (ℕ × Report)
+abbrev pub told_by_device : ℕ → Option Entry → BusState → List (ℕ × Report)
 told_by_device entry None b = []
 told_by_device entry (Some d) b = told_at entry (step_of b.greatest d).report
 

@@ -4,9 +4,9 @@ use Rattle.std.specs.Option.{option_or}
 use Rattle.osdp_frame.specs.Packet.{Packet}
 use Rattle.osdp_frame.specs.Spelling.{Spells}
 use Rattle.osdp_bus.specs.declared.config.BusConfig.{BusConfig}
-use Rattle.osdp_bus.specs.declared.device.Device.{Device}
+use Rattle.osdp_bus.specs.declared.entry.Entry.{Entry}
 use Rattle.osdp_bus.specs.Buses.{BusState, device_of, holder, new_bus}
-use Rattle.osdp_bus.specs.Devices.{holds}
+use Rattle.osdp_bus.specs.Entries.{holds}
 use Rattle.osdp_bus.specs.Settings.{IsBusConfig}
 use Rattle.osdp_bus.specs.Ticking.{bus_ticks}
 use Rattle.osdp_bus_laws.specs.Calls.{Call, Tick, after_call, after_calls}
@@ -31,7 +31,7 @@ pub record IsTheLastAgain (p : Packet) (last : Option Packet) : Type 0 where
 -- whatever was called of a new bus: the frame of an exchange that holds the line is the one that went out last on it; and what
 -- goes out at a tick while an entry holds the line is this one again
 pub record SendsTheSame (config : BusConfig) (calls : List Call) : Type 0 where
-  pub last : (entry : ℕ) (d : Device) → device_of entry (after_calls calls (new_bus config)) ≡ Some d → holds d ≡ true
+  pub last : (entry : ℕ) (d : Entry) → device_of entry (after_calls calls (new_bus config)) ≡ Some d → holds d ≡ true
       → (p : Packet) × (own_frame d ≡ Some p) × (last_sent calls (new_bus config) None ≡ Some p)
   pub again : (now entry : ℕ) (p : Packet) → holder (judged now (after_calls calls (new_bus config))) ≡ Some entry
       → (bus_ticks now (after_calls calls (new_bus config))).sent ≡ Some p → IsTheLastAgain p (last_sent calls (new_bus config) None)

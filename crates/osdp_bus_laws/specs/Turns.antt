@@ -1,9 +1,9 @@
 -- Whose turn it is.
 use Rattle.std.specs.Prelude.{◌≡◌, ◌≢◌, ◌⊎◌, ℕ, ◌+◌, ◌<◌, ◌≤◌, true, false, Some, None}
 use Rattle.osdp_frame.specs.Packet.{Packet}
-use Rattle.osdp_bus.specs.declared.device.Device.{Device}
+use Rattle.osdp_bus.specs.declared.entry.Entry.{Entry}
 use Rattle.osdp_bus.specs.Buses.{BusState, device_of, has_report, holder, seen}
-use Rattle.osdp_bus.specs.Devices.{holds, is_device_due}
+use Rattle.osdp_bus.specs.Entries.{holds, is_device_due}
 use Rattle.osdp_bus.specs.Hearing.{ends_run, ends_silent}
 use Rattle.osdp_bus.specs.Ticking.{BusTicked, bus_ticks, stays}
 use Rattle.osdp_bus_laws.specs.Exchanges.{own_frame}
@@ -23,7 +23,7 @@ pub record IsFree (now : ℕ) (b : BusState) : Type 0 where
   pub after : has_report (asking now b) ≡ false
 
 pub record IsDueEntry (entry : ℕ) (b : BusState) : Type 0 where
-  pub device : Device
+  pub device : Entry
   pub there : device_of entry b ≡ Some device
   pub due : is_device_due b.greatest device ≡ true
 
@@ -39,7 +39,7 @@ pub record IsNext (entry : ℕ) (b : BusState) : Type 0 where
 -- what an entry's exchange begins with: its own frame goes out, all other devices stay as they are, the turn is that of the entry after it,
 -- and no report waits
 pub record BeginsExchange (entry : ℕ) (b : BusState) (ticked : BusTicked) : Type 0 where
-  pub device : Device
+  pub device : Entry
   pub there : device_of entry ticked.bus ≡ Some device
   pub outstanding : holds device ≡ true
   pub frame : Packet

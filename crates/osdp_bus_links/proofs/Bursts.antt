@@ -10,8 +10,8 @@ use Rattle.osdp_frame.specs.Reading.{RunItem, PacketItem, SkippedItem, RefusedIt
 use Rattle.osdp_controller.specs.Machine as controllers
 use Rattle.osdp_controller_laws.proofs.Closed.{silent_frame}
 use Rattle.osdp_bus.specs.Buses.{BusState, Devices, seen, waiting_after}
-use Rattle.osdp_bus.specs.Devices as devices
-use Rattle.osdp_bus.specs.Devices.{first_from, is_at}
+use Rattle.osdp_bus.specs.Entries as devices
+use Rattle.osdp_bus.specs.Entries.{first_from, is_at}
 use Rattle.osdp_bus.specs.Hearing.{after_silence, hears_at, hears_bytes, hears_items, hears_packet, hears_with}
 use Rattle.osdp_bus.proofs.Waiting.{nothing_silent}
 use Rattle.osdp_bus.proofs.Runs.{hears_items-append}

@@ -9,11 +9,11 @@ use Rattle.osdp_controller.specs.Machine as controllers
 use Rattle.osdp_controller.specs.declared.fault.ControllerFault.{ControllerFault}
 use Rattle.osdp_reader.specs.declared.handler.Answer.{Answer}
 use Rattle.osdp_bus.specs.Buses.{BusState, seen}
-use Rattle.osdp_bus.specs.Devices.{is_taken_beside}
+use Rattle.osdp_bus.specs.Entries.{is_taken_beside}
 use Rattle.osdp_bus.specs.Machine as bus
 use Rattle.osdp_bus.specs.Machine.{after_begin_at, after_submit_at, begin_refusal_at, begin_refusal_of, bus_fault, submit_refusal_at, submit_refusal_of}
 use Rattle.osdp_bus.specs.declared.fault.BusFault.TheVariants.{AddressTaken}
-use Rattle.osdp_bus.specs.declared.device.Device.{Device}
+use Rattle.osdp_bus.specs.declared.entry.Entry.{Entry}
 use Rattle.osdp_link_laws.specs.Link as link
 use Rattle.osdp_shared_line.specs.Line as line
 use Rattle.osdp_shared_line.specs.Line.{Net, Reopen, Site, Submit, after_net, asked_for, changed, keeping, left_by, link_of, reserved_unless, site_at, submits}
@@ -39,7 +39,7 @@ module _ {H : Type 0} where
   nobody b ss k h is = ap (λ ds. slice_get ds k) h.entries ∙ get_none k ss is
 
   -- the device of one entry changes as its site does
-  one_changed : (b : BusState) (ss : List (Site H)) (k : ℕ) (s t : Site H) (change : Device → Device) → IsBusOf b ss → site_at k ss ≡ Some s
+  one_changed : (b : BusState) (ss : List (Site H)) (k : ℕ) (s t : Site H) (change : Entry → Entry) → IsBusOf b ss → site_at k ss ≡ Some s
       → change (device_of s) ≡ device_of t → IsBusOf (bus.changes_device k change b) (changed k t ss)
   one_changed b ss k s t change h is same =
       subst (λ o. IsBusOf (changes o) (changed k t ss)) (sym (there b ss k s h is)) (record {
@@ -49,7 +49,7 @@ module _ {H : Type 0} where
         report = h.report;
       })
     where
-      changes : Option Device → BusState
+      changes : Option Entry → BusState
       changes o = option_map_or (λ d. record b {
         devices = record b.devices { entries = slice_set b.devices.entries k (change d) };
       }) o b

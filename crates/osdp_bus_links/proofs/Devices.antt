@@ -7,8 +7,8 @@ use Rattle.osdp_msg.specs.declared.command_fields.Communication.{Communication}
 use Rattle.osdp_controller.specs.declared.report.Report.{Report}
 use Rattle.osdp_controller.specs.declared.report.Report.TheVariants as report
 use Rattle.osdp_bus.specs.Buses.{BusState}
-use Rattle.osdp_bus.specs.Devices as devices
-use Rattle.osdp_bus.specs.Devices.{freed_with, reserved_after, reserved_for}
+use Rattle.osdp_bus.specs.Entries as devices
+use Rattle.osdp_bus.specs.Entries.{freed_with, reserved_after, reserved_for}
 use Rattle.osdp_shared_line.specs.Line as line
 use Rattle.osdp_shared_line.specs.Line.{Site, asked_for, changed, freed_by, freed_for, site_at}
 use Rattle.osdp_bus_links.specs.Links.{IsBusOf, device_of}

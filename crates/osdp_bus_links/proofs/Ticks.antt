@@ -12,7 +12,7 @@ use Rattle.osdp_controller.specs.Ticking as controller
 use Rattle.osdp_controller_laws.proofs.Closed.{silent_tick}
 use Rattle.osdp_reader.specs.declared.handler.Answer.{Answer}
 use Rattle.osdp_bus.specs.Buses.{BusState, has_report, holder, seen, waiting_after}
-use Rattle.osdp_bus.specs.Devices as devices
+use Rattle.osdp_bus.specs.Entries as devices
 use Rattle.osdp_bus.specs.Hearing.{ends_run, ends_silent}
 use Rattle.osdp_bus.specs.Machine.{after_next_report}
 use Rattle.osdp_bus.specs.Ticking.{BusTicked, bus_ticks, is_due_at, is_held_and_due, next_due, stays, ticks_at, ticks_by, ticks_free, ticks_held, ticks_on, ticks_with}

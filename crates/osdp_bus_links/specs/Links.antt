@@ -12,7 +12,7 @@ use Rattle.osdp_bus.specs.Buses.{BusState, holder, seen}
 use Rattle.osdp_bus.specs.Hearing.{after_bytes, after_silence}
 use Rattle.osdp_bus.specs.Machine.{after_begin_at, after_next_report, after_submit_at, begin_refusal_at, submit_refusal_at}
 use Rattle.osdp_bus.specs.Ticking.{asks_free, asks_holder, bus_ticks, is_due_at}
-use Rattle.osdp_bus.specs.declared.device.Device.{Device}
+use Rattle.osdp_bus.specs.declared.entry.Entry.{Entry}
 use Rattle.osdp_bus.specs.declared.fault.BusFault.{BusFault}
 use Rattle.osdp_link_laws.specs.Link.{after_report}
 use Rattle.osdp_link_laws.specs.Peers.{IsPlainlySaid}
@@ -57,7 +57,7 @@ module _ {H : Type 0} where
   abbrev pub tick_moves : ℕ → BusState → List (NetMove H)
   tick_moves now b = one_ticks (who_ticks now b) (max b.greatest now)
 
-  abbrev pub device_of : Site H → Device
+  abbrev pub device_of : Site H → Entry
   device_of s = record { controller = s.controller; reserved = s.reserved }
 
   -- the devices of the bus are the controllers of these sites; no bytes are held, and no report waits

@@ -14,13 +14,13 @@ use Rattle.osdp_controller_laws.specs.Calls.{IsInRange, StaysInRange, longest_wa
 use Rattle.osdp_controller_laws.specs.Runs.{Begin, Hear, Tick}
 use Rattle.osdp_reader.specs.declared.handler.Answer.{Answer}
 use Rattle.osdp_bus.specs.Buses.{BusState, Devices, device_of, has_report, holder, is_silent, seen}
-use Rattle.osdp_bus.specs.Devices.{device_hears, device_ticks, holds}
+use Rattle.osdp_bus.specs.Entries.{device_hears, device_ticks, holds}
 use Rattle.osdp_bus.specs.Hearing.{after_bytes, ends_run, ends_silent, hears_bytes, hears_items}
 use Rattle.osdp_bus.specs.Machine.{after_next_report, after_submit_at, device_submits, submit_refusal_at}
 use Rattle.osdp_bus.specs.Settings.{controller_config}
 use Rattle.osdp_bus.specs.Ticking.{BusTicked, bus_ticks, is_due_at, next_due, stays, ticks_at, ticks_by, ticks_free, ticks_held, ticks_on, ticks_with}
 use Rattle.osdp_bus.specs.declared.config.BusConfig.{BusConfig}
-use Rattle.osdp_bus.specs.declared.device.Device.{Device}
+use Rattle.osdp_bus.specs.declared.entry.Entry.{Entry}
 use Rattle.osdp_bus.specs.declared.fault.BusFault.{BusFault}
 use Rattle.osdp_bus_laws.proofs.Hearing.{items_keep}
 use Rattle.osdp_bus_laws.proofs.Places.{IsAt, replaced}
@@ -40,17 +40,17 @@ use Rattle.osdp_bus_progress.proofs.Unmoved.{heard_bus, heard_clock, told_bus, t
 -- ---- devices
 
 -- at each place
-abbrev pub AllAre : (Device → Type 0) → List Device → Type 0
-AllAre P ds = (i : ℕ) (d : Device) → slice_get ds i ≡ Some d → P d
+abbrev pub AllAre : (Entry → Type 0) → List Entry → Type 0
+AllAre P ds = (i : ℕ) (d : Entry) → slice_get ds i ≡ Some d → P d
 
-set_all : (P : Device → Type 0) (i : ℕ) (e : Device) (ds : List Device) → AllAre P ds → P e → AllAre P (slice_set ds i e)
+set_all : (P : Entry → Type 0) (i : ℕ) (e : Entry) (ds : List Entry) → AllAre P ds → P e → AllAre P (slice_set ds i e)
 set_all P i e ds all is j f at = by_place (replaced ds i e j f at)
   where
     by_place : IsAt ds i e j f → P f
     by_place (inl (here, same)) = subst P (sym same) is
     by_place (inr (other, was)) = all j f was
 
-all_items : (P : Device → Type 0) (now : ℕ) → ((p : Packet) (d : Device) → P d → P (device_hears p now d))
+all_items : (P : Entry → Type 0) (now : ℕ) → ((p : Packet) (d : Entry) → P d → P (device_hears p now d))
     → (parts : List RunItem) (ds : Devices) → AllAre P ds.entries → AllAre P (hears_items now parts ds).entries
 all_items P now hears =
     items_keep now (λ (ds : Devices). AllAre P ds.entries) (λ p i d ds at all. set_all P i (device_hears p now d) ds.entries all (hears p d (all i d at)))
@@ -58,13 +58,13 @@ all_items P now hears =
 -- ---- a bus at a moment
 
 -- no moment lies after it, no wait is longer than this one, and the controller is in its ranges
-pub record DeviceAt (wait clock : ℕ) (d : Device) : Type 0 where
+pub record DeviceAt (wait clock : ℕ) (d : Entry) : Type 0 where
   pub time : InTime clock wait d.controller.session
   pub range : IsInRange d.controller.session
 
 -- one exchange at most is outstanding
 abbrev pub OneHolds : Devices → Type 0
-OneHolds ds = (i j : ℕ) (d e : Device) → slice_get ds.entries i ≡ Some d → slice_get ds.entries j ≡ Some e → holds d ≡ true → holds e ≡ true → i ≡ j
+OneHolds ds = (i j : ℕ) (d e : Entry) → slice_get ds.entries i ≡ Some d → slice_get ds.entries j ≡ Some e → holds d ≡ true → holds e ≡ true → i ≡ j
 
 pub record BusAt (wait clock : ℕ) (b : BusState) : Type 0 where
   pub fits : clock ≤ last_moment
@@ -80,7 +80,7 @@ still_one ds es were one i j d e at there h k = by_before (were i d at h) (were 
     by_before (f, was, stands) (g, stood, too) = one i j f g was stood stands too
 
 module _ (ranges : StaysInRange) (wait clock : ℕ) where
-  hears_at_moment : (now : ℕ) → now ≤ clock → (p : Packet) (d : Device) → DeviceAt wait clock d → DeviceAt wait clock (device_hears p now d)
+  hears_at_moment : (now : ℕ) → now ≤ clock → (p : Packet) (d : Entry) → DeviceAt wait clock d → DeviceAt wait clock (device_hears p now d)
   hears_at_moment now before p d is =
       let time = is.time in
       record {
@@ -134,7 +134,7 @@ module _ (ranges : StaysInRange) (wait clock : ℕ) where
   abbrev TickAt : BusTicked → Type 0
   TickAt t = BusAt wait clock t.bus
 
-  ticks_at_moment : (now : ℕ) (d : Device) → now ≤ clock → DeviceAt wait clock d → DeviceAt wait clock (device_ticks now d)
+  ticks_at_moment : (now : ℕ) (d : Entry) → now ≤ clock → DeviceAt wait clock d → DeviceAt wait clock (device_ticks now d)
   ticks_at_moment now d before is =
       let s = d.controller.session in
       let time = is.time in
@@ -145,19 +145,19 @@ module _ (ranges : StaysInRange) (wait clock : ℕ) where
 
   -- nobody else holds the line
   abbrev Alone : ℕ → Devices → Type 0
-  Alone i ds = (j : ℕ) (f : Device) → slice_get ds.entries j ≡ Some f → holds f ≡ true → j ≡ i
+  Alone i ds = (j : ℕ) (f : Entry) → slice_get ds.entries j ≡ Some f → holds f ≡ true → j ≡ i
 
-  one_set : (i : ℕ) (e : Device) (ds : Devices) (more : Devices) → more.entries ≡ slice_set ds.entries i e → Alone i ds → OneHolds more
+  one_set : (i : ℕ) (e : Entry) (ds : Devices) (more : Devices) → more.entries ≡ slice_set ds.entries i e → Alone i ds → OneHolds more
   one_set i e ds more is alone j k f g at there h too = here j f at h ∙ sym (here k g there too)
     where
-      here : (j : ℕ) (f : Device) → slice_get more.entries j ≡ Some f → holds f ≡ true → j ≡ i
+      here : (j : ℕ) (f : Entry) → slice_get more.entries j ≡ Some f → holds f ≡ true → j ≡ i
       here j f at h = by_place (replaced ds.entries i e j f (sym (ap (λ l. slice_get l j) is) ∙ at))
         where
           by_place : IsAt ds.entries i e j f → j ≡ i
           by_place (inl (there, same)) = there
           by_place (inr (other, was)) = alone j f was h
 
-  with_at : (i : ℕ) (o : Option Device) (b : BusState) → device_of i b ≡ o → Alone i b.devices → BusAt wait clock b → TickAt (ticks_with i o b)
+  with_at : (i : ℕ) (o : Option Entry) (b : BusState) → device_of i b ≡ o → Alone i b.devices → BusAt wait clock b → TickAt (ticks_with i o b)
   with_at i None b at alone is = is
   with_at i (Some d) b at alone is =
       let next = (ticks_with i (Some d) b).bus.devices in
@@ -197,7 +197,7 @@ module _ (ranges : StaysInRange) (wait clock : ℕ) where
 
   -- ---- a command
 
-  submits_with : (i : ℕ) (command : Command) (o : Option Device) (b : BusState) → device_of i b ≡ o → BusAt wait clock b
+  submits_with : (i : ℕ) (command : Command) (o : Option Entry) (b : BusState) → device_of i b ≡ o → BusAt wait clock b
       → BusAt wait clock (option_map_or (λ d. record b { devices = record b.devices { entries = slice_set b.devices.entries i (device_submits command d) } }) o b)
   submits_with i command None b at is = is
   submits_with i command (Some d) b at is = record {
@@ -209,7 +209,7 @@ module _ (ranges : StaysInRange) (wait clock : ℕ) where
         (λ j f there h. by_place j f h (replaced b.devices.entries i (device_submits command d) j f there)) is.one;
   }
     where
-      by_place : (j : ℕ) (f : Device) → holds f ≡ true → IsAt b.devices.entries i (device_submits command d) j f → HeldBefore j b.devices
+      by_place : (j : ℕ) (f : Entry) → holds f ≡ true → IsAt b.devices.entries i (device_submits command d) j f → HeldBefore j b.devices
       by_place j f h (inl (here, same)) = (d, ap (slice_get b.devices.entries) here ∙ at, sym (ap holds same) ∙ h)
       by_place j f h (inr (other, was)) = (f, was, h)
 
@@ -285,7 +285,7 @@ module _ {H : Type 0} (answer_of : H → Command → Answer) (after : H → Comm
         range = ranges.later (new_machine machine config.room.messages config.room.bytes) (Begin 0 ∷ []) (ranges.new machine config.room.messages config.room.bytes);
       }
 
-  mapped : (config : BusConfig) (readers : List (Given H)) (P : Device → Type 0) → ((given : Given H) → P (begun_device config given))
+  mapped : (config : BusConfig) (readers : List (Given H)) (P : Entry → Type 0) → ((given : Given H) → P (begun_device config given))
       → AllAre P (map (begun_device config) readers)
   mapped config [] P each i d at = absurd cc
   mapped config (given ∷ readers) P each zero d at = let same : begun_device config given ≡ d = cc in subst P same (each given)

@@ -6,7 +6,7 @@ use Rattle.osdp_controller.specs.Machine.{is_due}
 use Rattle.osdp_controller.specs.declared.state.State.TheVariants.{Idle}
 use Rattle.osdp_reader.specs.declared.handler.Answer.{Answer}
 use Rattle.osdp_bus.specs.declared.config.BusConfig.{BusConfig}
-use Rattle.osdp_bus.specs.declared.device.Device.{Device}
+use Rattle.osdp_bus.specs.declared.entry.Entry.{Entry}
 use Rattle.osdp_link_laws.specs.Headline.{MovesFit}
 use Rattle.osdp_link_laws.specs.Link as link
 use Rattle.osdp_link_laws.specs.Link.{Link}
@@ -229,7 +229,7 @@ module _ {H : Type 0} (answer_of : H → Command → Answer) (after : H → Comm
         let t = is.rest.there in
         let same : device_of t.0 ≡ d =
         some_same (device_of t.0) d (sym (entry_there answer_of after laws s (sites_at config readers steps wait k m) is.rest.follows k t.0 t.1) ∙ there) in
-        subst (λ (e : Device). (due : ℕ) × (e.controller.session.state ≡ Idle due)) same (is.idles r few own t.0 t.1)
+        subst (λ (e : Entry). (due : ℕ) × (e.controller.session.state ≡ Idle due)) same (is.idles r few own t.0 t.1)
 
     pub each_round_brings_one_more : EachRoundBringsOneMore answer_of after
     each_round_brings_one_more config readers steps r m wait k old new are few had own at lasts =

@@ -12,10 +12,10 @@ use Rattle.osdp_controller.specs.declared.state.State.TheVariants.{Closed, Quiet
 use Rattle.osdp_controller_laws.specs.Calls.{ComesDue, StaysInRange, longest_wait}
 use Rattle.osdp_reader.specs.declared.handler.Answer.{Answer}
 use Rattle.osdp_bus.specs.Buses.{BusState, holder, seen}
-use Rattle.osdp_bus.specs.Devices.{holds}
+use Rattle.osdp_bus.specs.Entries.{holds}
 use Rattle.osdp_bus.specs.Machine.{after_next_report}
 use Rattle.osdp_bus.specs.Ticking.{BusTicked, bus_ticks, ticks_with}
-use Rattle.osdp_bus.specs.declared.device.Device.{Device}
+use Rattle.osdp_bus.specs.declared.entry.Entry.{Entry}
 use Rattle.osdp_bus_laws.proofs.Exchanging.{has_exchange}
 use Rattle.osdp_bus_laws.specs.Turns.{IsBefore}
 use Rattle.osdp_bus_laws.proofs.Places.{is_false as unless_true}
@@ -54,7 +54,7 @@ use Rattle.osdp_bus_progress.proofs.Unmoved.{first_from_bus, heard_bus, heard_cl
 
 -- ---- who holds the line
 
-nobody_holds : (b : BusState) → ((i : ℕ) (d : Device) → slice_get b.devices.entries i ≡ Some d → holds d ≡ false) → holder b ≡ None
+nobody_holds : (b : BusState) → ((i : ℕ) (d : Entry) → slice_get b.devices.entries i ≡ Some d → holds d ≡ false) → holder b ≡ None
 nobody_holds b free = by_holder (holder b) refl
   where
     by_holder : (o : Option ℕ) → holder b ≡ o → holder b ≡ None
@@ -124,7 +124,7 @@ module _ {H : Type 0} (answer_of : H → Command → Answer) (after : H → Comm
     pub turn : IsTurn entry s.bus
 
   -- the device of an entry is that of a site
-  site_there : (s : LineState H) (n : Net H) → FollowsSites s n → (i : ℕ) (d : Device) → slice_get s.bus.devices.entries i ≡ Some d
+  site_there : (s : LineState H) (n : Net H) → FollowsSites s n → (i : ℕ) (d : Entry) → slice_get s.bus.devices.entries i ≡ Some d
       → (t : line.Site H) × (site_at i n.sites ≡ Some t) × (d ≡ device_of t)
   site_there s n h i d at = by_site (site_at i n.sites) refl
     where
@@ -196,7 +196,7 @@ module _ {H : Type 0} (answer_of : H → Command → Answer) (after : H → Comm
       due_all i d at unended =
           let t = site_there s n h.follows i d at in
           let is = h.in_time.devices i d at in
-          subst (λ (e : Device). is_due (max s.bus.greatest now) e.controller ≡ true) (sym t.2)
+          subst (λ (e : Entry). is_due (max s.bus.greatest now) e.controller ≡ true) (sym t.2)
           (comes (max s.bus.greatest now) t.0.controller (subst (DeviceAt wait s.clock) t.2 is).range
           (subst Lasts t.2 unended)
           (subst (λ g. later_by (longest_wait t.0.controller.session.config) t.0.controller.session ≤ g) (sym seen_now) (late_all i t.0 t.1)))
@@ -221,7 +221,7 @@ module _ {H : Type 0} (answer_of : H → Command → Answer) (after : H → Comm
       its_due : is_due now its_site.0.controller ≡ true
       its_due =
           subst (λ g. is_due g its_site.0.controller ≡ true) seen_now
-          (subst (λ (d : Device). is_due (max s.bus.greatest now) d.controller ≡ true) its_site.2 ticks_one.turn.due)
+          (subst (λ (d : Entry). is_due (max s.bus.greatest now) d.controller ≡ true) its_site.2 ticks_one.turn.due)
 
       at_below : at < count
       at_below = let below = site_within at its_site.0 n.sites its_site.1 in let same = h.count_is in omega (arith, below, same)
@@ -352,7 +352,7 @@ module _ {H : Type 0} (answer_of : H → Command → Answer) (after : H → Comm
           subst (IsLed answer_of after) (sym was.2)
           (led_on answer_of after (cond (eqb at i) (progress.round now) []) (view i was.0 n) (h.led i was.0 was.1) (round i was.0 was.1).fits)
 
-      free_after : (i : ℕ) (d : Device) → slice_get s3.bus.devices.entries i ≡ Some d → holds d ≡ false
+      free_after : (i : ℕ) (d : Entry) → slice_get s3.bus.devices.entries i ≡ Some d → holds d ≡ false
       free_after i d there = by_site (site_there s3 (round_net count at now n) follows3 i d there)
         where
           by_site : ((t : line.Site H) × (site_at i (round_net count at now n).sites ≡ Some t) × (d ≡ device_of t)) → holds d ≡ false

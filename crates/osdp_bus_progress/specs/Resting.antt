@@ -7,7 +7,7 @@ use Rattle.osdp_reader.specs.declared.handler.Answer.{Answer}
 use Rattle.osdp_bus.specs.Buses.{holder}
 use Rattle.osdp_bus.specs.Settings.{controller_config}
 use Rattle.osdp_bus.specs.declared.config.BusConfig.{BusConfig}
-use Rattle.osdp_bus.specs.declared.device.Device.{Device}
+use Rattle.osdp_bus.specs.declared.entry.Entry.{Entry}
 use Rattle.osdp_bus_links.specs.Links.{who_ticks}
 use Rattle.osdp_sim.specs.Account.{Account}
 use Rattle.osdp_sim.specs.Rounds.{rounds}
@@ -32,7 +32,7 @@ module _ {H : Type 0} where
 
   -- its controller waits for no answer
   abbrev pub IsIdle : ℕ → LineState H → Type 0
-  IsIdle k s = (d : Device) → slice_get s.bus.devices.entries k ≡ Some d → (due : ℕ) × (d.controller.session.state ≡ Idle due)
+  IsIdle k s = (d : Entry) → slice_get s.bus.devices.entries k ≡ Some d → (due : ℕ) × (d.controller.session.state ≡ Idle due)
 
   -- the account of this reader is there, and its session has not ended
   pub record HasNotEnded (k : ℕ) (a : Account) (s : LineState H) : Type 0 where

@@ -8,10 +8,10 @@ use Rattle.osdp_controller.specs.Sessions.{seen as seen_by}
 use Rattle.osdp_controller.specs.States.{is_idle}
 use Rattle.osdp_time_laws.proofs.Duties.{until_of}
 use Rattle.osdp_time_laws.proofs.Instances.{reached_in}
-use Rattle.osdp_bus.specs.declared.device.Device.{Device}
+use Rattle.osdp_bus.specs.declared.entry.Entry.{Entry}
 use Rattle.osdp_bus.specs.Buses.{BusState, device_of, has_report, holder}
 use Rattle.osdp_bus.specs.Deadlines.{acts}
-use Rattle.osdp_bus.specs.Devices.{holds, is_device_due}
+use Rattle.osdp_bus.specs.Entries.{holds, is_device_due}
 use Rattle.osdp_bus.specs.Machine.{new_device}
 use Rattle.osdp_bus.proofs.Waiting.{free_acts, held_acts}
 use Rattle.osdp_bus_laws.specs.Calls.{Call}
@@ -20,7 +20,7 @@ use Rattle.osdp_bus_time_laws.specs.Instances.{short_line}
 use Rattle.osdp_bus_time_laws.proofs.Moments.{as_bare}
 
 -- a controller with no command that waits while it is idle is due only once the moment is reached
-pub reached_of : (at : ℕ) (b : BusState) (d : Device) → (is_idle d.controller.session.state ≡ true → d.controller.waiting ≡ [])
+pub reached_of : (at : ℕ) (b : BusState) (d : Entry) → (is_idle d.controller.session.state ≡ true → d.controller.waiting ≡ [])
     → d.controller.session.greatest ≤ b.greatest → is_device_due (max b.greatest at) d ≡ true → until_of d.controller.session.state ≤ max b.greatest at
 reached_of at b d rests seen due =
     let until : until_of d.controller.session.state ≤ max d.controller.session.greatest (max b.greatest at) =
@@ -28,7 +28,7 @@ reached_of at b d rests seen due =
     omega arith
 
 module _ (b : BusState) (none : b.held ≡ []) (untold : has_report b ≡ false) (at : ℕ) (so : acts at b ≡ true) where
-  pub held_due : (entry : ℕ) (d : Device) → holder b ≡ Some entry → device_of entry b ≡ Some d → holds d ≡ true → is_device_due (max b.greatest at) d ≡ true
+  pub held_due : (entry : ℕ) (d : Entry) → holder b ≡ Some entry → device_of entry b ≡ Some d → holds d ≡ true → is_device_due (max b.greatest at) d ≡ true
   held_due entry d held there stands =
       sym (ap (acts at) (as_bare b [] untold none)
       ∙ held_acts b.config b.remembered b.devices.entries b.first b.last b.greatest at entry d held there stands) ∙ so
@@ -54,7 +54,7 @@ never_idle (Waiting until sends o) out idle = cc
 never_idle (Pausing until o) out idle = cc
 
 -- a tick that is owed while an entry holds the line comes once the moment of this one is reached
-pub owed_from : (call : Call) (b : BusState) (entry at : ℕ) (d : Device) → b.held ≡ [] → has_report b ≡ false → holder b ≡ Some entry → device_of entry b ≡ Some d
+pub owed_from : (call : Call) (b : BusState) (entry at : ℕ) (d : Entry) → b.held ≡ [] → has_report b ≡ false → holder b ≡ Some entry → device_of entry b ≡ Some d
     → holds d ≡ true → d.controller.session.greatest ≤ b.greatest → IsOwed at call b → until_of d.controller.session.state ≤ at
 owed_from call b entry at d none untold held there stands seen owed =
     let due = held_due b none untold at (either_acts (has_report b) (acts at b) untold owed.due) entry d held there stands in
@@ -63,7 +63,7 @@ owed_from call b entry at d none untold held there stands seen owed =
     omega arith
 
 -- the device of an entry of a list
-abbrev pub device_in : List Device → ℕ → Device
+abbrev pub device_in : List Entry → ℕ → Entry
 device_in [] entry = new_device 0 short_line
 device_in (d ∷ ds) zero = d
 device_in (d ∷ ds) (suc entry) = device_in ds entry

@@ -29,9 +29,9 @@ use Rattle.osdp_controller_laws.proofs.Frames.{either_frame}
 use Rattle.osdp_controller_laws.proofs.Ticks.{takes_front}
 use Rattle.osdp_time_laws.specs.Laws.{is_quiet}
 use Rattle.osdp_time_laws.specs.Orders.{is_under_way}
-use Rattle.osdp_bus.specs.declared.device.Device.{Device}
+use Rattle.osdp_bus.specs.declared.entry.Entry.{Entry}
 use Rattle.osdp_bus.specs.Buses.{BusState, device_of}
-use Rattle.osdp_bus.specs.Devices.{device_ticks, holds}
+use Rattle.osdp_bus.specs.Entries.{device_ticks, holds}
 use Rattle.osdp_bus.specs.Ticking.{BusTicked, ticks_with}
 use Rattle.osdp_bus_laws.specs.Calls.{Call, after_call}
 use Rattle.osdp_bus_laws.specs.Fairness.{Begins}
@@ -112,19 +112,19 @@ not_quiet (Idle due) under = refl
 not_quiet (Waiting until sends o) under = refl
 not_quiet (Pausing until o) under = refl
 
-abbrev OnItsWay : List Command → Device → Type 0
+abbrev OnItsWay : List Command → Entry → Type 0
 OnItsWay w d = (is_quiet d.controller.session.state ≡ false) × (d.controller.waiting ≡ w)
 
 -- the device that begins, as it is asked, and what it leaves
 record Beginning (call : Call) (b : BusState) (entry : ℕ) (w : List Command) : Type 0 where
   now : ℕ
-  device : Device
+  device : Entry
   after : device_of entry (after_call call b) ≡ Some (device_ticks now device)
   idle : is_idle device.controller.session.state ≡ true
   waits : device.controller.waiting ≡ w
   due : acts (ticks_in device.controller.session.state (seen now device.controller.session) device.controller.waiting).step ≡ true
 
-beginning : (b : BusState) (call : Call) (entry : ℕ) (w : List Command) (d : Device) → device_of entry b ≡ Some d
+beginning : (b : BusState) (call : Call) (entry : ℕ) (w : List Command) (d : Entry) → device_of entry b ≡ Some d
     → is_under_way d.controller.session.state ≡ true → d.controller.waiting ≡ w → Begins call entry b → Beginning call b entry w
 beginning b call entry w d there under waits begun =
     let g = max b.greatest begun.now in

@@ -21,10 +21,10 @@ use Rattle.osdp_time_laws.proofs.Ends.{tick_at_moment}
 use Rattle.osdp_time_laws.proofs.Phases.{later_within}
 use Rattle.osdp_time_laws.proofs.Timely.{stays_timely}
 use Rattle.osdp_bus.specs.declared.config.BusConfig.{BusConfig}
-use Rattle.osdp_bus.specs.declared.device.Device.{Device}
+use Rattle.osdp_bus.specs.declared.entry.Entry.{Entry}
 use Rattle.osdp_bus.specs.declared.fault.BusFault.{BusFault}
 use Rattle.osdp_bus.specs.Buses.{BusState, Devices, device_of, has_report, holder, is_silent, new_bus, seen}
-use Rattle.osdp_bus.specs.Devices.{device_hears, device_ticks}
+use Rattle.osdp_bus.specs.Entries.{device_hears, device_ticks}
 use Rattle.osdp_bus.specs.Hearing.{after_bytes, ends_run, hears_items, hears_with}
 use Rattle.osdp_bus.specs.Machine.{add_refusal, after_add, after_begin_at, after_retarget_at, after_submit_at, begin_refusal_at, changed_unless, changes_device, device_begins, device_retargets, device_submits, device_withdraws, new_device, retarget_refusal_at, submit_refusal_at}
 use Rattle.osdp_bus.specs.Settings.{IsBusConfig, controller_config}
@@ -42,15 +42,15 @@ use Rattle.osdp_bus_time_laws.proofs.Moments.{grows}
 
 -- ---- what each packet, tick and change of a device keeps holds of all of them after a call
 
-abbrev pub Each : (Device → Type 0) → Devices → Type 0
-Each Q ds = (i : ℕ) (d : Device) → slice_get ds.entries i ≡ Some d → Q d
+abbrev pub Each : (Entry → Type 0) → Devices → Type 0
+Each Q ds = (i : ℕ) (d : Entry) → slice_get ds.entries i ≡ Some d → Q d
 
-module _ (g : ℕ) (Q : Device → Type 0) (heard : (p : Packet) (d : Device) → Q d → Q (device_hears p g d)) (ticked : (d : Device) → Q d → Q (device_ticks g d)) where
-  put : (ds : Devices) (i : ℕ) (e : Device) → Q e → Each Q ds → (j : ℕ) (f : Device) → IsAt ds.entries i e j f → Q f
+module _ (g : ℕ) (Q : Entry → Type 0) (heard : (p : Packet) (d : Entry) → Q d → Q (device_hears p g d)) (ticked : (d : Entry) → Q d → Q (device_ticks g d)) where
+  put : (ds : Devices) (i : ℕ) (e : Entry) → Q e → Each Q ds → (j : ℕ) (f : Entry) → IsAt ds.entries i e j f → Q f
   put ds i e new all j f (inl (here, same)) = subst Q (sym same) new
   put ds i e new all j f (inr (other, was)) = all j f was
 
-  each_packet : (p : Packet) (i : ℕ) (d : Device) (ds : Devices) → slice_get ds.entries i ≡ Some d → Each Q ds → Each Q (hears_with p g i (Some d) ds)
+  each_packet : (p : Packet) (i : ℕ) (d : Entry) (ds : Devices) → slice_get ds.entries i ≡ Some d → Each Q ds → Each Q (hears_with p g i (Some d) ds)
   each_packet p i d ds at all =
       λ j f there. put ds i (device_hears p g d) (heard p d (all i d at)) all j f (replaced ds.entries i (device_hears p g d) j f there)
 
@@ -85,7 +85,7 @@ module _ (g : ℕ) (Q : Device → Type 0) (heard : (p : Packet) (d : Device) �
   abbrev Ticks : BusTicked → Type 0
   Ticks t = Of t.bus
 
-  each_with : (k : ℕ) (o : Option Device) (b : BusState) → device_of k b ≡ o → b.greatest ≡ g → Of b → Ticks (ticks_with k o b)
+  each_with : (k : ℕ) (o : Option Entry) (b : BusState) → device_of k b ≡ o → b.greatest ≡ g → Of b → Ticks (ticks_with k o b)
   each_with k None b at is all = all
   each_with k (Some d) b at is all =
       let new : Q (device_ticks b.greatest d) = subst (λ (n : ℕ). Q (device_ticks n d)) (sym is) (ticked d (all k d at)) in
@@ -113,10 +113,10 @@ module _ (g : ℕ) (Q : Device → Type 0) (heard : (p : Packet) (d : Device) �
 
   -- calls of the user
 
-  each_changed : (change : Device → Device) (at : ℕ) (b : BusState) → ((d : Device) → Q d → Q (change d)) → Of b → Of (changes_device at change b)
+  each_changed : (change : Entry → Entry) (at : ℕ) (b : BusState) → ((d : Entry) → Q d → Q (change d)) → Of b → Of (changes_device at change b)
   each_changed change at b changes all = by_device (device_of at b) refl
     where
-      by_device : (o : Option Device) → device_of at b ≡ o
+      by_device : (o : Option Entry) → device_of at b ≡ o
           → Of (option_map_or (λ d. record b { devices = record b.devices { entries = slice_set b.devices.entries at (change d) } }) o b)
       by_device None none = all
       by_device (Some d) there =
@@ -126,8 +126,8 @@ module _ (g : ℕ) (Q : Device → Type 0) (heard : (p : Packet) (d : Device) �
   each_unless None b c all after = after
   each_unless (Some fault) b c all after = all
 
-  module _ (begun : (now : ℕ) (d : Device) → now ≤ g → Q d → Q (device_begins now d)) (submitted : (command : Command) (d : Device) → Q d → Q (device_submits command d))
-      (withdrawn : (d : Device) → Q d → Q (device_withdraws d)) (retargeted : (address : ℕ) (d : Device) → Q d → Q (device_retargets address d)) where
+  module _ (begun : (now : ℕ) (d : Entry) → now ≤ g → Q d → Q (device_begins now d)) (submitted : (command : Command) (d : Entry) → Q d → Q (device_submits command d))
+      (withdrawn : (d : Entry) → Q d → Q (device_withdraws d)) (retargeted : (address : ℕ) (d : Entry) → Q d → Q (device_retargets address d)) where
     pub each_call : (call : Call) (b : BusState) → ((address : ℕ) → Q (new_device address b.config)) → (after_call call b).greatest ≡ g → Of b → Of (after_call call b)
     each_call (Add address) b new moment all =
         each_unless (add_refusal address b) b (after_add address b) all
@@ -154,13 +154,13 @@ module _ (g : ℕ) (Q : Device → Type 0) (heard : (p : Packet) (d : Device) �
 
 -- ---- a device
 
-pub record Kept (c : BusConfig) (g : ℕ) (d : Device) : Type 0 where
+pub record Kept (c : BusConfig) (g : ℕ) (d : Entry) : Type 0 where
   pub address : ℕ
   pub config : d.controller.session.config ≡ controller_config address c
   pub reached : d.controller.session.greatest ≤ g
   pub timely : IsTimely d.controller
 
-kept_call : (call : CallOf) (c : BusConfig) (g : ℕ) (d e : Device) → e.controller ≡ after_call_of call d.controller
+kept_call : (call : CallOf) (c : BusConfig) (g : ℕ) (d e : Entry) → e.controller ≡ after_call_of call d.controller
     → (after_call_of call d.controller).session.greatest ≤ g → Kept c g d → Kept c g e
 kept_call call c g d e is near k =
     let m = d.controller in record {
@@ -171,19 +171,19 @@ kept_call call c g d e is near k =
       timely = subst IsTimely (sym is) (stays_timely.later m (call ∷ []) k.timely);
     }
 
-kept_heard : (c : BusConfig) (g : ℕ) (p : Packet) (d : Device) → Kept c g d → Kept c g (device_hears p g d)
+kept_heard : (c : BusConfig) (g : ℕ) (p : Packet) (d : Entry) → Kept c g d → Kept c g (device_hears p g d)
 kept_heard c g p d k =
     let near : (after_call_of (HearOf p g) d.controller).session.greatest ≡ max d.controller.session.greatest g = hears_at_moment p g d.controller.session in
     let reached : d.controller.session.greatest ≤ g = k.reached in
     kept_call (HearOf p g) c g d (device_hears p g d) refl (omega arith) k
 
-kept_ticked : (c : BusConfig) (g : ℕ) (d : Device) → Kept c g d → Kept c g (device_ticks g d)
+kept_ticked : (c : BusConfig) (g : ℕ) (d : Entry) → Kept c g d → Kept c g (device_ticks g d)
 kept_ticked c g d k =
     let near : (after_call_of (TickOf g) d.controller).session.greatest ≡ max d.controller.session.greatest g = tick_at_moment g d.controller in
     let reached : d.controller.session.greatest ≤ g = k.reached in
     kept_call (TickOf g) c g d (device_ticks g d) refl (omega arith) k
 
-kept_begun : (c : BusConfig) (g now : ℕ) (d : Device) → now ≤ g → Kept c g d → Kept c g (device_begins now d)
+kept_begun : (c : BusConfig) (g now : ℕ) (d : Entry) → now ≤ g → Kept c g d → Kept c g (device_begins now d)
 kept_begun c g now d near k =
     let reached : d.controller.session.greatest ≤ g = k.reached in record {
       address = k.address;
@@ -199,7 +199,7 @@ at_address c address greatest (Idle due) w = w
 at_address c address greatest (Waiting until sends o) w = w
 at_address c address greatest (Pausing until o) w = w
 
-kept_retargeted : (c : BusConfig) (g address : ℕ) (d : Device) → Kept c g d → Kept c g (device_retargets address d)
+kept_retargeted : (c : BusConfig) (g address : ℕ) (d : Entry) → Kept c g d → Kept c g (device_retargets address d)
 kept_retargeted c g address d k =
     let s = d.controller.session in record {
       address = address;
@@ -208,7 +208,7 @@ kept_retargeted c g address d k =
       timely = at_address s.config address s.greatest s.state k.timely;
     }
 
-kept_same : (c : BusConfig) (g : ℕ) (d e : Device) → e.controller.session ≡ d.controller.session → Kept c g d → Kept c g e
+kept_same : (c : BusConfig) (g : ℕ) (d e : Entry) → e.controller.session ≡ d.controller.session → Kept c g d → Kept c g e
 kept_same c g d e same k = record {
   address = k.address;
   config = ap (λ s. s.config) same ∙ k.config;
@@ -216,7 +216,7 @@ kept_same c g d e same k = record {
   timely = subst (λ s. WaitsItsTime s.config s.greatest s.state) (sym same) k.timely;
 }
 
-kept_later : (c : BusConfig) (g next : ℕ) (d : Device) → g ≤ next → Kept c g d → Kept c next d
+kept_later : (c : BusConfig) (g next : ℕ) (d : Entry) → g ≤ next → Kept c g d → Kept c next d
 kept_later c g next d on k =
     let reached : d.controller.session.greatest ≤ g = k.reached in
     record { address = k.address; config = k.config; reached = omega arith; timely = k.timely }

@@ -5,10 +5,10 @@ use Rattle.osdp_controller.specs.Sessions.{seen as seen_by}
 use Rattle.osdp_controller.specs.States.{is_idle}
 use Rattle.osdp_time_laws.proofs.Duties.{until_of}
 use Rattle.osdp_time_laws.proofs.Instances.{reached_in}
-use Rattle.osdp_bus.specs.declared.device.Device.{Device}
+use Rattle.osdp_bus.specs.declared.entry.Entry.{Entry}
 use Rattle.osdp_bus.specs.Buses.{BusState, has_report, holder, seen}
 use Rattle.osdp_bus.specs.Deadlines.{acts}
-use Rattle.osdp_bus.specs.Devices.{device_ticks, holds, is_device_due}
+use Rattle.osdp_bus.specs.Entries.{device_ticks, holds, is_device_due}
 use Rattle.osdp_bus.specs.Machine.{device_begins, new_device}
 use Rattle.osdp_bus.specs.Hearing.{ends_silent}
 use Rattle.osdp_bus.specs.Settings.{IsBusConfig}
@@ -71,7 +71,7 @@ no_other : {A : Type 0} → true ≡ false → A
 no_other h = cc
 
 -- a controller with no command that waits is due only once the moment is reached
-reached_of : (n : ℕ) (d : Device) → (is_idle d.controller.session.state ≡ true → d.controller.waiting ≡ []) → is_device_due n d ≡ true
+reached_of : (n : ℕ) (d : Entry) → (is_idle d.controller.session.state ≡ true → d.controller.waiting ≡ []) → is_device_due n d ≡ true
     → until_of d.controller.session.state ≤ max d.controller.session.greatest n
 reached_of n d none due = reached_in d.controller.session.state (seen_by n d.controller.session) d.controller.waiting none due
 
@@ -80,10 +80,10 @@ either_due until true b same due = inl refl
 either_due until false true same due = inr refl
 either_due until false false same due = cc
 
-abbrev one : Device
+abbrev one : Entry
 one = device_begins 0 (new_device 0 short_line)
 
-abbrev other : Device
+abbrev other : Entry
 other = device_begins 0 (new_device 1 short_line)
 
 quiet_by : (at : ℕ) → (is_device_due (max 0 at) one ≡ true) ⊎ (is_device_due (max 0 at) other ≡ true) → 4 ≤ at

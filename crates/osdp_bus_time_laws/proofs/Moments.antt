@@ -4,11 +4,11 @@ use Rattle.std.specs.Prelude.{◌⊎◌, is_some}
 use Rattle.osdp_frame.specs.Silence.{is_silent_for}
 use Rattle.osdp_controller_laws.specs.Runs.{Call as CallOf, Begin as BeginOf, Tick as TickOf}
 use Rattle.osdp_time_laws.specs.Clock.{IsBy as IsByOf, TicksBy}
-use Rattle.osdp_bus.specs.declared.device.Device.{Device}
+use Rattle.osdp_bus.specs.declared.entry.Entry.{Entry}
 use Rattle.osdp_bus.specs.declared.fault.BusFault.{BusFault}
 use Rattle.osdp_bus.specs.Buses.{BusState, device_of, has_report, holder}
 use Rattle.osdp_bus.specs.Deadlines.{acts}
-use Rattle.osdp_bus.specs.Devices.{holds, is_device_due}
+use Rattle.osdp_bus.specs.Entries.{holds, is_device_due}
 use Rattle.osdp_bus.specs.Machine.{begin_refusal_at}
 use Rattle.osdp_bus.proofs.Waiting.{any_at, free_acts, free_ends, held_acts, held_ends}
 use Rattle.osdp_bus_laws.specs.Calls.{Call, Add, Begin, Submit, Withdraw, Retarget, OnBytes, OnSilence, Tick, NextReport, after_call}
@@ -105,7 +105,7 @@ as_bare b held none is =
     (λ i. record b { devices = record b.devices { report = nothing i }; held = is i })
 
 -- where an entry holds the line and is due
-pub acts_held : (b : BusState) (entry : ℕ) (d : Device) (at : ℕ) → has_report b ≡ false → holder b ≡ Some entry → device_of entry b ≡ Some d → holds d ≡ true
+pub acts_held : (b : BusState) (entry : ℕ) (d : Entry) (at : ℕ) → has_report b ≡ false → holder b ≡ Some entry → device_of entry b ≡ Some d → holds d ≡ true
     → is_device_due (max b.greatest at) d ≡ true → acts at b ≡ true
 acts_held b entry d at none held there stands due = by_held b.held refl
   where
@@ -119,7 +119,7 @@ acts_held b entry d at none held there stands due = by_held b.held refl
         ∙ ap (λ t. t || is_silent_for b.config.gap b.last (max b.greatest at)) due
 
 -- where nobody holds it and an entry is due
-pub acts_free : (b : BusState) (entry : ℕ) (d : Device) (at : ℕ) → has_report b ≡ false → holder b ≡ None → device_of entry b ≡ Some d
+pub acts_free : (b : BusState) (entry : ℕ) (d : Entry) (at : ℕ) → has_report b ≡ false → holder b ≡ None → device_of entry b ≡ Some d
     → is_device_due (max b.greatest at) d ≡ true → acts at b ≡ true
 acts_free b entry d at none nobody there due = by_held b.held refl
   where

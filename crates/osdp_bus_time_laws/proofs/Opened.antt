@@ -5,7 +5,7 @@ use Rattle.std.specs.Option.{option_map_or}
 use Rattle.osdp_controller.specs.declared.config.ControllerConfig.{ControllerConfig}
 use Rattle.osdp_controller.specs.Sessions.{seen as seen_by}
 use Rattle.osdp_time_laws.proofs.Phases.{later_within}
-use Rattle.osdp_bus.specs.declared.device.Device.{Device}
+use Rattle.osdp_bus.specs.declared.entry.Entry.{Entry}
 use Rattle.osdp_bus.specs.Buses.{BusState, device_of, seen}
 use Rattle.osdp_bus.specs.Machine.{after_begin_at, begin_refusal_at, begin_refusal_of, changed_unless, changes_device, device_begins}
 use Rattle.osdp_bus_laws.specs.Calls.{Begin, after_call}
@@ -18,23 +18,23 @@ use Rattle.osdp_bus_time_laws.proofs.Turning.{Ready, ends_later, has_its_turn}
 
 -- the device of an entry whose session begins
 begun_at : (entry now : ℕ) (b : BusState) → begin_refusal_at entry b ≡ None
-    → (d : Device) × (device_of entry b ≡ Some d) × (after_call (Begin entry now) b
+    → (d : Entry) × (device_of entry b ≡ Some d) × (after_call (Begin entry now) b
     ≡ changes_device entry (device_begins (max b.greatest now)) (seen now b))
 begun_at entry now b accepted = by_device (device_of entry b) refl
   where
-    by_device : (o : Option Device) → device_of entry b ≡ o
-        → (d : Device) × (device_of entry b ≡ Some d) × (after_call (Begin entry now) b ≡ changes_device entry (device_begins (max b.greatest now)) (seen now b))
+    by_device : (o : Option Entry) → device_of entry b ≡ o
+        → (d : Entry) × (device_of entry b ≡ Some d) × (after_call (Begin entry now) b ≡ changes_device entry (device_begins (max b.greatest now)) (seen now b))
     by_device None none = absurd (let refused = sym (ap begin_refusal_of none) ∙ accepted in cc)
     by_device (Some d) there = (d, there, ap (λ f. changed_unless f b (after_begin_at entry now b)) accepted)
 
-begins_there : (entry g : ℕ) (d : Device) (b : BusState) → device_of entry b ≡ Some d → device_of entry (changes_device entry (device_begins g) b) ≡ Some (device_begins g d)
+begins_there : (entry g : ℕ) (d : Entry) (b : BusState) → device_of entry b ≡ Some d → device_of entry (changes_device entry (device_begins g) b) ≡ Some (device_begins g d)
 begins_there entry g d b at =
     ap (λ o. device_of entry (changed o)) at ∙ set_here b.devices.entries entry d (device_begins g d) at
   where
-    changed : Option Device → BusState
+    changed : Option Entry → BusState
     changed o = option_map_or (λ f. record b { devices = record b.devices { entries = slice_set b.devices.entries entry (device_begins g f) } }) o b
 
-pub begun_there : (entry now : ℕ) (b : BusState) → begin_refusal_at entry b ≡ None → (d : Device) × (device_of entry (after_call (Begin entry now) b) ≡ Some d)
+pub begun_there : (entry now : ℕ) (b : BusState) → begin_refusal_at entry b ≡ None → (d : Entry) × (device_of entry (after_call (Begin entry now) b) ≡ Some d)
 begun_there entry now b accepted =
     let begun = begun_at entry now b accepted in
     (device_begins (max b.greatest now) begun.0, ap (device_of entry) begun.2 ∙ begins_there entry (max b.greatest now) begun.0 (seen now b) begun.1)

@@ -19,9 +19,9 @@ use Rattle.osdp_time_laws.specs.Orders.{is_under_way}
 use Rattle.osdp_time_laws.proofs.Duties.{until_of}
 use Rattle.osdp_time_laws.proofs.Orders.{at_rest, lives, next_product}
 use Rattle.osdp_bus.specs.declared.config.BusConfig.{BusConfig}
-use Rattle.osdp_bus.specs.declared.device.Device.{Device}
+use Rattle.osdp_bus.specs.declared.entry.Entry.{Entry}
 use Rattle.osdp_bus.specs.Buses.{BusState, device_of, has_report}
-use Rattle.osdp_bus.specs.Devices.{device_ticks, holds}
+use Rattle.osdp_bus.specs.Entries.{device_ticks, holds}
 use Rattle.osdp_bus.specs.Machine.{after_submit_at, changed_unless, device_submits, device_withdraws, submit_refusal_at}
 use Rattle.osdp_bus.specs.Ticking.{BusTicked, bus_ticks, ticks_with}
 use Rattle.osdp_bus_laws.specs.Calls.{Call, Submit, Tick, after_call}
@@ -42,13 +42,13 @@ use Rattle.osdp_bus_time_laws.proofs.Turning.{Ready, decide, ends_later, has_its
 
 -- ---- how many commands wait
 
-abbrev Waits : ℕ → Device → Type 0
+abbrev Waits : ℕ → Entry → Type 0
 Waits least d = least ≤ length d.controller.waiting
 
-waits_submitted : (least : ℕ) (command : Command) (d : Device) → Waits least d → Waits least (device_submits command d)
+waits_submitted : (least : ℕ) (command : Command) (d : Entry) → Waits least d → Waits least (device_submits command d)
 waits_submitted least command d some = let both = length-append d.controller.waiting (command ∷ []) in omega arith
 
-waits_withdrawn : (least : ℕ) (d : Device) → Waits least d → is_closed d.controller.session.state ≡ false → Waits least (device_withdraws d)
+waits_withdrawn : (least : ℕ) (d : Entry) → Waits least d → is_closed d.controller.session.state ≡ false → Waits least (device_withdraws d)
 waits_withdrawn least d some stands =
     subst (λ t. least ≤ length (if t then drop 1 d.controller.waiting else d.controller.waiting)) (sym stands) some
 
@@ -60,12 +60,12 @@ not_idle (Waiting until sends o) out = refl
 not_idle (Pausing until o) out = refl
 
 -- an exchange that goes on takes none
-waits_ticked : (least g : ℕ) (d : Device) → holds d ≡ true → Waits least d → Waits least (device_ticks g d)
+waits_ticked : (least g : ℕ) (d : Entry) → holds d ≡ true → Waits least d → Waits least (device_ticks g d)
 waits_ticked least g d stands some =
     let stay = (takes_front g d.controller.session d.controller.waiting).stay (not_idle d.controller.session.state stands) in
     subst (λ (w : List Command). least ≤ length w) (sym stay) some
 
-module _ (least own : ℕ) (call : Call) (b : BusState) (well : Well b) (stands : (d : Device) → device_of own b ≡ Some d → is_closed d.controller.session.state ≡ false)
+module _ (least own : ℕ) (call : Call) (b : BusState) (well : Well b) (stands : (d : Entry) → device_of own b ≡ Some d → is_closed d.controller.session.state ≡ false)
     (place : AtPlace own (Waits least) b.devices) (not : Begins call own b → ⊥) where
   abbrev g_then : ℕ
   g_then = (after_call call b).greatest
@@ -138,7 +138,7 @@ begun_then wait least call b (inl some) = inl some
 begun_then wait least call b (inr interval) = inr (subst (λ (c : BusConfig). c.poll_interval ≤ wait) (sym (same_config call b)) interval)
 
 -- the moment from which an open entry is due
-pub rest_due : (wait e : ℕ) (b : BusState) (d : Device) → Kept b.config b.greatest d → is_idle d.controller.session.state ≡ true → b.greatest ≤ e
+pub rest_due : (wait e : ℕ) (b : BusState) (d : Entry) → Kept b.config b.greatest d → is_idle d.controller.session.state ≡ true → b.greatest ≤ e
     → b.config.poll_interval ≤ wait → until_of d.controller.session.state ≤ e + wait
 rest_due wait e b d kept idle near interval = by_state d.controller.session.state idle kept.timely
   where
@@ -152,7 +152,7 @@ rest_due wait e b d kept idle near interval = by_state d.controller.session.stat
     by_state (Waiting until sends o) h timely = cc
     by_state (Pausing until o) h timely = cc
 
-rest_ready : (wait least e : ℕ) (b : BusState) (d : Device) → Kept b.config b.greatest d → is_under_way d.controller.session.state ≡ true → holds d ≡ false
+rest_ready : (wait least e : ℕ) (b : BusState) (d : Entry) → Kept b.config b.greatest d → is_under_way d.controller.session.state ≡ true → holds d ≡ false
     → least ≤ length d.controller.waiting → b.greatest ≤ e → Begun wait least b → Ready (e + wait) least d
 rest_ready wait least e b d kept under none some near (inl one) =
     let state = d.controller.session.state in (lives state under, none, some, inr (at_rest state under none, one))
@@ -168,7 +168,7 @@ module _ (late : ℕ) (time : ℕ → ℕ) (n own limit wait : ℕ) (need : ℕ 
   cycle = wait + turns_of time late n
 
   -- the exchange of the entry that is outstanding ends by a moment, or another begins by one
-  pub record Way (before : ℕ) (calls : List Call) (b : BusState) (d : Device) : Type 0 where
+  pub record Way (before : ℕ) (calls : List Call) (b : BusState) (d : Entry) : Type 0 where
     pub waits : AtPlace own (Waits (need before)) b.devices
     pub out : holds d ≡ true → (e : ℕ) × EndsBy e calls b × ((e + wait) + late + others_of time late n own + before * (wait + turns_of time late n) ≤ limit)
     pub idle : holds d ≡ false → (m : ℕ) × BeginsBy m own calls b × (m + before * (wait + turns_of time late n) ≤ limit)
@@ -181,7 +181,7 @@ module _ (late : ℕ) (time : ℕ → ℕ) (n own limit wait : ℕ) (need : ℕ 
     abbrev g : ℕ
     g = (after_call call b).greatest
 
-    abbrev d : Device
+    abbrev d : Entry
     d = under.device
 
     -- the next moment
@@ -238,7 +238,7 @@ module _ (late : ℕ) (time : ℕ → ℕ) (n own limit wait : ℕ) (need : ℕ 
       waits_then =
           still_wait (need before) own call b well
           (λ f here. let one = one_device (device_of own b) under.device f under.there here in
-          subst (λ (k : Device). is_closed k.controller.session.state ≡ false) one (lives under.device.controller.session.state under.under_way))
+          subst (λ (k : Entry). is_closed k.controller.session.state ≡ false) one (lives under.device.controller.session.state under.under_way))
           way.waits not
 
       out_by : holds next.device ≡ true → ((k : ℕ) × Begins call k b) ⊎ NoneBegins call b
@@ -309,13 +309,13 @@ module _ (late : ℕ) (time : ℕ → ℕ) (n own limit wait : ℕ) (need : ℕ 
 
 -- ---- from its acceptance on
 
-accepted_at : (entry : ℕ) (command : Command) (d : Device) (b : BusState) → submit_refusal_at entry command b ≡ None → device_of entry b ≡ Some d
+accepted_at : (entry : ℕ) (command : Command) (d : Entry) (b : BusState) → submit_refusal_at entry command b ≡ None → device_of entry b ≡ Some d
     → device_of entry (after_call (Submit entry command) b) ≡ Some (device_submits command d)
 accepted_at entry command d b accepted there =
     ap (λ f. device_of entry (changed_unless f b (after_submit_at entry command b))) accepted
     ∙ ap (λ o. device_of entry (changed o)) there ∙ set_here b.devices.entries entry d (device_submits command d) there
   where
-    changed : Option Device → BusState
+    changed : Option Entry → BusState
     changed o = option_map_or (λ f. record b { devices = record b.devices { entries = slice_set b.devices.entries entry (device_submits command f) } }) o b
 
 -- arithmetic on moments alone

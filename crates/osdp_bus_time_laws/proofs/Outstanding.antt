@@ -29,10 +29,10 @@ use Rattle.osdp_time_laws.proofs.Duties.{Due, due_ahead, due_at, due_kept, due_s
 use Rattle.osdp_time_laws.proofs.Ends.{tick_at_moment}
 use Rattle.osdp_time_laws.proofs.Phases.{Holds, Phase, frame_holds, phase_near, phase_passed, phase_seen, still, tick_holds}
 use Rattle.osdp_time_laws.proofs.Timely.{timely_then}
-use Rattle.osdp_bus.specs.declared.device.Device.{Device}
+use Rattle.osdp_bus.specs.declared.entry.Entry.{Entry}
 use Rattle.osdp_bus.specs.Buses.{BusState, device_of, has_report, seen}
 use Rattle.osdp_bus.specs.Deadlines.{acts}
-use Rattle.osdp_bus.specs.Devices.{device_hears, device_ticks, holds, is_device_due}
+use Rattle.osdp_bus.specs.Entries.{device_hears, device_ticks, holds, is_device_due}
 use Rattle.osdp_bus.specs.Settings.{controller_config}
 use Rattle.osdp_bus.specs.Ticking.{BusTicked, bus_ticks, ticks_with}
 use Rattle.osdp_bus_laws.specs.Calls.{Call, Add, Begin, Submit, Withdraw, Retarget, OnBytes, OnSilence, Tick, NextReport, after_call}
@@ -82,7 +82,7 @@ not_true : (x : Bool) → not x ≡ true → x ≡ false
 not_true true h = cc
 not_true false h = refl
 
-pub stands_not_closed : (d : Device) → holds d ≡ true → is_closed d.controller.session.state ≡ false
+pub stands_not_closed : (d : Entry) → holds d ≡ true → is_closed d.controller.session.state ≡ false
 stands_not_closed d stands = by_state d.controller.session.state stands
   where
     by_state : (state : State) → is_outstanding state ≡ true → is_closed state ≡ false
@@ -93,7 +93,7 @@ stands_not_closed d stands = by_state d.controller.session.state stands
     by_state (Pausing until o) h = refl
 
 -- a device is due from the moment that its state waits for on
-pub due_then : (d : Device) (at : ℕ) → is_closed d.controller.session.state ≡ false → until_of d.controller.session.state ≤ at → is_device_due at d ≡ true
+pub due_then : (d : Entry) (at : ℕ) → is_closed d.controller.session.state ≡ false → until_of d.controller.session.state ≤ at → is_device_due at d ≡ true
 due_then d at lives reached =
     due_at d.controller.session.state (seen_by at d.controller.session) d.controller.waiting lives (omega arith)
 
@@ -102,7 +102,7 @@ module _ (late e : ℕ) (c : ControllerConfig) (more : ℕ) (many : c.sends ≡ 
   Ph l state g = Phase late e c more (Unit {0}) l state g
 
   -- of a device: where its exchange is outstanding, how far it is
-  abbrev pub On : List CallOf → ℕ → Device → Type 0
+  abbrev pub On : List CallOf → ℕ → Entry → Type 0
   On l g d =
       (d.controller.session.greatest ≤ g) × (holds d ≡ true → (d.controller.session.config ≡ c) × Phase late e c more (Unit {0}) l d.controller.session.state g)
 
@@ -142,7 +142,7 @@ module _ (late e : ℕ) (c : ControllerConfig) (more : ℕ) (many : c.sends ≡ 
       (omega arith, λ so. (config, subst (λ (n : ℕ). Ph l s.state n) (sym at) phase)) in
       ((h.1 stands).0, subst (λ (n : ℕ). Ph l (hears p g s).session.state n) (hears_at_moment p g s ∙ at) (h.1 stands).1)
 
-  heard_on : (l : List CallOf) (g : ℕ) → (All IsNotBusy l → ⊥) → g ≤ e → (p : Packet) (d : Device) → On l g d → On l g (device_hears p g d)
+  heard_on : (l : List CallOf) (g : ℕ) → (All IsNotBusy l → ⊥) → g ≤ e → (p : Packet) (d : Entry) → On l g d → On l g (device_hears p g d)
   heard_on l g some near p d on = (
     (let reached : d.controller.session.greatest ≤ g = on.0 in
         let is : (hears p g d.controller.session).session.greatest ≡ max d.controller.session.greatest g = hears_at_moment p g d.controller.session in omega arith),
@@ -151,7 +151,7 @@ module _ (late e : ℕ) (c : ControllerConfig) (more : ℕ) (many : c.sends ≡ 
 
   -- ---- the call is done
 
-  pub kept_on : (ticks : Bool) (g : ℕ) (l : List CallOf) → ticks ≡ false → (d : Device) → On (as_tick ticks g ∷ l) g d → On l g d
+  pub kept_on : (ticks : Bool) (g : ℕ) (l : List CallOf) → ticks ≡ false → (d : Entry) → On (as_tick ticks g ∷ l) g d → On l g d
   kept_on ticks g l other d on = (
     on.0,
     λ stands. let before = on.1 stands in (
@@ -162,13 +162,13 @@ module _ (late e : ℕ) (c : ControllerConfig) (more : ℕ) (many : c.sends ≡ 
   )
 
   -- a holder that isn't due
-  ahead_by : (d : Device) (g : ℕ) → holds d ≡ true → (is_device_due g d ≡ true → ⊥)
+  ahead_by : (d : Entry) (g : ℕ) → holds d ≡ true → (is_device_due g d ≡ true → ⊥)
       → ((nat_le (until_of d.controller.session.state) g ≡ true) × (until_of d.controller.session.state ≤ g))
       ⊎ ((nat_le (until_of d.controller.session.state) g ≡ false) × (g < until_of d.controller.session.state)) → g < until_of d.controller.session.state
   ahead_by d g stands never (inl (test, reached)) = absurd (never (due_then d g (stands_not_closed d stands) reached))
   ahead_by d g stands never (inr (test, below)) = below
 
-  pub ahead_on : (x : CallOf) (g : ℕ) (l : List CallOf) (d : Device) → (holds d ≡ true → is_device_due g d ≡ true → ⊥) → On (x ∷ l) g d → On l g d
+  pub ahead_on : (x : CallOf) (g : ℕ) (l : List CallOf) (d : Entry) → (holds d ≡ true → is_device_due g d ≡ true → ⊥) → On (x ∷ l) g d → On l g d
   ahead_on x g l d never on = (
     on.0,
     λ stands.
@@ -181,7 +181,7 @@ module _ (late e : ℕ) (c : ControllerConfig) (more : ℕ) (many : c.sends ≡ 
   )
 
   -- a holder that ticks
-  pub ticked_out : (x : CallOf) (g : ℕ) (l : List CallOf) (d : Device) → g ≤ e → holds d ≡ true → On (x ∷ l) g d → On l g (device_ticks g d)
+  pub ticked_out : (x : CallOf) (g : ℕ) (l : List CallOf) (d : Entry) → g ≤ e → holds d ≡ true → On (x ∷ l) g d → On l g (device_ticks g d)
   ticked_out x g l d near stands on =
       let s = d.controller.session in
       let before = on.1 stands in
@@ -199,7 +199,7 @@ module _ (late e : ℕ) (c : ControllerConfig) (more : ℕ) (many : c.sends ≡ 
 
   -- ---- one call, while an entry holds the line: how far its exchange is at the moment of the call
 
-  module _ (end : List CallOf) (ended : (limit : ℕ) → TicksBy limit end) (call : Call) (calls : List Call) (b : BusState) (entry : ℕ) (d : Device) (well : Well b)
+  module _ (end : List CallOf) (ended : (limit : ℕ) → TicksBy limit end) (call : Call) (calls : List Call) (b : BusState) (entry : ℕ) (d : Entry) (well : Well b)
       (there : device_of entry b ≡ Some d) (stands : holds d ≡ true) (owed : (at : ℕ) → IsOwed at call b → DoneBy (at + late) (call ∷ calls) b)
       (config : d.controller.session.config ≡ c) (phase : Ph (ticks_of end ended (call ∷ calls) b) d.controller.session.state b.greatest) where
     abbrev at_call : ℕ
@@ -240,7 +240,7 @@ module _ (late e : ℕ) (c : ControllerConfig) (more : ℕ) (many : c.sends ≡ 
 
   -- ---- and after it, whatever it reads
 
-  module _ (call : Call) (calls : List Call) (b : BusState) (entry : ℕ) (d : Device) (well : Well b) (there : device_of entry b ≡ Some d) (stands : holds d ≡ true)
+  module _ (call : Call) (calls : List Call) (b : BusState) (entry : ℕ) (d : Entry) (well : Well b) (there : device_of entry b ≡ Some d) (stands : holds d ≡ true)
       (owed : (at : ℕ) → IsOwed at call b → DoneBy (at + late) (call ∷ calls) b) (config : d.controller.session.config ≡ c)
       (phase : Ph (moments (call ∷ calls) b) d.controller.session.state b.greatest) where
     abbrev g : ℕ
@@ -258,7 +258,7 @@ module _ (late e : ℕ) (c : ControllerConfig) (more : ℕ) (many : c.sends ≡ 
     on_now : On (x ∷ l) g d
     on_now = on_then endless endless_ended call calls b entry d well there stands owed config phase
 
-    hears_on : (p : Packet) (f : Device) → On (x ∷ l) g f → On (x ∷ l) g (device_hears p g f)
+    hears_on : (p : Packet) (f : Entry) → On (x ∷ l) g f → On (x ∷ l) g (device_hears p g f)
     hears_on p f on = heard_on (x ∷ l) g (may_be_busy (call ∷ calls) b) near p f on
 
     abbrev After : Type 0
@@ -269,7 +269,7 @@ module _ (late e : ℕ) (c : ControllerConfig) (more : ℕ) (many : c.sends ≡ 
         let place =
         call_place g (On (x ∷ l) g) hears_on entry (λ command f on. on) (λ f on lives. on) call b other refl
         (λ f here. let one = one_device (device_of entry b) d f there here in
-        subst (λ (k : Device). is_closed k.controller.session.state ≡ false) one (stands_not_closed d stands))
+        subst (λ (k : Entry). is_closed k.controller.session.state ≡ false) one (stands_not_closed d stands))
         (d, there, on_now) in
         (place.0, place.1, kept_on (ends_duty call b) g l other place.0 place.2)
 
@@ -286,7 +286,7 @@ module _ (late e : ℕ) (c : ControllerConfig) (more : ℕ) (many : c.sends ≡ 
         (tick_place g (On (x ∷ l) g) hears_on entry now b well.sound (unreported endless endless_ended call calls b entry d well there stands owed config phase)
         (sym ((moments_are_seen b).brought (Tick now) now refl) ∙ ap (λ t. (after_call t b).greatest) (sym is)) (d, there, on_now))
 
-  place_by : (call : Call) (calls : List Call) (b : BusState) (entry : ℕ) (d : Device) (well : Well b) (there : device_of entry b ≡ Some d) (stands : holds d ≡ true)
+  place_by : (call : Call) (calls : List Call) (b : BusState) (entry : ℕ) (d : Entry) (well : Well b) (there : device_of entry b ≡ Some d) (stands : holds d ≡ true)
       (owed : (at : ℕ) → IsOwed at call b → DoneBy (at + late) (call ∷ calls) b) (config : d.controller.session.config ≡ c)
       (phase : Ph (moments (call ∷ calls) b) d.controller.session.state b.greatest) → After call calls b entry d well there stands owed config phase
   place_by (Tick now) calls b entry d well there stands owed config phase = place_tick (Tick now) calls b entry d well there stands owed config phase now refl
@@ -342,7 +342,7 @@ sound_asking now b sound = sound_run (judged now b) (sound_silent (seen now b) (
 -- how an exchange stands as it begins, where so many BUSY answers are allowed, or none is read
 module _ (late q : ℕ) (end : List CallOf) (ended : (limit : ℕ) → TicksBy limit end) (call : Call) (calls : List Call) (b : BusState) (entry : ℕ) (well : Well b)
     (begun : Begins call entry b) where
-  abbrev pub begun_device : Device
+  abbrev pub begun_device : Entry
   begun_device = begun.next.due.device
 
   abbrev pub begun_config : ControllerConfig

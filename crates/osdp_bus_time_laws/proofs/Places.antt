@@ -11,10 +11,10 @@ use Rattle.osdp_controller.specs.Comsets.{has_comset}
 use Rattle.osdp_controller.specs.States.{is_closed}
 use Rattle.osdp_controller.proofs.Choices.{either_way}
 use Rattle.osdp_controller_laws.proofs.Closed.{was_closed}
-use Rattle.osdp_bus.specs.declared.device.Device.{Device}
+use Rattle.osdp_bus.specs.declared.entry.Entry.{Entry}
 use Rattle.osdp_bus.specs.declared.fault.BusFault.{BusFault}
 use Rattle.osdp_bus.specs.Buses.{BusState, Devices, device_of, has_report, holder, is_silent, seen}
-use Rattle.osdp_bus.specs.Devices.{device_hears, device_ticks, holds, is_device_due, is_taken_beside}
+use Rattle.osdp_bus.specs.Entries.{device_hears, device_ticks, holds, is_device_due, is_taken_beside}
 use Rattle.osdp_bus.specs.Hearing.{after_bytes, ends_run, ends_silent, hears_items, hears_with}
 use Rattle.osdp_bus.specs.Machine.{add_refusal, after_add, after_begin_at, after_retarget_at, after_submit_at, begin_refusal_at, begin_refusal_of, bus_fault, changed_unless, changes_device, device_begins, device_retargets, device_submits, device_withdraws, new_device, retarget_refusal_at, retarget_refusal_of, submit_refusal_at}
 use Rattle.osdp_bus.specs.Ticking.{BusTicked, bus_ticks, is_due_at, is_held_and_due, next_due, stays, ticks_at, ticks_by, ticks_held, ticks_on, ticks_with}
@@ -31,13 +31,13 @@ use Rattle.osdp_bus_laws.proofs.Turning.{due_is_next, set_here, set_other}
 use Rattle.osdp_bus_time_laws.specs.Clock.{ends_duty}
 
 -- what holds of the device of an entry
-abbrev pub AtPlace : ℕ → (Device → Type 0) → Devices → Type 0
-AtPlace entry Q ds = (d : Device) × (slice_get ds.entries entry ≡ Some d) × Q d
+abbrev pub AtPlace : ℕ → (Entry → Type 0) → Devices → Type 0
+AtPlace entry Q ds = (d : Entry) × (slice_get ds.entries entry ≡ Some d) × Q d
 
-pub one_device : (o : Option Device) (d e : Device) → o ≡ Some d → o ≡ Some e → d ≡ e
+pub one_device : (o : Option Entry) (d e : Entry) → o ≡ Some d → o ≡ Some e → d ≡ e
 one_device o d e is are = let both : Some d ≡ Some e = sym is ∙ are in cc
 
-pub in_front : (ds : List Device) (e : Device) (i : ℕ) (d : Device) → slice_get ds i ≡ Some d → slice_get (ds ++ e ∷ []) i ≡ Some d
+pub in_front : (ds : List Entry) (e : Entry) (i : ℕ) (d : Entry) → slice_get ds i ≡ Some d → slice_get (ds ++ e ∷ []) i ≡ Some d
 in_front [] e i d at = absurd cc
 in_front (x ∷ ds) e zero d at = at
 in_front (x ∷ ds) e (suc i) d at = in_front ds e i d at
@@ -48,12 +48,12 @@ is_true false h = cc
 
 -- ---- calls of the user
 
-module _ (Q : Device → Type 0) (entry : ℕ) where
+module _ (Q : Entry → Type 0) (entry : ℕ) where
   abbrev At : BusState → Type 0
   At b = AtPlace entry Q b.devices
 
-  changed_by : (t : Bool) (change : Device → Device) (at : ℕ) (b : BusState) (f : Device) → nat_eq entry at ≡ t → device_of at b ≡ Some f
-      → (entry ≡ at → Q f → Q (change f)) → (e : Device) → device_of entry b ≡ Some e → Q e
+  changed_by : (t : Bool) (change : Entry → Entry) (at : ℕ) (b : BusState) (f : Entry) → nat_eq entry at ≡ t → device_of at b ≡ Some f
+      → (entry ≡ at → Q f → Q (change f)) → (e : Entry) → device_of entry b ≡ Some e → Q e
       → At (record b { devices = record b.devices { entries = slice_set b.devices.entries at (change f) } })
   changed_by true change at b f same there changes e here is =
       let place : entry ≡ at = eqb-true entry at same in
@@ -65,11 +65,11 @@ module _ (Q : Device → Type 0) (entry : ℕ) where
   changed_by false change at b f other there changes e here is =
       (e, set_other b.devices.entries at entry (change f) (eqb-false entry at other) ∙ here, is)
 
-  pub changed_place : (change : Device → Device) (at : ℕ) (b : BusState) → (entry ≡ at → (d : Device) → device_of at b ≡ Some d → Q d → Q (change d))
+  pub changed_place : (change : Entry → Entry) (at : ℕ) (b : BusState) → (entry ≡ at → (d : Entry) → device_of at b ≡ Some d → Q d → Q (change d))
       → At b → At (changes_device at change b)
   changed_place change at b changes place = by_device (device_of at b) refl
     where
-      by_device : (o : Option Device) → device_of at b ≡ o
+      by_device : (o : Option Entry) → device_of at b ≡ o
           → At (option_map_or (λ d. record b { devices = record b.devices { entries = slice_set b.devices.entries at (change d) } }) o b)
       by_device None none = place
       by_device (Some f) there =
@@ -81,7 +81,7 @@ module _ (Q : Device → Type 0) (entry : ℕ) where
 
   -- the device of the entry is in a session
   abbrev pub Lives : BusState → Type 0
-  Lives b = (d : Device) → device_of entry b ≡ Some d → is_closed d.controller.session.state ≡ false
+  Lives b = (d : Entry) → device_of entry b ≡ Some d → is_closed d.controller.session.state ≡ false
 
   pub begin_place : (at now : ℕ) (b : BusState) → Lives b → At b → begin_refusal_at at b ≡ None → At (after_begin_at at now b)
   begin_place at now b lives place accepted =
@@ -104,10 +104,10 @@ module _ (Q : Device → Type 0) (entry : ℕ) where
       let stands = lives d (ap (λ n. device_of n b) same ∙ there) in
       cc)) place
 
-module _ (g : ℕ) (Q : Device → Type 0) (heard : (p : Packet) (d : Device) → Q d → Q (device_hears p g d)) (entry : ℕ) where
+module _ (g : ℕ) (Q : Entry → Type 0) (heard : (p : Packet) (d : Entry) → Q d → Q (device_hears p g d)) (entry : ℕ) where
   -- ---- what comes in
 
-  packet_by : (t : Bool) (p : Packet) (i : ℕ) (d : Device) (ds : Devices) → nat_eq entry i ≡ t → slice_get ds.entries i ≡ Some d → (e : Device)
+  packet_by : (t : Bool) (p : Packet) (i : ℕ) (d : Entry) (ds : Devices) → nat_eq entry i ≡ t → slice_get ds.entries i ≡ Some d → (e : Entry)
       → slice_get ds.entries entry ≡ Some e → Q e → AtPlace entry Q (hears_with p g i (Some d) ds)
   packet_by true p i d ds same at e there is =
       let here : entry ≡ i = eqb-true entry i same in
@@ -119,7 +119,7 @@ module _ (g : ℕ) (Q : Device → Type 0) (heard : (p : Packet) (d : Device) �
   packet_by false p i d ds other at e there is =
       (e, set_other ds.entries i entry (device_hears p g d) (eqb-false entry i other) ∙ there, is)
 
-  packet_place : (p : Packet) (i : ℕ) (d : Device) (ds : Devices) → slice_get ds.entries i ≡ Some d → AtPlace entry Q ds
+  packet_place : (p : Packet) (i : ℕ) (d : Entry) (ds : Devices) → slice_get ds.entries i ≡ Some d → AtPlace entry Q ds
       → AtPlace entry Q (hears_with p g i (Some d) ds)
   packet_place p i d ds at place = packet_by (nat_eq entry i) p i d ds refl at place.0 place.1 place.2
 
@@ -155,10 +155,10 @@ module _ (g : ℕ) (Q : Device → Type 0) (heard : (p : Packet) (d : Device) �
 
   -- what an accepted order leaves
   abbrev pub Submitted : Call → BusState → Type 0
-  Submitted call b = (at : ℕ) (command : Command) → call ≡ Submit at command → entry ≡ at → submit_refusal_at at command b ≡ None → (d : Device)
+  Submitted call b = (at : ℕ) (command : Command) → call ≡ Submit at command → entry ≡ at → submit_refusal_at at command b ≡ None → (d : Entry)
       → device_of at b ≡ Some d → Q d → Q (device_submits command d)
 
-  module _ (withdrawn : (d : Device) → Q d → is_closed d.controller.session.state ≡ false → Q (device_withdraws d)) where
+  module _ (withdrawn : (d : Entry) → Q d → is_closed d.controller.session.state ≡ false → Q (device_withdraws d)) where
     -- a call that ends no duty: no tick, or one while a report waits
     pub place_then : (call : Call) (b : BusState) → Submitted call b → ends_duty call b ≡ false → (after_call call b).greatest ≡ g → Lives Q entry b → Placed b
         → Placed (after_call call b)
@@ -183,8 +183,8 @@ module _ (g : ℕ) (Q : Device → Type 0) (heard : (p : Packet) (d : Device) �
         (sym (ap (λ t. if t then stays (seen now b) else ticks_on (judged now b)) (is_true (has_report b) other))) place
     place_then NextReport b submitted other moment lives place = place
 
-  module _ (submitted : (command : Command) (d : Device) → Q d → Q (device_submits command d))
-      (withdrawn : (d : Device) → Q d → is_closed d.controller.session.state ≡ false → Q (device_withdraws d)) where
+  module _ (submitted : (command : Command) (d : Entry) → Q d → Q (device_submits command d))
+      (withdrawn : (d : Entry) → Q d → is_closed d.controller.session.state ≡ false → Q (device_withdraws d)) where
     pub call_place : (call : Call) (b : BusState) → ends_duty call b ≡ false → (after_call call b).greatest ≡ g → Lives Q entry b → Placed b → Placed (after_call call b)
     call_place call b = place_then withdrawn call b (λ at command is same ok d there q. submitted command d q)
 
@@ -194,9 +194,9 @@ module _ (g : ℕ) (Q : Device → Type 0) (heard : (p : Packet) (d : Device) �
   Outcome now b t =
       ((k : ℕ) × Begins (Tick now) k b × (k ≢ entry → Placed t.bus))
       ⊎ ((AtPlace entry (λ d. Q d × (holds d ≡ true → is_device_due g d ≡ true → ⊥)) t.bus.devices)
-      ⊎ ((d : Device) × Q d × (holds d ≡ true) × (is_device_due g d ≡ true) × (slice_get t.bus.devices.entries entry ≡ Some (device_ticks g d))))
+      ⊎ ((d : Entry) × Q d × (holds d ≡ true) × (is_device_due g d ≡ true) × (slice_get t.bus.devices.entries entry ≡ Some (device_ticks g d))))
 
-  rests : (now : ℕ) (b c : BusState) → Placed c → ((d : Device) → device_of entry c ≡ Some d → holds d ≡ true → is_device_due g d ≡ true → ⊥)
+  rests : (now : ℕ) (b c : BusState) → Placed c → ((d : Entry) → device_of entry c ≡ Some d → holds d ≡ true → is_device_due g d ≡ true → ⊥)
       → Outcome now b (stays c)
   rests now b c place never = inr (inl (place.0, place.1, (place.2, λ stands due. never place.0 place.1 stands due)))
 
@@ -226,7 +226,7 @@ module _ (g : ℕ) (Q : Device → Type 0) (heard : (p : Packet) (d : Device) �
     ticks_other : (k : ℕ) → k ≢ entry → Placed (ticks_at (Some k) r).bus
     ticks_other k other = by_device (device_of k r)
       where
-        by_device : (o : Option Device) → Placed (ticks_with k o r).bus
+        by_device : (o : Option Entry) → Placed (ticks_with k o r).bus
         by_device None = placed_r
         by_device (Some f) =
             (placed_r.0, set_other r.devices.entries k entry (device_ticks r.greatest f) (λ h. other (sym h)) ∙ placed_r.1, placed_r.2)
@@ -246,12 +246,12 @@ module _ (g : ℕ) (Q : Device → Type 0) (heard : (p : Packet) (d : Device) �
 
     -- an entry holds it
     module _ (m : ℕ) (held : holder j ≡ Some m) where
-      is_holder : (d : Device) → device_of entry j ≡ Some d → holds d ≡ true → m ≡ entry
+      is_holder : (d : Entry) → device_of entry j ≡ Some d → holds d ≡ true → m ≡ entry
       is_holder d there stands =
           let mine = (has_one_exchange j sound_j).belongs entry (record { device = d; there = there; outstanding = stands }) in
           let both : Some m ≡ Some entry = sym held ∙ mine in cc
 
-      is_holder_then : (d : Device) → device_of entry r ≡ Some d → holds d ≡ true → m ≡ entry
+      is_holder_then : (d : Entry) → device_of entry r ≡ Some d → holds d ≡ true → m ≡ entry
       is_holder_then d there stands =
           let before = held_items j.greatest (items true j.held) j.devices entry d there stands in is_holder before.0 before.1 before.2
 
@@ -277,7 +277,7 @@ module _ (g : ℕ) (Q : Device → Type 0) (heard : (p : Packet) (d : Device) �
           let yes : (holds d && is_device_due r.greatest d) ≡ true = ap (λ t. t && is_device_due r.greatest d) stands ∙ due_then in
           reported (has_report r) (is_held_and_due m r) refl (is ∙ yes) ended d there stands)
         where
-          reported : (x y : Bool) → has_report r ≡ x → y ≡ true → (x || not y) ≡ true → (d : Device) → device_of entry r ≡ Some d → holds d ≡ true → ⊥
+          reported : (x y : Bool) → has_report r ≡ x → y ≡ true → (x || not y) ≡ true → (d : Entry) → device_of entry r ≡ Some d → holds d ≡ true → ⊥
           reported true y told holding h d there stands = let free = sound_r.devices.waits told entry d there in cc
           reported false true told holding h d there stands = cc
           reported false false told holding h d there stands = cc
@@ -286,7 +286,7 @@ module _ (g : ℕ) (Q : Device → Type 0) (heard : (p : Packet) (d : Device) �
       still_ticks h = by_same (nat_eq m entry) refl (held_there m r h).1
         where
           by_same : (t : Bool) → nat_eq m entry ≡ t
-              → ((d : Device) × (device_of m r ≡ Some d) × (holds d ≡ true) × (is_device_due r.greatest d ≡ true)) → Outcome now b (ticks_at (Some m) r)
+              → ((d : Entry) × (device_of m r ≡ Some d) × (holds d ≡ true) × (is_device_due r.greatest d ≡ true)) → Outcome now b (ticks_at (Some m) r)
           by_same true same (d, there, stands, due) =
               let mine : m ≡ entry = eqb-true m entry same in
               let one : placed_r.0 ≡ d = one_device (device_of entry r) placed_r.0 d placed_r.1 (ap (λ n. device_of n r) (sym mine) ∙ there) in
@@ -311,7 +311,7 @@ module _ (g : ℕ) (Q : Device → Type 0) (heard : (p : Packet) (d : Device) �
                 ),
               ))
             where
-              unticked : (d : Device) → device_of m r ≡ Some d → slice_get (ticks_at (Some m) r).bus.devices.entries entry ≡ device_of entry r
+              unticked : (d : Entry) → device_of m r ≡ Some d → slice_get (ticks_at (Some m) r).bus.devices.entries entry ≡ device_of entry r
               unticked d there =
                   ap (λ o. slice_get (ticks_with m o r).bus.devices.entries entry) there
                   ∙ set_other r.devices.entries m entry (device_ticks r.greatest d) (λ h. eqb-false m entry other (sym h))

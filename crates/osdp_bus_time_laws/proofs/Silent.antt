@@ -21,9 +21,9 @@ use Rattle.osdp_time_laws.specs.Clock.{TicksBy}
 use Rattle.osdp_time_laws.specs.Laws.{IsNotBusy}
 use Rattle.osdp_time_laws.proofs.Beginnings.{no_busy, whole, whole_is}
 use Rattle.osdp_time_laws.proofs.Phases.{Phase}
-use Rattle.osdp_bus.specs.declared.device.Device.{Device}
+use Rattle.osdp_bus.specs.declared.entry.Entry.{Entry}
 use Rattle.osdp_bus.specs.Buses.{BusState, device_of, waiting_after}
-use Rattle.osdp_bus.specs.Devices.{device_ticks, holds, is_device_due, step_of}
+use Rattle.osdp_bus.specs.Entries.{device_ticks, holds, is_device_due, step_of}
 use Rattle.osdp_bus.specs.Settings.{controller_config}
 use Rattle.osdp_bus_laws.specs.Calls.{Call, after_call}
 use Rattle.osdp_bus_laws.specs.Exchanges.{IsOutstandingAt}
@@ -66,7 +66,7 @@ none_busy (call ∷ calls) b =
 -- ---- its exchange ends after a round of sends
 
 module _ (late e : ℕ) (c : ControllerConfig) (more : ℕ) (many : c.sends ≡ more + 1) where
-  module _ (call : Call) (calls : List Call) (b : BusState) (entry : ℕ) (d : Device) (well : Well b) (there : device_of entry b ≡ Some d) (stands : holds d ≡ true)
+  module _ (call : Call) (calls : List Call) (b : BusState) (entry : ℕ) (d : Entry) (well : Well b) (there : device_of entry b ≡ Some d) (stands : holds d ≡ true)
       (owed : (at : ℕ) → IsOwed at call b → DoneBy (at + late) (call ∷ calls) b) (config : d.controller.session.config ≡ c)
       (phase : Phase late e c more (Unit {0}) (silent_moments (call ∷ calls) b) d.controller.session.state b.greatest) where
     abbrev g : ℕ
@@ -78,13 +78,13 @@ module _ (late e : ℕ) (c : ControllerConfig) (more : ℕ) (many : c.sends ≡ 
     abbrev x : CallOf
     x = as_tick (ends_duty call b) g
 
-    on_same : (f : Device) → Same g d f → On late e c more many (x ∷ l) g f
+    on_same : (f : Entry) → Same g d f → On late e c more many (x ∷ l) g f
     on_same f same =
         let on = on_then late e c more many [] no_more call calls b entry d well there stands owed config phase in
         let now = on.1 stands in
         (same.reached, λ so. (same.config ∙ config, subst (λ state. Phase late e c more (Unit {0}) (x ∷ l) state g) (sym same.state) now.1))
 
-    stays_by : (t : Bool) → ends_duty call b ≡ t → (f : Device) → Same g d f → (ends_duty call b ≡ true → is_device_due g f ≡ true → ⊥)
+    stays_by : (t : Bool) → ends_duty call b ≡ t → (f : Entry) → Same g d f → (ends_duty call b ≡ true → is_device_due g f ≡ true → ⊥)
         → On late e c more many l g f
     stays_by false other f same never = kept_on late e c more many (ends_duty call b) g l other f (on_same f same)
     stays_by true ends f same never = ahead_on late e c more many x g l f (λ holding. never ends) (on_same f same)
@@ -153,7 +153,7 @@ gives_lost (Waiting until sends o) s w stands out =
 gives_lost (Pausing until o) s w stands out =
     either_way TellsLost (nat_le until s.greatest) (sends_frame 1 o s w) (stays s w) (λ b free. cc) (λ b free. cc)
 
-lost_by : (call : Call) (b : BusState) (entry : ℕ) (d : Device) → holds d ≡ true → (IsOutstandingAt entry (after_call call b) → ⊥) → Leaves call b entry d
+lost_by : (call : Call) (b : BusState) (entry : ℕ) (d : Entry) → holds d ≡ true → (IsOutstandingAt entry (after_call call b) → ⊥) → Leaves call b entry d
     → IsLost entry (after_call call b)
 lost_by call b entry d stands free (inl (f, at, (same, never))) =
     absurd (free (record { device = f; there = at; outstanding = ap is_outstanding same.state ∙ stands }))

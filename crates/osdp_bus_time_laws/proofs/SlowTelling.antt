@@ -8,10 +8,10 @@ use Rattle.osdp_frame.specs.Held.{decided}
 use Rattle.osdp_msg.specs.ReplyTable.{reply_at, reply_fault, reply_of}
 use Rattle.osdp_controller.specs.declared.report.LostCause.TheVariants.{NoReply}
 use Rattle.osdp_time_laws.proofs.Duties.{until_of}
-use Rattle.osdp_bus.specs.declared.device.Device.{Device}
+use Rattle.osdp_bus.specs.declared.entry.Entry.{Entry}
 use Rattle.osdp_bus.specs.Buses.{BusState, has_report, holder}
 use Rattle.osdp_bus.specs.Deadlines.{acts}
-use Rattle.osdp_bus.specs.Devices.{address_of, is_device_due}
+use Rattle.osdp_bus.specs.Entries.{address_of, is_device_due}
 use Rattle.osdp_bus_laws.specs.Calls.{NextReport, Tick, after_call}
 use Rattle.osdp_bus_time_laws.specs.Clock.{KeepsTime}
 use Rattle.osdp_bus_time_laws.specs.Instances.{SilenceIsReached, both_idle, silent_calls}
@@ -51,7 +51,7 @@ either_due false true due = inr refl
 either_due false false due = cc
 
 -- an idle line of two entries whose POLLs are due at one moment
-idle_until : (b : BusState) (d e : Device) (at from : ℕ) → b.held ≡ [] → has_report b ≡ false → holder b ≡ None → b.devices.entries ≡ d ∷ e ∷ []
+idle_until : (b : BusState) (d e : Entry) (at from : ℕ) → b.held ≡ [] → has_report b ≡ false → holder b ≡ None → b.devices.entries ≡ d ∷ e ∷ []
     → d.controller.waiting ≡ [] → e.controller.waiting ≡ [] → d.controller.session.greatest ≤ b.greatest → e.controller.session.greatest ≤ b.greatest
     → until_of d.controller.session.state ≡ from → until_of e.controller.session.state ≡ from → acts at b ≡ true → from ≤ max b.greatest at
 idle_until b d e at from none untold free entries rests_d rests_e seen_d seen_e from_d from_e so =
@@ -116,7 +116,7 @@ few : HasFew 2 silent_calls both_idle
 unfolding items left_over decided reply_of reply_fault reply_at
 few = (two, (two, (two, (two, (two, (two, (two, two)))))))
 
-none_of : (d : Device) → All (IsOfAnother (address_of d)) []
+none_of : (d : Entry) → All (IsOfAnother (address_of d)) []
 none_of d = All-nil (IsOfAnother (address_of d))
 
 silent : NothingIsRead 1 silent_calls both_idle

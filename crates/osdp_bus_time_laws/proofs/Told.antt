@@ -7,10 +7,10 @@ use Rattle.osdp_controller.specs.declared.state.State.{State}
 use Rattle.osdp_controller.specs.declared.state.State.TheVariants.{Closed, Quiet, Idle, Waiting, Pausing}
 use Rattle.osdp_controller.specs.Machine.{is_outstanding}
 use Rattle.osdp_controller.specs.States.{is_closed, is_idle}
-use Rattle.osdp_bus.specs.declared.device.Device.{Device}
+use Rattle.osdp_bus.specs.declared.entry.Entry.{Entry}
 use Rattle.osdp_bus.specs.Buses.{BusState, device_of, has_report}
 use Rattle.osdp_bus.specs.Deadlines.{acts}
-use Rattle.osdp_bus.specs.Devices.{holds}
+use Rattle.osdp_bus.specs.Entries.{holds}
 use Rattle.osdp_bus_laws.specs.Calls.{Call, Add, Begin, Submit, Withdraw, Retarget, OnBytes, OnSilence, Tick, NextReport, after_call}
 use Rattle.osdp_bus_laws.specs.Exchanges.{IsOutstandingAt}
 use Rattle.osdp_bus_laws.specs.Fairness.{Begins}
@@ -96,12 +96,12 @@ reports_are_taken b well late calls told in_time = taken_from late calls b well 
 pub standing : (entry : ℕ) (b : BusState) → (IsOutstandingAt entry b) ⊎ (IsOutstandingAt entry b → ⊥)
 standing entry b = by_device (device_of entry b) refl
   where
-    by_holds : (d : Device) → device_of entry b ≡ Some d → (t : Bool) → holds d ≡ t → (IsOutstandingAt entry b) ⊎ (IsOutstandingAt entry b → ⊥)
+    by_holds : (d : Entry) → device_of entry b ≡ Some d → (t : Bool) → holds d ≡ t → (IsOutstandingAt entry b) ⊎ (IsOutstandingAt entry b → ⊥)
     by_holds d there true stands = inl (record { device = d; there = there; outstanding = stands })
     by_holds d there false free =
         inr (λ other. let one = one_device (device_of entry b) other.device d other.there there in let stands = ap holds (sym one) ∙ other.outstanding in cc)
 
-    by_device : (o : Option Device) → device_of entry b ≡ o → (IsOutstandingAt entry b) ⊎ (IsOutstandingAt entry b → ⊥)
+    by_device : (o : Option Entry) → device_of entry b ≡ o → (IsOutstandingAt entry b) ⊎ (IsOutstandingAt entry b → ⊥)
     by_device None none = inr (λ other. let both : Some other.device ≡ None = sym other.there ∙ none in cc)
     by_device (Some d) there = by_holds d there (holds d) refl
 

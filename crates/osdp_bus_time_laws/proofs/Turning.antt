@@ -17,10 +17,10 @@ use Rattle.osdp_controller_laws.proofs.Stepwise.{frames_in_steps}
 use Rattle.osdp_time_laws.specs.Clock.{TicksBy, is_tick}
 use Rattle.osdp_time_laws.proofs.Duties.{Due, due_kept, due_seen, until_of}
 use Rattle.osdp_time_laws.proofs.Orders.{due_idle}
-use Rattle.osdp_bus.specs.declared.device.Device.{Device}
+use Rattle.osdp_bus.specs.declared.entry.Entry.{Entry}
 use Rattle.osdp_bus.specs.Buses.{BusState, Devices, device_of, has_report, holder, is_silent, seen, waiting_after}
 use Rattle.osdp_bus.specs.Deadlines.{acts}
-use Rattle.osdp_bus.specs.Devices.{device_hears, holds, is_device_due, told_of}
+use Rattle.osdp_bus.specs.Entries.{device_hears, holds, is_device_due, told_of}
 use Rattle.osdp_bus.specs.Hearing.{ends_run, hears_items, hears_with}
 use Rattle.osdp_bus.specs.Machine.{device_submits, device_withdraws}
 use Rattle.osdp_bus.specs.Ticking.{bus_ticks, next_due}
@@ -114,12 +114,12 @@ none_told : (o : Option Report) → is_some o ≡ false → o ≡ None
 none_told None h = refl
 none_told (Some report) h = cc
 
-nobody_put : (now : ℕ) (p : Packet) (i : ℕ) (d : Device) (ds : Devices) → slice_get ds.entries i ≡ Some d → IsNobody ds → (j : ℕ) (f : Device) → holds f ≡ true
+nobody_put : (now : ℕ) (p : Packet) (i : ℕ) (d : Entry) (ds : Devices) → slice_get ds.entries i ≡ Some d → IsNobody ds → (j : ℕ) (f : Entry) → holds f ≡ true
     → IsAt ds.entries i (device_hears p now d) j f → ⊥
 nobody_put now p i d ds at free j f stands (inl (here, same)) = free i d at (heard_holds p now d (sym (ap holds same) ∙ stands))
 nobody_put now p i d ds at free j f stands (inr (other, was)) = free j f was stands
 
-nothing_packet : (now : ℕ) (p : Packet) (i : ℕ) (d : Device) (ds : Devices) → slice_get ds.entries i ≡ Some d → Nothing ds
+nothing_packet : (now : ℕ) (p : Packet) (i : ℕ) (d : Entry) (ds : Devices) → slice_get ds.entries i ≡ Some d → Nothing ds
     → Nothing (hears_with p now i (Some d) ds)
 nothing_packet now p i d ds at nothing =
     let silent = none_told (told_of p now d) (is_false (is_some (told_of p now d)) (λ told. nothing.0 i d at (heard_told p now d told).0)) in (
@@ -153,32 +153,32 @@ abbrev pub IsReady : ℕ → ℕ → State → ℕ → Type 0
 IsReady from least state wait =
     (is_closed state ≡ false) × (is_outstanding state ≡ false) × (least ≤ wait) × ((until_of state ≤ from) ⊎ ((is_idle state ≡ true) × (1 ≤ least)))
 
-abbrev pub Ready : ℕ → ℕ → Device → Type 0
+abbrev pub Ready : ℕ → ℕ → Entry → Type 0
 Ready from least d = IsReady from least d.controller.session.state (length d.controller.waiting)
 
-due_by : (from least at : ℕ) (d : Device) → from ≤ at → is_closed d.controller.session.state ≡ false → least ≤ length d.controller.waiting
+due_by : (from least at : ℕ) (d : Entry) → from ≤ at → is_closed d.controller.session.state ≡ false → least ≤ length d.controller.waiting
     → ((until_of d.controller.session.state ≤ from) ⊎ ((is_idle d.controller.session.state ≡ true) × (1 ≤ least))) → is_device_due at d ≡ true
 due_by from least at d near lives some (inl before) = due_then d at lives (omega arith)
 due_by from least at d near lives some (inr (idle, one)) =
     due_idle d.controller.session.state (seen_by at d.controller.session) d.controller.waiting idle (omega arith)
 
-pub ready_due : (from least at : ℕ) (d : Device) → from ≤ at → Ready from least d → is_device_due at d ≡ true
+pub ready_due : (from least at : ℕ) (d : Entry) → from ≤ at → Ready from least d → is_device_due at d ≡ true
 ready_due from least at d near ready = due_by from least at d near ready.0 ready.2 ready.3
 
 more_waits : (from least wait next : ℕ) (state : State) → wait ≤ next → IsReady from least state wait → IsReady from least state next
 more_waits from least wait next state more ready = (ready.0, ready.1, (let some : least ≤ wait = ready.2 in omega arith), ready.3)
 
-pub ready_heard : (from least g : ℕ) (p : Packet) (d : Device) → Ready from least d → Ready from least (device_hears p g d)
+pub ready_heard : (from least g : ℕ) (p : Packet) (d : Entry) → Ready from least d → Ready from least (device_hears p g d)
 ready_heard from least g p d ready =
     let ignored = (frames_in_steps p g d.controller.session).not_outstanding ready.1 in
     subst (λ (h : Heard). IsReady from least h.session.state (length d.controller.waiting)) (sym ignored) ready
 
-ready_submitted : (from least : ℕ) (command : Command) (d : Device) → Ready from least d → Ready from least (device_submits command d)
+ready_submitted : (from least : ℕ) (command : Command) (d : Entry) → Ready from least d → Ready from least (device_submits command d)
 ready_submitted from least command d ready =
     more_waits from least (length d.controller.waiting) (length (d.controller.waiting ++ command ∷ [])) d.controller.session.state
     (let both = length-append d.controller.waiting (command ∷ []) in omega arith) ready
 
-ready_withdrawn : (from least : ℕ) (d : Device) → Ready from least d → is_closed d.controller.session.state ≡ false → Ready from least (device_withdraws d)
+ready_withdrawn : (from least : ℕ) (d : Entry) → Ready from least d → is_closed d.controller.session.state ≡ false → Ready from least (device_withdraws d)
 ready_withdrawn from least d ready lives =
     subst (λ t. IsReady from least d.controller.session.state (length (if t then drop 1 d.controller.waiting else d.controller.waiting))) (sym lives) ready
 
@@ -191,7 +191,7 @@ module _ (from least own : ℕ) (call : Call) (b : BusState) (well : Well b) (pl
   stays_other other =
       call_place g_then (Ready from least) (ready_heard from least g_then) own (ready_submitted from least) (ready_withdrawn from least) call b other refl
       (λ f here. let one = one_device (device_of own b) place.0 f place.1 here in
-      subst (λ (k : Device). is_closed k.controller.session.state ≡ false) one place.2.0)
+      subst (λ (k : Entry). is_closed k.controller.session.state ≡ false) one place.2.0)
       place
 
   stays_outcome : (now : ℕ) → call ≡ Tick now → Outcome g_then (Ready from least) (ready_heard from least g_then) own now b (bus_ticks now b)
@@ -247,12 +247,12 @@ pub within_few : (n : ℕ) (calls : List Call) (b : BusState) → HasFew n calls
 within_few n [] b few = few
 within_few n (call ∷ calls) b few = few.0
 
-pub at_length : (ds : List Device) (i : ℕ) (d : Device) → slice_get ds i ≡ Some d → i < length ds
+pub at_length : (ds : List Entry) (i : ℕ) (d : Entry) → slice_get ds i ≡ Some d → i < length ds
 at_length [] i d at = absurd cc
 at_length (x ∷ ds) zero d at = omega arith
 at_length (x ∷ ds) (suc i) d at = let next = at_length ds i d at in omega arith
 
-pub is_there : (n entry : ℕ) (d : Device) (calls : List Call) (b : BusState) → HasFew n calls b → device_of entry b ≡ Some d → entry < n
+pub is_there : (n entry : ℕ) (d : Entry) (calls : List Call) (b : BusState) → HasFew n calls b → device_of entry b ≡ Some d → entry < n
 is_there n entry d calls b few at =
     let most = within_few n calls b few in let within = at_length b.devices.entries entry d at in omega arith
 

@@ -13,9 +13,9 @@ use Rattle.osdp_controller.specs.Machine.{is_outstanding}
 use Rattle.osdp_controller.specs.Sessions.{seen as seen_by}
 use Rattle.osdp_controller.specs.States.{is_closed}
 use Rattle.osdp_controller_laws.proofs.Kept.{hears_at_moment}
-use Rattle.osdp_bus.specs.declared.device.Device.{Device}
+use Rattle.osdp_bus.specs.declared.entry.Entry.{Entry}
 use Rattle.osdp_bus.specs.Buses.{BusState, Devices, device_of, has_report, holder, is_silent, seen, waiting_after}
-use Rattle.osdp_bus.specs.Devices.{address_of, device_hears, device_ticks, first_from, holds, is_at, is_device_due, step_of}
+use Rattle.osdp_bus.specs.Entries.{address_of, device_hears, device_ticks, first_from, holds, is_at, is_device_due, step_of}
 use Rattle.osdp_bus.specs.Hearing.{after_bytes, ends_run, hears_at, hears_item, hears_items, hears_with}
 use Rattle.osdp_bus.specs.Machine.{add_refusal, after_add, after_begin_at, after_retarget_at, after_submit_at, begin_refusal_at, device_submits, device_withdraws, new_device, retarget_refusal_at, submit_refusal_at}
 use Rattle.osdp_bus.specs.Ticking.{BusTicked, bus_ticks, is_due_at, is_held_and_due, stays, ticks_at, ticks_by, ticks_held, ticks_on, ticks_with}
@@ -49,7 +49,7 @@ back P (x ∷ xs) ys all = back P xs ys (All-tail P x (xs ++ ys) all)
 -- ---- a device that hears a packet of another
 
 -- the same exchange, at whatever moment up to this one
-pub record Same (g : ℕ) (d e : Device) : Type 0 where
+pub record Same (g : ℕ) (d e : Entry) : Type 0 where
   pub state : e.controller.session.state ≡ d.controller.session.state
   pub config : e.controller.session.config ≡ d.controller.session.config
   pub reached : e.controller.session.greatest ≤ g
@@ -59,14 +59,14 @@ not_from false y z other = refl
 not_from true false z other = refl
 not_from true true z other = cc
 
-ignored : (p : Packet) (now : ℕ) (e : Device) → IsOfAnother (address_of e) p → hears p now e.controller.session ≡ ignores (seen_by now e.controller.session)
+ignored : (p : Packet) (now : ℕ) (e : Entry) → IsOfAnother (address_of e) p → hears p now e.controller.session ≡ ignores (seen_by now e.controller.session)
 ignored p now e other =
     let s = e.controller.session in
     ap (λ t. if t then hears_in s.state p.sequence (meaning_of p) (seen_by now s) else ignores (seen_by now s))
     (not_from p.reply (nat_eq p.address s.config.address) (not p.block) other)
 
-module _ (g : ℕ) (d : Device) where
-  same_heard : (p : Packet) (e : Device) → IsOfAnother (address_of d) p → Same g d e → Same g d (device_hears p g e)
+module _ (g : ℕ) (d : Entry) where
+  same_heard : (p : Packet) (e : Entry) → IsOfAnother (address_of d) p → Same g d e → Same g d (device_hears p g e)
   same_heard p e other same =
       let s = e.controller.session in
       let address : address_of e ≡ address_of d = ap (λ c. c.address) same.config in
@@ -86,8 +86,8 @@ module _ (g : ℕ) (d : Device) where
     abbrev Others : List Packet → Type 0
     Others ps = All (IsOfAnother (address_of d)) ps
 
-    packet_by : (t : Bool) (p : Packet) (i : ℕ) (f : Device) (ds : Devices) → IsOfAnother (address_of d) p → nat_eq entry i ≡ t
-        → slice_get ds.entries i ≡ Some f → (e : Device) → slice_get ds.entries entry ≡ Some e → Same g d e → Here (hears_with p g i (Some f) ds)
+    packet_by : (t : Bool) (p : Packet) (i : ℕ) (f : Entry) (ds : Devices) → IsOfAnother (address_of d) p → nat_eq entry i ≡ t
+        → slice_get ds.entries i ≡ Some f → (e : Entry) → slice_get ds.entries entry ≡ Some e → Same g d e → Here (hears_with p g i (Some f) ds)
     packet_by true p i f ds none same at e there is =
         let here : entry ≡ i = eqb-true entry i same in
         let one : e ≡ f = one_device (slice_get ds.entries i) e f (sym (ap (slice_get ds.entries) here) ∙ there) at in (
@@ -98,7 +98,7 @@ module _ (g : ℕ) (d : Device) where
     packet_by false p i f ds none other at e there is =
         (e, set_other ds.entries i entry (device_hears p g f) (eqb-false entry i other) ∙ there, is)
 
-    with_here : (p : Packet) (i : ℕ) (o : Option Device) (ds : Devices) → IsOfAnother (address_of d) p → slice_get ds.entries i ≡ o → Here ds
+    with_here : (p : Packet) (i : ℕ) (o : Option Entry) (ds : Devices) → IsOfAnother (address_of d) p → slice_get ds.entries i ≡ o → Here ds
         → Here (hears_with p g i o ds)
     with_here p i None ds none at here = here
     with_here p i (Some f) ds none at here = packet_by (nat_eq entry i) p i f ds none refl at here.0 here.1 here.2
@@ -147,7 +147,7 @@ module _ (g : ℕ) (d : Device) where
     abbrev pub Ticks : BusTicked → Type 0
     Ticks t =
         AtPlace entry (λ e. Same g d e × (is_device_due g e ≡ true → ⊥)) t.bus.devices
-        ⊎ ((f : Device) × Same g d f × (is_device_due g f ≡ true) × (slice_get t.bus.devices.entries entry ≡ Some (device_ticks g f))
+        ⊎ ((f : Entry) × Same g d f × (is_device_due g f ≡ true) × (slice_get t.bus.devices.entries entry ≡ Some (device_ticks g f))
         × (t.bus.devices.report ≡ waiting_after entry (step_of g f).report None))
 
     no_report : {X : Type 0} (o : Option X) → is_some o ≡ false → o ≡ None
@@ -168,7 +168,7 @@ module _ (g : ℕ) (d : Device) where
       sound_r : SoundBus r
       sound_r = sound_run j sound_j
 
-      still : (e : Device) → Same g d e → holds e ≡ true
+      still : (e : Entry) → Same g d e → holds e ≡ true
       still e same = ap is_outstanding same.state ∙ stands
 
       held_judged : Others (read_if_silent (seen now b)) → holder j ≡ Some entry
@@ -189,7 +189,7 @@ module _ (g : ℕ) (d : Device) where
         ),
       )
 
-      rests_by : (e : Device) → device_of entry r ≡ Some e → Same g d e → (x : Bool) → has_report r ≡ x → (x || not (is_held_and_due entry r)) ≡ true
+      rests_by : (e : Entry) → device_of entry r ≡ Some e → Same g d e → (x : Bool) → has_report r ≡ x → (x || not (is_held_and_due entry r)) ≡ true
           → is_device_due g e ≡ true → ⊥
       rests_by e there same true told h due = let free = sound_r.devices.waits told entry e there in let held = still e same in cc
       rests_by e there same false told h due =
@@ -248,15 +248,15 @@ module _ (g : ℕ) (d : Device) where
 -- ---- any call, while the device holds the line
 
 -- its exchange stands, and a tick that ends a duty comes before it is due; or it ticks
-abbrev pub Leaves : Call → BusState → ℕ → Device → Type 0
+abbrev pub Leaves : Call → BusState → ℕ → Entry → Type 0
 Leaves call b entry d =
     AtPlace entry (λ e. Same (after_call call b).greatest d e × (ends_duty call b ≡ true → is_device_due (after_call call b).greatest e ≡ true → ⊥))
     (after_call call b).devices
-    ⊎ ((f : Device) × Same (after_call call b).greatest d f × (is_device_due (after_call call b).greatest f ≡ true)
+    ⊎ ((f : Entry) × Same (after_call call b).greatest d f × (is_device_due (after_call call b).greatest f ≡ true)
     × (device_of entry (after_call call b) ≡ Some (device_ticks (after_call call b).greatest f))
     × ((after_call call b).devices.report ≡ waiting_after entry (step_of (after_call call b).greatest f).report None))
 
-module _ (b : BusState) (entry : ℕ) (d : Device) (well : Well b) (there : device_of entry b ≡ Some d) (stands : holds d ≡ true) where
+module _ (b : BusState) (entry : ℕ) (d : Entry) (well : Well b) (there : device_of entry b ≡ Some d) (stands : holds d ≡ true) where
   unreported : has_report b ≡ false
   unreported = is_false (has_report b) (λ told. let free = well.sound.devices.waits told entry d there in cc)
 
@@ -271,7 +271,7 @@ module _ (b : BusState) (entry : ℕ) (d : Device) (well : Well b) (there : devi
   lives : (g : ℕ) → Lives (Same g d) entry b
   lives g f at =
       let one = one_device (device_of entry b) d f there at in
-      subst (λ (k : Device). is_closed k.controller.session.state ≡ false) one (stands_not_closed d stands)
+      subst (λ (k : Entry). is_closed k.controller.session.state ≡ false) one (stands_not_closed d stands)
 
   plain : (call : Call) → ends_duty call b ≡ false → AtPlace entry (Same (after_call call b).greatest d) (after_call call b).devices → Leaves call b entry d
   plain call other place = inl (place.0, place.1, (place.2, λ ends due. let both : true ≡ false = sym ends ∙ other in cc))

@@ -2,7 +2,7 @@
 use Rattle.std.specs.Prelude.{◌≡◌, ℕ, zero, suc, ◌+◌, ◌-◌, ◌*◌, ◌≤◌, true, List, [], ◌∷◌, length, Some, None}
 use Rattle.osdp_msg.specs.declared.command.Command.{Command}
 use Rattle.osdp_controller.specs.declared.exchange.Exchange.TheVariants.{Polling}
-use Rattle.osdp_bus.specs.declared.device.Device.{Device}
+use Rattle.osdp_bus.specs.declared.entry.Entry.{Entry}
 use Rattle.osdp_bus.specs.Buses.{BusState, device_of}
 use Rattle.osdp_bus.specs.Machine.{begin_refusal_at, submit_refusal_at}
 use Rattle.osdp_bus.specs.Settings.{controller_config}
@@ -27,7 +27,7 @@ pub record ExchangesEnd (b : BusState) : Type 0 where
 
 -- the session of an entry stands, and doesn't wait for its opening
 pub record IsUnderWay (entry : ℕ) (b : BusState) : Type 0 where
-  pub device : Device
+  pub device : Entry
   pub there : device_of entry b ≡ Some device
   pub under_way : is_under_way device.controller.session.state ≡ true
 
@@ -44,15 +44,15 @@ GoesOutBy limit (suc before) entry (call ∷ calls) b = IsUnderWay entry b
 
 -- an exchange that begins while the session of its entry is under way asks the command that waits at the front, and the others wait on
 abbrev pub TakesTheFront : BusState → Type 0
-TakesTheFront b = (call : Call) (entry : ℕ) (command : Command) (rest : List Command) (d : Device) → device_of entry b ≡ Some d
+TakesTheFront b = (call : Call) (entry : ℕ) (command : Command) (rest : List Command) (d : Entry) → device_of entry b ≡ Some d
     → is_under_way d.controller.session.state ≡ true → d.controller.waiting ≡ command ∷ rest → Begins call entry b
-    → (e : Device) × (device_of entry (after_call call b) ≡ Some e) × (asked_in e.controller.session.state ≡ Some command) × (e.controller.waiting ≡ rest)
+    → (e : Entry) × (device_of entry (after_call call b) ≡ Some e) × (asked_in e.controller.session.state ≡ Some command) × (e.controller.waiting ≡ rest)
 
 -- and where none waits it is a POLL
 abbrev pub PollsElse : BusState → Type 0
-PollsElse b = (call : Call) (entry : ℕ) (d : Device) → device_of entry b ≡ Some d → is_under_way d.controller.session.state ≡ true
+PollsElse b = (call : Call) (entry : ℕ) (d : Entry) → device_of entry b ≡ Some d → is_under_way d.controller.session.state ≡ true
     → d.controller.waiting ≡ [] → Begins call entry b
-    → (e : Device) × (device_of entry (after_call call b) ≡ Some e) × (exchange_in e.controller.session.state ≡ Some Polling) × (e.controller.waiting ≡ [])
+    → (e : Entry) × (device_of entry (after_call call b) ≡ Some e) × (exchange_in e.controller.session.state ≡ Some Polling) × (e.controller.waiting ≡ [])
 
 -- a command is accepted while the session of its entry is under way, where so many of the entry wait before it
 pub record IsAccepted (entry before : ℕ) (command : Command) (b : BusState) : Type 0 where

@@ -2,9 +2,9 @@
 use Rattle.std.specs.Prelude.{◌≡◌, ℕ, ◌==◌, ◌&&◌, true, false, if◌then◌else◌, All, List, [], ◌∷◌, ◌++◌, Option, Some, None}
 use Rattle.osdp_frame.specs.Items.{items, whole_packets}
 use Rattle.osdp_frame.specs.Packet.{Packet}
-use Rattle.osdp_bus.specs.declared.device.Device.{Device}
+use Rattle.osdp_bus.specs.declared.entry.Entry.{Entry}
 use Rattle.osdp_bus.specs.Buses.{BusState, device_of, has_report, holder, is_silent, seen}
-use Rattle.osdp_bus.specs.Devices.{address_of}
+use Rattle.osdp_bus.specs.Entries.{address_of}
 use Rattle.osdp_bus.specs.Hearing.{ends_silent}
 use Rattle.osdp_bus.specs.Ticking.{is_due_at}
 use Rattle.osdp_bus_laws.specs.Calls.{Call, OnBytes, OnSilence, Tick, after_call}
@@ -40,7 +40,7 @@ IsOfAnother address p = (p.reply && p.address == address) ≡ false
 
 -- a call reads nothing of the device of an entry, and none of the calls does
 abbrev pub ReadsNothing : ℕ → Call → BusState → Type 0
-ReadsNothing entry call b = (d : Device) → device_of entry b ≡ Some d → All (IsOfAnother (address_of d)) (read_in call b)
+ReadsNothing entry call b = (d : Entry) → device_of entry b ≡ Some d → All (IsOfAnother (address_of d)) (read_in call b)
 
 abbrev pub NothingIsRead : ℕ → List Call → BusState → Type 0
 NothingIsRead entry [] b = Unit {0}

@@ -5,7 +5,7 @@ use Rattle.osdp_controller.specs.declared.report.LostCause.{LostCause}
 use Rattle.osdp_controller.specs.declared.report.Report.TheVariants.{Lost}
 use Rattle.osdp_controller.specs.States.{is_idle}
 use Rattle.osdp_time_laws.specs.Bounds.{round_time}
-use Rattle.osdp_bus.specs.declared.device.Device.{Device}
+use Rattle.osdp_bus.specs.declared.entry.Entry.{Entry}
 use Rattle.osdp_bus.specs.Buses.{BusState, device_of, has_report}
 use Rattle.osdp_bus.specs.Settings.{controller_config}
 use Rattle.osdp_bus_laws.specs.Calls.{Call, NextReport, after_call}
@@ -16,7 +16,7 @@ use Rattle.osdp_bus_time_laws.specs.Turns.{BeginsBy, HasFew, KeepsTurns, others_
 
 -- the session of an entry is open, and no exchange of it is outstanding
 pub record IsIdle (entry : ℕ) (b : BusState) : Type 0 where
-  pub device : Device
+  pub device : Entry
   pub there : device_of entry b ≡ Some device
   pub idle : is_idle device.controller.session.state ≡ true
 

@@ -15,7 +15,7 @@ ghost use Rattle.osdp_c_values.specs.Panels.{AddsTo, IsBurstIn, IsDueIn, MadeAs,
 use crate::held::{freed, on_held, put_new};
 use crate::panel_calls;
 use crate::read::read_command;
-use osdp_bus::{Bus, BusConfig, BusFault, Entry};
+use osdp_bus::{Bus, BusConfig, BusFault, EntryNumber};
 use osdp_c_values::{
     BurstStruct, Clock, MessageStruct, MomentStruct, PanelHandle, PanelMachine, PanelSettings,
     Place, ReportStruct, Status,
@@ -147,7 +147,7 @@ pub extern "C" fn osdp_panel_add(
 pub extern "C" fn osdp_panel_begin(
     alloc: Global,
     panel: &mut PanelHandle,
-    entry: Entry,
+    entry: EntryNumber,
     now: u64,
 ) -> u32
     ensures { IsDone (calls (at_moment now (begins entry now)) panel.old.slot.machine) result panel.new.slot.machine }
@@ -164,7 +164,7 @@ pub extern "C" fn osdp_panel_begin(
 pub extern "C" fn osdp_panel_submit_nonnull(
     alloc: Global,
     panel: &mut PanelHandle,
-    entry: Entry,
+    entry: EntryNumber,
     code: u8,
     body: &[u8],
 ) -> u32
@@ -182,7 +182,7 @@ pub extern "C" fn osdp_panel_submit_nonnull(
 pub extern "C" fn osdp_panel_submit_text_nonnull(
     alloc: Global,
     panel: &mut PanelHandle,
-    entry: Entry,
+    entry: EntryNumber,
     text: &[u8],
 ) -> u32
     ensures { (read : Option Ordered) × IsReadCommand text.now read
@@ -202,7 +202,7 @@ pub extern "C" fn osdp_panel_submit_text_nonnull(
 pub extern "C" fn osdp_panel_withdraw(
     alloc: Global,
     panel: &mut PanelHandle,
-    entry: Entry,
+    entry: EntryNumber,
     command: &mut MessageStruct,
 ) -> u32
     ensures panel { IsDone (calls (on_panel (withdraws entry)) panel.old.slot.machine) result panel.new.slot.machine }
@@ -220,7 +220,7 @@ pub extern "C" fn osdp_panel_withdraw(
 pub extern "C" fn osdp_panel_retarget(
     alloc: Global,
     panel: &mut PanelHandle,
-    entry: Entry,
+    entry: EntryNumber,
     address: u32,
 ) -> u32
     ensures { IsDone (calls (on_bus (retargets entry (device_address address))) panel.old.slot.machine) result panel.new.slot.machine }
@@ -358,7 +358,7 @@ pub extern "C" fn osdp_panel_entries(
 pub extern "C" fn osdp_panel_address(
     alloc: Global,
     panel: &mut PanelHandle,
-    entry: Entry,
+    entry: EntryNumber,
     address: &mut u32,
 ) -> u32
     ensures panel { IsDone (calls (on_bus (looks_at entry)) panel.old.slot.machine) result panel.new.slot.machine }
@@ -372,7 +372,7 @@ pub extern "C" fn osdp_panel_address(
 pub extern "C" fn osdp_panel_waiting(
     alloc: Global,
     panel: &mut PanelHandle,
-    entry: Entry,
+    entry: EntryNumber,
     count: &mut usize,
 ) -> u32
     ensures panel { IsDone (calls (on_bus (looks_at entry)) panel.old.slot.machine) result panel.new.slot.machine }
@@ -396,7 +396,7 @@ pub extern "C" fn osdp_panel_waiting(
 pub extern "C" fn osdp_panel_is_closed(
     alloc: Global,
     panel: &mut PanelHandle,
-    entry: Entry,
+    entry: EntryNumber,
     closed: &mut u32,
 ) -> u32
     ensures panel { IsDone (calls (on_bus (looks_at entry)) panel.old.slot.machine) result panel.new.slot.machine }

@@ -8,7 +8,7 @@ ghost use Rattle.osdp_c_values.specs.Clocks.{accepts};
 ghost use Rattle.osdp_c_values.specs.Panels.{IsSentIf, at_moment, begins, beside, done_status, falls_silent, hears, on_panel, panel_of, retargets, sets_moment, submits, submits_data, submits_text, ticks, with_panel, withdraws, writes_withdrawn};
 
 use crate::held::at_moment;
-use osdp_bus::{Bus, BusFault, Entry};
+use osdp_bus::{Bus, BusFault, EntryNumber};
 use osdp_c_values::{BurstStruct, MessageStruct, PanelMachine, Status};
 use osdp_frame::Address;
 use osdp_msg::Command;
@@ -32,7 +32,7 @@ fn device_address(number: u32) -> Address
 }
 
 /// Adds a device.
-pub(crate) fn add(machine: &mut PanelMachine, address: u32) -> Result<Entry, BusFault>
+pub(crate) fn add(machine: &mut PanelMachine, address: u32) -> Result<EntryNumber, BusFault>
     ensures ends { AddEnds (device_address address) (panel_of machine.old) (panel_of machine.new) result }
     ensures machine { machine.new ≡ with_panel (panel_of machine.new) machine.old }
 {
@@ -42,7 +42,7 @@ pub(crate) fn add(machine: &mut PanelMachine, address: u32) -> Result<Entry, Bus
 }
 
 /// Begins a session.
-pub(crate) fn begin(machine: &mut PanelMachine, entry: Entry, now: u64) -> Status
+pub(crate) fn begin(machine: &mut PanelMachine, entry: EntryNumber, now: u64) -> Status
     ensures status { result ≡ (at_moment now (begins entry now) machine.old).status }
     ensures machine { machine.new ≡ (at_moment now (begins entry now) machine.old).machine }
 {
@@ -108,7 +108,7 @@ pub(crate) fn set_moment(machine: &mut PanelMachine, now: u64)
 }
 
 /// Puts a command after those that wait for a device.
-fn submit(machine: &mut PanelMachine, entry: Entry, command: &Command<'_>) -> Status
+fn submit(machine: &mut PanelMachine, entry: EntryNumber, command: &Command<'_>) -> Status
     ensures status { result ≡ (on_panel (submits entry command.now) machine.old).status }
     ensures machine { machine.new ≡ (on_panel (submits entry command.now) machine.old).machine }
 {
@@ -116,7 +116,12 @@ fn submit(machine: &mut PanelMachine, entry: Entry, command: &Command<'_>) -> St
 }
 
 /// The same by the command's code and data.
-pub(crate) fn submit_data(machine: &mut PanelMachine, entry: Entry, code: u8, body: &[u8]) -> Status
+pub(crate) fn submit_data(
+    machine: &mut PanelMachine,
+    entry: EntryNumber,
+    code: u8,
+    body: &[u8],
+) -> Status
     ensures status { result ≡ (on_panel (submits_data entry code body.now) machine.old).status }
     ensures machine { machine.new ≡ (on_panel (submits_data entry code body.now) machine.old).machine }
 {
@@ -129,7 +134,7 @@ pub(crate) fn submit_data(machine: &mut PanelMachine, entry: Entry, code: u8, bo
 /// The same by what was read of the command's text.
 pub(crate) fn submit_read(
     machine: &mut PanelMachine,
-    entry: Entry,
+    entry: EntryNumber,
     read: &Option<Command<'_>>,
 ) -> Status
     ensures status { result ≡ (on_panel (submits_text entry read.now) machine.old).status }
@@ -142,7 +147,11 @@ pub(crate) fn submit_read(
 }
 
 /// Takes back a command, and writes which.
-pub(crate) fn withdraw(machine: &mut PanelMachine, entry: Entry, out: &mut MessageStruct) -> Status
+pub(crate) fn withdraw(
+    machine: &mut PanelMachine,
+    entry: EntryNumber,
+    out: &mut MessageStruct,
+) -> Status
     ensures status { result ≡ (on_panel (withdraws entry) machine.old).status }
     ensures machine { machine.new ≡ (on_panel (withdraws entry) machine.old).machine }
     ensures written { out.new ≡ writes_withdrawn entry (panel_of machine.old) out.old }
@@ -159,7 +168,7 @@ pub(crate) fn withdraw(machine: &mut PanelMachine, entry: Entry, out: &mut Messa
 }
 
 /// Sets the address of a device.
-pub(crate) fn retarget(bus: &mut Bus, entry: Entry, address: u32) -> Status
+pub(crate) fn retarget(bus: &mut Bus, entry: EntryNumber, address: u32) -> Status
     ensures status { result ≡ (retargets entry (device_address address) bus.old).status }
     ensures bus { bus.new ≡ (retargets entry (device_address address) bus.old).machine }
 {

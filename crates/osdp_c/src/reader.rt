@@ -12,7 +12,7 @@ use crate::held::{freed, on_held, put_new};
 use crate::read::read_event;
 use crate::reader_calls;
 use osdp_c_values::{
-    AnswerStruct, MessageStruct, ReaderHandle, ReaderSettings, StateList, Status, default_room,
+    AnswerStruct, DeviceHandle, MessageStruct, ReaderSettings, StateList, Status, default_room,
 };
 use osdp_msg::{NakReason, Room, Spelling};
 use osdp_reader::Answer;
@@ -21,7 +21,7 @@ use std::alloc::Global;
 /// Puts a reader with such room for events into a handle.
 fn make(
     alloc: Global,
-    reader: &mut ReaderHandle,
+    reader: &mut DeviceHandle,
     room: Option<Room>,
     settings: &ReaderSettings,
     capabilities: &[u8],
@@ -39,7 +39,7 @@ fn make(
 #[unsafe(no_mangle)]
 pub extern "C" fn osdp_device_new_nonnull(
     alloc: Global,
-    reader: &mut ReaderHandle,
+    reader: &mut DeviceHandle,
     settings: &ReaderSettings,
     capabilities: &[u8],
 ) -> u32
@@ -58,7 +58,7 @@ pub extern "C" fn osdp_device_new_nonnull(
 #[unsafe(no_mangle)]
 pub extern "C" fn osdp_device_new_with_room_nonnull(
     alloc: Global,
-    reader: &mut ReaderHandle,
+    reader: &mut DeviceHandle,
     settings: &ReaderSettings,
     capabilities: &[u8],
     bytes: usize,
@@ -74,7 +74,7 @@ pub extern "C" fn osdp_device_new_with_room_nonnull(
 
 /// Frees a reader and all that belongs to it.
 #[unsafe(no_mangle)]
-pub extern "C" fn osdp_device_free(alloc: Global, reader: &mut ReaderHandle) -> u32
+pub extern "C" fn osdp_device_free(alloc: Global, reader: &mut DeviceHandle) -> u32
     ensures { IsDone (frees reader.old.slot.machine) result reader.new.slot.machine }
 {
     freed!(reader, alloc)
@@ -84,7 +84,7 @@ pub extern "C" fn osdp_device_free(alloc: Global, reader: &mut ReaderHandle) -> 
 #[unsafe(no_mangle)]
 pub extern "C" fn osdp_device_set_inputs_nonnull(
     alloc: Global,
-    reader: &mut ReaderHandle,
+    reader: &mut DeviceHandle,
     states: &[u8],
 ) -> u32
     ensures { IsDone (calls (sets_inputs states.now) reader.old.slot.machine) result reader.new.slot.machine }
@@ -100,7 +100,7 @@ pub extern "C" fn osdp_device_set_inputs_nonnull(
 #[unsafe(no_mangle)]
 pub extern "C" fn osdp_device_set_outputs_nonnull(
     alloc: Global,
-    reader: &mut ReaderHandle,
+    reader: &mut DeviceHandle,
     states: &[u8],
 ) -> u32
     ensures { IsDone (calls (sets_outputs states.now) reader.old.slot.machine) result reader.new.slot.machine }
@@ -116,7 +116,7 @@ pub extern "C" fn osdp_device_set_outputs_nonnull(
 #[unsafe(no_mangle)]
 pub extern "C" fn osdp_device_set_readers_nonnull(
     alloc: Global,
-    reader: &mut ReaderHandle,
+    reader: &mut DeviceHandle,
     states: &[u8],
 ) -> u32
     ensures { IsDone (calls (sets_readers states.now) reader.old.slot.machine) result reader.new.slot.machine }
@@ -132,7 +132,7 @@ pub extern "C" fn osdp_device_set_readers_nonnull(
 #[unsafe(no_mangle)]
 pub extern "C" fn osdp_device_set_local(
     alloc: Global,
-    reader: &mut ReaderHandle,
+    reader: &mut DeviceHandle,
     tamper: u8,
     power: u8,
 ) -> u32
@@ -146,7 +146,7 @@ pub extern "C" fn osdp_device_set_local(
 
 /// Sets whether the reader is busy.
 #[unsafe(no_mangle)]
-pub extern "C" fn osdp_device_set_busy(alloc: Global, reader: &mut ReaderHandle, busy: u32) -> u32
+pub extern "C" fn osdp_device_set_busy(alloc: Global, reader: &mut DeviceHandle, busy: u32) -> u32
     ensures { IsDone (calls (sets_busy busy) reader.old.slot.machine) result reader.new.slot.machine }
 {
     on_held!(reader, alloc, |machine| {
@@ -159,7 +159,7 @@ pub extern "C" fn osdp_device_set_busy(alloc: Global, reader: &mut ReaderHandle,
 #[unsafe(no_mangle)]
 pub extern "C" fn osdp_device_event_nonnull(
     alloc: Global,
-    reader: &mut ReaderHandle,
+    reader: &mut DeviceHandle,
     code: u8,
     body: &[u8],
 ) -> u32
@@ -178,7 +178,7 @@ pub extern "C" fn osdp_device_event_nonnull(
 #[unsafe(no_mangle)]
 pub extern "C" fn osdp_device_event_text_nonnull(
     alloc: Global,
-    reader: &mut ReaderHandle,
+    reader: &mut DeviceHandle,
     text: &[u8],
 ) -> u32
     ensures { (read : Option Happened) × IsReadEvent text.now read
@@ -197,7 +197,7 @@ pub extern "C" fn osdp_device_event_text_nonnull(
 #[unsafe(no_mangle)]
 pub extern "C" fn osdp_device_waiting(
     alloc: Global,
-    reader: &mut ReaderHandle,
+    reader: &mut DeviceHandle,
     count: &mut usize,
 ) -> u32
     ensures reader { IsDone (calls does reader.old.slot.machine) result reader.new.slot.machine }
@@ -213,7 +213,7 @@ pub extern "C" fn osdp_device_waiting(
 #[unsafe(no_mangle)]
 pub extern "C" fn osdp_device_address(
     alloc: Global,
-    reader: &mut ReaderHandle,
+    reader: &mut DeviceHandle,
     address: &mut u32,
 ) -> u32
     ensures reader { IsDone (calls does reader.old.slot.machine) result reader.new.slot.machine }
@@ -229,7 +229,7 @@ pub extern "C" fn osdp_device_address(
 #[unsafe(no_mangle)]
 pub extern "C" fn osdp_device_step_nonnull(
     alloc: Global,
-    reader: &mut ReaderHandle,
+    reader: &mut DeviceHandle,
     bytes: &[u8],
     now: u64,
     taken: &mut usize,
@@ -250,7 +250,7 @@ pub extern "C" fn osdp_device_step_nonnull(
 #[unsafe(no_mangle)]
 pub extern "C" fn osdp_device_tick(
     alloc: Global,
-    reader: &mut ReaderHandle,
+    reader: &mut DeviceHandle,
     now: u64,
     answer: &mut AnswerStruct,
 ) -> u32
@@ -268,7 +268,7 @@ pub extern "C" fn osdp_device_tick(
 #[unsafe(no_mangle)]
 pub extern "C" fn osdp_device_silence(
     alloc: Global,
-    reader: &mut ReaderHandle,
+    reader: &mut DeviceHandle,
     now: u64,
     answer: &mut AnswerStruct,
 ) -> u32
@@ -284,7 +284,7 @@ pub extern "C" fn osdp_device_silence(
 
 /// Sees a moment, however far it lies after the greatest one.
 #[unsafe(no_mangle)]
-pub extern "C" fn osdp_device_set_moment(alloc: Global, reader: &mut ReaderHandle, now: u64) -> u32
+pub extern "C" fn osdp_device_set_moment(alloc: Global, reader: &mut DeviceHandle, now: u64) -> u32
     ensures { IsDone (calls (sets_moment now) reader.old.slot.machine) result reader.new.slot.machine }
 {
     on_held!(reader, alloc, |machine| {
@@ -297,7 +297,7 @@ pub extern "C" fn osdp_device_set_moment(alloc: Global, reader: &mut ReaderHandl
 #[unsafe(no_mangle)]
 pub extern "C" fn osdp_device_is_closed(
     alloc: Global,
-    reader: &mut ReaderHandle,
+    reader: &mut DeviceHandle,
     closed: &mut u32,
 ) -> u32
     ensures reader { IsDone (calls does reader.old.slot.machine) result reader.new.slot.machine }
@@ -314,7 +314,7 @@ pub extern "C" fn osdp_device_is_closed(
 #[unsafe(no_mangle)]
 pub extern "C" fn osdp_device_pending(
     alloc: Global,
-    reader: &mut ReaderHandle,
+    reader: &mut DeviceHandle,
     command: &mut MessageStruct,
 ) -> u32
     ensures reader { IsDone (calls looks reader.old.slot.machine) result reader.new.slot.machine }
@@ -328,7 +328,7 @@ pub extern "C" fn osdp_device_pending(
 
 /// The command before which the device has stopped is answered as done.
 #[unsafe(no_mangle)]
-pub extern "C" fn osdp_device_answer_done(alloc: Global, reader: &mut ReaderHandle) -> u32
+pub extern "C" fn osdp_device_answer_done(alloc: Global, reader: &mut DeviceHandle) -> u32
     ensures { IsDone (calls answers_done reader.old.slot.machine) result reader.new.slot.machine }
 {
     on_held!(
@@ -342,7 +342,7 @@ pub extern "C" fn osdp_device_answer_done(alloc: Global, reader: &mut ReaderHand
 #[unsafe(no_mangle)]
 pub extern "C" fn osdp_device_answer_local(
     alloc: Global,
-    reader: &mut ReaderHandle,
+    reader: &mut DeviceHandle,
     tamper: u8,
     power: u8,
 ) -> u32
@@ -359,7 +359,7 @@ pub extern "C" fn osdp_device_answer_local(
 #[unsafe(no_mangle)]
 pub extern "C" fn osdp_device_answer_list_nonnull(
     alloc: Global,
-    reader: &mut ReaderHandle,
+    reader: &mut DeviceHandle,
     states: &[u8],
 ) -> u32
     ensures { IsDone (calls (answers_list states.now) reader.old.slot.machine) result reader.new.slot.machine }
@@ -376,7 +376,7 @@ pub extern "C" fn osdp_device_answer_list_nonnull(
 #[unsafe(no_mangle)]
 pub extern "C" fn osdp_device_answer_refused(
     alloc: Global,
-    reader: &mut ReaderHandle,
+    reader: &mut DeviceHandle,
     reason: u8,
 ) -> u32
     ensures { IsDone (calls (answers_refused reason) reader.old.slot.machine) result reader.new.slot.machine }
@@ -392,7 +392,7 @@ pub extern "C" fn osdp_device_answer_refused(
 #[unsafe(no_mangle)]
 pub extern "C" fn osdp_device_answer_maker_nonnull(
     alloc: Global,
-    reader: &mut ReaderHandle,
+    reader: &mut DeviceHandle,
     vendor: &[u8; 3],
     bytes: &[u8],
 ) -> u32

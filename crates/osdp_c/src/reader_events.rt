@@ -6,14 +6,14 @@ ghost use Rattle.osdp_c_values.specs.Readers.{at_moment, does, expires_event, la
 
 use crate::held::on_held;
 use crate::reader_calls;
-use osdp_c_values::{MessageStruct, ReaderHandle, Status};
+use osdp_c_values::{DeviceHandle, MessageStruct, Status};
 use std::alloc::Global;
 
 /// Writes whether no panel is there at a moment: no packet to this device came for 8,000 ms, or none ever did.
 #[unsafe(no_mangle)]
 pub extern "C" fn osdp_device_is_offline(
     alloc: Global,
-    reader: &mut ReaderHandle,
+    reader: &mut DeviceHandle,
     now: u64,
     offline: &mut u32,
 ) -> u32
@@ -32,7 +32,7 @@ pub extern "C" fn osdp_device_is_offline(
 #[unsafe(no_mangle)]
 pub extern "C" fn osdp_device_expire_event(
     alloc: Global,
-    reader: &mut ReaderHandle,
+    reader: &mut DeviceHandle,
     now: u64,
     limit: u64,
     how: &mut u32,
@@ -53,7 +53,7 @@ pub extern "C" fn osdp_device_expire_event(
 #[unsafe(no_mangle)]
 pub extern "C" fn osdp_device_withdraw_event(
     alloc: Global,
-    reader: &mut ReaderHandle,
+    reader: &mut DeviceHandle,
     event: &mut MessageStruct,
 ) -> u32
     ensures reader { IsDone (calls withdraws_event reader.old.slot.machine) result reader.new.slot.machine }
@@ -70,7 +70,7 @@ pub extern "C" fn osdp_device_withdraw_event(
 #[unsafe(no_mangle)]
 pub extern "C" fn osdp_device_lapse_event(
     alloc: Global,
-    reader: &mut ReaderHandle,
+    reader: &mut DeviceHandle,
     event: &mut MessageStruct,
 ) -> u32
     ensures reader { IsDone (calls lapses_event reader.old.slot.machine) result reader.new.slot.machine }

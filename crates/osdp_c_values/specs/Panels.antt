@@ -8,10 +8,10 @@ use Rattle.osdp_msg.specs.CommandTable.{command_of}
 use Rattle.osdp_bus.specs.declared.config.BusConfig.{BusConfig}
 use Rattle.osdp_bus.specs.declared.fault.BusFault.{BusFault}
 use Rattle.osdp_bus.specs.declared.fault.BusFault.TheVariants.{NoEntry, NoMemory, OutOfRange}
-use Rattle.osdp_bus.specs.declared.device.Device.{Device}
+use Rattle.osdp_bus.specs.declared.entry.Entry.{Entry}
 use Rattle.osdp_bus.specs.Buses.{BusState, device_of, is_maybe_again, new_bus, seen}
 use Rattle.osdp_bus.specs.Deadlines.{IsDeadline}
-use Rattle.osdp_bus.specs.Devices.{address_of}
+use Rattle.osdp_bus.specs.Entries.{address_of}
 use Rattle.osdp_bus.specs.Hearing.{after_bytes, after_silence}
 use Rattle.osdp_bus.specs.Machine.{after_next_report, after_retarget_at, begin_refusal_at, changed_unless, retarget_refusal_at}
 use Rattle.osdp_bus.specs.Ticking.{bus_ticks}
@@ -236,7 +236,7 @@ abbrev pub writes_entries : BusState → ℕ → ℕ
 writes_entries b out = length b.devices.entries
 
 -- what is told of a device, where there is such an entry
-abbrev pub status_at : Option Device → Status
+abbrev pub status_at : Option Entry → Status
 status_at None = status.Panel NoEntry
 status_at (Some d) = status.Done
 

@@ -53,7 +53,7 @@ pub use monitor_machine::MonitorMachine;
 pub use panel_handle::PanelHandle;
 pub use pieces::MAX_TEXT;
 pub use place::Place;
-pub use reader_handle::ReaderHandle;
+pub use reader_handle::DeviceHandle;
 pub use reply_texts::read_reply_text;
 pub use report::ReportStruct;
 pub use settings::{PanelSettings, ProductStruct, ReaderSettings, default_room};

@@ -57,14 +57,14 @@ impl ReaderSlot {
 /// A reader's handle. All zeros is none.
 #[repr(C)]
 #[derive(Drop)]
-pub struct ReaderHandle {
+pub struct DeviceHandle {
     /// Where the reader is.
     pub slot: ReaderSlot,
     live: usize,
     ghost agrees: { not (live == 0) ≡ is_some slot.machine },
 }
 
-impl ReaderHandle {
+impl DeviceHandle {
     /// Whether there is a reader.
     pub fn is_live(&mut self) -> bool
         ensures result { result ≡ is_some self.old.slot.machine }
@@ -81,11 +81,11 @@ impl ReaderHandle {
         if self.live == 0 {
             return None;
         }
-        let none = ReaderHandle {
+        let none = DeviceHandle {
             slot: ReaderSlot::none(),
             live: 0,
         };
-        let ReaderHandle { slot, live: _ } = replace(self, none);
+        let DeviceHandle { slot, live: _ } = replace(self, none);
         Some(slot.into_loose(alloc).into_box())
     }
 
@@ -94,7 +94,7 @@ impl ReaderHandle {
         requires { self.old.slot.machine ≡ None }
         ensures { self.new.slot.machine ≡ Some machine.value }
     {
-        *self = ReaderHandle {
+        *self = DeviceHandle {
             slot: ReaderSlot::of(Loose::of(machine)),
             live: 1,
         };

@@ -5,7 +5,7 @@ ghost use Rattle.std.specs.Option.{option_copied};
 ghost use Rattle.osdp_c_values.specs.Reports.{cause_number, report_of, report_struct, tells};
 
 use crate::message::MessageStruct;
-use osdp_bus::Entry;
+use osdp_bus::EntryNumber;
 use osdp_controller::{LostCause, Report};
 use osdp_msg::{Command, Reply};
 
@@ -76,7 +76,7 @@ impl ReportStruct {
     }
 
     /// Writes a report where it lies, with the device of which it tells and whether it is an event that may have been reported before, or that there is none.
-    pub fn set(&mut self, report: &Option<(Entry, Report<'_>)>, maybe_again: bool)
+    pub fn set(&mut self, report: &Option<(EntryNumber, Report<'_>)>, maybe_again: bool)
         ensures { self.new ≡ report_struct report.now maybe_again self.old }
     {
         match report {

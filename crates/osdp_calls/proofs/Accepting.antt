@@ -14,11 +14,11 @@ use Rattle.osdp_controller.specs.declared.state.State.{State}
 use Rattle.osdp_controller.specs.declared.state.State.TheVariants.{Closed}
 use Rattle.osdp_controller.specs.declared.config.ControllerConfig.{ControllerConfig}
 use Rattle.osdp_bus.specs.Buses.{device_of}
-use Rattle.osdp_bus.specs.Devices as devices
+use Rattle.osdp_bus.specs.Entries as devices
 use Rattle.osdp_bus.specs.Machine as bus
 use Rattle.osdp_bus.specs.Settings.{IsBusConfig}
 use Rattle.osdp_bus.specs.declared.config.BusConfig.{BusConfig}
-use Rattle.osdp_bus.specs.declared.device.Device.{Device}
+use Rattle.osdp_bus.specs.declared.entry.Entry.{Entry}
 use Rattle.osdp_bus_laws.specs.Calls as panel
 use Rattle.osdp_link_laws.proofs.Lines.{each_of}
 use Rattle.osdp_reader.specs.State.{ReaderState}
@@ -48,13 +48,13 @@ use Rattle.osdp_calls.proofs.Stations.{Sites, of_site, of_station}
 module _ {H : Type 0} where
   -- ---- the same addresses are known
 
-  to_site : (k a : ℕ) (d : Device) (t : Station H) (s : Site H) (l : InUse H) (o : Option ℕ) (st : State) (x y : Note) → Sites l k d t s → Agrees o st x y
+  to_site : (k a : ℕ) (d : Entry) (t : Station H) (s : Site H) (l : InUse H) (o : Option ℕ) (st : State) (x y : Note) → Sites l k d t s → Agrees o st x y
       → IsKnown a d x → programs.IsKnown a s y
   to_site k a d t s l o st x y is agree (inl here) =
       inl (ap (λ (c : _). c.address) (config_same t.begun l.bus.greatest d.controller s.controller is.controller) ∙ here)
   to_site k a d t s l o st x y is agree (inr noted) = inr (subst (Somewhere (λ b. b ≡ a)) (sym agree.addresses) noted)
 
-  from_site : (k a : ℕ) (d : Device) (t : Station H) (s : Site H) (l : InUse H) (o : Option ℕ) (st : State) (x y : Note) → Sites l k d t s → Agrees o st x y
+  from_site : (k a : ℕ) (d : Entry) (t : Station H) (s : Site H) (l : InUse H) (o : Option ℕ) (st : State) (x y : Note) → Sites l k d t s → Agrees o st x y
       → programs.IsKnown a s y → IsKnown a d x
   from_site k a d t s l o st x y is agree (inl here) =
       inl (sym (ap (λ (c : _). c.address) (config_same t.begun l.bus.greatest d.controller s.controller is.controller)) ∙ here)
@@ -63,7 +63,7 @@ module _ {H : Type 0} where
   -- ---- what the bus accepts, the net does
 
   module _ (answer_of : H → Command → Answer) (after : H → Command → H) where
-    pub command_accepted : (k : ℕ) (command : Command) (d : Device) (t : Station H) (s : Site H) (l : InUse H) (n : Net H) → IsNetOf l n
+    pub command_accepted : (k : ℕ) (command : Command) (d : Entry) (t : Station H) (s : Site H) (l : InUse H) (n : Net H) → IsNetOf l n
         → device_of k l.bus ≡ Some d → Sites l k d t s → bus.submit_refusal_at k command l.bus ≡ None → line.is_command_accepted k command s n.sites ≡ true
     command_accepted k command d t s l n h a has none =
         let accepted = unrefused answer_of after (bus.is_comset_refused (comset_of command) k d l.bus) (submit_refusal command d.controller)
@@ -72,7 +72,7 @@ module _ {H : Type 0} where
         let same : submit_refusal command s.controller ≡ None = refusal_same answer_of after command t.begun l.bus.greatest d.controller s.controller has.controller ∙ accepted.1 in
         (λ i. not (unrefused_too i || is_some (same i)))
 
-    pub retarget_accepted : (k address : ℕ) (d : Device) (t : Station H) (s : Site H) (l : InUse H) (n : Net H) → IsNetOf l n
+    pub retarget_accepted : (k address : ℕ) (d : Entry) (t : Station H) (s : Site H) (l : InUse H) (n : Net H) → IsNetOf l n
         → device_of k l.bus ≡ Some d → Sites l k d t s → bus.retarget_refusal_at k address l.bus ≡ None → line.is_retarget_accepted k address s n.sites ≡ true
     retarget_accepted k address d t s l n h a has none =
         let taken = devices.is_taken_beside k address l.bus.devices.entries || has_comset d.controller.waiting in

@@ -8,9 +8,9 @@ use Rattle.osdp_controller.specs.Sessions as clocks
 use Rattle.osdp_controller.specs.States.{is_closed}
 use Rattle.osdp_controller.specs.declared.report.Report.{Report}
 use Rattle.osdp_bus.specs.Buses.{BusState, device_of}
-use Rattle.osdp_bus.specs.Devices.{device_ticks, step_of}
+use Rattle.osdp_bus.specs.Entries.{device_ticks, step_of}
 use Rattle.osdp_bus.specs.Ticking.{ticks_at, ticks_with}
-use Rattle.osdp_bus.specs.declared.device.Device.{Device}
+use Rattle.osdp_bus.specs.declared.entry.Entry.{Entry}
 use Rattle.osdp_bus_laws.specs.Reports.{told_at, told_by_device, told_by_ticking}
 use Rattle.osdp_link_laws.specs.Peers.{ReadsWhatIsAsked}
 use Rattle.osdp_link_laws.proofs.Lines.{each_append, each_map}
@@ -34,40 +34,40 @@ use Rattle.osdp_calls.proofs.Ticking.{GoesOn, IsOfOther, IsTicked, Opens, Rests}
 
 -- ---- a tick tells of no session that has opened
 
-none_opened : (k e : ℕ) (d : Device) (r : Option Report) (note : Note) → is_opened r ≡ false → noted_reports k d (told_at e r) note ≡ note
+none_opened : (k e : ℕ) (d : Entry) (r : Option Report) (note : Note) → is_opened r ≡ false → noted_reports k d (told_at e r) note ≡ note
 none_opened k e d None note none = refl
 none_opened k e d (Some r) note none = by_test (e == k)
   where
     by_test : (b : Bool) → cond b (noted_report d r note) note ≡ note
     by_test true = ap (λ o. cond (o && note.begun) (record {
       begun = false;
-      addresses = Rattle.osdp_shared_line.specs.Programs.all_addresses (Rattle.osdp_bus.specs.Devices.address_of d) d.controller.waiting;
+      addresses = Rattle.osdp_shared_line.specs.Programs.all_addresses (Rattle.osdp_bus.specs.Entries.address_of d) d.controller.waiting;
     }) note) none
     by_test false = refl
 
-ticking_tells : (k : ℕ) (d : Device) (o : Option ℕ) (b : BusState) (note : Note) → noted_reports k d (told_by_ticking o b) note ≡ note
+ticking_tells : (k : ℕ) (d : Entry) (o : Option ℕ) (b : BusState) (note : Note) → noted_reports k d (told_by_ticking o b) note ≡ note
 ticking_tells k d None b note = refl
 ticking_tells k d (Some e) b note = by_device (device_of e b)
   where
-    by_device : (q : Option Device) → noted_reports k d (told_by_device e q b) note ≡ note
+    by_device : (q : Option Entry) → noted_reports k d (told_by_device e q b) note ≡ note
     by_device None = refl
     by_device (Some f) = none_opened k e d (step_of b.greatest f).report note
         (tick_so (λ r. is_opened r ≡ false) refl (λ out. refl) f.controller.session.state (clocks.seen b.greatest f.controller.session) f.controller.waiting)
 
-pub ticking_told : (k : ℕ) (q : Option Device) (o : Option ℕ) (b : BusState) (note : Note) → told_note k q (told_by_ticking o b) note ≡ note
+pub ticking_told : (k : ℕ) (q : Option Entry) (o : Option ℕ) (b : BusState) (note : Note) → told_note k q (told_by_ticking o b) note ≡ note
 ticking_told k None o b note = refl
 ticking_told k (Some d) o b note = ticking_tells k d o b note
 
 -- ---- the entries
 
-data TickedAt (e k : ℕ) (b : BusState) (next : Device) : Type 0 where
+data TickedAt (e k : ℕ) (b : BusState) (next : Entry) : Type 0 where
   OtherThere : k ≢ e → device_of k b ≡ Some next → TickedAt e k b next
-  ItTicks : k ≡ e → (d : Device) → device_of k b ≡ Some d → device_ticks b.greatest d ≡ next → TickedAt e k b next
+  ItTicks : k ≡ e → (d : Entry) → device_of k b ≡ Some d → device_ticks b.greatest d ≡ next → TickedAt e k b next
 
-ticked_at : (e k : ℕ) (b : BusState) (next : Device) → slice_get (ticks_at (Some e) b).bus.devices.entries k ≡ Some next → TickedAt e k b next
+ticked_at : (e k : ℕ) (b : BusState) (next : Entry) → slice_get (ticks_at (Some e) b).bus.devices.entries k ≡ Some next → TickedAt e k b next
 ticked_at e k b next at = by_device (device_of e b) refl
   where
-    by_device : (q : Option Device) → device_of e b ≡ q → TickedAt e k b next
+    by_device : (q : Option Entry) → device_of e b ≡ q → TickedAt e k b next
     by_device None none =
         let was : device_of k b ≡ Some next = sym (ap (λ o. slice_get (ticks_with e o b).bus.devices.entries k) none) ∙ at in
         OtherThere (λ same. let there = subst (λ i. device_of i b ≡ Some next) same was in absurd (let f = sym none ∙ there in cc)) was
@@ -159,7 +159,7 @@ module _ {H : Type 0} where
       Ticked = record l { bus = (ticks_at (Some e) l.bus).bus; stations = all_hear (told_by_ticking (Some e) l.bus) l.stations }
 
       -- of another entry
-      of_other : (k : ℕ) (d : Device) → k ≢ e → IsOurs k l.stations → device_of k l.bus ≡ Some d → (moves : List (NetMove H)) → IsTicked answer_of after (Some e) l n moves
+      of_other : (k : ℕ) (d : Entry) → k ≢ e → IsOurs k l.stations → device_of k l.bus ≡ Some d → (moves : List (NetMove H)) → IsTicked answer_of after (Some e) l n moves
           → Agrees (begun_of (site_at k (ticks_to (Some e) l).stations)) d.controller.session.state (notes k) (notes_along answer_of after moves n noted k)
       of_other k d other own was moves ticked =
           subst (λ (q : Option ℕ × Note). Agrees q.0 d.controller.session.state (notes k) q.1)
@@ -178,7 +178,7 @@ module _ {H : Type 0} where
               ∙ reopened_other k j began (site_at k mid.sites) mid (noted k) (λ f. other (sym (mine ∙ f)))
 
       -- of the one that ticks, where no session begins
-      it_goes_on : ReadsWhatIsAsked → (d : Device) → IsOurs e l.stations → device_of e l.bus ≡ Some d → (moves : List (NetMove H)) → Each IsStill moves
+      it_goes_on : ReadsWhatIsAsked → (d : Entry) → IsOurs e l.stations → device_of e l.bus ≡ Some d → (moves : List (NetMove H)) → Each IsStill moves
           → (begun_of (site_at e l.stations) ≡ None) ⊎ ((ticks_at (Some e) l.bus).sent ≡ None)
           → Agrees (begun_of (site_at e (ticks_to (Some e) l).stations)) (device_ticks l.bus.greatest d).controller.session.state (notes e)
           (notes_along answer_of after moves n noted e)
@@ -197,7 +197,7 @@ module _ {H : Type 0} where
           ]
 
       -- .. or one does
-      of_it : ReadsWhatIsAsked → (d : Device) → IsOurs e l.stations → device_of e l.bus ≡ Some d → (moves : List (NetMove H)) → IsTicked answer_of after (Some e) l n moves
+      of_it : ReadsWhatIsAsked → (d : Entry) → IsOurs e l.stations → device_of e l.bus ≡ Some d → (moves : List (NetMove H)) → IsTicked answer_of after (Some e) l n moves
           → Agrees (begun_of (site_at e (ticks_to (Some e) l).stations)) (device_ticks l.bus.greatest d).controller.session.state (notes e)
           (notes_along answer_of after moves n noted e)
       of_it reads d own was moves (IsOfOther j is none are) =
@@ -251,6 +251,6 @@ module _ {H : Type 0} where
         by_entry (ItTicks same d was becomes) =
             subst (λ i. Agrees (begun_of (site_at i (ticks_to (Some e) l).stations)) next.controller.session.state (notes i)
             (notes_along answer_of after moves n noted i)) (sym same)
-            (subst (λ (f : Device). Agrees (begun_of (site_at e (ticks_to (Some e) l).stations)) f.controller.session.state (notes e)
+            (subst (λ (f : Entry). Agrees (begun_of (site_at e (ticks_to (Some e) l).stations)) f.controller.session.state (notes e)
             (notes_along answer_of after moves n noted e)) becomes
             (of_it e l n notes noted agree reads d (subst (λ i. IsOurs i l.stations) same own) (subst (λ i. device_of i l.bus ≡ Some d) same was) moves ticked))

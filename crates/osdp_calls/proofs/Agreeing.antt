@@ -11,10 +11,10 @@ use Rattle.osdp_controller.specs.Sessions as clocks
 use Rattle.osdp_controller.specs.declared.report.Report.{Report}
 use Rattle.osdp_controller.specs.declared.session.Session.{Session}
 use Rattle.osdp_bus.specs.Buses.{Devices, device_of}
-use Rattle.osdp_bus.specs.Devices as devices
-use Rattle.osdp_bus.specs.Devices.{told_of}
+use Rattle.osdp_bus.specs.Entries as devices
+use Rattle.osdp_bus.specs.Entries.{told_of}
 use Rattle.osdp_bus.specs.Hearing.{hears_packet}
-use Rattle.osdp_bus.specs.declared.device.Device.{Device}
+use Rattle.osdp_bus.specs.declared.entry.Entry.{Entry}
 use Rattle.osdp_bus_laws.specs.Reports.{told_at, told_by_item}
 use Rattle.osdp_link_laws.specs.Link.{Repeated}
 use Rattle.osdp_link_laws.proofs.Lines.{each_map}
@@ -56,18 +56,18 @@ ignored_opens h s is = ap (λ (x : Heard). is_opened x.report) is
 
 -- ---- what is noted of what is told, with what the entry was before
 
-abbrev pub told_note : ℕ → Option Device → List (ℕ × Report) → Note → Note
+abbrev pub told_note : ℕ → Option Entry → List (ℕ × Report) → Note → Note
 told_note k None told note = note
 told_note k (Some d) told note = noted_reports k d told note
 
 abbrev pub told_notes : Devices → List (ℕ × Report) → (ℕ → Note) → ℕ → Note
 told_notes ds told notes k = told_note k (slice_get ds.entries k) told (notes k)
 
-pub told_note_then : (k : ℕ) (o : Option Device) (xs ys : List (ℕ × Report)) (note : Note) → told_note k o ys (told_note k o xs note) ≡ told_note k o (xs ++ ys) note
+pub told_note_then : (k : ℕ) (o : Option Entry) (xs ys : List (ℕ × Report)) (note : Note) → told_note k o ys (told_note k o xs note) ≡ told_note k o (xs ++ ys) note
 told_note_then k None xs ys note = refl
 told_note_then k (Some d) xs ys note = sym (reports_then k d xs ys note)
 
-pub nothing_told : (k : ℕ) (o : Option Device) (note : Note) → told_note k o [] note ≡ note
+pub nothing_told : (k : ℕ) (o : Option Entry) (note : Note) → told_note k o [] note ≡ note
 nothing_told k None note = refl
 nothing_told k (Some d) note = refl
 
@@ -99,18 +99,18 @@ module _ {H : Type 0} where
   -- ---- of all entries
 
   abbrev pub AllAgree : InUse H → (ℕ → Note) → (ℕ → Note) → Type 0
-  AllAgree l notes noted = (k : ℕ) (d : Device) → IsOurs k l.stations → device_of k l.bus ≡ Some d
+  AllAgree l notes noted = (k : ℕ) (d : Entry) → IsOurs k l.stations → device_of k l.bus ≡ Some d
       → Agrees (begun_of (site_at k l.stations)) d.controller.session.state (notes k) (noted k)
 
   -- the station and the site of an entry
-  pub record AtEntry (k : ℕ) (d : Device) (l : InUse H) (n : Net H) : Type 0 where
+  pub record AtEntry (k : ℕ) (d : Entry) (l : InUse H) (n : Net H) : Type 0 where
     pub station : Station H
     pub site : Site H
     pub there : site_at k l.stations ≡ Some station
     pub at : site_at k n.sites ≡ Some site
     pub is : Sites l k d station site
 
-  pub at_entry : (k : ℕ) (d : Device) (l : InUse H) (n : Net H) → IsNetOf l n → IsOurs k l.stations → device_of k l.bus ≡ Some d → AtEntry k d l n
+  pub at_entry : (k : ℕ) (d : Entry) (l : InUse H) (n : Net H) → IsNetOf l n → IsOurs k l.stations → device_of k l.bus ≡ Some d → AtEntry k d l n
   at_entry k d l n h own is = by_found (found (Sites l) k l.bus.devices.entries l.stations n.sites h.sites)
     where
       by_found : FoundAt (Sites l) k k l.bus.devices.entries l.stations n.sites → AtEntry k d l n
@@ -123,11 +123,11 @@ module _ {H : Type 0} where
         is = subst (λ e. Sites l k e t s) (some_same d1 d (sym a ∙ is)) has;
       }
 
-  pub address_same : (k : ℕ) (d : Device) (l : InUse H) (t : Station H) (s : Site H) → Sites l k d t s → address_of s ≡ devices.address_of d
+  pub address_same : (k : ℕ) (d : Entry) (l : InUse H) (t : Station H) (s : Site H) → Sites l k d t s → address_of s ≡ devices.address_of d
   address_same k d l t s is = ap (λ (c : _). c.address) (config_same t.begun l.bus.greatest d.controller s.controller is.controller)
 
   -- a controller whose session is to begin tells nothing of a packet, and neither does its site's
-  pub to_begin : (p : Packet) (k began : ℕ) (d : Device) (l : InUse H) (t : Station H) (s : Site H) → Sites l k d t s → t.begun ≡ Some began
+  pub to_begin : (p : Packet) (k began : ℕ) (d : Entry) (l : InUse H) (t : Station H) (s : Site H) → Sites l k d t s → t.begun ≡ Some began
       → (is_opened (hears p l.bus.greatest d.controller.session).report ≡ false) × (is_opened (hears p l.bus.greatest s.controller.session).report ≡ false)
   to_begin p k began d l t s is begun =
       let control : IsToOpen began l.bus.greatest d.controller s.controller = subst (λ o. Controls o l.bus.greatest d.controller s.controller) begun is.controller in (
@@ -138,7 +138,7 @@ module _ {H : Type 0} where
             (closed_hears p l.bus.greatest s.controller.session (ap (λ (m : Machine). m.session.state) control.same)),
       )
 
-  quiet_of : (p : Packet) (k : ℕ) (d : Device) (l : InUse H) (n : Net H) → IsNetOf l n → IsOurs k l.stations → device_of k l.bus ≡ Some d → (began : ℕ)
+  quiet_of : (p : Packet) (k : ℕ) (d : Entry) (l : InUse H) (n : Net H) → IsNetOf l n → IsOurs k l.stations → device_of k l.bus ≡ Some d → (began : ℕ)
       → begun_of (site_at k l.stations) ≡ Some began → is_opened (hears p l.bus.greatest d.controller.session).report ≡ false
   quiet_of p k d l n h own is began begun =
       let e = at_entry k d l n h own is in (to_begin p k began d l e.station e.site e.is (sym (ap begun_of e.there) ∙ begun)).0
@@ -157,7 +157,7 @@ module _ {H : Type 0} where
       ap (λ b. cond (b && is_opened (hears p now s.controller.session).report && note.begun)
       (record { begun = false; addresses = all_addresses (address_of s) s.controller.waiting }) note) here
 
-  takes_so : (p : Packet) (k : ℕ) (d : Device) (l : InUse H) (t : Station H) (s : Site H) (note : Note) → Sites l k d t s → (devices.address_of d == p.address) ≡ true
+  takes_so : (p : Packet) (k : ℕ) (d : Entry) (l : InUse H) (t : Station H) (s : Site H) (note : Note) → Sites l k d t s → (devices.address_of d == p.address) ≡ true
       → noted_opened p l.bus.greatest s note
       ≡ chosen (is_opened (hears p l.bus.greatest d.controller.session).report && note.begun) (devices.address_of d) d.controller.waiting note
   takes_so p k d l t s note is here =
@@ -189,9 +189,9 @@ module _ {H : Type 0} where
           ∙ ap (λ q. noted_opened q l.bus.greatest s (noted k)) same
 
       -- of an entry that the packet does not reach
-      left : (k : ℕ) (d : Device) → IsOurs k l.stations → device_of k l.bus ≡ Some d
+      left : (k : ℕ) (d : Entry) → IsOurs k l.stations → device_of k l.bus ≡ Some d
           → ((devices.address_of d == p.address) ≡ true
-          → (j : ℕ) × (e : Device) × (j ≢ k) × (slice_get l.bus.devices.entries j ≡ Some e) × ((devices.address_of e == p.address) ≡ true) × (j ≤ k))
+          → (j : ℕ) × (e : Entry) × (j ≢ k) × (slice_get l.bus.devices.entries j ≡ Some e) × ((devices.address_of e == p.address) ≡ true) × (j ≤ k))
           → (moves : List (NetMove H)) → IsRead answer_of after b l n (told_by_item l.bus.greatest (PacketItem p) l.bus.devices) moves
           → notes_along answer_of after moves n noted k ≡ noted k
       left k d own is other moves (IsIgnored none are) = ap (λ ms. notes_along answer_of after ms n noted k) are
@@ -212,7 +212,7 @@ module _ {H : Type 0} where
               (address_same o.0 o.1 l it.station it.site it.is ∙ equal_of (devices.address_of o.1) p.address o.4 ∙ sym (equal_of (address_of me.site) p.address e)))
 
       -- .. and of the one that it reaches
-      taken : (k : ℕ) (d : Device) → IsOurs k l.stations → device_of k l.bus ≡ Some d → (devices.address_of d == p.address) ≡ true
+      taken : (k : ℕ) (d : Entry) → IsOurs k l.stations → device_of k l.bus ≡ Some d → (devices.address_of d == p.address) ≡ true
           → told_by_item l.bus.greatest (PacketItem p) l.bus.devices ≡ told_at k (told_of p l.bus.greatest d)
           → (moves : List (NetMove H)) → IsRead answer_of after b l n (told_by_item l.bus.greatest (PacketItem p) l.bus.devices) moves
           → notes_along answer_of after moves n noted k
@@ -255,7 +255,7 @@ module _ {H : Type 0} where
               (agree k e own was)
           by_entry (Touched d was here becomes told) =
               let same_one : devices.device_hears p l.bus.greatest d ≡ e = some_same (devices.device_hears p l.bus.greatest d) e (sym becomes ∙ at) in
-              subst (λ (q : Device × Note × Note). Agrees (begun_of (site_at k l.stations)) q.0.controller.session.state q.1 q.2)
+              subst (λ (q : Entry × Note × Note). Agrees (begun_of (site_at k l.stations)) q.0.controller.session.state q.1 q.2)
               (λ i. (
                 same_one i,
                 sym (ap (λ o. told_note k o (told_by_item l.bus.greatest (PacketItem p) l.bus.devices) (notes k)) was

@@ -7,7 +7,7 @@ use Rattle.osdp_msg.specs.declared.event.Event.{Event}
 use Rattle.osdp_controller.specs.Machine.{AreSettings}
 use Rattle.osdp_controller.specs.declared.config.ControllerConfig.{ControllerConfig}
 use Rattle.osdp_bus.specs.Machine.{new_device}
-use Rattle.osdp_bus.specs.declared.device.Device.{Device}
+use Rattle.osdp_bus.specs.declared.entry.Entry.{Entry}
 use Rattle.osdp_link_laws.specs.Costs.{ControllerCosts, ReaderCosts, ReportsOnly}
 use Rattle.osdp_link_laws.specs.Link as link
 use Rattle.osdp_link_laws.specs.Link.{Account, controller_restarted, reader_restarted}
@@ -46,11 +46,11 @@ from_map f k y [] is = absurd cc
 from_map f zero y (x ∷ xs) is = (x, some_same y (f x) (sym is))
 from_map f (suc k) y (x ∷ xs) is = from_map f k y xs is
 
-entry_same : (a b : Device) → Some a ≡ Some b → a ≡ b
+entry_same : (a b : Entry) → Some a ≡ Some b → a ≡ b
 entry_same a b is = some_same a b is
 
 module _ {H : Type 0} where
-  forgot : (k : ℕ) (d : Device) (t : Station H) (ds : List Device) (ts : List (Station H)) → slice_get ds k ≡ Some d → site_at k ts ≡ Some t
+  forgot : (k : ℕ) (d : Entry) (t : Station H) (ds : List Entry) (ts : List (Station H)) → slice_get ds k ≡ Some d → site_at k ts ≡ Some t
       → site_at k (all_forget ds ts) ≡ Some (forgets (Some d) t)
   forgot k d t [] ts a b = absurd cc
   forgot k d t (x ∷ ds) [] a b = absurd cc
@@ -121,7 +121,7 @@ module _ {H : Type 0} where
 
     -- ---- a device
 
-    device_costs : (t : Station H) (s : Site H) (d e : Device) (address : ℕ) (handler : H) (room : Room) (gap : ℕ) (before next : link.Link H)
+    device_costs : (t : Station H) (s : Site H) (d e : Entry) (address : ℕ) (handler : H) (room : Room) (gap : ℕ) (before next : link.Link H)
         → s.reader ≡ t.reader → s.account ≡ t.account → e.controller ≡ d.controller
         → before.reader ≡ s.reader → before.account ≡ s.account → next.account ≡ reader_restarted s.account
         → ReaderCosts before next → ReaderCosts (link_of_entry d t) (link_of_entry e (made_anew address handler room gap t))
@@ -145,7 +145,7 @@ module _ {H : Type 0} where
         subst (λ x. ReaderCosts (link_of_entry d t) (link_of_entry e x)) (sym (made_at k address handler room gap t u ls.stations h.station h.next_station))
         (device_costs t s.site d e address handler room gap (view k s.site before)
         (view k new (after_net answer_of after (RestartReader k address handler room) before)) s.reader s.account
-        (ap (λ (x : Device). x.controller) (some_same e d (sym h.next_entry ∙ h.entry))) refl refl refl cost)
+        (ap (λ (x : Entry). x.controller) (some_same e d (sym h.next_entry ∙ h.entry))) refl refl refl cost)
 
     -- ---- the panel
 
@@ -177,7 +177,7 @@ module _ {H : Type 0} where
         (λ i. record (s.account i) {
           forgotten = (s.account i).forgotten ++ option_to_list (out i);
           removed = (s.account i).removed ++ map link.ThrownAway (waits i);
-        }) ∙ ap (λ (x : Device). controller_restarted x.controller t.account) mine in
+        }) ∙ ap (λ (x : Entry). controller_restarted x.controller t.account) mine in
         subst (λ x. ControllerCosts (link_of_entry d t) (link_of_entry e x) × (e.reserved ≡ None))
         (some_same (forgets (Some d) t) u (sym (forgot k d t ls.bus.devices.entries ls.stations h.entry h.station) ∙ h.next_station)) (
           record {
@@ -185,7 +185,7 @@ module _ {H : Type 0} where
             account = refl;
             ended = subst (λ a. LeavesCommands a []) to left;
           },
-          ap (λ (x : Device). x.reserved) made.1,
+          ap (λ (x : Entry). x.reserved) made.1,
         )
 
     -- ---- what is reported since

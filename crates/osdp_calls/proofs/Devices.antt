@@ -4,7 +4,7 @@ use Rattle.std.specs.Prelude.{◌==◌}
 use Rattle.osdp_msg.specs.ReplyTable.{ReplyFits}
 use Rattle.osdp_msg.specs.declared.command.Command.{Command}
 use Rattle.osdp_msg.specs.declared.event.Event.{Event}
-use Rattle.osdp_bus.specs.declared.device.Device.{Device}
+use Rattle.osdp_bus.specs.declared.entry.Entry.{Entry}
 use Rattle.osdp_frame.specs.Receiving.{Received}
 use Rattle.osdp_device.specs.Telling.{items_of, next_told}
 use Rattle.osdp_link_laws.specs.Link as link
@@ -36,7 +36,7 @@ use Rattle.osdp_calls.proofs.Steps.{StepsTo, by_own, one_queue, queue_no_command
 module _ {H : Type 0} (answer_of : H → Command → Answer) (after : H → Command → H) where
   -- ---- events, and another handler
 
-  queued_so : (full : Bool) (event : Event) (l : InUse H) (k : ℕ) (d : Device) (t : Station H) (s : Site H) → Sites l k d t s
+  queued_so : (full : Bool) (event : Event) (l : InUse H) (k : ℕ) (d : Entry) (t : Station H) (s : Site H) → Sites l k d t s
       → Sites l k d (queues full event t) (left_by s (link.queues full event (link_of s [] [])))
   queued_so true event l k d t s is = is
   queued_so false event l k d t s is =

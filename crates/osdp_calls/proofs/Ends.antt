@@ -6,7 +6,7 @@ use Rattle.osdp_msg.specs.declared.event.Event.{Event}
 use Rattle.osdp_frame.specs.Packet.{Packet}
 use Rattle.osdp_bus.specs.Buses.{BusState, new_bus}
 use Rattle.osdp_bus.specs.Ticking.{bus_ticks}
-use Rattle.osdp_bus.specs.declared.device.Device.{Device}
+use Rattle.osdp_bus.specs.declared.entry.Entry.{Entry}
 use Rattle.osdp_bus_laws.specs.Calls as bus
 use Rattle.osdp_bus_laws.specs.Exchanges.{HasOneExchange}
 use Rattle.osdp_link_laws.proofs.Lines.{each_of}
@@ -45,7 +45,7 @@ module _ {H : Type 0} where
     opens_so = λ waiting x t is. is;
   }
 
-  forget_keeps : (k : ℕ) (d : Held H) (es : List Device) (ts : List (Station H)) → IsHeld k d ts → IsHeld k d (all_forget es ts)
+  forget_keeps : (k : ℕ) (d : Held H) (es : List Entry) (ts : List (Station H)) → IsHeld k d ts → IsHeld k d (all_forget es ts)
   forget_keeps k d es [] is = absurd (let e = is.1 in cc)
   forget_keeps k d [] (t ∷ ts) is = is
   forget_keeps zero d (e ∷ es) (t ∷ ts) is = (forgets (Some e) t, refl, ap held_by (some_same t is.0 is.1) ∙ is.2)

@@ -6,10 +6,10 @@ use Rattle.osdp_frame.specs.Packet.{Packet}
 use Rattle.osdp_frame.specs.Reading.{RunItem, PacketItem, SkippedItem, RefusedItem}
 use Rattle.osdp_controller.specs.declared.report.Report.{Report}
 use Rattle.osdp_bus.specs.Buses.{BusState, Devices, device_of, has_report, holder, is_silent, seen, waiting_after}
-use Rattle.osdp_bus.specs.Devices.{device_ticks, first_from, is_at, step_of}
+use Rattle.osdp_bus.specs.Entries.{device_ticks, first_from, is_at, step_of}
 use Rattle.osdp_bus.specs.Hearing.{ends_run, ends_silent, hears_items, hears_packet}
 use Rattle.osdp_bus.specs.Ticking.{BusTicked, bus_ticks, is_due_at, is_held_and_due, next_due, stays, ticks_at, ticks_by, ticks_with}
-use Rattle.osdp_bus.specs.declared.device.Device.{Device}
+use Rattle.osdp_bus.specs.declared.entry.Entry.{Entry}
 use Rattle.osdp_bus_laws.specs.Calls as bus
 use Rattle.osdp_bus_laws.specs.Reports.{told_at, told_by_device, told_by_end, told_by_entry, told_by_holder, told_by_items, told_by_silence, told_by_tick, told_by_ticking, told_in}
 use Rattle.osdp_bus_laws.specs.Turns.{judged}
@@ -72,7 +72,7 @@ silence_tells b = by_test (is_silent b)
 
 -- ---- a controller that ticks
 
-with_alike : (entry : ℕ) (o : Option Device) (a b : BusState) → IsAlike a b
+with_alike : (entry : ℕ) (o : Option Entry) (a b : BusState) → IsAlike a b
     → ((ticks_with entry o a).bus.devices ≡ (ticks_with entry o b).bus.devices) × ((ticks_with entry o a).sent ≡ (ticks_with entry o b).sent)
     × (told_by_device entry o a ≡ told_by_device entry o b)
 with_alike entry None a b is = (is.devices, refl, refl)

@@ -5,11 +5,11 @@ use Rattle.osdp_frame.specs.Packet.{Packet}
 use Rattle.osdp_msg.specs.declared.command.Command.{Command}
 use Rattle.osdp_controller.specs.Hearing.{comset_of}
 use Rattle.osdp_bus.specs.Buses.{BusState, device_of, seen}
-use Rattle.osdp_bus.specs.Devices as devices
+use Rattle.osdp_bus.specs.Entries as devices
 use Rattle.osdp_bus.specs.Machine as bus
 use Rattle.osdp_bus.specs.Machine.{changed_unless}
 use Rattle.osdp_bus.specs.Ticking.{bus_ticks, ticks_at, ticks_with}
-use Rattle.osdp_bus.specs.declared.device.Device.{Device}
+use Rattle.osdp_bus.specs.declared.entry.Entry.{Entry}
 use Rattle.osdp_bus_laws.specs.Calls as panel
 use Rattle.osdp_bus_laws.specs.Reports.{told_by_ticking, told_in}
 use Rattle.osdp_bus_laws.proofs.Moments.{moments_are_seen}
@@ -46,7 +46,7 @@ pub ticks_greatest : (o : Option ℕ) (b : BusState) → (ticks_at o b).bus.grea
 ticks_greatest None b = refl
 ticks_greatest (Some e) b = by_device (device_of e b)
   where
-    by_device : (q : Option Device) → (ticks_with e q b).bus.greatest ≡ b.greatest
+    by_device : (q : Option Entry) → (ticks_with e q b).bus.greatest ≡ b.greatest
     by_device None = refl
     by_device (Some d) = refl
 
@@ -56,7 +56,7 @@ either false note = refl
 
 -- the entries, the greatest moment seen, the stations, what was said, the panel's place in it, and the sessions that have begun
 abbrev pub OfLine : Type 0 → Type 0
-OfLine H = List Device × ℕ × List (Station H) × List Burst × ℕ × List Opening
+OfLine H = List Entry × ℕ × List (Station H) × List Burst × ℕ × List Opening
 
 module _ {H : Type 0} where
   -- ---- all that a net is of
@@ -75,7 +75,7 @@ module _ {H : Type 0} where
 
   agree_as : (l m : InUse H) (notes noted : ℕ → Note) → of_line l ≡ of_line m → AllAgree l notes noted → AllAgree m notes noted
   agree_as l m notes noted e agree =
-      subst (λ (q : OfLine H). (k : ℕ) (d : Device) → IsOurs k q.2 → slice_get q.0 k ≡ Some d
+      subst (λ (q : OfLine H). (k : ℕ) (d : Entry) → IsOurs k q.2 → slice_get q.0 k ≡ Some d
       → Agrees (begun_of (site_at k q.2)) d.controller.session.state (notes k) (noted k)) e agree
 
   -- a bus that is alike says the same
@@ -100,11 +100,11 @@ module _ {H : Type 0} where
 
   -- what is noted of a call that reads is of what is told in it
   noted_told : (call : panel.Call) (l : InUse H) (notes : ℕ → Note) (k : ℕ)
-      → ((d : Device) → noted_of k (Some d) (OfPanel call) l (notes k) ≡ told_note k (Some d) (told_in call l.bus) (notes k))
+      → ((d : Entry) → noted_of k (Some d) (OfPanel call) l (notes k) ≡ told_note k (Some d) (told_in call l.bus) (notes k))
       → told_notes l.bus.devices (told_in call l.bus) notes k ≡ notes_after (OfPanel call) l notes k
   noted_told call l notes k same = by_entry (device_of k l.bus)
     where
-      by_entry : (o : Option Device) → told_note k o (told_in call l.bus) (notes k) ≡ noted_of k o (OfPanel call) l (notes k)
+      by_entry : (o : Option Entry) → told_note k o (told_in call l.bus) (notes k) ≡ noted_of k o (OfPanel call) l (notes k)
       by_entry None = refl
       by_entry (Some d) = sym (same d)
 
@@ -155,7 +155,7 @@ module _ {H : Type 0} where
 
       pub by_rest : (call : Call H) (next : InUse H) (s : StepsTo answer_of after call l n next) → Each IsStill s.moves
           → next.bus.devices.entries ≡ l.bus.devices.entries → ((j : ℕ) → begun_of (site_at j next.stations) ≡ begun_of (site_at j l.stations))
-          → ((j : ℕ) (d : Device) → noted_of j (Some d) call l (notes j) ≡ notes j)
+          → ((j : ℕ) (d : Entry) → noted_of j (Some d) call l (notes j) ≡ notes j)
           → ((j : ℕ) → is_some (site_at j next.stations) ≡ is_some (site_at j l.stations)) → Ruled answer_of after n0 next (notes_after call l notes)
       by_rest call next s still entries begun mine keeps =
           by_steps call next s (free_rule answer_of after s.moves n noted (each_map IsStill IsFree still_free s.moves still) s.fit)
@@ -166,7 +166,7 @@ module _ {H : Type 0} where
       reads_ruled : (call : panel.Call) (now : ℕ) (places : List ℕ) (next : InUse H) → InOrder (OfPanel call) places l → QuietOpening (OfPanel call) places l
           → of_line (reads_those answer_of after (read_by call l.bus) places (record l { bus = seen now l.bus })) ≡ of_line next
           → told_in call l.bus ≡ told_by_all (max l.bus.greatest now) (read_by call l.bus) l.bus.devices
-          → ((k : ℕ) (d : Device) → noted_of k (Some d) (OfPanel call) l (notes k) ≡ told_note k (Some d) (told_in call l.bus) (notes k))
+          → ((k : ℕ) (d : Entry) → noted_of k (Some d) (OfPanel call) l (notes k) ≡ told_note k (Some d) (told_in call l.bus) (notes k))
           → Ruled answer_of after n0 next (notes_after (OfPanel call) l notes)
       reads_ruled call now places next order quiet e told mine =
           let l0 : InUse H = record l { bus = seen now l.bus } in

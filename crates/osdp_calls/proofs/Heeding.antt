@@ -10,11 +10,11 @@ use Rattle.osdp_controller.specs.declared.config.ControllerConfig.{ControllerCon
 use Rattle.osdp_controller.specs.declared.state.State.{State}
 use Rattle.osdp_controller.specs.declared.state.State.TheVariants.{Closed}
 use Rattle.osdp_bus.specs.Buses.{BusState, device_of, seen}
-use Rattle.osdp_bus.specs.Devices as devices
+use Rattle.osdp_bus.specs.Entries as devices
 use Rattle.osdp_bus.specs.Machine as bus
 use Rattle.osdp_bus.specs.Machine.{changed_unless, changes_device, new_device}
 use Rattle.osdp_bus.specs.declared.config.BusConfig.{BusConfig}
-use Rattle.osdp_bus.specs.declared.device.Device.{Device}
+use Rattle.osdp_bus.specs.declared.entry.Entry.{Entry}
 use Rattle.osdp_bus.specs.declared.fault.BusFault.{BusFault}
 use Rattle.osdp_bus_laws.specs.Calls as panel
 use Rattle.osdp_link_laws.proofs.Numbers.{is_false, is_true}
@@ -37,23 +37,23 @@ use Rattle.osdp_calls.proofs.Matching.{IsOurs}
 
 -- ---- the entries of a bus of which one changes
 
-pub data ChangedAt (k : ℕ) (change : Device → Device) (b : BusState) (j : ℕ) (next : Device) : Type 0 where
+pub data ChangedAt (k : ℕ) (change : Entry → Entry) (b : BusState) (j : ℕ) (next : Entry) : Type 0 where
   AsBefore : j ≢ k → device_of j b ≡ Some next → ChangedAt k change b j next
-  IsChanged : j ≡ k → (d : Device) → device_of k b ≡ Some d → change d ≡ next → ChangedAt k change b j next
+  IsChanged : j ≡ k → (d : Entry) → device_of k b ≡ Some d → change d ≡ next → ChangedAt k change b j next
 
-pub changed_at : (k : ℕ) (change : Device → Device) (b : BusState) (j : ℕ) (next : Device) → device_of j (changes_device k change b) ≡ Some next
+pub changed_at : (k : ℕ) (change : Entry → Entry) (b : BusState) (j : ℕ) (next : Entry) → device_of j (changes_device k change b) ≡ Some next
     → ChangedAt k change b j next
 changed_at k change b j next at = by_device (device_of k b) refl
   where
-    by_device : (q : Option Device) → device_of k b ≡ q → ChangedAt k change b j next
+    by_device : (q : Option Entry) → device_of k b ≡ q → ChangedAt k change b j next
     by_device None none =
-        let was : device_of j b ≡ Some next = sym (ap (λ o. device_of j (option_map_or (λ (d : Device). record b {
+        let was : device_of j b ≡ Some next = sym (ap (λ o. device_of j (option_map_or (λ (d : Entry). record b {
           devices = record b.devices { entries = slice_set b.devices.entries k (change d) };
         }) o b)) none) ∙ at in
         AsBefore (λ same. let there = subst (λ i. device_of i b ≡ Some next) same was in absurd (let f = sym none ∙ there in cc)) was
     by_device (Some d) there =
         let set : slice_get (slice_set b.devices.entries k (change d)) j ≡ Some next =
-        sym (ap (λ o. device_of j (option_map_or (λ (e : Device). record b {
+        sym (ap (λ o. device_of j (option_map_or (λ (e : Entry). record b {
           devices = record b.devices { entries = slice_set b.devices.entries k (change e) };
         }) o b)) there) ∙ at in
         elim (eqb_tells j k) [
@@ -63,7 +63,7 @@ changed_at k change b j next at = by_device (device_of k b) refl
           | inr differs ↦ AsBefore differs.1 (sym (got_other j k (change d) b.devices.entries differs.1) ∙ set)
         ]
 
-pub new_at : (config : BusConfig) (k : ℕ) (d : Device) (xs : List ℕ) → slice_get (map (λ a. new_device a config) xs) k ≡ Some d
+pub new_at : (config : BusConfig) (k : ℕ) (d : Entry) (xs : List ℕ) → slice_get (map (λ a. new_device a config) xs) k ≡ Some d
     → (a : ℕ) × (site_at k xs ≡ Some a) × (d ≡ new_device a config)
 new_at config k d [] is = absurd (let e = is in cc)
 new_at config zero d (a ∷ xs) is = (a, refl, some_same d (new_device a config) (sym is))
@@ -77,15 +77,15 @@ with_more more o state x y old =
 module _ {H : Type 0} where
   -- ---- entries from before a call, with what is noted of them since
 
-  pub record Carried (call : Call H) (l next : InUse H) (notes noted noted2 : ℕ → Note) (j : ℕ) (e : Device) : Type 0 where
-    pub device : Device
+  pub record Carried (call : Call H) (l next : InUse H) (notes noted noted2 : ℕ → Note) (j : ℕ) (e : Entry) : Type 0 where
+    pub device : Entry
     pub was : device_of j l.bus ≡ Some device
     pub agrees : Agrees (begun_of (site_at j l.stations)) device.controller.session.state (notes j) (noted j)
         → Agrees (begun_of (site_at j next.stations)) e.controller.session.state (noted_of j (Some device) call l (notes j)) (noted2 j)
 
   pub all_carried : (call : Call H) (l next : InUse H) (notes noted noted2 : ℕ → Note) → AllAgree l notes noted
       → ((j : ℕ) → is_some (site_at j next.stations) ≡ is_some (site_at j l.stations))
-      → ((j : ℕ) (e : Device) → IsOurs j l.stations → device_of j next.bus ≡ Some e → Carried call l next notes noted noted2 j e)
+      → ((j : ℕ) (e : Entry) → IsOurs j l.stations → device_of j next.bus ≡ Some e → Carried call l next notes noted noted2 j e)
       → AllAgree next (notes_after call l notes) noted2
   all_carried call l next notes noted noted2 agree keeps each j e still at =
       let own = sym (keeps j) ∙ still in
@@ -94,7 +94,7 @@ module _ {H : Type 0} where
       (sym (ap (λ o. noted_of j o call l (notes j)) c.was)) (c.agrees (agree j c.device own c.was))
 
   -- of one of which nothing is noted
-  pub as_it_was : (call : Call H) (l next : InUse H) (notes noted noted2 : ℕ → Note) (j : ℕ) (d e : Device) → device_of j l.bus ≡ Some d
+  pub as_it_was : (call : Call H) (l next : InUse H) (notes noted noted2 : ℕ → Note) (j : ℕ) (d e : Entry) → device_of j l.bus ≡ Some d
       → d.controller.session.state ≡ e.controller.session.state → begun_of (site_at j next.stations) ≡ begun_of (site_at j l.stations)
       → noted_of j (Some d) call l (notes j) ≡ notes j → noted2 j ≡ noted j → Carried call l next notes noted noted2 j e
   as_it_was call l next notes noted noted2 j d e was state begun mine its = record {
@@ -104,7 +104,7 @@ module _ {H : Type 0} where
   }
 
   -- of one of which more addresses are noted
-  pub also_noted : (call : Call H) (l next : InUse H) (notes noted noted2 : ℕ → Note) (j : ℕ) (d e : Device) (more : List ℕ) → device_of j l.bus ≡ Some d
+  pub also_noted : (call : Call H) (l next : InUse H) (notes noted noted2 : ℕ → Note) (j : ℕ) (d e : Entry) (more : List ℕ) → device_of j l.bus ≡ Some d
       → d.controller.session.state ≡ e.controller.session.state → begun_of (site_at j next.stations) ≡ begun_of (site_at j l.stations)
       → noted_of j (Some d) call l (notes j) ≡ also_at more (notes j) → noted2 j ≡ also_at more (noted j) → Carried call l next notes noted noted2 j e
   also_noted call l next notes noted noted2 j d e more was state begun mine its = record {
@@ -120,7 +120,7 @@ module _ {H : Type 0} where
     pub rests_agree : (call : Call H) (l next : InUse H) (n : Net H) (notes noted : ℕ → Note) (moves : List (NetMove H)) → Each IsStill moves
         → next.bus.devices.entries ≡ l.bus.devices.entries
         → ((j : ℕ) → begun_of (site_at j next.stations) ≡ begun_of (site_at j l.stations))
-        → ((j : ℕ) (d : Device) → noted_of j (Some d) call l (notes j) ≡ notes j)
+        → ((j : ℕ) (d : Entry) → noted_of j (Some d) call l (notes j) ≡ notes j)
         → ((j : ℕ) → is_some (site_at j next.stations) ≡ is_some (site_at j l.stations))
         → AllAgree l notes noted → AllAgree next (notes_after call l notes) (notes_along answer_of after moves n noted)
     rests_agree call l next n notes noted moves still entries begun mine keeps agree =
@@ -150,7 +150,7 @@ module _ {H : Type 0} where
               as_it_was call l next notes noted noted2 j e e was refl (begun j) refl (λ i. still_along answer_of after moves n noted still i j)
           | IsChanged same d was becomes ↦
               as_it_was call l next notes noted noted2 j d e (subst (λ i. device_of i l.bus ≡ Some d) (sym same) was)
-              (ap (λ (f : Device). f.controller.session.state) becomes) (begun j) refl (λ i. still_along answer_of after moves n noted still i j)
+              (ap (λ (f : Entry). f.controller.session.state) becomes) (begun j) refl (λ i. still_along answer_of after moves n noted still i j)
         ])
 
     -- ---- a session is begun
@@ -176,7 +176,7 @@ module _ {H : Type 0} where
         its : (j : ℕ) → notes_along answer_of after moves n noted j ≡ noted j
         its j = (λ i. still_along answer_of after moves n noted still i j)
 
-        mine : (f : Option BusFault) → bus.begin_refusal_at k l.bus ≡ f → (j : ℕ) (d : Device)
+        mine : (f : Option BusFault) → bus.begin_refusal_at k l.bus ≡ f → (j : ℕ) (d : Entry)
             → noted_of j (Some d) (OfPanel (panel.Begin k now)) l (notes j) ≡ cond (k == j) (changed_unless f (notes j) (record (notes j) { begun = true })) (notes j)
         mine f is j d = ap (λ o. cond (k == j) (changed_unless o (notes j) (record (notes j) { begun = true })) (notes j)) is
 
@@ -211,7 +211,7 @@ module _ {H : Type 0} where
                     device = d;
                     was = there;
                     agrees = λ old. subst (λ (q : Option ℕ × State × Note × Note). Agrees q.0 q.1 q.2 q.3)
-                        (λ i. (sym begun i, ap (λ (f : Device). f.controller.session.state) becomes i, sym note i, sym (its j) i))
+                        (λ i. (sym begun i, ap (λ (f : Entry). f.controller.session.state) becomes i, sym note i, sym (its j) i))
                         (record { addresses = old.addresses; begun = refl; opening = λ b. tt });
                   }
             ])
@@ -238,7 +238,7 @@ module _ {H : Type 0} where
               let it = at_entry k d l n h (subst (λ i. IsOurs i l.stations) same own) was in
               let more = two_addresses (devices.address_of d) (comset_of command) in
               also_noted call l next notes noted noted2 j d e more (subst (λ i. device_of i l.bus ≡ Some d) (sym same) was)
-              (ap (λ (f : Device). f.controller.session.state) becomes) (begun j)
+              (ap (λ (f : Entry). f.controller.session.state) becomes) (begun j)
               (ap (λ b. cond b (changed_unless (bus.submit_refusal_at k command l.bus) (notes j) (also_at more (notes j))) (notes j)) (is_true k j (sym same))
               ∙ ap (λ f. changed_unless f (notes j) (also_at more (notes j))) none)
               (subst (λ i. noted2 i ≡ also_at more (noted i)) (sym same)
@@ -280,7 +280,7 @@ module _ {H : Type 0} where
               let it = at_entry k d l n h (subst (λ i. IsOurs i l.stations) same own) was in
               let more = devices.address_of d ∷ [] in
               also_noted call l next notes noted noted2 j d e more (subst (λ i. device_of i l.bus ≡ Some d) (sym same) was)
-              (ap (λ (f : Device). f.controller.session.state) becomes) refl
+              (ap (λ (f : Entry). f.controller.session.state) becomes) refl
               (ap (λ b. cond b (changed_unless (bus.retarget_refusal_at k address l.bus) (notes j) (also_at more (notes j))) (notes j)) (is_true k j (sym same))
               ∙ ap (λ f. changed_unless f (notes j) (also_at more (notes j))) none)
               (subst (λ i. noted2 i ≡ also_at more (noted i)) (sym same)
@@ -304,14 +304,14 @@ module _ {H : Type 0} where
 
     -- ---- the panel is made anew
 
-    forgotten : (k : ℕ) (d : Device) (ds : List Device) (ts : List (Station H)) → slice_get ds k ≡ Some d → begun_of (site_at k (all_forget ds ts)) ≡ None
+    forgotten : (k : ℕ) (d : Entry) (ds : List Entry) (ts : List (Station H)) → slice_get ds k ≡ Some d → begun_of (site_at k (all_forget ds ts)) ≡ None
     forgotten k d [] ts is = absurd (let e = is in cc)
     forgotten k d (e ∷ ds) [] is = refl
     forgotten zero d (e ∷ ds) (t ∷ ts) is = refl
     forgotten (suc k) d (e ∷ ds) (t ∷ ts) is = forgotten k d ds ts is
 
     pub panel_agrees : (config : BusConfig) (xs : List ℕ) (settings : ℕ → ControllerConfig × Room) (l : InUse H) (n : Net H) (notes noted : ℕ → Note) → IsNetOf l n
-        → ((k a : ℕ) → IsOurs k l.stations → site_at k xs ≡ Some a → (d : Device) × (device_of k l.bus ≡ Some d)) → AllAgree l notes noted
+        → ((k a : ℕ) → IsOurs k l.stations → site_at k xs ≡ Some a → (d : Entry) × (device_of k l.bus ≡ Some d)) → AllAgree l notes noted
         → AllAgree (panel_made_anew config xs l) (notes_after (NewPanel config xs) l notes) (notes_along answer_of after (RestartPanel settings ∷ []) n noted)
     panel_agrees config xs settings l n notes noted h has agree =
         let call : Call H = NewPanel config xs in
@@ -321,7 +321,7 @@ module _ {H : Type 0} where
         let made = new_at config j e xs at in
         let old = has j made.0 own made.1 in
         let it = at_entry j old.0 l n h own old.1 in
-        let closed : e.controller.session.state ≡ Closed = ap (λ (f : Device). f.controller.session.state) made.2 in
+        let closed : e.controller.session.state ≡ Closed = ap (λ (f : Entry). f.controller.session.state) made.2 in
         let note : noted2 j ≡ also_at (devices.address_of old.0 ∷ []) (noted j) =
         ap (λ o. noted_at j o (RestartPanel settings) n (noted j)) it.at ∙ ap (λ a. also_at (a ∷ []) (noted j)) (address_same j old.0 l it.station it.site it.is) in
         record {

@@ -7,7 +7,7 @@ use Rattle.osdp_controller.specs.Machine.{Machine}
 use Rattle.osdp_controller.specs.declared.state.State.{State}
 use Rattle.osdp_controller.specs.declared.state.State.TheVariants.{Closed, Quiet, Idle, Waiting, Pausing}
 use Rattle.osdp_bus.specs.Buses.{device_of}
-use Rattle.osdp_bus.specs.declared.device.Device.{Device}
+use Rattle.osdp_bus.specs.declared.entry.Entry.{Entry}
 use Rattle.osdp_bus_laws.specs.Calls as bus
 use Rattle.osdp_device.specs.Deciding.{passed}
 use Rattle.osdp_frame.specs.Receiving.{after_silence, after_take, after_tick}
@@ -175,7 +175,7 @@ module _ {H : Type 0} (answer_of : H → Command → Answer) (after : H → Comm
     pub reader : site.reader ≡ t.reader
     pub account : site.account ≡ t.account
     pub earlier : site.earlier ≡ t.earlier
-    pub entry : Device
+    pub entry : Entry
     pub is_entry : device_of k l.bus ≡ Some entry
     pub controller : Controls t.begun l.bus.greatest entry.controller site.controller
 
@@ -203,7 +203,7 @@ module _ {H : Type 0} (answer_of : H → Command → Answer) (after : H → Comm
   state_same None top m c is = ap (λ (x : Machine). x.session.state) is.same
   state_same (Some began) top m c is = ap (λ (x : Machine). x.session.state) is.same
 
-  lasts_here : (t : Station H) (d : Device) (top : ℕ) (s : Site H) (b : Link H) → Controls t.begun top d.controller s.controller
+  lasts_here : (t : Station H) (d : Entry) (top : ℕ) (s : Site H) (b : Link H) → Controls t.begun top d.controller s.controller
       → s.controller.session.state ≡ b.controller.session.state → s.account ≡ t.account → s.reader ≡ t.reader
       → b.account ≡ s.account → b.controller.waiting ≡ s.controller.waiting → b.reader ≡ s.reader
       → LastsOrLeaves s.controller.session.state b → LastsOrLeaves (state_until t.begun d.controller.session.state) (link_of_entry d t)

@@ -7,7 +7,7 @@ use Rattle.osdp_controller.specs.declared.report.Report.{Report}
 use Rattle.osdp_bus.specs.Buses.{BusState, device_of}
 use Rattle.osdp_bus.specs.Machine.{begin_refusal_at, changed_unless, submit_refusal_at, withdrawal_at}
 use Rattle.osdp_bus.specs.Ticking.{bus_ticks}
-use Rattle.osdp_bus.specs.declared.device.Device.{Device}
+use Rattle.osdp_bus.specs.declared.entry.Entry.{Entry}
 use Rattle.osdp_bus.specs.declared.fault.BusFault.{BusFault}
 use Rattle.osdp_bus_laws.specs.Calls as bus
 use Rattle.osdp_bus_laws.specs.Reports.{told_in}
@@ -55,10 +55,10 @@ module _ {H : Type 0} (k : ℕ) where
   said_keeps (bus.Tick now) b l = says_keep (asked_at now b) (bus_ticks now b).sent l
   said_keeps _ b l = refl
 
-  pub forget_keeps : (ds : List Device) (ts : List (Station H)) → Same (all_forget ds ts) ts
+  pub forget_keeps : (ds : List Entry) (ts : List (Station H)) → Same (all_forget ds ts) ts
   forget_keeps ds ts = by_place k ds ts
     where
-      by_place : (i : ℕ) (es : List Device) (us : List (Station H)) → is_some (site_at i (all_forget es us)) ≡ is_some (site_at i us)
+      by_place : (i : ℕ) (es : List Entry) (us : List (Station H)) → is_some (site_at i (all_forget es us)) ≡ is_some (site_at i us)
       by_place i [] us = refl
       by_place i (e ∷ es) [] = refl
       by_place zero (e ∷ es) (u ∷ us) = refl

@@ -9,11 +9,11 @@ use Rattle.osdp_msg.specs.declared.event.Event.{Event}
 use Rattle.osdp_controller.specs.declared.report.Report.{Report}
 use Rattle.osdp_controller.specs.declared.report.Report.TheVariants as report
 use Rattle.osdp_bus.specs.Buses.{BusState, Devices, device_of, seen}
-use Rattle.osdp_bus.specs.Devices.{device_hears, device_ticks, first_from, is_at, step_of, told_of}
+use Rattle.osdp_bus.specs.Entries.{device_hears, device_ticks, first_from, is_at, step_of, told_of}
 use Rattle.osdp_bus.specs.Hearing.{hears_at, hears_packet, hears_with}
 use Rattle.osdp_bus.specs.Machine.{add_refusal, after_add, after_begin_at, after_retarget_at, after_submit_at, begin_refusal_at, begin_refusal_of, changed_unless, changes_device, device_begins, device_retargets, device_submits, device_withdraws, new_device, retarget_refusal_at, submit_refusal_at, withdrawal_at}
 use Rattle.osdp_bus.specs.Ticking.{bus_ticks, ticks_at, ticks_with}
-use Rattle.osdp_bus.specs.declared.device.Device.{Device}
+use Rattle.osdp_bus.specs.declared.entry.Entry.{Entry}
 use Rattle.osdp_bus.specs.declared.fault.BusFault.{BusFault}
 use Rattle.osdp_bus_laws.specs.Calls as bus
 use Rattle.osdp_bus_laws.specs.Reports.{told_at, told_by_device, told_by_entry, told_by_ticking, told_in, told_with}
@@ -33,7 +33,7 @@ those_then k [] ys x = refl
 those_then k (said ∷ xs) ys x = those_then k xs ys (cond (said.0 == k) (next said.1 x) x)
 
 -- of an entry that may be the one that changes
-entry_here : (k i : ℕ) (e f d : Device) (es : List Device) → slice_get es i ≡ Some e → slice_get es k ≡ Some d
+entry_here : (k i : ℕ) (e f d : Entry) (es : List Entry) → slice_get es i ≡ Some e → slice_get es k ≡ Some d
     → slice_get (slice_set es i f) k ≡ Some (cond (i == k) f d)
 entry_here k i e f d es at there = elim (eqb_tells i k) [
   | inl mine ↦
@@ -51,7 +51,7 @@ told_away k i None x is = refl
 told_away k i (Some r) x is = ap (λ b. cond b (next r x) x) is
 
 -- one more entry leaves the others
-added : (d e : Device) (es : List Device) (j : ℕ) → slice_get es j ≡ Some d → slice_get (es ++ e ∷ []) j ≡ Some d
+added : (d e : Entry) (es : List Entry) (j : ℕ) → slice_get es j ≡ Some d → slice_get (es ++ e ∷ []) j ≡ Some d
 added d e [] j is = absurd (let f = is in cc)
 added d e (g ∷ es) zero is = is
 added d e (g ∷ es) (suc j) is = added d e es j is
@@ -76,18 +76,18 @@ module _ {H : Type 0} where
 
   module _ (n k : ℕ) where
     -- the entry at this place: its device, and its station
-    abbrev pub Stands : Device → Told → Station H → Type 0
+    abbrev pub Stands : Entry → Told → Station H → Type 0
     Stands d x t = Agrees n d.controller.session.state t.begun (reported_in t) x
 
-    pub record Tells (es : List Device) (ts : List (Station H)) (x : Told) : Type 0 where
-      pub device : Device
+    pub record Tells (es : List Entry) (ts : List (Station H)) (x : Told) : Type 0 where
+      pub device : Entry
       pub there : slice_get es k ≡ Some device
       pub station : Station H
       pub at : site_at k ts ≡ Some station
       pub agrees : Stands device x station
 
-    pub tells_as : (es fs : List Device) (ts us : List (Station H)) (x y : Told) → fs ≡ es → us ≡ ts → y ≡ x → Tells es ts x → Tells fs us y
-    tells_as es fs ts us x y a b c is = subst (λ (q : List Device × List (Station H) × Told). Tells q.0 q.1 q.2) (λ i. (sym a i, sym b i, sym c i)) is
+    pub tells_as : (es fs : List Entry) (ts us : List (Station H)) (x y : Told) → fs ≡ es → us ≡ ts → y ≡ x → Tells es ts x → Tells fs us y
+    tells_as es fs ts us x y a b c is = subst (λ (q : List Entry × List (Station H) × Told). Tells q.0 q.1 q.2) (λ i. (sym a i, sym b i, sym c i)) is
 
     -- ---- one entry changes, and one station
 
@@ -106,7 +106,7 @@ module _ {H : Type 0} where
         away (Some u) differs = at_other k i (f u) ts (λ e. differs (sym e))
 
     -- .. both
-    both_change : (i : ℕ) (e f : Device) (change : Station H → Station H) (es : List Device) (ts : List (Station H)) (x y : Told) → slice_get es i ≡ Some e
+    both_change : (i : ℕ) (e f : Entry) (change : Station H → Station H) (es : List Entry) (ts : List (Station H)) (x y : Told) → slice_get es i ≡ Some e
         → ((t : Station H) → Stands e x t → Stands f y (change t)) → Tells es ts x → Tells (slice_set es i f) (change_at i change ts) (cond (i == k) y x)
     both_change i e f change es ts x y at goes is = record {
       device = cond (i == k) f is.device;
@@ -123,7 +123,7 @@ module _ {H : Type 0} where
     }
 
     -- .. the entry alone
-    entry_changes : (i : ℕ) (e f : Device) (es : List Device) (ts : List (Station H)) (x : Told) → slice_get es i ≡ Some e
+    entry_changes : (i : ℕ) (e f : Entry) (es : List Entry) (ts : List (Station H)) (x : Told) → slice_get es i ≡ Some e
         → ((t : Station H) → Stands e x t → Stands f x t) → Tells es ts x → Tells (slice_set es i f) ts x
     entry_changes i e f es ts x at goes is = record {
       device = cond (i == k) f is.device;
@@ -139,8 +139,8 @@ module _ {H : Type 0} where
     }
 
     -- .. the station alone
-    pub station_changes : (i : ℕ) (change : Station H → Station H) (es : List Device) (ts : List (Station H)) (x : Told)
-        → ((d : Device) (t : Station H) → Stands d x t → Stands d x (change t)) → Tells es ts x → Tells es (change_at i change ts) x
+    pub station_changes : (i : ℕ) (change : Station H → Station H) (es : List Entry) (ts : List (Station H)) (x : Told)
+        → ((d : Entry) (t : Station H) → Stands d x t → Stands d x (change t)) → Tells es ts x → Tells es (change_at i change ts) x
     station_changes i change es ts x goes is = record {
       device = is.device;
       there = is.there;
@@ -155,7 +155,7 @@ module _ {H : Type 0} where
 
     -- ---- what is told of an entry that has changed
 
-    told_changes : (i : ℕ) (e f : Device) (o : Option Report) (es : List Device) (ts : List (Station H)) (x : Told) → slice_get es i ≡ Some e
+    told_changes : (i : ℕ) (e f : Entry) (o : Option Report) (es : List Entry) (ts : List (Station H)) (x : Told) → slice_get es i ≡ Some e
         → ((begun : Option ℕ) (all : List (List Event)) → Agrees n e.controller.session.state begun all x
         → Agrees n f.controller.session.state begun (after_told o all) (next_told o x))
         → Tells es ts x → Tells (slice_set es i f) (all_hear (told_at i o) ts) (those next k (told_at i o) x)
@@ -174,7 +174,7 @@ module _ {H : Type 0} where
     packet_at now p None ds ts x is = is
     packet_at now p (Some i) ds ts x is = by_device (slice_get ds.entries i) refl
       where
-        by_device : (q : Option Device) → slice_get ds.entries i ≡ q
+        by_device : (q : Option Entry) → slice_get ds.entries i ≡ q
             → Tells (hears_with p now i q ds).entries (all_hear (told_with p now i q) ts) (those next k (told_with p now i q) x)
         by_device None none = is
         by_device (Some e) at =
@@ -263,7 +263,7 @@ module _ {H : Type 0} where
     says_away i (Some p) l differs = begins_away i p (begun_of (site_at i l.stations)) l differs
 
     -- an entry ticks: what it tells is heard, and what it sends is said
-    tick_says : (i : ℕ) (sent : Option Packet) (r : Option Report) (e f : Device) (l : InUse H) (es : List Device) (ts : List (Station H)) (x : Told)
+    tick_says : (i : ℕ) (sent : Option Packet) (r : Option Report) (e f : Entry) (l : InUse H) (es : List Entry) (ts : List (Station H)) (x : Told)
         → slice_get es i ≡ Some e → l.stations ≡ all_hear (told_at i r) ts
         → ((begun : Option ℕ) (all : List (List Event)) → Agrees n e.controller.session.state begun all x
         → Agrees n f.controller.session.state (begun_after sent begun) (sessions_after sent begun (after_told r all)) (next_told r x))
@@ -304,7 +304,7 @@ module _ {H : Type 0} where
     tick_at None b l ts x heard is = subst (λ us. Tells b.devices.entries us x) (sym heard) is
     tick_at (Some i) b l ts x heard is = by_device (device_of i b) refl heard
       where
-        by_device : (q : Option Device) → device_of i b ≡ q → l.stations ≡ all_hear (told_by_device i q b) ts
+        by_device : (q : Option Entry) → device_of i b ≡ q → l.stations ≡ all_hear (told_by_device i q b) ts
             → Tells (ticks_with i q b).bus.devices.entries (panel_says (Some i) (ticks_with i q b).sent l).stations (those next k (told_by_device i q b) x)
         by_device None none heard_none = subst (λ us. Tells b.devices.entries us x) (sym heard_none) is
         by_device (Some e) at heard_it =
@@ -314,8 +314,8 @@ module _ {H : Type 0} where
     -- ---- calls of the panel
 
     -- an entry changes, and its session is no matter
-    device_changes : (i : ℕ) (change : Device → Device) (f : Station H → Station H) (b : BusState) (ts : List (Station H)) (x : Told)
-        → ((d : Device) (t : Station H) → Stands d x t → Stands (change d) x (f t)) → ((d : Device) (t : Station H) → Stands d x t → Stands d x (f t))
+    device_changes : (i : ℕ) (change : Entry → Entry) (f : Station H → Station H) (b : BusState) (ts : List (Station H)) (x : Told)
+        → ((d : Entry) (t : Station H) → Stands d x t → Stands (change d) x (f t)) → ((d : Entry) (t : Station H) → Stands d x t → Stands d x (f t))
         → Tells b.devices.entries ts x → Tells (changes_device i change b).devices.entries (change_at i f ts) x
     device_changes i change f b ts x goes stays is = by_device (device_of i b) refl
       where
@@ -323,7 +323,7 @@ module _ {H : Type 0} where
         either true = refl
         either false = refl
 
-        by_device : (q : Option Device) → device_of i b ≡ q
+        by_device : (q : Option Entry) → device_of i b ≡ q
             → Tells (option_map_or (λ d. record b { devices = record b.devices { entries = slice_set b.devices.entries i (change d) } }) q b).devices.entries
             (change_at i f ts) x
         by_device None none = station_changes i f b.devices.entries ts x stays is
@@ -332,12 +332,12 @@ module _ {H : Type 0} where
             (both_change i e (change e) f b.devices.entries ts x x at (goes e) is)
 
     -- .. and so is the station
-    device_only : (i : ℕ) (change : Device → Device) (b : BusState) (ts : List (Station H)) (x : Told)
-        → ((d : Device) (t : Station H) → Stands d x t → Stands (change d) x t) → Tells b.devices.entries ts x
+    device_only : (i : ℕ) (change : Entry → Entry) (b : BusState) (ts : List (Station H)) (x : Told)
+        → ((d : Entry) (t : Station H) → Stands d x t → Stands (change d) x t) → Tells b.devices.entries ts x
         → Tells (changes_device i change b).devices.entries ts x
     device_only i change b ts x goes is = by_device (device_of i b) refl
       where
-        by_device : (q : Option Device) → device_of i b ≡ q
+        by_device : (q : Option Entry) → device_of i b ≡ q
             → Tells (option_map_or (λ d. record b { devices = record b.devices { entries = slice_set b.devices.entries i (change d) } }) q b).devices.entries ts x
         by_device None none = is
         by_device (Some e) at = entry_changes i e (change e) b.devices.entries ts x at (goes e) is
@@ -350,7 +350,7 @@ module _ {H : Type 0} where
         moment : ℕ
         moment = max b.greatest now
 
-        begun : (e : Device) (t : Station H) → Stands e x t → Stands (device_begins moment e) x (is_to_begin moment t)
+        begun : (e : Entry) (t : Station H) → Stands e x t → Stands (device_begins moment e) x (is_to_begin moment t)
         begun e t h = record {
           sessions = h.sessions;
           before = h.before;
@@ -365,7 +365,7 @@ module _ {H : Type 0} where
         either true = refl
         either false = refl
 
-        by_fault : (e : Device) → device_of entry b ≡ Some e → (f : Option BusFault)
+        by_fault : (e : Entry) → device_of entry b ≡ Some e → (f : Option BusFault)
             → Tells (changed_unless f b (after_begin_at entry now b)).devices.entries (changed_unless f ts (change_at entry (is_to_begin moment) ts)) x
         by_fault e at (Some fault) = is
         by_fault e at None =
@@ -376,7 +376,7 @@ module _ {H : Type 0} where
             (subst (Tells (slice_set b.devices.entries entry (device_begins moment e)) (change_at entry (is_to_begin moment) ts)) (either (entry == k))
             (both_change entry e (device_begins moment e) (is_to_begin moment) b.devices.entries ts x x at (begun e) is))
 
-        by_device : (q : Option Device) → device_of entry b ≡ q
+        by_device : (q : Option Entry) → device_of entry b ≡ q
             → Tells (changed_unless (begin_refusal_at entry b) b (after_begin_at entry now b)).devices.entries
             (changed_unless (begin_refusal_at entry b) ts (change_at entry (is_to_begin moment) ts)) x
         by_device None none =

@@ -7,7 +7,7 @@ use Rattle.osdp_msg.specs.declared.event.Event.{Event}
 use Rattle.osdp_msg.specs.declared.reply.Reply.{Reply}
 use Rattle.osdp_controller.specs.declared.report.Report.{Report}
 use Rattle.osdp_bus.specs.Buses.{BusState}
-use Rattle.osdp_bus.specs.declared.device.Device.{Device}
+use Rattle.osdp_bus.specs.declared.entry.Entry.{Entry}
 use Rattle.osdp_bus_laws.specs.Calls as bus
 use Rattle.osdp_bus_laws.specs.Reports.{told_in}
 use Rattle.osdp_device.specs.Deciding.{passed}
@@ -46,7 +46,7 @@ module _ {H : Type 0} where
     abbrev Same : (Station H → Station H) → Type 0
     Same change = (t : Station H) → ((change t).begun ≡ t.begun) × (reported_in (change t) ≡ reported_in t)
 
-    stands_same : (change : Station H → Station H) → Same change → (x : Told) (d : Device) (t : Station H) → Stands n k d x t → Stands n k d x (change t)
+    stands_same : (change : Station H → Station H) → Same change → (x : Told) (d : Entry) (t : Station H) → Stands n k d x t → Stands n k d x (change t)
     stands_same change same x d t h =
         let s = same t in
         subst (λ (q : Option ℕ × List (List Event)). Agrees n d.controller.session.state q.0 q.1 x) (λ i. (sym s.0 i, sym s.1 i)) h

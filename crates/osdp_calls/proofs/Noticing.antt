@@ -13,9 +13,9 @@ use Rattle.osdp_controller.specs.declared.session.Session.{Session}
 use Rattle.osdp_controller.specs.declared.state.State.{State}
 use Rattle.osdp_controller.specs.declared.state.State.TheVariants.{Closed, Quiet, Idle, Waiting, Pausing}
 use Rattle.osdp_bus.specs.Buses.{Devices}
-use Rattle.osdp_bus.specs.Devices.{address_of, device_hears, first_from, is_at, told_of}
+use Rattle.osdp_bus.specs.Entries.{address_of, device_hears, first_from, is_at, told_of}
 use Rattle.osdp_bus.specs.Hearing.{hears_at, hears_packet, hears_with}
-use Rattle.osdp_bus.specs.declared.device.Device.{Device}
+use Rattle.osdp_bus.specs.declared.entry.Entry.{Entry}
 use Rattle.osdp_bus_laws.specs.Reports.{told_at, told_by_entry, told_by_item, told_with}
 use Rattle.osdp_link_laws.specs.Peers.{ReadsWhatIsAsked}
 use Rattle.osdp_link_laws.proofs.Numbers.{is_false, is_true}
@@ -78,22 +78,22 @@ agrees_next (Some began) before next x y closes opens is =
 abbrev pub chosen : Bool → ℕ → List Command → Note → Note
 chosen opened here waiting note = cond opened (record { begun = false; addresses = all_addresses here waiting }) note
 
-pub reports_of : (k : ℕ) (d : Device) (r : Option Report) (x : Note)
+pub reports_of : (k : ℕ) (d : Entry) (r : Option Report) (x : Note)
     → noted_reports k d (told_at k r) x ≡ chosen (is_opened r && x.begun) (address_of d) d.controller.waiting x
 reports_of k d None x = refl
 reports_of k d (Some r) x = ap (λ b. cond b (noted_report d r x) x) (is_true k k refl)
 
-pub reports_of_other : (k j : ℕ) (d : Device) (r : Option Report) (x : Note) → j ≢ k → noted_reports k d (told_at j r) x ≡ x
+pub reports_of_other : (k j : ℕ) (d : Entry) (r : Option Report) (x : Note) → j ≢ k → noted_reports k d (told_at j r) x ≡ x
 reports_of_other k j d None x other = refl
 reports_of_other k j d (Some r) x other = ap (λ b. cond b (noted_report d r x) x) (is_false j k other)
 
-pub reports_then : (k : ℕ) (d : Device) (xs ys : List (ℕ × Report)) (note : Note)
+pub reports_then : (k : ℕ) (d : Entry) (xs ys : List (ℕ × Report)) (note : Note)
     → noted_reports k d (xs ++ ys) note ≡ noted_reports k d ys (noted_reports k d xs note)
 reports_then k d [] ys note = refl
 reports_then k d (x ∷ xs) ys note = reports_then k d xs ys (cond (x.0 == k) (noted_report d x.1 note) note)
 
 -- nothing of it sets that a session was begun
-pub begun_before : (k : ℕ) (d : Device) (told : List (ℕ × Report)) (note : Note) → (noted_reports k d told note).begun ≡ true → note.begun ≡ true
+pub begun_before : (k : ℕ) (d : Entry) (told : List (ℕ × Report)) (note : Note) → (noted_reports k d told note).begun ≡ true → note.begun ≡ true
 begun_before k d [] note is = is
 begun_before k d (x ∷ xs) note is = one (x.0 == k) (begun_before k d xs (cond (x.0 == k) (noted_report d x.1 note) note) is)
   where
@@ -107,7 +107,7 @@ begun_before k d (x ∷ xs) note is = one (x.0 == k) (begun_before k d xs (cond 
     one false e = e
 
 -- two that are alike as long as a session is noted to have been begun
-pub same_reports : (k : ℕ) (d e : Device) (told : List (ℕ × Report)) (note : Note)
+pub same_reports : (k : ℕ) (d e : Entry) (told : List (ℕ × Report)) (note : Note)
     → (note.begun ≡ true → (address_of e ≡ address_of d) × (e.controller.waiting ≡ d.controller.waiting))
     → noted_reports k e told note ≡ noted_reports k d told note
 same_reports k d e [] note same = refl
@@ -144,7 +144,7 @@ address_stays p now s opens = elim (hears_well p now s).goes [
 ]
 
 -- its controller hears it, and so does that of its site
-pub touched : (p : Packet) (now k : ℕ) (d : Device) (o : Option ℕ) (x y : Note)
+pub touched : (p : Packet) (now k : ℕ) (d : Entry) (o : Option ℕ) (x y : Note)
     → ((began : ℕ) → o ≡ Some began → is_opened (hears p now d.controller.session).report ≡ false)
     → Agrees o d.controller.session.state x y
     → Agrees o (hears p now d.controller.session).session.state (noted_reports k d (told_at k (told_of p now d)) x)
@@ -193,11 +193,11 @@ touched p now k d o x y quiet is =
 
 -- ---- which entry a packet reaches
 
-pub data FirstAt (i a : ℕ) (ds : List Device) : Type 0 where
-  NoneAt : first_from i (is_at a) ds ≡ None → ((k : ℕ) (d : Device) → slice_get ds k ≡ Some d → (address_of d == a) ≡ false) → FirstAt i a ds
-  OneAt : (j : ℕ) (d : Device) → first_from i (is_at a) ds ≡ Some (i + j) → slice_get ds j ≡ Some d → (address_of d == a) ≡ true → FirstAt i a ds
+pub data FirstAt (i a : ℕ) (ds : List Entry) : Type 0 where
+  NoneAt : first_from i (is_at a) ds ≡ None → ((k : ℕ) (d : Entry) → slice_get ds k ≡ Some d → (address_of d == a) ≡ false) → FirstAt i a ds
+  OneAt : (j : ℕ) (d : Entry) → first_from i (is_at a) ds ≡ Some (i + j) → slice_get ds j ≡ Some d → (address_of d == a) ≡ true → FirstAt i a ds
 
-pub first_at : (i a : ℕ) (ds : List Device) → FirstAt i a ds
+pub first_at : (i a : ℕ) (ds : List Entry) → FirstAt i a ds
 first_at i a [] = NoneAt refl (λ k d is. absurd (let e = is in cc))
 first_at i a (d ∷ ds) = by_test (address_of d == a) refl (first_at (i + 1) a ds)
   where
@@ -207,18 +207,18 @@ first_at i a (d ∷ ds) = by_test (address_of d == a) refl (first_at (i + 1) a d
     by_test false is (NoneAt none all) =
         NoneAt (ap (λ b. cond b (Some i) (first_from (i + 1) (is_at a) ds)) is ∙ none) (λ k e at. by_place k e at)
       where
-        by_place : (k : ℕ) (e : Device) → slice_get (d ∷ ds) k ≡ Some e → (address_of e == a) ≡ false
+        by_place : (k : ℕ) (e : Entry) → slice_get (d ∷ ds) k ≡ Some e → (address_of e == a) ≡ false
         by_place zero e at = subst (λ f. (address_of f == a) ≡ false) (some_same d e at) is
         by_place (suc k) e at = all k e at
     by_test false is (OneAt j e some at here) =
         OneAt (suc j) e (ap (λ b. cond b (Some i) (first_from (i + 1) (is_at a) ds)) is ∙ some ∙ ap Some (let f : (i + 1) + j ≡ i + suc j = omega arith in f)) at here
 
 -- the first at an address is not past another that is
-pub first_before : (a i x k : ℕ) (d : Device) (ds : List Device) → first_from i (is_at a) ds ≡ Some x → slice_get ds k ≡ Some d → (address_of d == a) ≡ true → x ≤ i + k
+pub first_before : (a i x k : ℕ) (d : Entry) (ds : List Entry) → first_from i (is_at a) ds ≡ Some x → slice_get ds k ≡ Some d → (address_of d == a) ≡ true → x ≤ i + k
 first_before a i x k d [] first at here = absurd (let e = at in cc)
 first_before a i x zero d (f ∷ ds) first at here =
     let same : f ≡ d = some_same f d at in
-    let found : Some i ≡ Some x = sym (ap (λ b. cond b (Some i) (first_from (i + 1) (is_at a) ds)) (ap (λ (y : Device). address_of y == a) same ∙ here)) ∙ first in
+    let found : Some i ≡ Some x = sym (ap (λ b. cond b (Some i) (first_from (i + 1) (is_at a) ds)) (ap (λ (y : Entry). address_of y == a) same ∙ here)) ∙ first in
     let e = some_same i x found in omega (arith, e)
 first_before a i x (suc k) d (f ∷ ds) first at here = by_test (address_of f == a) first (λ further. first_before a (i + 1) x k d ds further at here)
   where
@@ -241,10 +241,10 @@ got_new (suc k) new old (x ∷ xs) is = got_new k new old xs is
 -- an entry is as before, and nothing is told of it; it is elsewhere, or another is at the packet's address. Or it is the one that hears the packet
 pub data HeardAt (p : Packet) (now k : ℕ) (ds : Devices) : Type 0 where
   Untouched : slice_get (hears_packet p now ds).entries k ≡ slice_get ds.entries k
-      → ((d : Device) (note : Note) → noted_reports k d (told_by_item now (PacketItem p) ds) note ≡ note)
-      → ((d : Device) → slice_get ds.entries k ≡ Some d → (address_of d == p.address) ≡ true
-      → (j : ℕ) × (e : Device) × (j ≢ k) × (slice_get ds.entries j ≡ Some e) × ((address_of e == p.address) ≡ true) × (j ≤ k)) → HeardAt p now k ds
-  Touched : (d : Device) → slice_get ds.entries k ≡ Some d → (address_of d == p.address) ≡ true
+      → ((d : Entry) (note : Note) → noted_reports k d (told_by_item now (PacketItem p) ds) note ≡ note)
+      → ((d : Entry) → slice_get ds.entries k ≡ Some d → (address_of d == p.address) ≡ true
+      → (j : ℕ) × (e : Entry) × (j ≢ k) × (slice_get ds.entries j ≡ Some e) × ((address_of e == p.address) ≡ true) × (j ≤ k)) → HeardAt p now k ds
+  Touched : (d : Entry) → slice_get ds.entries k ≡ Some d → (address_of d == p.address) ≡ true
       → slice_get (hears_packet p now ds).entries k ≡ Some (device_hears p now d)
       → told_by_item now (PacketItem p) ds ≡ told_at k (told_of p now d) → HeardAt p now k ds
 

@@ -1,7 +1,7 @@
 -- A session opens: what was said before and concerns it is lost out of the middle, to its device and to the panel.
 use Rattle.std.proofs.Common.{◌≡◌, ◌≤◌, [], ◌∷◌, length, Some, refl, sym, subst, ap, ◌∙◌}
 use Rattle.osdp_msg.specs.declared.command.Command.{Command}
-use Rattle.osdp_bus.specs.declared.device.Device.{Device}
+use Rattle.osdp_bus.specs.declared.entry.Entry.{Entry}
 use Rattle.osdp_reader.specs.declared.handler.Answer.{Answer}
 use Rattle.osdp_shared_line.specs.Line.{Net, Site, site_at}
 use Rattle.osdp_calls.specs.Lines.{InUse, Opening, Station, ahead_of_device, ahead_of_panel}
@@ -14,7 +14,7 @@ use Rattle.osdp_calls.proofs.Stations.{LosesTo, Sites}
 use Rattle.std.specs.Prelude.{slice_get, slice_set}
 
 module _ {H : Type 0} (answer_of : H → Command → Answer) (after : H → Command → H) where
-  pub opens : (o : Opening) (d : Device) (t : Station H) (s : Site H) (l : InUse H) (n : Net H) → IsNetOf l n → o.place ≤ length l.said
+  pub opens : (o : Opening) (d : Entry) (t : Station H) (s : Site H) (l : InUse H) (n : Net H) → IsNetOf l n → o.place ≤ length l.said
       → slice_get l.bus.devices.entries o.entry ≡ Some d → site_at o.entry l.stations ≡ Some t → site_at o.entry n.sites ≡ Some s → Sites l o.entry d t s
       → LosesTo answer_of after n (record l { openings = o ∷ l.openings })
   opens o d t s l n h within a b c is =

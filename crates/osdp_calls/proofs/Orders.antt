@@ -14,11 +14,11 @@ use Rattle.osdp_controller.specs.declared.fault.ControllerFault.{ControllerFault
 use Rattle.osdp_controller.specs.declared.fault.ControllerFault.TheVariants.{Full}
 use Rattle.osdp_controller.specs.declared.state.State.TheVariants.{Closed}
 use Rattle.osdp_bus.specs.Buses.{BusState, seen}
-use Rattle.osdp_bus.specs.Devices as devices
-use Rattle.osdp_bus.specs.Devices.{reserved_for}
+use Rattle.osdp_bus.specs.Entries as devices
+use Rattle.osdp_bus.specs.Entries.{reserved_for}
 use Rattle.osdp_bus.specs.Machine as bus
 use Rattle.osdp_bus.specs.Machine.{after_begin_at, after_submit_at, begin_refusal_at, bus_fault, changed_unless, changes_device, device_begins, submit_refusal_at}
-use Rattle.osdp_bus.specs.declared.device.Device.{Device}
+use Rattle.osdp_bus.specs.declared.entry.Entry.{Entry}
 use Rattle.osdp_bus.specs.declared.fault.BusFault.{BusFault}
 use Rattle.osdp_bus.specs.declared.fault.BusFault.TheVariants.{AddressTaken}
 use Rattle.osdp_bus_laws.specs.Calls as panel
@@ -68,7 +68,7 @@ submit_alike command m c waiting places room =
 
 module _ {H : Type 0} where
   -- the device of an entry and its station change
-  changes_one : (k : ℕ) (change : Device → Device) (tchange : Station H → Station H) (l : InUse H) (d : Device) (t : Station H)
+  changes_one : (k : ℕ) (change : Entry → Entry) (tchange : Station H → Station H) (l : InUse H) (d : Entry) (t : Station H)
       → slice_get l.bus.devices.entries k ≡ Some d → site_at k l.stations ≡ Some t
       → record l { bus = changes_device k change l.bus; stations = change_at k tchange l.stations }
       ≡ record l {
@@ -78,22 +78,22 @@ module _ {H : Type 0} where
   changes_one k change tchange l d t a b =
       (λ i. record l { bus = by_device (a i); stations = changes_at k tchange (b i) l.stations })
     where
-      by_device : Option Device → BusState
-      by_device o = Rattle.std.specs.Option.option_map_or (λ (e : Device). record l.bus {
+      by_device : Option Entry → BusState
+      by_device o = Rattle.std.specs.Option.option_map_or (λ (e : Entry). record l.bus {
         devices = record l.bus.devices { entries = slice_set l.bus.devices.entries k (change e) };
       }) o l.bus
 
   -- an entry without a station changes
-  pub other_changes : (k : ℕ) (change : Device → Device) (tchange : Station H → Station H) (l : InUse H) (n : Net H) → IsNetOf l n → site_at k l.stations ≡ None
+  pub other_changes : (k : ℕ) (change : Entry → Entry) (tchange : Station H → Station H) (l : InUse H) (n : Net H) → IsNetOf l n → site_at k l.stations ≡ None
       → IsNetOf (record l { bus = changes_device k change l.bus; stations = change_at k tchange l.stations }) n
   other_changes k change tchange l n h none = by_entry (slice_get l.bus.devices.entries k) refl
     where
-      by_device : Option Device → BusState
-      by_device o = Rattle.std.specs.Option.option_map_or (λ (e : Device). record l.bus {
+      by_device : Option Entry → BusState
+      by_device o = Rattle.std.specs.Option.option_map_or (λ (e : Entry). record l.bus {
         devices = record l.bus.devices { entries = slice_set l.bus.devices.entries k (change e) };
       }) o l.bus
 
-      by_entry : (o : Option Device) → slice_get l.bus.devices.entries k ≡ o
+      by_entry : (o : Option Entry) → slice_get l.bus.devices.entries k ≡ o
           → IsNetOf (record l { bus = changes_device k change l.bus; stations = change_at k tchange l.stations }) n
       by_entry None is =
           subst (λ m. IsNetOf m n) (λ i. record l { bus = by_device (sym is i); stations = changes_at k tchange (sym none i) l.stations }) h
@@ -103,7 +103,7 @@ module _ {H : Type 0} where
 
   -- ---- addresses that are taken
 
-  taken_less : (l : InUse H) (i a : ℕ) (ds : List Device) (ts : List (Station H)) (ss : List (Site H)) → Match (Sites l) i ds ts ss
+  taken_less : (l : InUse H) (i a : ℕ) (ds : List Entry) (ts : List (Station H)) (ss : List (Site H)) → Match (Sites l) i ds ts ss
       → devices.is_taken a ds ≡ false → line.is_taken a ss ≡ false
   taken_less l i a ds1 ts1 ss1 (Done i1 ds) free = refl
   taken_less l i a ds1 ts1 ss1 (And i1 d t s ds ts ss is rest) free =
@@ -115,7 +115,7 @@ module _ {H : Type 0} where
           (λ x. (Rattle.std.specs.Prelude.◌==◌ (sym (ap (λ (c : _). c.address) (config_same t.begun l.bus.greatest d.controller s.controller is.controller)) x) a)
           || line.is_reserved a (sym is.reserved x))
 
-  beside_less : (l : InUse H) (i k a : ℕ) (ds : List Device) (ts : List (Station H)) (ss : List (Site H)) → Match (Sites l) i ds ts ss
+  beside_less : (l : InUse H) (i k a : ℕ) (ds : List Entry) (ts : List (Station H)) (ss : List (Site H)) → Match (Sites l) i ds ts ss
       → devices.is_taken a (take k ds) || devices.is_taken a (drop (suc k) ds) ≡ false → line.is_taken_beside k a ss ≡ false
   beside_less l i zero a ds1 ts1 ss1 (Done i1 ds) free = refl
   beside_less l i (suc k) a ds1 ts1 ss1 (Done i1 ds) free = refl
@@ -193,7 +193,7 @@ module _ {H : Type 0} where
                 closed_of d.controller.session.state (some_fault (begin_refusal d.controller) (sym (ap bus.begin_refusal_of a) ∙ is)) in
                 let begun : t.begun ≡ None = not_begun t.begun l.bus.greatest d.controller s.controller has.controller shut in
                 let control : IsSame l.bus.greatest d.controller s.controller = subst (λ o. Controls o l.bus.greatest d.controller s.controller) begun has.controller in
-                let e : Device = device_begins moment d in
+                let e : Entry = device_begins moment d in
                 let u : Station H = is_to_begin moment t in
                 subst (Makes answer_of after (λ moves. moves ≡ []) n) (sym (changes_one entry (device_begins moment) (is_to_begin moment) l1 d t a b))
                 (make_none answer_of after (λ moves. moves ≡ []) (record l1 {
@@ -206,7 +206,7 @@ module _ {H : Type 0} where
 
     -- ---- a command
 
-    pub refused_free : (o : Option Communication) (k : ℕ) (d : Device) (t : Station H) (s : Site H) (l : InUse H) (n : Net H) → IsNetOf l n → Sites l k d t s
+    pub refused_free : (o : Option Communication) (k : ℕ) (d : Entry) (t : Station H) (s : Site H) (l : InUse H) (n : Net H) → IsNetOf l n → Sites l k d t s
         → bus.is_comset_refused o k d l.bus ≡ false → line.is_comset_refused k o s n.sites ≡ false
     refused_free None k d t s l n h is free = refl
     refused_free (Some asked) k d t s l n h is free =
@@ -259,7 +259,7 @@ module _ {H : Type 0} where
               sites = changed k (line.keeping (line.reserved_unless f (line.asked_for (comset_of command) s.reserved) s.reserved)
                   (line.left_by s (link.submits f command (line.link_of s [] [])))) n.sites;
             }) same in
-            let e : Device = bus.device_submits command d in
+            let e : Entry = bus.device_submits command d in
             let u : Station H = issues command t in
             subst (StepsTo answer_of after (OfPanel (panel.Submit k command)) l n) (sym (changes_one k (bus.device_submits command) (issues command) l d t a b))
             (by_submit answer_of after k command s l n (record l {
@@ -294,14 +294,14 @@ module _ {H : Type 0} where
     })
     withdrawing k l n h = by_found (found (Sites l) k l.bus.devices.entries l.stations n.sites h.sites)
       where
-        by_begun : (d : Device) (t : Station H) (s : Site H) → slice_get l.bus.devices.entries k ≡ Some d → site_at k l.stations ≡ Some t
+        by_begun : (d : Entry) (t : Station H) (s : Site H) → slice_get l.bus.devices.entries k ≡ Some d → site_at k l.stations ≡ Some t
             → site_at k n.sites ≡ Some s → Sites l k d t s → (o : Option ℕ) → t.begun ≡ o → StepsTo answer_of after (OfPanel (panel.Withdraw k)) l n (record l {
               bus = record l.bus { devices = record l.bus.devices { entries = slice_set l.bus.devices.entries k (bus.device_withdraws d) } };
               stations = changed k (takes_back (option_to_list (bus.withdrawn_of d)) t) l.stations;
             })
         by_begun d t s a b c has None begun =
             let control : IsSame l.bus.greatest d.controller s.controller = subst (λ o. Controls o l.bus.greatest d.controller s.controller) begun has.controller in
-            let e : Device = bus.device_withdraws d in
+            let e : Entry = bus.device_withdraws d in
             let u : Station H = takes_back (option_to_list (bus.withdrawn_of d)) t in
             let same : controllers.withdrawn_in s.controller.session.state s.controller.waiting ≡ bus.withdrawn_of d =
             ap (λ (x : Machine). controllers.withdrawn_in x.session.state x.waiting) control.same in
@@ -400,10 +400,10 @@ module _ {H : Type 0} where
             ∙ ap (λ f. record n {
               sites = changed k (line.keeping (line.reserved_unless f None s.reserved) (line.left_by s (link.retargets f address (line.link_of s [] [])))) n.sites;
             }) same in
-            let e : Device = bus.device_retargets address d in
+            let e : Entry = bus.device_retargets address d in
             let l1 : InUse H = record l { bus = record l.bus { devices = record l.bus.devices { entries = slice_set l.bus.devices.entries k e } } } in
-            subst (λ (o : Option Device). Makes answer_of after (Retargeted k address l) n (record l {
-              bus = Rattle.std.specs.Option.option_map_or (λ (f : Device). record l.bus {
+            subst (λ (o : Option Entry). Makes answer_of after (Retargeted k address l) n (record l {
+              bus = Rattle.std.specs.Option.option_map_or (λ (f : Entry). record l.bus {
                 devices = record l.bus.devices { entries = slice_set l.bus.devices.entries k (bus.device_retargets address f) };
               }) o l.bus;
             })) (sym a)

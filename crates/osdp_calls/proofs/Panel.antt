@@ -10,10 +10,10 @@ use Rattle.osdp_controller.specs.Sessions as clocks
 use Rattle.osdp_controller.specs.declared.report.Report.{Report}
 use Rattle.osdp_controller.specs.declared.report.Report.TheVariants as report
 use Rattle.osdp_bus.specs.Buses.{Devices, seen, waiting_after}
-use Rattle.osdp_bus.specs.Devices as devices
-use Rattle.osdp_bus.specs.Devices.{first_from, is_at, reserved_after}
+use Rattle.osdp_bus.specs.Entries as devices
+use Rattle.osdp_bus.specs.Entries.{first_from, is_at, reserved_after}
 use Rattle.osdp_bus.specs.Hearing.{hears_at, hears_packet, hears_with}
-use Rattle.osdp_bus.specs.declared.device.Device.{Device}
+use Rattle.osdp_bus.specs.declared.entry.Entry.{Entry}
 use Rattle.osdp_bus_laws.specs.Reports.{told_at, told_by_entry, told_by_item, told_with}
 use Rattle.osdp_link_laws.specs.Link.{Repeated, after_report}
 use Rattle.osdp_reader.specs.declared.handler.Answer.{Answer}
@@ -48,11 +48,11 @@ module _ {H : Type 0} where
       is.reserved is.account) h.sites)
 
   -- .. by the controller of an entry alone
-  pub one_seen : (k : ℕ) (d : Device) (t : Station H) (s : Site H) (l : InUse H) (n : Net H) → IsNetOf l n → site_at k l.stations ≡ Some t
+  pub one_seen : (k : ℕ) (d : Entry) (t : Station H) (s : Site H) (l : InUse H) (n : Net H) → IsNetOf l n → site_at k l.stations ≡ Some t
       → site_at k n.sites ≡ Some s → Sites l k d t s → Match (Sites l) 0 (slice_set l.bus.devices.entries k
       (record { controller = record d.controller { session = clocks.seen l.bus.greatest d.controller.session }; reserved = d.reserved })) l.stations n.sites
   one_seen k d t s l n h b c is =
-      let e : Device = record { controller = record d.controller { session = clocks.seen l.bus.greatest d.controller.session }; reserved = d.reserved } in
+      let e : Entry = record { controller = record d.controller { session = clocks.seen l.bus.greatest d.controller.session }; reserved = d.reserved } in
       subst (λ ts. Match (Sites l) 0 (slice_set l.bus.devices.entries k e) ts n.sites) (changed_same k t l.stations b)
       (subst (λ ss. Match (Sites l) 0 (slice_set l.bus.devices.entries k e) (changed k t l.stations) ss) (changed_same k s n.sites c)
       (set (Sites l) k e t s l.bus.devices.entries l.stations n.sites h.sites
@@ -60,12 +60,12 @@ module _ {H : Type 0} where
 
   -- ---- who is at a packet's address
 
-  abbrev pub P : InUse H → ℕ → Device → Station H → Site H → Type 0
+  abbrev pub P : InUse H → ℕ → Entry → Station H → Site H → Type 0
   P l = Sites l
 
-  pub data AtAddress (l : InUse H) (p : Packet) (now i : ℕ) (ds : List Device) (ts : List (Station H)) (ss : List (Site H)) : Type 0 where
+  pub data AtAddress (l : InUse H) (p : Packet) (now i : ℕ) (ds : List Entry) (ts : List (Station H)) (ss : List (Site H)) : Type 0 where
     NoneThere : ((j : ℕ) → first_from i (is_at p.address) ds ≡ Some j → (x : ℕ) → j ≡ i + x → site_at x ts ≡ None) → AtAddress l p now i ds ts ss
-    OneThere : (k j : ℕ) → j ≡ i + k → (d : Device) (t : Station H) (s : Site H) → first_from i (is_at p.address) ds ≡ Some j
+    OneThere : (k j : ℕ) → j ≡ i + k → (d : Entry) (t : Station H) (s : Site H) → first_from i (is_at p.address) ds ≡ Some j
         → slice_get ds k ≡ Some d → site_at k ts ≡ Some t → site_at k ss ≡ Some s → Sites l j d t s
         → first_gets p now ss ≡ changed k (gets p now s) ss → AtAddress l p now i ds ts ss
 
@@ -74,7 +74,7 @@ module _ {H : Type 0} where
   past_one t ts i j zero least at none = absurd (omega (arith, least, at))
   past_one t ts i j (suc y) least at none = none y (omega (arith, at))
 
-  pub at_address : (l : InUse H) (p : Packet) (now i : ℕ) (ds : List Device) (ts : List (Station H)) (ss : List (Site H))
+  pub at_address : (l : InUse H) (p : Packet) (now i : ℕ) (ds : List Entry) (ts : List (Station H)) (ss : List (Site H))
       → Match (Sites l) i ds ts ss → AtAddress l p now i ds ts ss
   at_address l p now i ds1 ts1 ss1 (Done i1 ds) = NoneThere (λ j is x e. refl)
   at_address l p now i ds1 ts1 ss1 (And i1 d t s ds ts ss is rest) =
@@ -95,7 +95,7 @@ module _ {H : Type 0} where
             (at_address l p now (suc i) ds ts ss rest)
       ]
     where
-      further : (d : Device) (t : Station H) (s : Site H) (ds : List Device) (ts : List (Station H)) (ss : List (Site H))
+      further : (d : Entry) (t : Station H) (s : Site H) (ds : List Entry) (ts : List (Station H)) (ss : List (Site H))
           → first_from i (is_at p.address) (d ∷ ds) ≡ first_from (suc i) (is_at p.address) ds → first_gets p now (s ∷ ss) ≡ s ∷ first_gets p now ss
           → AtAddress l p now (suc i) ds ts ss → AtAddress l p now i (d ∷ ds) (t ∷ ts) (s ∷ ss)
       further d t s ds ts ss on gets_on (NoneThere none) = NoneThere (λ j is x e.
@@ -150,11 +150,11 @@ module _ {H : Type 0} where
         by_entry : Option ℕ → InUse H
         by_entry o = record l { bus = record l.bus { devices = hears_at p l.bus.greatest o l.bus.devices }; stations = all_hear (told_by_entry p l.bus.greatest o l.bus.devices) l.stations }
 
-        by_device : ℕ → Option Device → InUse H
+        by_device : ℕ → Option Entry → InUse H
         by_device k o = record l { bus = record l.bus { devices = hears_with p l.bus.greatest k o l.bus.devices }; stations = all_hear (told_with p l.bus.greatest k o) l.stations }
 
         -- what the controller makes of it
-        by_heard : ℕ → Device → Heard → InUse H
+        by_heard : ℕ → Entry → Heard → InUse H
         by_heard k d heard = record l {
           bus = record l.bus {
             devices = record {
@@ -165,7 +165,7 @@ module _ {H : Type 0} where
           stations = all_hear (told_at k heard.report) l.stations;
         }
 
-        ignored : (k : ℕ) (d : Device) (t : Station H) (s : Site H) → site_at k l.stations ≡ Some t → site_at k n.sites ≡ Some s → Sites l k d t s
+        ignored : (k : ℕ) (d : Entry) (t : Station H) (s : Site H) → site_at k l.stations ≡ Some t → site_at k n.sites ≡ Some s → Sites l k d t s
             → hears p l.bus.greatest d.controller.session ≡ ignores (clocks.seen l.bus.greatest d.controller.session)
             → Makes answer_of after (IsRead b l n (told_at k (hears p l.bus.greatest d.controller.session).report)) n (by_heard k d (hears p l.bus.greatest d.controller.session))
         ignored k d t s there c is nothing =
@@ -173,7 +173,7 @@ module _ {H : Type 0} where
             (make_none answer_of after (IsRead b l n []) (by_heard k d (ignores (clocks.seen l.bus.greatest d.controller.session))) n (IsIgnored tt refl)
             (sites_so h (one_seen k d t s l n h there c is)))
 
-        heard_by : (k : ℕ) (d : Device) (t : Station H) (s : Site H) → site_at k l.stations ≡ Some t → Sites l k d t s → t.begun ≡ None
+        heard_by : (k : ℕ) (d : Entry) (t : Station H) (s : Site H) → site_at k l.stations ≡ Some t → Sites l k d t s → t.begun ≡ None
             → p.reply ≡ true → first_gets p l.bus.greatest n.sites ≡ changed k (gets p l.bus.greatest s) n.sites
             → Makes answer_of after (IsRead b l n (told_at k (hears p l.bus.greatest d.controller.session).report)) n (by_heard k d (hears p l.bus.greatest d.controller.session))
         heard_by k d t s there is begun reply got =
@@ -186,7 +186,7 @@ module _ {H : Type 0} where
             ∙ ap (λ ss. record n { sites = ss }) got in
             let heard = hears p top d.controller.session in
             let same_heard : hears p top s.controller.session ≡ heard = hears_same p top d.controller s.controller control in
-            let e : Device = record { controller = record d.controller { session = heard.session }; reserved = reserved_after heard.report d.reserved } in
+            let e : Entry = record { controller = record d.controller { session = heard.session }; reserved = reserved_after heard.report d.reserved } in
             let u : Station H = record t { account = after_report heard.report t.account } in
             make_move answer_of after (IsRead b l n (told_at k heard.report)) (ToPanel Repeated top) (by_heard k d heard) n
             (IsHeard front.0 (h.to_panel ∙ front.1) refl) tt tt
@@ -201,7 +201,7 @@ module _ {H : Type 0} where
             not_panel true e = absurd cc
             not_panel false e = refl
 
-        by_kind : (k : ℕ) (d : Device) (t : Station H) (s : Site H) → site_at k l.stations ≡ Some t → site_at k n.sites ≡ Some s → Sites l k d t s
+        by_kind : (k : ℕ) (d : Entry) (t : Station H) (s : Site H) → site_at k l.stations ≡ Some t → site_at k n.sites ≡ Some s → Sites l k d t s
             → first_gets p l.bus.greatest n.sites ≡ changed k (gets p l.bus.greatest s) n.sites → (x : Bool) → p.reply ≡ x → (o : Option ℕ) → t.begun ≡ o
             → Makes answer_of after (IsRead b l n (told_at k (hears p l.bus.greatest d.controller.session).report)) n (by_heard k d (hears p l.bus.greatest d.controller.session))
         by_kind k d t s there c is got false command o begun = ignored k d t s there c is (ignored_command p l.bus.greatest d.controller.session command)

@@ -10,7 +10,7 @@ use Rattle.osdp_controller.specs.declared.config.ControllerConfig.{ControllerCon
 use Rattle.osdp_bus.specs.Machine.{new_device}
 use Rattle.osdp_bus.specs.Settings.{IsBusConfig, controller_config}
 use Rattle.osdp_bus.specs.declared.config.BusConfig.{BusConfig}
-use Rattle.osdp_bus.specs.declared.device.Device.{Device}
+use Rattle.osdp_bus.specs.declared.entry.Entry.{Entry}
 use Rattle.osdp_link_laws.specs.Link as link
 use Rattle.osdp_link_laws.proofs.Lines.{each_of}
 use Rattle.osdp_reader.specs.State.{ReaderState, new_reader}
@@ -76,7 +76,7 @@ waiting_too (Some began) top m c is = ap (λ (d : Machine). d.waiting) is.same
 
 module _ {H : Type 0} where
   -- how many sites there are
-  pub as_many : (P : ℕ → Device → Station H → Site H → Type 0) (i : ℕ) (ds : List Device) (ts : List (Station H)) (ss : List (Site H))
+  pub as_many : (P : ℕ → Entry → Station H → Site H → Type 0) (i : ℕ) (ds : List Entry) (ts : List (Station H)) (ss : List (Site H))
       → Match P i ds ts ss → length ss ≡ length ts
   as_many P i ds1 ts1 ss1 (Done i1 ds) = refl
   as_many P i ds1 ts1 ss1 (And i1 d t s ds ts ss is rest) = let more = as_many P (suc i) ds ts ss rest in omega (arith, more)
@@ -127,7 +127,7 @@ module _ {H : Type 0} where
 
     -- ---- the panel
 
-    each_made : (config : BusConfig) (settings : ℕ → ControllerConfig × Room) (l : InUse H) (i : ℕ) (xs : List ℕ) (ds : List Device) (ts : List (Station H)) (ss : List (Site H))
+    each_made : (config : BusConfig) (settings : ℕ → ControllerConfig × Room) (l : InUse H) (i : ℕ) (xs : List ℕ) (ds : List Entry) (ts : List (Station H)) (ss : List (Site H))
         → length ts ≤ length xs → ((k a : ℕ) → site_at k xs ≡ Some a → settings (i + k) ≡ (controller_config a config, config.room))
         → Match (Sites l) i ds ts ss
         → Match (IsSiteOf l.openings l.said 0) i (map (λ a. new_device a config) xs) (all_forget ds ts) (all_restart answer_of after i settings ss)

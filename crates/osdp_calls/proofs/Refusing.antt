@@ -12,9 +12,9 @@ use Rattle.osdp_controller.specs.declared.report.Report.TheVariants as report
 use Rattle.osdp_controller.specs.declared.session.Session.{Session}
 use Rattle.osdp_controller.specs.declared.state.State.TheVariants.{Closed}
 use Rattle.osdp_bus.specs.Buses.{BusState, device_of, seen}
-use Rattle.osdp_bus.specs.Devices.{first_from, is_at, step_of}
+use Rattle.osdp_bus.specs.Entries.{first_from, is_at, step_of}
 use Rattle.osdp_bus.specs.Hearing.{hears_packet}
-use Rattle.osdp_bus.specs.declared.device.Device.{Device}
+use Rattle.osdp_bus.specs.declared.entry.Entry.{Entry}
 use Rattle.osdp_bus_laws.specs.Calls as bus
 use Rattle.osdp_bus_laws.specs.Reports.{told_at, told_by_device, told_by_entry, told_by_ticking, told_in, told_with}
 use Rattle.osdp_link_laws.specs.Link as link
@@ -93,7 +93,7 @@ ticks_tell : (k : ℕ) (o : Option ℕ) (b : BusState) → Each (Tells k) (told_
 ticks_tell k None b = tt
 ticks_tell k (Some entry) b = by_device (device_of entry b)
   where
-    by_device : (o : Option Device) → Each (Tells k) (told_by_device entry o b)
+    by_device : (o : Option Entry) → Each (Tells k) (told_by_device entry o b)
     by_device None = tt
     by_device (Some d) =
         told_each (Tells k) entry (step_of b.greatest d).report
@@ -178,7 +178,7 @@ module _ {H : Type 0} where
       one_tells p b l n h r said_it same past unbroken own =
           by_place (at_address l p l.bus.greatest 0 l.bus.devices.entries l.stations n.sites h.sites)
         where
-          heard_so : (j : ℕ) (d : Device) (t : Station H) (s : Site H) → site_at j l.stations ≡ Some t → site_at j n.sites ≡ Some s → Sites l j d t s
+          heard_so : (j : ℕ) (d : Entry) (t : Station H) (s : Site H) → site_at j l.stations ≡ Some t → site_at j n.sites ≡ Some s → Sites l j d t s
               → j ≡ k → (x : Bool) → p.reply ≡ x → (o : Option ℕ) → t.begun ≡ o → NoRefusal (hears p l.bus.greatest d.controller.session).report
           heard_so j d t s there c is here false command o begun =
               ignored_none (hears p l.bus.greatest d.controller.session) (clocks.seen l.bus.greatest d.controller.session)
@@ -206,7 +206,7 @@ module _ {H : Type 0} where
               not_panel true e = absurd cc
               not_panel false e = refl
 
-          by_report : (j : ℕ) (d : Device) (t : Station H) (s : Site H) → site_at j l.stations ≡ Some t → site_at j n.sites ≡ Some s → Sites l j d t s
+          by_report : (j : ℕ) (d : Entry) (t : Station H) (s : Site H) → site_at j l.stations ≡ Some t → site_at j n.sites ≡ Some s → Sites l j d t s
               → (o : Option Report) → (hears p l.bus.greatest d.controller.session).report ≡ o → Each (Tells k) (told_at j o)
           by_report j d t s there c is None e = tt
           by_report j d t s there c is (Some x) e =

@@ -7,9 +7,9 @@ use Rattle.osdp_msg.specs.declared.limits.Room.{Room}
 use Rattle.osdp_controller.specs.declared.state.State.{State}
 use Rattle.osdp_controller.specs.declared.state.State.TheVariants.{Closed}
 use Rattle.osdp_bus.specs.Buses.{device_of}
-use Rattle.osdp_bus.specs.Devices as devices
+use Rattle.osdp_bus.specs.Entries as devices
 use Rattle.osdp_bus.specs.declared.config.BusConfig.{BusConfig}
-use Rattle.osdp_bus.specs.declared.device.Device.{Device}
+use Rattle.osdp_bus.specs.declared.entry.Entry.{Entry}
 use Rattle.osdp_bus_laws.specs.Calls as panel
 use Rattle.osdp_device.specs.Deciding.{passed}
 use Rattle.osdp_frame.specs.Receiving.{Received, after_silence, after_take, after_tick}
@@ -85,21 +85,21 @@ module _ {H : Type 0} where
 
       rests : (call : Call H) (next : InUse H) (s : StepsTo answer_of after call l n next) → Each IsStill s.moves
           → next.bus.devices.entries ≡ l.bus.devices.entries → ((j : ℕ) → begun_of (site_at j next.stations) ≡ begun_of (site_at j l.stations))
-          → ((j : ℕ) (d : Device) → noted_of j (Some d) call l (notes j) ≡ notes j)
+          → ((j : ℕ) (d : Entry) → noted_of j (Some d) call l (notes j) ≡ notes j)
           → ((j : ℕ) → is_some (site_at j next.stations) ≡ is_some (site_at j l.stations)) → Ruled answer_of after n0 next (notes_after call l notes)
       rests call next s still entries begun mine keeps =
           by_rest answer_of after suffices nobody reads n0 up l n notes noted h path agree call next s still entries begun mine keeps
 
       -- a call that changes a station alone, and not the moment at which its session was to begin
       station_ruled : (call : Call H) (k : ℕ) (change : Station H → Station H) → ((t : Station H) → (change t).begun ≡ t.begun)
-          → ((j : ℕ) (d : Device) → noted_of j (Some d) call l (notes j) ≡ notes j) → (s : StepsTo answer_of after call l n (on_station k change l))
+          → ((j : ℕ) (d : Entry) → noted_of j (Some d) call l (notes j) ≡ notes j) → (s : StepsTo answer_of after call l n (on_station k change l))
           → ((made : StepsTo answer_of after call l n (on_station k change l)) → Each IsStill made.moves)
           → Ruled answer_of after n0 (on_station k change l) (notes_after call l notes)
       station_ruled call k change begun mine s still =
           rests call (on_station k change l) s (still s) refl (λ j. begun_change j k change l.stations begun) mine (λ j. change_keeps j k change l.stations)
 
       -- .. where its reader alone changes, or what it has received
-      reader_ruled : (call : Call H) (k : ℕ) (change : ReaderState H → ReaderState H) → ((j : ℕ) (d : Device) → noted_of j (Some d) call l (notes j) ≡ notes j)
+      reader_ruled : (call : Call H) (k : ℕ) (change : ReaderState H → ReaderState H) → ((j : ℕ) (d : Entry) → noted_of j (Some d) call l (notes j) ≡ notes j)
           → (s : StepsTo answer_of after call l n (on_station k (λ t. record t { reader = change t.reader }) l)) → Each IsStill s.moves
           → Ruled answer_of after n0 (on_station k (λ t. record t { reader = change t.reader }) l) (notes_after call l notes)
       reader_ruled call k change mine s still =
@@ -107,7 +107,7 @@ module _ {H : Type 0} where
           (λ j. begun_change j k (λ t. record t { reader = change t.reader }) l.stations (λ t. refl)) mine
           (λ j. change_keeps j k (λ t. record t { reader = change t.reader }) l.stations)
 
-      line_ruled : (call : Call H) (k : ℕ) (change : Received → Received) → ((j : ℕ) (d : Device) → noted_of j (Some d) call l (notes j) ≡ notes j)
+      line_ruled : (call : Call H) (k : ℕ) (change : Received → Received) → ((j : ℕ) (d : Entry) → noted_of j (Some d) call l (notes j) ≡ notes j)
           → (s : StepsTo answer_of after call l n (on_station k (λ t. record t { line = change t.line }) l)) → Each IsStill s.moves
           → Ruled answer_of after n0 (on_station k (λ t. record t { line = change t.line }) l) (notes_after call l notes)
       line_ruled call k change mine s still =
@@ -259,7 +259,7 @@ module _ {H : Type 0} where
           let its : programs.notes_after (RestartPanel s.settings) (first_net s.config l.stations) no_notes k
           ≡ programs.also_at (setting.address_of t.0 ∷ []) (no_notes k) =
           ap (λ o. noted_at k o (RestartPanel s.settings) (first_net s.config l.stations) (no_notes k)) (first_there s.config k t.0 l.stations t.1) in
-          let state : d.controller.session.state ≡ Closed = ap (λ (e : Device). e.controller.session.state) made.2 in
+          let state : d.controller.session.state ≡ Closed = ap (λ (e : Entry). e.controller.session.state) made.2 in
           let address : setting.address_of t.0 ≡ devices.address_of d = sym (ap devices.address_of made.2 ∙ t.2) in
           subst (λ (q : Option ℕ × State × Note × Note). Agrees q.0 q.1 q.2 q.3) (λ i. (sym begun i, sym state i, sym mine i, sym its i))
           (record { addresses = ap (λ a. a ∷ []) address; begun = tt; opening = λ b. tt })

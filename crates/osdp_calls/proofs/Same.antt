@@ -5,7 +5,7 @@ use Rattle.osdp_controller.specs.Machine.{Machine}
 use Rattle.osdp_controller.specs.Sessions.{later, seen}
 use Rattle.osdp_controller.specs.declared.state.State.TheVariants.{Closed, Quiet}
 use Rattle.osdp_bus.specs.Buses.{BusState}
-use Rattle.osdp_bus.specs.declared.device.Device.{Device}
+use Rattle.osdp_bus.specs.declared.entry.Entry.{Entry}
 use Rattle.osdp_frame.specs.Receiving.{Received}
 use Rattle.osdp_link_laws.specs.Link.{Account}
 use Rattle.osdp_link_laws.proofs.Stages.{Each}
@@ -44,7 +44,7 @@ IsRightly b = b.packet.reply ≡ not b.by_panel
 
 module _ {H : Type 0} where
   -- an entry, its station and its site
-  pub record IsSiteOf (openings : List Opening) (said : List Burst) (top i : ℕ) (d : Device) (t : Station H) (s : Site H) : Type 0 where
+  pub record IsSiteOf (openings : List Opening) (said : List Burst) (top i : ℕ) (d : Entry) (t : Station H) (s : Site H) : Type 0 where
     pub controller : Controls t.begun top d.controller s.controller
     pub reserved : s.reserved ≡ d.reserved
     pub reader : s.reader ≡ t.reader
@@ -55,7 +55,7 @@ module _ {H : Type 0} where
     pub stored : IfSome t.reader.stored (λ p. p.reply ≡ true)
 
   -- the controller changes, what is kept for it and what is told of it: the device and what was said stay
-  pub controlled_so : {openings : List Opening} {said : List Burst} {old top i : ℕ} {d : Device} {t : Station H} {s : Site H} {begun : Option ℕ}
+  pub controlled_so : {openings : List Opening} {said : List Burst} {old top i : ℕ} {d : Entry} {t : Station H} {s : Site H} {begun : Option ℕ}
       {m c : Machine} {kept reserved : Option ℕ} {a b : Account} → IsSiteOf openings said old i d t s → Controls begun top m c → reserved ≡ kept → b ≡ a
       → IsSiteOf openings said top i (record { controller = m; reserved = kept }) (record t { begun = begun; account = a })
       (record s { controller = c; reserved = reserved; account = b })
@@ -63,14 +63,14 @@ module _ {H : Type 0} where
       record { controller = controller; reserved = reserved; reader = is.reader; coming = is.coming; account = account; earlier = is.earlier; place = is.place; stored = is.stored }
 
   -- the device changes, and what is told of it
-  pub read_so : {openings : List Opening} {said : List Burst} {top i : ℕ} {d : Device} {t : Station H} {s : Site H} {r q : ReaderState H} {line : Received}
+  pub read_so : {openings : List Opening} {said : List Burst} {top i : ℕ} {d : Entry} {t : Station H} {s : Site H} {r q : ReaderState H} {line : Received}
       {a b : Account} → IsSiteOf openings said top i d t s → q ≡ r → b ≡ a → IfSome r.stored (λ p. p.reply ≡ true)
       → IsSiteOf openings said top i d (record t { reader = r; line = line; account = a }) (record s { reader = q; account = b })
   read_so is reader account stored =
       record { controller = is.controller; reserved = is.reserved; reader = reader; coming = is.coming; account = account; earlier = is.earlier; place = is.place; stored = stored }
 
   -- what was said changes, or how far the device has read
-  pub placed_so : {openings more : List Opening} {said told : List Burst} {top i : ℕ} {d : Device} {t : Station H} {s : Site H} {place : ℕ}
+  pub placed_so : {openings more : List Opening} {said told : List Burst} {top i : ℕ} {d : Entry} {t : Station H} {s : Site H} {place : ℕ}
       {coming : List (ℕ × Packet)} → IsSiteOf openings said top i d t s → coming ≡ ahead_of_device i place more told → place ≤ length told
       → IsSiteOf more told top i d (record t { place = place }) (record s { coming = coming })
   placed_so is coming place =

@@ -2,7 +2,7 @@
 use Rattle.std.proofs.Common.{◌≡◌, ℕ, Bool, List, [], ◌∷◌, Some, refl, sym, subst, ap, ◌∙◌}
 use Rattle.osdp_msg.specs.declared.command.Command.{Command}
 use Rattle.osdp_bus.specs.Buses.{device_of}
-use Rattle.osdp_bus.specs.declared.device.Device.{Device}
+use Rattle.osdp_bus.specs.declared.entry.Entry.{Entry}
 use Rattle.osdp_link_laws.specs.Link as link
 use Rattle.osdp_link_laws.proofs.Stages.{Each}
 use Rattle.osdp_reader.specs.State.{after_set_busy}
@@ -19,13 +19,13 @@ use Rattle.osdp_calls.proofs.Same.{IsNetOf, IsSiteOf, read_so, sites_so}
 
 module _ {H : Type 0} where
   -- the sites of a line in use
-  abbrev pub Sites : InUse H → ℕ → Device → Station H → Site H → Type 0
+  abbrev pub Sites : InUse H → ℕ → Entry → Station H → Site H → Type 0
   Sites l = IsSiteOf l.openings l.said l.bus.greatest
 
   -- ---- the entry and the station of a site, and those of a station
 
   pub record OfSite (k : ℕ) (s : Site H) (l : InUse H) : Type 0 where
-    pub device : Device
+    pub device : Entry
     pub station : Station H
     pub entry : device_of k l.bus ≡ Some device
     pub there : site_at k l.stations ≡ Some station
@@ -40,7 +40,7 @@ module _ {H : Type 0} where
           record { device = d; station = t; entry = a; there = b; is = subst (λ u. Sites l k d t u) (some_same s1 s (sym c ∙ at)) has }
 
   pub record OfStation (k : ℕ) (t : Station H) (l : InUse H) (n : Net H) : Type 0 where
-    pub device : Device
+    pub device : Entry
     pub site : Site H
     pub entry : device_of k l.bus ≡ Some device
     pub at : site_at k n.sites ≡ Some site
@@ -58,7 +58,7 @@ module _ {H : Type 0} where
 
   -- a station changes, and its site is still that
   pub station_changes : (k : ℕ) (change : Station H → Station H) (l : InUse H) (n : Net H) → IsNetOf l n
-      → ((d : Device) (t : Station H) (s : Site H) → Sites l k d t s → Sites l k d (change t) s) → IsNetOf (on_station k change l) n
+      → ((d : Entry) (t : Station H) (s : Site H) → Sites l k d t s → Sites l k d (change t) s) → IsNetOf (on_station k change l) n
   station_changes k change l n h f = by_found (found (Sites l) k l.bus.devices.entries l.stations n.sites h.sites)
     where
       by_found : FoundAt (Sites l) k k l.bus.devices.entries l.stations n.sites → IsNetOf (on_station k change l) n
@@ -69,7 +69,7 @@ module _ {H : Type 0} where
 
   -- both change
   pub both_change : (k : ℕ) (change : Station H → Station H) (changes : Site H → Site H) (l : InUse H) (n : Net H) → IsNetOf l n
-      → ((d : Device) (t : Station H) (s : Site H) → Sites l k d t s → Sites l k d (change t) (changes s))
+      → ((d : Entry) (t : Station H) (s : Site H) → Sites l k d t s → Sites l k d (change t) (changes s))
       → IsNetOf (on_station k change l) (line.change_at k (site_at k n.sites) changes n)
   both_change k change changes l n h f = by_found (found (Sites l) k l.bus.devices.entries l.stations n.sites h.sites)
     where

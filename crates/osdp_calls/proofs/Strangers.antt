@@ -9,9 +9,9 @@ use Rattle.osdp_controller.specs.Hearing.{hears}
 use Rattle.osdp_controller.specs.declared.report.Report.{Report}
 use Rattle.osdp_controller.specs.declared.session.Session.{Session}
 use Rattle.osdp_bus.specs.Buses.{BusState, Devices, is_silent}
-use Rattle.osdp_bus.specs.Devices.{address_of, device_hears, first_from, is_at, told_of}
+use Rattle.osdp_bus.specs.Entries.{address_of, device_hears, first_from, is_at, told_of}
 use Rattle.osdp_bus.specs.Hearing.{ends_run, ends_silent, hears_at, hears_items, hears_packet, hears_with}
-use Rattle.osdp_bus.specs.declared.device.Device.{Device}
+use Rattle.osdp_bus.specs.declared.entry.Entry.{Entry}
 use Rattle.osdp_bus_laws.specs.Reports.{told_at, told_by_entry, told_with}
 use Rattle.osdp_device.specs.Saying.{speaks}
 use Rattle.osdp_link_laws.proofs.Lines.{both, each_all}
@@ -62,13 +62,13 @@ heard_off a p now s off =
     )
 
 -- of so many devices none is at the packet's address
-abbrev pub IsElsewhere : ℕ → List Device → Packet → Type 0
+abbrev pub IsElsewhere : ℕ → List Entry → Packet → Type 0
 IsElsewhere zero ds p = Unit {0}
 IsElsewhere (suc m) [] p = Unit {0}
 IsElsewhere (suc m) (d ∷ ds) p = IsOff p.address d.controller.session × IsElsewhere m ds p
 
-set_elsewhere : (p : Packet) (m k : ℕ) (e : Device) (ds : List Device)
-    → ((d : Device) → slice_get ds k ≡ Some d → IsOff p.address d.controller.session → IsOff p.address e.controller.session)
+set_elsewhere : (p : Packet) (m k : ℕ) (e : Entry) (ds : List Entry)
+    → ((d : Entry) → slice_get ds k ≡ Some d → IsOff p.address d.controller.session → IsOff p.address e.controller.session)
     → IsElsewhere m ds p → IsElsewhere m (slice_set ds k e) p
 set_elsewhere p zero k e ds f all = tt
 set_elsewhere p (suc m) k e [] f all = tt
@@ -79,11 +79,11 @@ set_elsewhere p (suc m) (suc k) e (d ∷ ds) f all = (all.0, set_elsewhere p m k
 heard_elsewhere : (p q : Packet) (now m : ℕ) (ds : Devices) → IsElsewhere m ds.entries p → IsElsewhere m (hears_packet q now ds).entries p
 heard_elsewhere p q now m ds off = by_place (first_from 0 (is_at q.address) ds.entries)
   where
-    by_entry : (k : ℕ) (o : Option Device) → slice_get ds.entries k ≡ o → IsElsewhere m (hears_with q now k o ds).entries p
+    by_entry : (k : ℕ) (o : Option Entry) → slice_get ds.entries k ≡ o → IsElsewhere m (hears_with q now k o ds).entries p
     by_entry k None is = off
     by_entry k (Some d) is =
         set_elsewhere p m k (device_hears q now d) ds.entries (λ e at was.
-        heard_off p.address q now d.controller.session (subst (λ (f : Device). IsOff p.address f.controller.session) (some_same e d (sym at ∙ is)) was)) off
+        heard_off p.address q now d.controller.session (subst (λ (f : Entry). IsOff p.address f.controller.session) (some_same e d (sym at ∙ is)) was)) off
 
     by_place : (o : Option ℕ) → IsElsewhere m (hears_at q now o ds).entries p
     by_place None = off
@@ -100,7 +100,7 @@ silent_elsewhere p m b off =
     both (λ (c : BusState). IsElsewhere m c.devices.entries p) (is_silent b) (ends_run b) b
     (items_elsewhere p b.greatest m (items true b.held) b.devices off) off
 
-pub from_least : (test : Device → Bool) (at j : ℕ) (ds : List Device) → first_from at test ds ≡ Some j → at ≤ j
+pub from_least : (test : Entry → Bool) (at j : ℕ) (ds : List Entry) → first_from at test ds ≡ Some j → at ≤ j
 from_least test at j [] is = absurd (let e = is in cc)
 from_least test at j (d ∷ ds) is = by_test (test d) is (λ further. from_least test (at + 1) j ds further)
   where
@@ -116,7 +116,7 @@ got_other (suc k) zero x (y ∷ ys) other = refl
 got_other (suc k) (suc j) x (y ∷ ys) other = got_other k j x ys (λ e. other (ap suc e))
 
 -- only a controller past these hears such a packet
-heard_past : (p : Packet) (m at j : ℕ) (ds : List Device) → IsElsewhere m ds p → first_from at (is_at p.address) ds ≡ Some j → at + m ≤ j
+heard_past : (p : Packet) (m at j : ℕ) (ds : List Entry) → IsElsewhere m ds p → first_from at (is_at p.address) ds ≡ Some j → at + m ≤ j
 heard_past p zero at j ds off is = let least = from_least (is_at p.address) at j ds is in omega (arith, least)
 heard_past p (suc m) at j [] off is = absurd (let e = is in cc)
 heard_past p (suc m) at j (d ∷ ds) off is =
@@ -174,8 +174,8 @@ module _ {H : Type 0} where
       subst (λ m. AreInOrder (IsElsewhere m (ends_silent l.bus).devices.entries) l.said ps places before) (sym (heard_many told l.stations))
       (order_silent (length l.stations) l.bus l.said ps places before order)
 
-  elsewhere_from : (p : Packet) (ts : List (Station H)) (ds : List Device)
-      → ((k : ℕ) (t : Station H) (d : Device) → site_at k ts ≡ Some t → slice_get ds k ≡ Some d → IsOff p.address d.controller.session)
+  elsewhere_from : (p : Packet) (ts : List (Station H)) (ds : List Entry)
+      → ((k : ℕ) (t : Station H) (d : Entry) → site_at k ts ≡ Some t → slice_get ds k ≡ Some d → IsOff p.address d.controller.session)
       → IsElsewhere (length ts) ds p
   elsewhere_from p [] ds f = tt
   elsewhere_from p (t ∷ ts) [] f = tt
@@ -243,7 +243,7 @@ module _ {H : Type 0} where
   hears_other p now None l none = record { stations = refl; told = tt; entries = λ k t is. refl; keeps = λ ss m. m }
   hears_other p now (Some j) l none = by_entry (slice_get l.bus.devices.entries j) refl
     where
-      by_entry : (q : Option Device) → slice_get l.bus.devices.entries j ≡ q → HearsOther p now (Some j) l
+      by_entry : (q : Option Entry) → slice_get l.bus.devices.entries j ≡ q → HearsOther p now (Some j) l
       by_entry None is = record {
         stations = ap (λ q. all_hear (told_with p now j q) l.stations) is;
         told = subst (λ q. AreOfOthers (told_with p now j q) l.stations) (sym is) tt;

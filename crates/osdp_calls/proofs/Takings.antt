@@ -13,7 +13,7 @@ use Rattle.std.proofs.lemmas.Slice.Eq.{bytes_eq-Decides}
 use Rattle.osdp_bus.specs.Remembering.{event_bytes, Remembered, may_be_again, memory_at, nothing_yet, remembers}
 use Rattle.osdp_bus.specs.Settings.{IsBusConfig}
 use Rattle.osdp_bus.specs.declared.config.BusConfig.{BusConfig}
-use Rattle.osdp_bus.specs.declared.device.Device.{Device}
+use Rattle.osdp_bus.specs.declared.entry.Entry.{Entry}
 use Rattle.osdp_bus_laws.specs.Calls as bus
 use Rattle.osdp_bus_laws.specs.Repeating.{of_entry}
 use Rattle.osdp_bus_laws.specs.Reports.{TellsEachOnce, taken_along, told_along, told_in}
@@ -282,7 +282,7 @@ module _ {H : Type 0} (answer_of : H → Command → Answer) (after : H → Comm
 
   -- ---- from where the panel is made
 
-  starts : (config : BusConfig) (addresses : List ℕ) (d : Device) (first : Station H) (l : InUse H) → l.bus ≡ bus_with config addresses
+  starts : (config : BusConfig) (addresses : List ℕ) (d : Entry) (first : Station H) (l : InUse H) → l.bus ≡ bus_with config addresses
       → device_of k l.bus ≡ Some d → site_at k l.stations ≡ Some first → Tells (length (reported_in first)) k l.bus.devices.entries l.stations untold
   starts config addresses d first l is there at =
       let made = new_at config k d addresses (sym (ap (device_of k) is) ∙ there) in
@@ -291,7 +291,7 @@ module _ {H : Type 0} (answer_of : H → Command → Answer) (after : H → Comm
         there = there;
         station = first;
         at = at;
-        agrees = subst (λ (e : Device). Agrees (length (reported_in first)) e.controller.session.state first.begun (reported_in first) untold) (sym made.2)
+        agrees = subst (λ (e : Entry). Agrees (length (reported_in first)) e.controller.session.state first.begun (reported_in first) untold) (sym made.2)
             (record { sessions = []; before = reported_in first; split = refl; as_many = refl; marks = refl; bytes = refl; stands = tt });
       }
 

@@ -14,9 +14,9 @@ use Rattle.osdp_controller.specs.declared.session.Session.{Session}
 use Rattle.osdp_controller.specs.declared.state.State.{State}
 use Rattle.osdp_controller.specs.declared.state.State.TheVariants.{Closed, Quiet, Idle, Waiting, Pausing}
 use Rattle.osdp_bus.specs.Buses.{waiting_after}
-use Rattle.osdp_bus.specs.Devices.{reserved_after}
+use Rattle.osdp_bus.specs.Entries.{reserved_after}
 use Rattle.osdp_bus.specs.Ticking.{ticks_at, ticks_with}
-use Rattle.osdp_bus.specs.declared.device.Device.{Device}
+use Rattle.osdp_bus.specs.declared.entry.Entry.{Entry}
 use Rattle.osdp_bus_laws.specs.Reports.{told_at, told_by_device, told_by_ticking}
 use Rattle.osdp_link_laws.specs.Link as link
 use Rattle.osdp_link_laws.specs.Link.{after_report}
@@ -83,7 +83,7 @@ module _ {H : Type 0} where
       (λ j d t s at. placed_so at (append-nil s.coming ∙ at.coming) at.place) h.sites)
 
   -- the bus, and what is told, after its controller of an entry has come to this
-  abbrev pub ticked_bus : ℕ → Device → Ticked → InUse H → InUse H
+  abbrev pub ticked_bus : ℕ → Entry → Ticked → InUse H → InUse H
   ticked_bus k d t l = record l {
     bus = record l.bus {
       devices = record {
@@ -98,7 +98,7 @@ module _ {H : Type 0} where
     stations = all_hear (told_at k t.step.report) l.stations;
   }
 
-  abbrev pub ticked_line : ℕ → Device → Ticked → InUse H → InUse H
+  abbrev pub ticked_line : ℕ → Entry → Ticked → InUse H → InUse H
   ticked_line k d t l = panel_says (Some k) t.step.frame (ticked_bus k d t l)
 
   module _ (answer_of : H → Command → Answer) (after : H → Command → H) where
@@ -122,7 +122,7 @@ module _ {H : Type 0} where
 
     -- ---- a controller whose session has begun, or is not to begin
 
-    pub ticks_on : (k : ℕ) (d : Device) (t : Station H) (s : Site H) (l : InUse H) (n : Net H) → IsNetOf l n
+    pub ticks_on : (k : ℕ) (d : Entry) (t : Station H) (s : Site H) (l : InUse H) (n : Net H) → IsNetOf l n
         → slice_get l.bus.devices.entries k ≡ Some d → site_at k l.stations ≡ Some t → site_at k n.sites ≡ Some s → Sites l k d t s → t.begun ≡ None
         → Makes answer_of after (IsTicked (Some k) l n) n (ticked_line k d (ticks l.bus.greatest d.controller.session d.controller.waiting) l)
     ticks_on k d t s l n h a b c is begun = by_frame x.step.frame refl (frames_so d.controller.session.state (clocks.seen g d.controller.session) d.controller.waiting)
@@ -137,7 +137,7 @@ module _ {H : Type 0} where
             (record n { sites = changed k (line.ticks answer_of after l.bus.greatest s) n.sites })
         first =
             let y = ticks l.bus.greatest d.controller.session d.controller.waiting in
-            let e : Device = record { controller = record d.controller { session = y.session; waiting = y.waiting }; reserved = reserved_after y.step.report d.reserved } in
+            let e : Entry = record { controller = record d.controller { session = y.session; waiting = y.waiting }; reserved = reserved_after y.step.report d.reserved } in
             let u : Station H = record t { account = after_report y.step.report t.account } in
             let ctl = subst (λ o. Controls o l.bus.greatest d.controller s.controller) begun is.controller in
             let room : s.controller.capacity ≡ d.controller.capacity = ap (λ (m : Machine). m.capacity) ctl.same in
@@ -195,7 +195,7 @@ module _ {H : Type 0} where
     -- ---- a session begins with its opening ID
 
     -- the opening that this is
-    abbrev pub opening_of : ℕ → Device → InUse H → Opening
+    abbrev pub opening_of : ℕ → Entry → InUse H → Opening
     opening_of k d l = record { entry = k; address = d.controller.session.config.address; place = length l.said }
 
     abbrev pub opened : Machine → ℕ → Ticked
@@ -205,7 +205,7 @@ module _ {H : Type 0} where
     opening_packet m = frame_of OpeningExchange (record m.session { number = 0 })
 
     -- the line after it
-    abbrev pub with_opening : ℕ → Device → Station H → InUse H → InUse H
+    abbrev pub with_opening : ℕ → Entry → Station H → InUse H → InUse H
     with_opening k d t l = record (ticked_bus k d (opened d.controller l.bus.greatest) l) {
       stations = changed k (begins_session d.controller.waiting t) l.stations;
       openings = opening_of k d l ∷ l.openings;
@@ -221,7 +221,7 @@ module _ {H : Type 0} where
       pub are : moves ≡ Reopen k began ∷ Tick k g ∷ []
 
     -- the session of a site begins, and its controller ticks
-    begins_then : (k began : ℕ) (d : Device) (t : Station H) (s : Site H) (l : InUse H) (m : Net H) → IsNetOf (record l { openings = opening_of k d l ∷ l.openings }) m
+    begins_then : (k began : ℕ) (d : Entry) (t : Station H) (s : Site H) (l : InUse H) (m : Net H) → IsNetOf (record l { openings = opening_of k d l ∷ l.openings }) m
         → slice_get l.bus.devices.entries k ≡ Some d → site_at k l.stations ≡ Some t → site_at k m.sites ≡ Some s
         → Sites (record l { openings = opening_of k d l ∷ l.openings }) k d t s → IsToOpen began l.bus.greatest d.controller s.controller
         → ticks l.bus.greatest d.controller.session d.controller.waiting ≡ opened d.controller l.bus.greatest
@@ -262,7 +262,7 @@ module _ {H : Type 0} where
         let room : s.controller.capacity ≡ d.controller.capacity = ap (λ (x : Machine). x.capacity) control.same in
         let bytes : s.controller.room ≡ d.controller.room = ap (λ (x : Machine). x.room) control.same in
         let y : Ticked = opened d.controller g in
-        let e : Device = record { controller = record d.controller { session = y.session; waiting = y.waiting }; reserved = d.reserved } in
+        let e : Entry = record { controller = record d.controller { session = y.session; waiting = y.waiting }; reserved = d.reserved } in
         let u : Station H = begins_session d.controller.waiting t in
         let lb : InUse H = record (ticked_bus k d y lo) { stations = changed k u l.stations } in
         let before : IsNetOf lb (record m { sites = changed k s2 m.sites }) =
@@ -296,7 +296,7 @@ module _ {H : Type 0} where
           };
         }
 
-    pub opens_then : (k began : ℕ) (d : Device) (t : Station H) (s : Site H) (l : InUse H) (n : Net H) → IsNetOf l n
+    pub opens_then : (k began : ℕ) (d : Entry) (t : Station H) (s : Site H) (l : InUse H) (n : Net H) → IsNetOf l n
         → slice_get l.bus.devices.entries k ≡ Some d → site_at k l.stations ≡ Some t → site_at k n.sites ≡ Some s → Sites l k d t s → t.begun ≡ Some began
         → ticks l.bus.greatest d.controller.session d.controller.waiting ≡ opened d.controller l.bus.greatest
         → Makes answer_of after (IsTicked (Some k) l n) n (with_opening k d t l)
@@ -327,7 +327,7 @@ module _ {H : Type 0} where
 
     -- ---- a controller whose session is to begin
 
-    pub ticks_to_open : (k began : ℕ) (d : Device) (t : Station H) (s : Site H) (l : InUse H) (n : Net H) → IsNetOf l n
+    pub ticks_to_open : (k began : ℕ) (d : Entry) (t : Station H) (s : Site H) (l : InUse H) (n : Net H) → IsNetOf l n
         → slice_get l.bus.devices.entries k ≡ Some d → site_at k l.stations ≡ Some t → site_at k n.sites ≡ Some s → Sites l k d t s → t.begun ≡ Some began
         → Makes answer_of after (IsTicked (Some k) l n) n (ticked_line k d (ticks l.bus.greatest d.controller.session d.controller.waiting) l)
     ticks_to_open k began d t s l n h a b c is begun =
@@ -360,11 +360,11 @@ module _ {H : Type 0} where
             let y = opened d.controller l.bus.greatest in
             let lb = ticked_bus k d y l in
             let p = opening_packet d.controller in
-            let e : Device = record { controller = record d.controller { session = y.session; waiting = y.waiting }; reserved = d.reserved } in
+            let e : Entry = record { controller = record d.controller { session = y.session; waiting = y.waiting }; reserved = d.reserved } in
             subst (λ z. Makes answer_of after (IsTicked (Some k) l n) n (ticked_line k d z l)) (sym eq)
             (subst (λ q. Makes answer_of after (IsTicked (Some k) l n) n (record (begins_with k p (begun_of q) lb) { said = l.said ++ said_for k p q })) (sym b)
             (subst (λ o. Makes answer_of after (IsTicked (Some k) l n) n (record (begins_with k p o lb) { said = l.said ++ from_panel k p ∷ [] })) (sym begun)
-            (subst (λ (o : Option Device). Makes answer_of after (IsTicked (Some k) l n) n (record lb {
+            (subst (λ (o : Option Entry). Makes answer_of after (IsTicked (Some k) l n) n (record lb {
               stations = change_at k (begins_session (waiting_of o)) l.stations;
               openings = opening_of k d l ∷ l.openings;
               said = l.said ++ from_panel k p ∷ [];
@@ -377,7 +377,7 @@ module _ {H : Type 0} where
 
     -- ---- a controller of an entry without a station
 
-    ticks_other : (k : ℕ) (d : Device) (x : Ticked) (l : InUse H) (n : Net H) → IsNetOf l n → site_at k l.stations ≡ None → IsNetOf (ticked_line k d x l) n
+    ticks_other : (k : ℕ) (d : Entry) (x : Ticked) (l : InUse H) (n : Net H) → IsNetOf l n → site_at k l.stations ≡ None → IsNetOf (ticked_line k d x l) n
     ticks_other k d x l n h none = by_frame x.step.frame
       where
         stays : all_hear (told_at k x.step.report) l.stations ≡ l.stations
@@ -385,7 +385,7 @@ module _ {H : Type 0} where
 
         first : IsNetOf (ticked_bus k d x l) n
         first =
-            let e : Device = record { controller = record d.controller { session = x.session; waiting = x.waiting }; reserved = reserved_after x.step.report d.reserved } in
+            let e : Entry = record { controller = record d.controller { session = x.session; waiting = x.waiting }; reserved = reserved_after x.step.report d.reserved } in
             subst (λ ts. IsNetOf (record (ticked_bus k d x l) { stations = ts }) n) (sym (heard_by_none k x.step.report l.stations none))
             (sites_so h (set_other (Sites l) k e l.bus.devices.entries l.stations n.sites none h.sites))
 
@@ -403,13 +403,13 @@ module _ {H : Type 0} where
     ticks_entry None l n h = make_none answer_of after (IsTicked None l n) l n (Rests refl refl refl) h
     ticks_entry (Some k) l n h = by_found (found (Sites l) k l.bus.devices.entries l.stations n.sites h.sites)
       where
-        Goal : Option Device → Type 0
+        Goal : Option Entry → Type 0
         Goal o = Makes answer_of after (IsTicked (Some k) l n) n (panel_says (Some k) (ticks_with k o l.bus).sent (record l {
           bus = (ticks_with k o l.bus).bus;
           stations = all_hear (told_by_device k o l.bus) l.stations;
         }))
 
-        by_begun : (d : Device) (t : Station H) (s : Site H) → slice_get l.bus.devices.entries k ≡ Some d → site_at k l.stations ≡ Some t
+        by_begun : (d : Entry) (t : Station H) (s : Site H) → slice_get l.bus.devices.entries k ≡ Some d → site_at k l.stations ≡ Some t
             → site_at k n.sites ≡ Some s → Sites l k d t s → (o : Option ℕ) → t.begun ≡ o
             → Makes answer_of after (IsTicked (Some k) l n) n (ticked_line k d (ticks l.bus.greatest d.controller.session d.controller.waiting) l)
         by_begun d t s a b c is None begun = ticks_on k d t s l n h a b c is begun

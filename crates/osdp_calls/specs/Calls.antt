@@ -13,7 +13,7 @@ use Rattle.osdp_bus.specs.Hearing.{ends_run, ends_silent}
 use Rattle.osdp_bus.specs.Machine.{begin_refusal_at, changed_unless, submit_refusal_at, withdrawal_at}
 use Rattle.osdp_bus.specs.Ticking.{asks_free, asks_holder, bus_ticks, is_due_at}
 use Rattle.osdp_bus.specs.declared.config.BusConfig.{BusConfig}
-use Rattle.osdp_bus.specs.declared.device.Device.{Device}
+use Rattle.osdp_bus.specs.declared.entry.Entry.{Entry}
 use Rattle.osdp_bus.specs.declared.fault.BusFault.{BusFault}
 use Rattle.osdp_bus_laws.specs.Calls as bus
 use Rattle.osdp_bus_laws.specs.Reports.{told_in}
@@ -95,7 +95,7 @@ abbrev pub withdrawn : Result (Option Command) BusFault → List Command
 withdrawn (Ok command) = option_to_list command
 withdrawn (Err fault) = []
 
-abbrev pub waiting_of : Option Device → List Command
+abbrev pub waiting_of : Option Entry → List Command
 waiting_of None = []
 waiting_of (Some d) = d.controller.waiting
 
@@ -226,11 +226,11 @@ module _ {H : Type 0} where
   }
 
   -- the panel is made anew: what waited is thrown away, and the session ends untold
-  abbrev pub forgets : Option Device → Station H → Station H
+  abbrev pub forgets : Option Entry → Station H → Station H
   forgets None t = t
   forgets (Some d) t = record t { begun = None; account = link.controller_restarted d.controller t.account }
 
-  abbrev pub all_forget : List Device → List (Station H) → List (Station H)
+  abbrev pub all_forget : List Entry → List (Station H) → List (Station H)
   all_forget (d ∷ ds) (t ∷ ts) = forgets (Some d) t ∷ all_forget ds ts
   all_forget [] ts = ts
   all_forget (d ∷ ds) [] = []

@@ -3,7 +3,7 @@ use Rattle.std.specs.Prelude.{◌≡◌, ℕ, max, List, [], ◌∷◌, ◌++◌
 use Rattle.osdp_frame.specs.Packet.{Packet}
 use Rattle.osdp_controller.specs.declared.report.Report.{Report}
 use Rattle.osdp_bus.specs.Buses.{BusState, Devices, seen}
-use Rattle.osdp_bus.specs.Devices.{first_from, is_at}
+use Rattle.osdp_bus.specs.Entries.{first_from, is_at}
 use Rattle.osdp_bus.specs.Hearing.{hears_packet}
 use Rattle.osdp_bus.specs.Ticking.{bus_ticks, ticks_at}
 use Rattle.osdp_bus_laws.specs.Calls as bus

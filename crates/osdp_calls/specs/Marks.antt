@@ -9,7 +9,7 @@ use Rattle.osdp_bus.specs.Buses.{BusState, device_of, is_maybe_again, new_bus}
 use Rattle.osdp_bus.specs.Remembering.{event_bytes}
 use Rattle.osdp_bus.specs.Settings.{IsBusConfig}
 use Rattle.osdp_bus.specs.declared.config.BusConfig.{BusConfig}
-use Rattle.osdp_bus.specs.declared.device.Device.{Device}
+use Rattle.osdp_bus.specs.declared.entry.Entry.{Entry}
 use Rattle.osdp_bus_laws.specs.Calls as bus
 use Rattle.osdp_link_laws.specs.Link.{Account}
 use Rattle.osdp_reader.specs.declared.handler.Answer.{Answer}
@@ -97,7 +97,7 @@ module _ {H : Type 0} where
     abbrev pub CallsMarkRepeats : Type 0
     CallsMarkRepeats = (config : BusConfig) (addresses : List ℕ) (l : InUse H) (steps : List (Step H)) → IsBusConfig config
         → NoneRefused addresses (new_bus config) → l.bus ≡ bus_with config addresses → All (λ (step : Step H). KeepsPanel step.call) steps
-        → (k : ℕ) (d : Device) (first last : Station H) → device_of k l.bus ≡ Some d → site_at k l.stations ≡ Some first
+        → (k : ℕ) (d : Entry) (first last : Station H) → device_of k l.bus ≡ Some d → site_at k l.stations ≡ Some first
         → let line = after_calls answer_of after steps l in
         site_at k line.stations ≡ Some last
         → (sessions : List Account) × SessionsSince first last sessions

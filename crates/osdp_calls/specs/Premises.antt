@@ -11,7 +11,7 @@ use Rattle.osdp_bus.specs.Buses.{device_of}
 use Rattle.osdp_bus.specs.Machine.{retarget_refusal_at, submit_refusal_at}
 use Rattle.osdp_bus.specs.Settings.{IsBusConfig}
 use Rattle.osdp_bus.specs.declared.config.BusConfig.{BusConfig}
-use Rattle.osdp_bus.specs.declared.device.Device.{Device}
+use Rattle.osdp_bus.specs.declared.entry.Entry.{Entry}
 use Rattle.osdp_bus_laws.specs.Calls as bus
 use Rattle.osdp_device.specs.Telling.{items_of}
 use Rattle.osdp_link_laws.specs.Link.{new_account}
@@ -40,7 +40,7 @@ abbrev pub AreNotPast : (ℕ → Burst → Bool) → List Burst → List ℕ →
 AreNotPast is_past said places = All (λ i. (b : Burst) → site_at i said ≡ Some b → is_past i b ≡ false) places
 
 -- the commands of an entry that have not ended: the one that is outstanding, and those that wait
-abbrev pub unended_of : Device → List Command
+abbrev pub unended_of : Entry → List Command
 unended_of d = asked_in d.controller.session.state ++ d.controller.waiting
 
 module _ {H : Type 0} where
@@ -48,7 +48,7 @@ module _ {H : Type 0} where
   -- that was said and that it may still read
   pub data MayBeAt (address k : ℕ) (l : InUse H) : Type 0 where
     IsThere : (t : Station H) → site_at k l.stations ≡ Some t → t.reader.config.address ≡ address → MayBeAt address k l
-    IsAsked : (t : Station H) (d : Device) → site_at k l.stations ≡ Some t → device_of k l.bus ≡ Some d → Somewhere (Sets address) (unended_of d) → MayBeAt address k l
+    IsAsked : (t : Station H) (d : Entry) → site_at k l.stations ≡ Some t → device_of k l.bus ≡ Some d → Somewhere (Sets address) (unended_of d) → MayBeAt address k l
     IsSaid : (t : Station H) → site_at k l.stations ≡ Some t
         → Somewhere (λ (q : ℕ × Packet). (q.0 ≡ k) × SetsReader address q.1) (ahead_of_device k t.place l.openings l.said) → MayBeAt address k l
 
@@ -56,7 +56,7 @@ module _ {H : Type 0} where
   -- to all.
   pub record IsOfOthers (l : InUse H) (p : Packet) : Type 0 where
     pub to_one : p.address ≢ 127
-    pub entries : (j : ℕ) (t : Station H) (d : Device) → site_at j l.stations ≡ Some t → device_of j l.bus ≡ Some d
+    pub entries : (j : ℕ) (t : Station H) (d : Entry) → site_at j l.stations ≡ Some t → device_of j l.bus ≡ Some d
         → d.controller.session.config.address ≢ p.address
     pub devices : (j : ℕ) → MayBeAt p.address j l → ⊥
 
@@ -96,7 +96,7 @@ module _ {H : Type 0} where
   -- an address that a device may have anew: no other entry's, no other device's, and nothing was said to it for another entry that this
   -- device may still read
   pub record IsFreeFor (k address : ℕ) (t : Station H) (l : InUse H) : Type 0 where
-    pub entries : (j : ℕ) (u : Station H) (d : Device) → j ≢ k → site_at j l.stations ≡ Some u → device_of j l.bus ≡ Some d
+    pub entries : (j : ℕ) (u : Station H) (d : Entry) → j ≢ k → site_at j l.stations ≡ Some u → device_of j l.bus ≡ Some d
         → d.controller.session.config.address ≢ address
     pub devices : IsNoOthers k address l
     pub said : All (λ (q : ℕ × Packet). q.0 ≢ k → q.1.address ≢ address) (ahead_of_device k t.place l.openings l.said)

@@ -8,9 +8,9 @@ use Rattle.osdp_msg.specs.declared.command_fields.Communication.{Communication}
 use Rattle.osdp_controller.specs.Hearing.{comset_of}
 use Rattle.osdp_controller.specs.declared.report.Report.{Report}
 use Rattle.osdp_bus.specs.Buses.{BusState, device_of}
-use Rattle.osdp_bus.specs.Devices.{address_of}
+use Rattle.osdp_bus.specs.Entries.{address_of}
 use Rattle.osdp_bus.specs.Machine.{begin_refusal_at, changed_unless, retarget_refusal_at, submit_refusal_at}
-use Rattle.osdp_bus.specs.declared.device.Device.{Device}
+use Rattle.osdp_bus.specs.declared.entry.Entry.{Entry}
 use Rattle.osdp_bus_laws.specs.Calls as bus
 use Rattle.osdp_bus_laws.specs.Reports.{told_in}
 use Rattle.osdp_reader.specs.declared.handler.Answer.{Answer}
@@ -26,22 +26,22 @@ use Rattle.osdp_calls.specs.Promises.{HoldsPromises}
 -- ---- what a program notes of an entry: whether a session was begun that has not opened yet, and the addresses at which its device may be
 
 -- at first its address
-abbrev pub first_note : Option Device → Note
+abbrev pub first_note : Option Entry → Note
 first_note None = record { begun = false; addresses = [] }
 first_note (Some d) = record { begun = false; addresses = address_of d ∷ [] }
 
 -- a session that was begun is told to have opened: all is forgotten but COMSETs that wait
-abbrev pub noted_report : Device → Report → Note → Note
+abbrev pub noted_report : Entry → Report → Note → Note
 noted_report d report note =
     if is_opened (Some report) && note.begun then record { begun = false; addresses = all_addresses (address_of d) d.controller.waiting } else note
 
 -- of what controllers tell, with their entries: what that of this one tells
-abbrev pub noted_reports : ℕ → Device → List (ℕ × Report) → Note → Note
+abbrev pub noted_reports : ℕ → Entry → List (ℕ × Report) → Note → Note
 noted_reports k d [] note = note
 noted_reports k d (told ∷ more) note = noted_reports k d more (if told.0 == k then noted_report d told.1 note else note)
 
 -- after a call of the panel: of the entry at this place, with what it was before the call
-abbrev pub noted_by_panel : ℕ → Device → bus.Call → BusState → Note → Note
+abbrev pub noted_by_panel : ℕ → Entry → bus.Call → BusState → Note → Note
 noted_by_panel k d (bus.Begin entry now) b note =
     if entry == k then changed_unless (begin_refusal_at entry b) note (record note { begun = true }) else note
 noted_by_panel k d (bus.Submit entry command) b note =
@@ -51,16 +51,16 @@ noted_by_panel k d (bus.Retarget entry address) b note =
 noted_by_panel k d call b note = noted_reports k d (told_in call b) note
 
 -- an address of an entry, as its program knows it
-abbrev pub IsKnown : ℕ → Device → Note → Type 0
+abbrev pub IsKnown : ℕ → Entry → Note → Type 0
 IsKnown address d note = Somewhere (λ a. a ≡ address) (address_of d ∷ note.addresses)
 
 -- A COMSET that is accepted goes to no address of another entry. A `retarget` that is accepted sets none but one of the own.
 abbrev pub PanelKeepsRule : bus.Call → BusState → (ℕ → Note) → Type 0
 PanelKeepsRule (bus.Submit k command) b notes =
     submit_refusal_at k command b ≡ None → (asked : Communication) → comset_of command ≡ Some asked
-    → (j : ℕ) (d : Device) → j ≢ k → device_of j b ≡ Some d → IsKnown asked.address d (notes j) → ⊥
+    → (j : ℕ) (d : Entry) → j ≢ k → device_of j b ≡ Some d → IsKnown asked.address d (notes j) → ⊥
 PanelKeepsRule (bus.Retarget k address) b notes =
-    retarget_refusal_at k address b ≡ None → (d : Device) → device_of k b ≡ Some d → IsKnown address d (notes k)
+    retarget_refusal_at k address b ≡ None → (d : Entry) → device_of k b ≡ Some d → IsKnown address d (notes k)
 PanelKeepsRule _ b notes = Unit {0}
 
 module _ {H : Type 0} where
@@ -68,7 +68,7 @@ module _ {H : Type 0} where
   first_notes l k = first_note (device_of k l.bus)
 
   -- after a call
-  abbrev pub noted_of : ℕ → Option Device → Call H → InUse H → Note → Note
+  abbrev pub noted_of : ℕ → Option Entry → Call H → InUse H → Note → Note
   noted_of k None call l note = note
   noted_of k (Some d) (OfPanel call) l note = noted_by_panel k d call l.bus note
   noted_of k (Some d) (NewPanel config addresses) l note = also_at (address_of d ∷ []) note
@@ -82,7 +82,7 @@ module _ {H : Type 0} where
   KeepsRule (OfPanel call) l notes = PanelKeepsRule call l.bus notes
   KeepsRule (NewDevice k address handler room gap) l notes = (t : Station H) → site_at k l.stations ≡ Some t → t.reader.config.address ≡ address
   KeepsRule (NewPanel config addresses) l notes =
-      (k a : ℕ) (d : Device) → site_at k addresses ≡ Some a → device_of k l.bus ≡ Some d → IsKnown a d (notes k)
+      (k a : ℕ) (d : Entry) → site_at k addresses ≡ Some a → device_of k l.bus ≡ Some d → IsKnown a d (notes k)
   KeepsRule _ l notes = Unit {0}
 
   module _ (answer_of : H → Command → Answer) (after : H → Command → H) where

@@ -5,7 +5,7 @@ use Rattle.osdp_msg.specs.declared.event.Event.{Event}
 use Rattle.osdp_controller.specs.declared.state.State.{State}
 use Rattle.osdp_controller.specs.declared.state.State.TheVariants.{Closed}
 use Rattle.osdp_bus.specs.Buses.{device_of}
-use Rattle.osdp_bus.specs.declared.device.Device.{Device}
+use Rattle.osdp_bus.specs.declared.entry.Entry.{Entry}
 use Rattle.osdp_link_laws.specs.Headline.{EachIsOnce, IsBeginning, IsWithout}
 use Rattle.osdp_link_laws.specs.Link.{Link}
 use Rattle.osdp_link_laws.specs.Sessions.{AreInARow, HaveLeft, IsAmong, LastsOrLeaves, all_taken, ended_commands, unsettled_in, withdrawn_in}
@@ -24,7 +24,7 @@ state_until (Some began) state = Closed
 
 module _ {H : Type 0} where
   -- an entry as a link, with nothing on the line
-  abbrev pub link_of_entry : Device → Station H → Link H
+  abbrev pub link_of_entry : Entry → Station H → Link H
   link_of_entry d t = record {
     controller = d.controller;
     reader = t.reader;
@@ -44,7 +44,7 @@ module _ {H : Type 0} where
   -- sessions no command is taken twice: those taken are a beginning of all of these, with some left out that ended without being settled.
   -- While the last session lasts it has told no command unsettled, and none is forgotten or removed; where it has ended it leaves what the
   -- next one begins with.
-  pub record HoldsPromises (accepted : List Command) (queued : List Event) (entry : Option Device) (t : Station H) : Type 0 where
+  pub record HoldsPromises (accepted : List Command) (queued : List Event) (entry : Option Entry) (t : Station H) : Type 0 where
     pub once : EachIsOnce (t.account ∷ t.earlier)
     pub row : AreInARow t.account t.earlier
     pub commands : accepted ≡ ended_commands t.earlier ++ t.account.issued
@@ -54,7 +54,7 @@ module _ {H : Type 0} where
         × IsAmong left_out (unsettled_in (t.account ∷ t.earlier))
         × IsWithout left_out accepted others
         × IsBeginning (all_taken (t.account ∷ t.earlier)) others
-    pub lasts : (d : Device) × (entry ≡ Some d) × LastsOrLeaves (state_until t.begun d.controller.session.state) (link_of_entry d t)
+    pub lasts : (d : Entry) × (entry ≡ Some d) × LastsOrLeaves (state_until t.begun d.controller.session.state) (link_of_entry d t)
 
   module _ (answer_of : H → Command → Answer) (after : H → Command → H) where
     -- for every list of calls that keep the premises, and each entry

@@ -4,7 +4,7 @@ use Rattle.osdp_msg.specs.declared.command.Command.{Command}
 use Rattle.osdp_msg.specs.declared.limits.Room.{Room}
 use Rattle.osdp_bus.specs.Buses.{device_of}
 use Rattle.osdp_bus.specs.declared.config.BusConfig.{BusConfig}
-use Rattle.osdp_bus.specs.declared.device.Device.{Device}
+use Rattle.osdp_bus.specs.declared.entry.Entry.{Entry}
 use Rattle.osdp_link_laws.specs.Costs.{ControllerCosts, ReaderCosts, ReportsOnly}
 use Rattle.osdp_reader.specs.declared.handler.Answer.{Answer}
 use Rattle.osdp_shared_line.specs.Line.{site_at}
@@ -22,7 +22,7 @@ module _ {H : Type 0} where
 
   module _ (answer_of : H → Command → Answer) (after : H → Command → H) where
     -- an entry at set-up, after a list of calls, and after one call more
-    pub record IsBeforeAndAfter (l : InUse H) (steps : List (Step H)) (step : Step H) (k : ℕ) (first t u : Station H) (d e : Device) : Type 0 where
+    pub record IsBeforeAndAfter (l : InUse H) (steps : List (Step H)) (step : Step H) (k : ℕ) (first t u : Station H) (d e : Entry) : Type 0 where
       pub up : IsSetUp l
       pub keep : AllKeep answer_of after steps l
       pub keeps : Keeps answer_of after step (after_calls answer_of after steps l)
@@ -35,14 +35,14 @@ module _ {H : Type 0} where
     -- a device is made anew: the events in its queue, but the one in front where it has offered that in this session, and at most its session
     abbrev pub NewDeviceCosts : Type 0
     NewDeviceCosts = (l : InUse H) (steps : List (Step H)) (places : List ℕ) (k address : ℕ) (handler : H) (room : Room) (gap : ℕ) (first t u : Station H)
-        (d e : Device)
+        (d e : Entry)
         → IsBeforeAndAfter l steps (record { call = NewDevice k address handler room gap; places = places }) k first t u d e
         → ReaderCosts (link_of_entry d t) (link_of_entry e u)
 
     -- .. and nothing else is reported in that session but what was offered before and what is queued since, but those of these that are withdrawn
     abbrev pub NewDeviceReportsNoMore : Type 0
     NewDeviceReportsNoMore = (l : InUse H) (steps more : List (Step H)) (places : List ℕ) (k address : ℕ) (handler : H) (room : Room) (gap : ℕ)
-        (first t u last : Station H) (d e : Device)
+        (first t u last : Station H) (d e : Entry)
         → IsBeforeAndAfter l steps (record { call = NewDevice k address handler room gap; places = places }) k first t u d e
         → let next = after_call answer_of after (NewDevice k address handler room gap) places (after_calls answer_of after steps l) in
         AllKeep answer_of after more next → All (λ (step : Step H). KeepsDevice k step.call) more
@@ -52,6 +52,6 @@ module _ {H : Type 0} where
     -- the panel is made anew: of each entry the command that was outstanding, and those that waited, and no address is kept for a COMSET
     abbrev pub NewPanelCosts : Type 0
     NewPanelCosts = (l : InUse H) (steps : List (Step H)) (places : List ℕ) (config : BusConfig) (addresses : List ℕ) (k : ℕ)
-        (first t u : Station H) (d e : Device)
+        (first t u : Station H) (d e : Entry)
         → IsBeforeAndAfter l steps (record { call = NewPanel config addresses; places = places }) k first t u d e
         → ControllerCosts (link_of_entry d t) (link_of_entry e u) × (e.reserved ≡ None)

@@ -6,7 +6,7 @@ use Rattle.osdp_msg.specs.declared.command.Command.{Command}
 use Rattle.osdp_controller.specs.declared.report.Report.{Report}
 use Rattle.osdp_bus.specs.Buses.{device_of}
 use Rattle.osdp_bus.specs.Hearing.{hears_packet}
-use Rattle.osdp_bus.specs.declared.device.Device.{Device}
+use Rattle.osdp_bus.specs.declared.entry.Entry.{Entry}
 use Rattle.osdp_bus_laws.specs.Reports.{told_by_item}
 use Rattle.osdp_reader.specs.Table.{hears, unchanged}
 use Rattle.osdp_reader.specs.declared.handler.Answer.{Answer}
@@ -16,7 +16,7 @@ use Rattle.osdp_calls.specs.Premises.{IsOfOthers}
 
 module _ {H : Type 0} (answer_of : H → Command → Answer) (after : H → Command → H) where
   pub record IsPassedOver (p : Packet) (l : InUse H) : Type 0 where
-    pub controllers : (now k : ℕ) (t : Station H) (d : Device) → site_at k l.stations ≡ Some t → device_of k l.bus ≡ Some d
+    pub controllers : (now k : ℕ) (t : Station H) (d : Entry) → site_at k l.stations ≡ Some t → device_of k l.bus ≡ Some d
         → slice_get (hears_packet p now l.bus.devices).entries k ≡ Some d
     pub told : (now : ℕ) → All (λ (x : ℕ × Report). site_at x.0 l.stations ≡ None) (told_by_item now (PacketItem p) l.bus.devices)
     pub devices : (k : ℕ) (t : Station H) → site_at k l.stations ≡ Some t → hears answer_of after t.reader p ≡ unchanged t.reader None

@@ -14,7 +14,7 @@ use Rattle.osdp_reader.specs.Table.{hears}
 use Rattle.osdp_msg.specs.ReplyTable.{ReplyFits}
 use Rattle.osdp_calls.specs.Premises.{AreNotPast, IsAsked, IsNoOthers, IsSaid, IsSetUp, IsThere, PanelIsApart}
 use Rattle.osdp_bus.specs.Settings.{IsBusConfig}
-use Rattle.osdp_bus.specs.declared.device.Device.{Device}
+use Rattle.osdp_bus.specs.declared.entry.Entry.{Entry}
 use Rattle.osdp_bus.proofs.Defaults.{bus_in_range}
 use Rattle.osdp_msg.specs.ReplyFields.{PdIdFits}
 use Rattle.osdp_frame.specs.Packet.{Packet}
@@ -62,7 +62,7 @@ pub id_fits : PdIdFits device.id
 id_fits = record { vendor_length = refl; vendor = vendor_bytes; model = omega arith; version = omega arith; serial = omega arith; firmware_major = omega arith; firmware_minor = omega arith; firmware_build = omega arith }
 
 -- the only one of a list
-abbrev only_device : List Device → Device
+abbrev only_device : List Entry → Entry
 only_device [] = new_device 0 settings
 only_device (d ∷ ds) = d
 
@@ -72,7 +72,7 @@ module _ {H : Type 0} where
   only_station (t ∷ ts) handler = t
 
   -- no other entry is there
-  alone : (l : InUse H) (t : Station H) (d : Device) (address : ℕ) → l.stations ≡ t ∷ [] → l.bus.devices.entries ≡ d ∷ [] → IsNoOthers 0 address l
+  alone : (l : InUse H) (t : Station H) (d : Entry) (address : ℕ) → l.stations ≡ t ∷ [] → l.bus.devices.entries ≡ d ∷ [] → IsNoOthers 0 address l
   alone l t d address stations entries j other (IsThere u at is) = other (only t j u (ap (site_at j) (sym stations) ∙ at)).0
   alone l t d address stations entries j other (IsAsked u e here at is) = other (only_entry d j e (ap (λ es. slice_get es j) (sym entries) ∙ at))
   alone l t d address stations entries j other (IsSaid u at is) = other (only t j u (ap (site_at j) (sym stations) ∙ at)).0

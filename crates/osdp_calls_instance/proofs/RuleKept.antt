@@ -7,8 +7,8 @@ use Rattle.osdp_msg.specs.CommandTable.{command_at, command_fault, command_of}
 use Rattle.osdp_msg.specs.ReplyTable.{reply_at, reply_fault, reply_of}
 use Rattle.osdp_msg.specs.declared.command.Command.{Command}
 use Rattle.osdp_msg.specs.declared.command_fields.Communication.{Communication}
-use Rattle.osdp_bus.specs.Devices.{address_of}
-use Rattle.osdp_bus.specs.declared.device.Device.{Device}
+use Rattle.osdp_bus.specs.Entries.{address_of}
+use Rattle.osdp_bus.specs.declared.entry.Entry.{Entry}
 use Rattle.osdp_reader.specs.declared.handler.Answer.{Answer}
 use Rattle.osdp_shared_line.specs.Addresses.{Somewhere}
 use Rattle.osdp_shared_line.specs.Programs.{Note}
@@ -27,8 +27,8 @@ abbrev asked_for : Communication
 asked_for = record { address = 5; baud_rate = 9600 }
 
 -- entry 1 is at address 1, and no other address is noted of it
-two_free : (es : List Device) (notes : ℕ → Note) → es ≡ first_device es ∷ second_device es ∷ [] → address_of (second_device es) ≡ 1
-    → (notes 1).addresses ≡ 1 ∷ [] → (a : ℕ) → a ≡ 5 → (j : ℕ) (d : Device) → j ≢ 0 → slice_get es j ≡ Some d → IsKnown a d (notes j) → ⊥
+two_free : (es : List Entry) (notes : ℕ → Note) → es ≡ first_device es ∷ second_device es ∷ [] → address_of (second_device es) ≡ 1
+    → (notes 1).addresses ≡ 1 ∷ [] → (a : ℕ) → a ≡ 5 → (j : ℕ) (d : Entry) → j ≢ 0 → slice_get es j ≡ Some d → IsKnown a d (notes j) → ⊥
 two_free es notes are here noted a five zero d other at known = other refl
 two_free es notes are here noted a five (suc zero) d other at (inl is) =
     let second : second_device es ≡ d = some_same (second_device es) d (ap (λ xs. slice_get xs 1) (sym are) ∙ at) in

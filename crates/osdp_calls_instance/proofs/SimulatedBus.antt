@@ -17,7 +17,7 @@ use Rattle.osdp_bus.specs.Buses.{BusState, device_of, new_bus}
 use Rattle.osdp_bus.specs.Ticking.{bus_ticks}
 use Rattle.osdp_bus.specs.Machine.{after_begin_at, after_next_report, after_submit_at, begin_refusal_at, begin_refusal_of, bus_fault, changed_unless, device_begins, new_device, submit_refusal_at}
 use Rattle.osdp_bus.specs.declared.config.BusConfig.{BusConfig}
-use Rattle.osdp_bus.specs.declared.device.Device.{Device}
+use Rattle.osdp_bus.specs.declared.entry.Entry.{Entry}
 use Rattle.osdp_bus.specs.declared.fault.BusFault.{BusFault}
 use Rattle.osdp_bus_laws.specs.Calls as bus
 use Rattle.osdp_frame.proofs.Receipt.{received_new}
@@ -257,7 +257,7 @@ module _ {H : Type 0} (answer_of : H → Command → Answer) (after : H → Comm
   closed_fine (Waiting until sends outstanding) is = absurd (let e = is in cc)
   closed_fine (Pausing until outstanding) is = absurd (let e = is in cc)
 
-  begin_fine : (o : Option Device) → option_map_or (λ (d : Device). is_closed d.controller.session.state) o false ≡ true → begin_refusal_of o ≡ None
+  begin_fine : (o : Option Entry) → option_map_or (λ (d : Entry). is_closed d.controller.session.state) o false ≡ true → begin_refusal_of o ≡ None
   begin_fine None is = absurd (let e = is in cc)
   begin_fine (Some d) is = closed_fine d.controller.session.state is
 
@@ -363,18 +363,18 @@ module _ {H : Type 0} (answer_of : H → Command → Answer) (after : H → Comm
 
   -- ---- what is set up
 
-  abbrev entries_of : BusConfig → List Device → BusState
+  abbrev entries_of : BusConfig → List Entry → BusState
   entries_of config ds = record (new_bus config) { devices = record { entries = ds; report = None } }
 
-  get_first : (before : List Device) (d : Device) (ds : List Device) → slice_get (before ++ d ∷ ds) (length before) ≡ Some d
+  get_first : (before : List Entry) (d : Entry) (ds : List Entry) → slice_get (before ++ d ∷ ds) (length before) ≡ Some d
   get_first [] d ds = refl
   get_first (x ∷ before) d ds = get_first before d ds
 
-  set_first : (before : List Device) (d e : Device) (ds : List Device) → slice_set (before ++ d ∷ ds) (length before) e ≡ before ++ e ∷ ds
+  set_first : (before : List Entry) (d e : Entry) (ds : List Entry) → slice_set (before ++ d ∷ ds) (length before) e ≡ before ++ e ∷ ds
   set_first [] d e ds = refl
   set_first (x ∷ before) d e ds = ap (λ l. x ∷ l) (set_first before d e ds)
 
-  one_begins : (config : BusConfig) (before ds : List Device) (address k : ℕ) → k ≡ length before
+  one_begins : (config : BusConfig) (before ds : List Entry) (address k : ℕ) → k ≡ length before
       → bus.after_call (bus.Begin k 0) (entries_of config (before ++ new_device address config ∷ ds))
       ≡ entries_of config (before ++ device_begins 0 (new_device address config) ∷ ds)
   one_begins config before ds address k first =
@@ -385,7 +385,7 @@ module _ {H : Type 0} (answer_of : H → Command → Answer) (after : H → Comm
       (option_map_or (λ x. record b { devices = record b.devices { entries = slice_set (before ++ d ∷ ds) k (device_begins 0 x) } }) o b)) at
       ∙ ap (λ l. entries_of config l) (ap (λ j. slice_set (before ++ d ∷ ds) j (device_begins 0 d)) first ∙ set_first before d (device_begins 0 d) ds)
 
-  all_begin : (config : BusConfig) (readers : List (Given H)) (before : List Device) (devices : List (Held H)) (k : ℕ) → k ≡ length before
+  all_begin : (config : BusConfig) (readers : List (Given H)) (before : List Entry) (devices : List (Held H)) (k : ℕ) → k ≡ length before
       → let w : Here = record { panel = entries_of config (before ++ map (λ address. new_device address config) (map address_of readers)); devices = devices } in
       (goes (begin_calls answer_of after k readers) w
       ≡ record { panel = entries_of config (before ++ map (begun_device config) readers); devices = devices })

@@ -13,7 +13,7 @@ use Rattle.osdp_msg.specs.declared.command.Command.{Command}
 use Rattle.osdp_msg.specs.declared.command_fields.Communication.{Communication}
 use Rattle.osdp_bus.specs.Machine.{new_device}
 use Rattle.osdp_bus.specs.Settings.{IsBusConfig}
-use Rattle.osdp_bus.specs.declared.device.Device.{Device}
+use Rattle.osdp_bus.specs.declared.entry.Entry.{Entry}
 use Rattle.osdp_bus.proofs.Defaults.{bus_in_range}
 use Rattle.osdp_link_laws.specs.Link.{new_account}
 use Rattle.osdp_link_laws.proofs.Lines.{each_all}
@@ -42,11 +42,11 @@ none_mine a [] all is = absurd is
 none_mine a (q ∷ qs) all (inl is) = let far : 0 ≡ 1 = sym all.0 ∙ is.0 in absurd (omega (arith, far))
 none_mine a (q ∷ qs) all (inr is) = none_mine a qs all.1 is
 
-abbrev pub first_device : List Device → Device
+abbrev pub first_device : List Entry → Entry
 first_device [] = new_device 0 settings
 first_device (d ∷ ds) = d
 
-abbrev pub second_device : List Device → Device
+abbrev pub second_device : List Entry → Entry
 second_device [] = new_device 0 settings
 second_device (d ∷ ds) = first_device ds
 
@@ -60,7 +60,7 @@ module _ {H : Type 0} where
   second_station (t ∷ ts) handler = first_station ts handler
 
   -- the other device is elsewhere, and no COMSET takes it there
-  two_alone : (l : InUse H) (t u : Station H) (d e : Device) (a : ℕ) → l.stations ≡ t ∷ u ∷ [] → l.bus.devices.entries ≡ d ∷ e ∷ []
+  two_alone : (l : InUse H) (t u : Station H) (d e : Entry) (a : ℕ) → l.stations ≡ t ∷ u ∷ [] → l.bus.devices.entries ≡ d ∷ e ∷ []
       → (u.reader.config.address ≡ a → ⊥) → unended_of e ≡ [] → Each (λ (q : ℕ × Packet). q.0 ≡ 0) (ahead_of_device 1 u.place l.openings l.said)
       → IsNoOthers 0 a l
   two_alone l t u d e a stations entries away none ahead zero other may = other refl

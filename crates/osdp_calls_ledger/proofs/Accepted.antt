@@ -16,7 +16,7 @@ use Rattle.osdp_controller.specs.declared.state.State.TheVariants.{Closed, Quiet
 use Rattle.osdp_bus.specs.Buses.{BusState, device_of}
 use Rattle.osdp_bus.specs.Machine.{changed_unless, submit_refusal_at, withdrawal_at}
 use Rattle.osdp_bus.specs.Ticking.{bus_ticks}
-use Rattle.osdp_bus.specs.declared.device.Device.{Device}
+use Rattle.osdp_bus.specs.declared.entry.Entry.{Entry}
 use Rattle.osdp_bus.specs.declared.fault.BusFault.{BusFault}
 use Rattle.osdp_bus_laws.specs.Calls as bus
 use Rattle.osdp_bus_laws.specs.Reports.{told_in}
@@ -126,7 +126,7 @@ opens_accept (Idle due) sent = tt
 opens_accept (Waiting until sends o) sent = tt
 opens_accept (Pausing until o) sent = tt
 
-pub opening_none : (k : ℕ) (o : Option ℕ) (sent : Option Packet) (q : Option Device) → Each AcceptsNone (opening k o sent q)
+pub opening_none : (k : ℕ) (o : Option ℕ) (sent : Option Packet) (q : Option Entry) → Each AcceptsNone (opening k o sent q)
 opening_none k None sent q = tt
 opening_none k (Some e) sent None = tt
 opening_none k (Some e) sent (Some d) =
@@ -169,7 +169,7 @@ acts_none kind.Repeat command said g = tt
 acts_none kind.Busy command said g = tt
 acts_none kind.Wrong command said g = tt
 
-pub restarts_none : (o : Option Device) → Each AcceptsNone (panel_restarts o)
+pub restarts_none : (o : Option Entry) → Each AcceptsNone (panel_restarts o)
 restarts_none None = tt
 restarts_none (Some d) = (tt, tt)
 

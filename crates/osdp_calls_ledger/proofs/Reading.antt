@@ -12,10 +12,10 @@ use Rattle.osdp_controller.specs.Ticking.{Ticked, ticks, ticks_in}
 use Rattle.osdp_controller.specs.declared.report.Report.{Report}
 use Rattle.osdp_controller.specs.declared.state.State.{State}
 use Rattle.osdp_controller.specs.declared.state.State.TheVariants.{Closed}
-use Rattle.osdp_bus.specs.Devices as devices
-use Rattle.osdp_bus.specs.Devices.{first_from, is_at, told_of}
+use Rattle.osdp_bus.specs.Entries as devices
+use Rattle.osdp_bus.specs.Entries.{first_from, is_at, told_of}
 use Rattle.osdp_bus.specs.Hearing.{hears_packet}
-use Rattle.osdp_bus.specs.declared.device.Device.{Device}
+use Rattle.osdp_bus.specs.declared.entry.Entry.{Entry}
 use Rattle.osdp_bus_laws.specs.Reports.{told_at, told_by_entry, told_by_item, told_with}
 use Rattle.osdp_reader.specs.declared.handler.Answer.{Answer}
 use Rattle.osdp_ledger.specs.Ledger.{Ledger}
@@ -70,7 +70,7 @@ equal_of a b is = elim (eqb_tells a b) [ inl same ↦ same.1 | inr other ↦ abs
 
 module _ {H : Type 0} where
   -- the controller of a site tells of a packet what that of its entry does
-  told_same : (p : Packet) (k : ℕ) (l : InUse H) (d : Device) (t : Station H) (s : Site H) → Sites l k d t s
+  told_same : (p : Packet) (k : ℕ) (l : InUse H) (d : Entry) (t : Station H) (s : Site H) → Sites l k d t s
       → (hears p l.bus.greatest s.controller.session).report ≡ told_of p l.bus.greatest d
   told_same p k l d t s is = by_begun t.begun refl
     where
@@ -160,7 +160,7 @@ module _ {H : Type 0} where
           none_told : first_from 0 (is_at p.address) l.bus.devices.entries ≡ None → told_by_item l.bus.greatest (PacketItem p) l.bus.devices ≡ []
           none_told none = ap (λ o. told_by_entry p l.bus.greatest o l.bus.devices) none
 
-          one_told : (j : ℕ) (e : Device) → first_from 0 (is_at p.address) l.bus.devices.entries ≡ Some (0 + j) → slice_get l.bus.devices.entries j ≡ Some e
+          one_told : (j : ℕ) (e : Entry) → first_from 0 (is_at p.address) l.bus.devices.entries ≡ Some (0 + j) → slice_get l.bus.devices.entries j ≡ Some e
               → told_by_item l.bus.greatest (PacketItem p) l.bus.devices ≡ told_at j (told_of p l.bus.greatest e)
           one_told j e some at =
               ap (λ o. told_by_entry p l.bus.greatest o l.bus.devices) (some ∙ ap Some (let f : 0 + j ≡ j = omega arith in f))

@@ -14,9 +14,9 @@ use Rattle.osdp_controller.specs.declared.session.Session.{Session}
 use Rattle.osdp_controller.specs.declared.state.State.{State}
 use Rattle.osdp_controller.specs.declared.state.State.TheVariants.{Closed, Quiet, Idle, Waiting, Pausing}
 use Rattle.osdp_bus.specs.Buses.{device_of}
-use Rattle.osdp_bus.specs.Devices.{step_of}
+use Rattle.osdp_bus.specs.Entries.{step_of}
 use Rattle.osdp_bus.specs.Ticking.{ticks_at, ticks_with}
-use Rattle.osdp_bus.specs.declared.device.Device.{Device}
+use Rattle.osdp_bus.specs.declared.entry.Entry.{Entry}
 use Rattle.osdp_bus_laws.specs.Reports.{told_by_device, told_by_ticking}
 use Rattle.osdp_reader.specs.declared.handler.Answer.{Answer}
 use Rattle.osdp_ledger.specs.Ledger.{Ledger, Open}
@@ -66,7 +66,7 @@ either_first (Idle due) s waiting g = sym (append-nil (told (ticks_in (Idle due)
 either_first (Waiting until sends o) s waiting g = sym (append-nil (told (ticks_in (Waiting until sends o) s waiting).step.report g))
 either_first (Pausing until o) s waiting g = sym (append-nil (told (ticks_in (Pausing until o) s waiting).step.report g))
 
-nothing_sent : (k : ℕ) (o : Option ℕ) (sent : Option Packet) (q : Option Device) → sent ≡ None → opening k o sent q ≡ []
+nothing_sent : (k : ℕ) (o : Option ℕ) (sent : Option Packet) (q : Option Entry) → sent ≡ None → opening k o sent q ≡ []
 nothing_sent k None sent q none = refl
 nothing_sent k (Some e) sent None none = refl
 nothing_sent k (Some e) sent (Some d) none = ap (λ x. cond (e == k) (opens d.controller.session.state x) []) none ∙ by_test (e == k)
@@ -75,11 +75,11 @@ nothing_sent k (Some e) sent (Some d) none = ap (λ x. cond (e == k) (opens d.co
     by_test true = opens_none d.controller.session.state
     by_test false = refl
 
-other_opens : (k e : ℕ) (sent : Option Packet) (q : Option Device) → e ≢ k → opening k (Some e) sent q ≡ []
+other_opens : (k e : ℕ) (sent : Option Packet) (q : Option Entry) → e ≢ k → opening k (Some e) sent q ≡ []
 other_opens k e sent None other = refl
 other_opens k e sent (Some d) other = ap (λ b. cond b (opens d.controller.session.state sent) []) (is_false e k other)
 
-other_told : (k e : ℕ) (q : Option Device) (b : Rattle.osdp_bus.specs.Buses.BusState) (g : Ledger) → e ≢ k → reported k (told_by_device e q b) g ≡ []
+other_told : (k e : ℕ) (q : Option Entry) (b : Rattle.osdp_bus.specs.Buses.BusState) (g : Ledger) → e ≢ k → reported k (told_by_device e q b) g ≡ []
 other_told k e None b g other = refl
 other_told k e (Some d) b g other = reported_other k e (step_of b.greatest d).report g other
 

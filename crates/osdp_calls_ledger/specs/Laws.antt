@@ -2,7 +2,7 @@
 use Rattle.std.specs.Prelude.{◌≡◌, ℕ, List, ◌++◌, Some}
 use Rattle.osdp_msg.specs.declared.command.Command.{Command}
 use Rattle.osdp_bus.specs.Buses.{device_of}
-use Rattle.osdp_bus.specs.declared.device.Device.{Device}
+use Rattle.osdp_bus.specs.declared.entry.Entry.{Entry}
 use Rattle.osdp_reader.specs.declared.handler.Answer.{Answer}
 use Rattle.osdp_ledger.specs.History.{AreAllowed, new_history, runs}
 use Rattle.osdp_ledger.specs.Laws.{EventsHold, OrdersHold}
@@ -18,7 +18,7 @@ use Rattle.osdp_calls_ledger.specs.Steps.{steps_from}
 
 module _ {H : Type 0} (answer_of : H → Command → Answer) (after : H → Command → H) where
   -- each step of this entry may happen where it does; the ledger at the end is that of the bus's controller and the device
-  pub record KeepsLedger (k : ℕ) (first last : Station H) (d : Device) (steps : List (Step H)) (l : InUse H) : Type 0 where
+  pub record KeepsLedger (k : ℕ) (first last : Station H) (d : Entry) (steps : List (Step H)) (l : InUse H) : Type 0 where
     pub allowed : AreAllowed (steps_from answer_of after k first steps l) new_history
     pub ledger : IsLedgerOf (link_of_entry d last) (runs (steps_from answer_of after k first steps l) new_history).ledger
     -- none is forgotten and none is made up: the commands and events that the calls have accepted, and what the accounts of the sessions say of them
@@ -30,5 +30,5 @@ module _ {H : Type 0} (answer_of : H → Command → Answer) (after : H → Comm
 
   abbrev pub EachKeepsLedger : Type 0
   EachKeepsLedger = (l : InUse H) (steps : List (Step H)) → IsSetUp l → AllKeep answer_of after steps l
-      → (k : ℕ) (first last : Station H) (d : Device) → site_at k l.stations ≡ Some first → site_at k (after_calls answer_of after steps l).stations ≡ Some last
+      → (k : ℕ) (first last : Station H) (d : Entry) → site_at k l.stations ≡ Some first → site_at k (after_calls answer_of after steps l).stations ≡ Some last
       → device_of k (after_calls answer_of after steps l).bus ≡ Some d → KeepsLedger k first last d steps l

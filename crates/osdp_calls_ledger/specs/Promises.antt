@@ -3,7 +3,7 @@ use Rattle.std.specs.Prelude.{◌≡◌, ◌⊎◌, ℕ, Bool, List, ◌++◌, A
 use Rattle.osdp_msg.specs.declared.command.Command.{Command}
 use Rattle.osdp_msg.specs.declared.event.Event.{Event}
 use Rattle.osdp_bus.specs.Buses.{device_of}
-use Rattle.osdp_bus.specs.declared.device.Device.{Device}
+use Rattle.osdp_bus.specs.declared.entry.Entry.{Entry}
 use Rattle.osdp_reader.specs.declared.handler.Answer.{Answer}
 use Rattle.osdp_ledger.specs.History.{AfterReport, AreAllowed, History, Left, TakenBack, ThrownAway, ends_at_restart, new_history, runs, steps_on}
 use Rattle.osdp_ledger.specs.Laws.{EventsHold, IsOneUntold, OrdersHold}
@@ -22,7 +22,7 @@ abbrev pub LeftSo : Left → Type 0
 LeftSo w = (w.why ≡ AfterReport) ⊎ ((w.why ≡ TakenBack) ⊎ (w.why ≡ ThrownAway))
 
 -- of the commands that `submit` accepted for an entry, and of the events that `submit_event` accepted for its device
-pub record HoldsOnce {H : Type 0} (commands : List Command) (events : List Event) (d : Device) (t : Station H) (h : History) : Type 0 where
+pub record HoldsOnce {H : Type 0} (commands : List Command) (events : List Event) (d : Entry) (t : Station H) (h : History) : Type 0 where
   -- The ledger's orders and cards are these commands and events, in this order.
   pub accepted : commands ≡ map (λ (o : Order). o.command) h.accepted
   pub queued : events ≡ map (λ (c : Card). c.event) h.queued
@@ -53,7 +53,7 @@ RestartsCost = (h : History) → ((on_wire : Bool) → PanelCosts on_wire h (ste
 module _ {H : Type 0} (answer_of : H → Command → Answer) (after : H → Command → H) where
   -- of each entry, after these calls: each step of its ledger may happen where it does, and so they hold
   abbrev pub EachHoldsOnce : InUse H → List (Step H) → Type 0
-  EachHoldsOnce l steps = (k : ℕ) (first last : Station H) (d : Device) → site_at k l.stations ≡ Some first
+  EachHoldsOnce l steps = (k : ℕ) (first last : Station H) (d : Entry) → site_at k l.stations ≡ Some first
       → site_at k (after_calls answer_of after steps l).stations ≡ Some last → device_of k (after_calls answer_of after steps l).bus ≡ Some d
       → AreAllowed (steps_from answer_of after k first steps l) new_history
       × HoldsOnce (all_accepted answer_of after k steps l) (first.reader.queue.events ++ all_queued answer_of after k steps l) d last

@@ -7,7 +7,7 @@ use Rattle.osdp_controller.specs.declared.report.Report.{Report}
 use Rattle.osdp_bus.specs.Buses.{BusState, device_of}
 use Rattle.osdp_bus.specs.Machine.{changed_unless, submit_refusal_at, withdrawal_at}
 use Rattle.osdp_bus.specs.Ticking.{bus_ticks}
-use Rattle.osdp_bus.specs.declared.device.Device.{Device}
+use Rattle.osdp_bus.specs.declared.entry.Entry.{Entry}
 use Rattle.osdp_bus.specs.declared.fault.BusFault.{BusFault}
 use Rattle.osdp_bus_laws.specs.Calls as bus
 use Rattle.osdp_bus_laws.specs.Reports.{told_in}
@@ -34,7 +34,7 @@ reported k (said ∷ more) g =
     let steps = if said.0 == k then told (Some said.1) g else [] in steps ++ reported k more (after_steps steps g)
 
 -- the entry that is asked at a tick sends its opening ID
-abbrev pub opening : ℕ → Option ℕ → Option Packet → Option Device → List ledger.Step
+abbrev pub opening : ℕ → Option ℕ → Option Packet → Option Entry → List ledger.Step
 opening k None sent o = []
 opening k (Some entry) sent None = []
 opening k (Some entry) sent (Some d) = if entry == k then opens d.controller.session.state sent else []
@@ -53,7 +53,7 @@ panel_steps k (bus.Tick now) b g =
 panel_steps k call b g = reported k (told_in call b) g
 
 -- it loses power: the front was on the wire, or not
-abbrev pub panel_restarts : Option Device → List ledger.Step
+abbrev pub panel_restarts : Option Entry → List ledger.Step
 panel_restarts None = []
 panel_restarts (Some d) = RestartPanel (is_some (outstanding_command d.controller.session.state)) ∷ []
 

@@ -17,11 +17,11 @@ use Rattle.osdp_controller_laws.proofs.Kept.{hears_at_moment}
 use Rattle.osdp_controller_laws.proofs.OneCall.{keeps_settings}
 use Rattle.osdp_time_laws.proofs.Ends.{tick_at_moment}
 use Rattle.osdp_bus.specs.Buses.{BusState, Devices}
-use Rattle.osdp_bus.specs.Devices.{device_hears, device_ticks}
+use Rattle.osdp_bus.specs.Entries.{device_hears, device_ticks}
 use Rattle.osdp_bus.specs.Hearing.{hears_packet}
 use Rattle.osdp_bus.specs.Machine.{begin_refusal_at, device_begins, new_device}
 use Rattle.osdp_bus.specs.declared.config.BusConfig.{BusConfig}
-use Rattle.osdp_bus.specs.declared.device.Device.{Device}
+use Rattle.osdp_bus.specs.declared.entry.Entry.{Entry}
 use Rattle.osdp_bus.specs.declared.fault.BusFault.{BusFault}
 use Rattle.osdp_bus_laws.specs.Calls.{Call, Add, Begin, Submit, Withdraw, Retarget, OnBytes, OnSilence, Tick, NextReport, after_call}
 use Rattle.osdp_bus_laws.proofs.Moments.{moments_are_seen}
@@ -38,19 +38,19 @@ use Rattle.osdp_controller.specs.Sessions as clocks
 
 -- ---- what holds of each device
 
-of_heard : (q g : ℕ) (p : Packet) (d : Device) → IsOf q g d → IsOf q g (device_hears p g d)
+of_heard : (q g : ℕ) (p : Packet) (d : Entry) → IsOf q g d → IsOf q g (device_hears p g d)
 of_heard q g p d is =
     let near = hears_at_moment p g d.controller.session in
     let le = is.seen in
     record { seen = omega (arith, near, le); waits = ap (λ (k : ControllerConfig). k.quiet_wait) (keeps_settings (HearOf p g) d.controller) ∙ is.waits }
 
-of_ticked : (q g : ℕ) (d : Device) → IsOf q g d → IsOf q g (device_ticks g d)
+of_ticked : (q g : ℕ) (d : Entry) → IsOf q g d → IsOf q g (device_ticks g d)
 of_ticked q g d is =
     let near = tick_at_moment g d.controller in
     let le = is.seen in
     record { seen = omega (arith, near, le); waits = ap (λ (k : ControllerConfig). k.quiet_wait) (keeps_settings (TickOf g) d.controller) ∙ is.waits }
 
-of_begun : (q g now : ℕ) (d : Device) → now ≤ g → IsOf q g d → IsOf q g (device_begins now d)
+of_begun : (q g now : ℕ) (d : Entry) → now ≤ g → IsOf q g d → IsOf q g (device_begins now d)
 of_begun q g now d near is = let le = is.seen in record { seen = omega (arith, near, le); waits = is.waits }
 
 pub of_new : (g address : ℕ) (config : BusConfig) → IsOf config.quiet_wait g (new_device address config)
@@ -121,7 +121,7 @@ kept_bus w start now at call b k later in_time =
 -- ---- a device whose session is to begin passes over what it hears
 
 pub record QuietAt (k until g : ℕ) (config : ControllerConfig) (ds : Devices) : Type 0 where
-  pub device : Device
+  pub device : Entry
   pub there : slice_get ds.entries k ≡ Some device
   pub state : device.controller.session.state ≡ Quiet until
   pub same : device.controller.session.config ≡ config

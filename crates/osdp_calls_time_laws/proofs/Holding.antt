@@ -4,10 +4,10 @@ use Rattle.std.specs.Prelude.{◌^◌, map, slice_get}
 use Rattle.osdp_msg.specs.declared.command.Command.{Command}
 use Rattle.osdp_msg.specs.declared.event.Event.{Event}
 use Rattle.osdp_bus.specs.Buses.{BusState}
-use Rattle.osdp_bus.specs.Devices.{address_of}
+use Rattle.osdp_bus.specs.Entries.{address_of}
 use Rattle.osdp_bus.specs.Settings.{IsBusConfig}
 use Rattle.osdp_bus.specs.declared.config.BusConfig.{BusConfig}
-use Rattle.osdp_bus.specs.declared.device.Device.{Device}
+use Rattle.osdp_bus.specs.declared.entry.Entry.{Entry}
 use Rattle.osdp_device.specs.Deciding.{passed}
 use Rattle.osdp_frame.specs.Receiving.{after_silence, after_take, after_tick}
 use Rattle.osdp_link_laws.specs.Peers.{ReadsWhatIsAsked}
@@ -55,7 +55,7 @@ module _ {H : Type 0} where
   none_wait w start stamps config addresses l n h is k d began entry begun =
       let q = is_quiet k began l n h begun in
       let a = new_at config k q.device addresses (sym (ap (λ (b : BusState). slice_get b.devices.entries k) is) ∙ q.there) in
-      absurd (let e = sym q.state ∙ ap (λ (x : Device). x.controller.session.state) a.2 in cc)
+      absurd (let e = sym q.state ∙ ap (λ (x : Entry). x.controller.session.state) a.2 in cc)
 
   module _ (answer_of : H → Command → Answer) (after : H → Command → H) (reads : ReadsWhatIsAsked) (w : ℕ) where
     module _ (t : Timed H) (c : Clock) (l : InUse H) (n : Net H) (h : IsNetOf l n) (apart : Apart n) (r : Runs w c l) (later : c.now ≤ t.at) where

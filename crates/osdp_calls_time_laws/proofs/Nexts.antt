@@ -7,8 +7,8 @@ use Rattle.osdp_frame.specs.Packet.{Packet}
 use Rattle.osdp_msg.specs.declared.command.Command.{Command}
 use Rattle.osdp_device.specs.Saying.{speaks}
 use Rattle.osdp_device.specs.Telling.{items_of}
-use Rattle.osdp_bus.specs.Devices.{address_of}
-use Rattle.osdp_bus.specs.declared.device.Device.{Device}
+use Rattle.osdp_bus.specs.Entries.{address_of}
+use Rattle.osdp_bus.specs.declared.entry.Entry.{Entry}
 use Rattle.osdp_link_laws.proofs.Stages.{Each}
 use Rattle.osdp_reader.specs.State.{ReaderState}
 use Rattle.osdp_reader.specs.Table.{hears, kind_by_number, kind_of}
@@ -178,7 +178,7 @@ module _ {H : Type 0} where
 
     -- so its answer is in time
     in_time : (k : ℕ) (u : Station H) (ps : List Packet) (places : List ℕ) → site_at k l.stations ≡ Some u → AreInOrder (IsUnanswered u.reader) l.said ps places u.place
-        → Each (ReadAt w t.at c.said) places → (o : Option Packet) → first_answered u.reader ps ≡ o → (e : ℕ) (d : Device) (began : ℕ)
+        → Each (ReadAt w t.at c.said) places → (o : Option Packet) → first_answered u.reader ps ≡ o → (e : ℕ) (d : Entry) (began : ℕ)
         → slice_get l.bus.devices.entries e ≡ Some d → begun_of (site_at e l.stations) ≡ Some began
         → (j : ℕ) (b : Burst) → site_at j (by_device k (reply_to answer_of after o u.reader)) ≡ Some b → concerns (of_entry e (address_of d)) b ≡ true
         → t.at ≤ latest w b.by_panel (t.start + began)

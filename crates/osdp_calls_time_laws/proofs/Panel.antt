@@ -11,11 +11,11 @@ use Rattle.osdp_controller.specs.declared.config.ControllerConfig.{ControllerCon
 use Rattle.osdp_controller.specs.declared.report.Report.{Report}
 use Rattle.osdp_controller.specs.declared.state.State.TheVariants.{Quiet}
 use Rattle.osdp_bus.specs.Buses.{BusState, Devices, device_of, seen}
-use Rattle.osdp_bus.specs.Devices.{address_of, is_taken_beside}
+use Rattle.osdp_bus.specs.Entries.{address_of, is_taken_beside}
 use Rattle.osdp_bus.specs.Machine as machine
 use Rattle.osdp_bus.specs.Machine.{bus_fault, changed_unless, or_taken, retarget_refusal_of}
 use Rattle.osdp_bus.specs.Ticking.{bus_ticks, ticks_at}
-use Rattle.osdp_bus.specs.declared.device.Device.{Device}
+use Rattle.osdp_bus.specs.declared.entry.Entry.{Entry}
 use Rattle.osdp_bus.specs.declared.fault.BusFault.{BusFault}
 use Rattle.osdp_bus_laws.specs.Calls as bus
 use Rattle.osdp_bus_laws.specs.Reports.{told_by_ticking, told_in}
@@ -51,7 +51,7 @@ use Rattle.osdp_calls_time_laws.proofs.Waits.{AllWait, IsKept, IsPast, Runs, Wai
 
 -- an entry whose session is to begin, and is not closed
 pub record IsQuiet (k : ℕ) (b : BusState) : Type 0 where
-  pub device : Device
+  pub device : Entry
   pub until : ℕ
   pub there : device_of k b ≡ Some device
   pub state : device.controller.session.state ≡ Quiet until
@@ -115,8 +115,8 @@ module _ {H : Type 0} where
 
     -- an entry that waits is one that waited, at the same address
     silent : (next : InUse H) → IsKept w t.start t.at next.bus → next.said ≡ l.said → next.openings ≡ l.openings
-        → ((k : ℕ) (e : Device) (began : ℕ) → slice_get next.bus.devices.entries k ≡ Some e → begun_of (site_at k next.stations) ≡ Some began
-        → (d : Device) × (slice_get l.bus.devices.entries k ≡ Some d) × (begun_of (site_at k l.stations) ≡ Some began) × (address_of d ≡ address_of e))
+        → ((k : ℕ) (e : Entry) (began : ℕ) → slice_get next.bus.devices.entries k ≡ Some e → begun_of (site_at k next.stations) ≡ Some began
+        → (d : Entry) × (slice_get l.bus.devices.entries k ≡ Some d) × (begun_of (site_at k l.stations) ≡ Some began) × (address_of d ≡ address_of e))
         → Runs w (clock_after t c next) next
     silent next kept said openings from =
         runs_silent w t c l next r later kept said openings
@@ -125,9 +125,9 @@ module _ {H : Type 0} where
         subst (λ a. Waits w l.said c.said k a (t.start + began)) x.3 (old_waits k x.0 began x.1 x.2))
 
     -- one entry changes, and its session stays
-    one_changes : (i : ℕ) (change : Device → Device) (ts : List (Station H)) (k : ℕ) (e : Device) (began : ℕ) → ((d : Device) → (change d).controller.session ≡ d.controller.session)
+    one_changes : (i : ℕ) (change : Entry → Entry) (ts : List (Station H)) (k : ℕ) (e : Entry) (began : ℕ) → ((d : Entry) → (change d).controller.session ≡ d.controller.session)
         → device_of k (machine.changes_device i change l.bus) ≡ Some e → begun_of (site_at k ts) ≡ Some began → begun_of (site_at k ts) ≡ begun_of (site_at k l.stations)
-        → (d : Device) × (slice_get l.bus.devices.entries k ≡ Some d) × (begun_of (site_at k l.stations) ≡ Some began) × (address_of d ≡ address_of e)
+        → (d : Entry) × (slice_get l.bus.devices.entries k ≡ Some d) × (begun_of (site_at k l.stations) ≡ Some began) × (address_of d ≡ address_of e)
     one_changes i change ts k e began session entry begun same = elim (changed_at i change l.bus k e entry) [
       | AsBefore other was ↦ (e, was, sym same ∙ begun, refl)
       | IsChanged here d was becomes ↦ (
@@ -247,7 +247,7 @@ module _ {H : Type 0} where
     -- ---- calls that read
 
     -- an entry that waits, once the controllers have heard this
-    heard_waits : (g : ℕ) (ps : List Packet) (told : List (ℕ × Report)) → l.bus.greatest ≤ g → (k : ℕ) (e : Device) (began : ℕ)
+    heard_waits : (g : ℕ) (ps : List Packet) (told : List (ℕ × Report)) → l.bus.greatest ≤ g → (k : ℕ) (e : Entry) (began : ℕ)
         → slice_get (hears_all g ps l.bus.devices).entries k ≡ Some e → begun_of (site_at k (all_hear told l.stations)) ≡ Some began
         → IsWaiting w l.bus.config.quiet_wait t.start l.said c.said k began g e
     heard_waits g ps told near k e began entry begun =

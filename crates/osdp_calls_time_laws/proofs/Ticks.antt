@@ -6,9 +6,9 @@ use Rattle.osdp_frame.specs.Packet.{Packet}
 use Rattle.osdp_msg.specs.declared.command.Command.{Command}
 use Rattle.osdp_controller.specs.Sessions as clocks
 use Rattle.osdp_bus.specs.Buses.{device_of, waiting_after}
-use Rattle.osdp_bus.specs.Devices.{address_of, device_ticks, step_of}
+use Rattle.osdp_bus.specs.Entries.{address_of, device_ticks, step_of}
 use Rattle.osdp_bus.specs.Ticking.{ticks_with}
-use Rattle.osdp_bus.specs.declared.device.Device.{Device}
+use Rattle.osdp_bus.specs.declared.entry.Entry.{Entry}
 use Rattle.osdp_bus_laws.specs.Reports.{told_by_device}
 use Rattle.osdp_link_laws.proofs.Numbers.{is_false}
 use Rattle.osdp_link_laws.proofs.Stages.{Each}
@@ -31,7 +31,7 @@ use Rattle.osdp_calls_time_laws.proofs.Stamps.{IsStamped, SaidNow, WasSaid, is_s
 use Rattle.osdp_calls_time_laws.proofs.Waits.{AllWait, IsPast, Waits, latest, of_entry, past_later, still_past, still_waits}
 
 -- what an entry's session waits for
-pub record IsWaiting (w q start : ℕ) (said : List Burst) (stamps : List ℕ) (k began g : ℕ) (d : Device) : Type 0 where
+pub record IsWaiting (w q start : ℕ) (said : List Burst) (stamps : List ℕ) (k began g : ℕ) (d : Entry) : Type 0 where
   pub seen : d.controller.session.greatest ≤ g
   pub quiet : d.controller.session.config.quiet_wait ≡ q
   pub waits : Waits w said stamps k (address_of d) (start + began)
@@ -71,11 +71,11 @@ module _ {H : Type 0} where
   module _ (answer_of : H → Command → Answer) (after : H → Command → H) (w q start at now : ℕ) (stamps : List ℕ) (l : InUse H) (n : Net H) (h : IsNetOf l n)
       (apart : Apart n) (same : length stamps ≡ length l.said) (patient : 2 * w < q) (clock : start + l.bus.greatest ≤ at) (far : l.bus.greatest + q < 2 ^ 64)
       (later : now ≤ at) (opened : Each (IsPast w l.said stamps now) l.openings)
-      (waiting : (k : ℕ) (d : Device) (began : ℕ) → slice_get l.bus.devices.entries k ≡ Some d → begun_of (site_at k l.stations) ≡ Some began
+      (waiting : (k : ℕ) (d : Entry) (began : ℕ) → slice_get l.bus.devices.entries k ≡ Some d → begun_of (site_at k l.stations) ≡ Some began
       → IsWaiting w q start l.said stamps k began l.bus.greatest d) where
     -- ---- nothing is said
 
-    silent : (es : List Device) (ts : List (Station H)) → ((k : ℕ) (d : Device) (began : ℕ) → slice_get es k ≡ Some d → begun_of (site_at k ts) ≡ Some began
+    silent : (es : List Entry) (ts : List (Station H)) → ((k : ℕ) (d : Entry) (began : ℕ) → slice_get es k ≡ Some d → begun_of (site_at k ts) ≡ Some began
         → Waits w l.said stamps k (address_of d) (start + began))
         → AllWait w start (stamped at l.said stamps) es ts l.said × Each (IsPast w l.said (stamped at l.said stamps) at) l.openings
     silent es ts waits =
@@ -86,7 +86,7 @@ module _ {H : Type 0} where
 
     -- ---- two entries are at two addresses
 
-    differ : (j k : ℕ) (d e : Device) → IsOurs j l.stations → IsOurs k l.stations → j ≢ k → device_of j l.bus ≡ Some d → device_of k l.bus ≡ Some e
+    differ : (j k : ℕ) (d e : Entry) → IsOurs j l.stations → IsOurs k l.stations → j ≢ k → device_of j l.bus ≡ Some d → device_of k l.bus ≡ Some e
         → address_of d ≢ address_of e
     differ j k d e first second other at there equal =
         let a = at_entry j d l n h first at in
@@ -94,10 +94,10 @@ module _ {H : Type 0} where
         apart.names j k a.site b.site other a.at b.at (address_of e) (inl (address_same j d l a.station a.site a.is ∙ equal))
         (inl (address_same k e l b.station b.site b.is))
 
-    module _ (e : ℕ) (d : Device) (is : device_of e l.bus ≡ Some d) where
+    module _ (e : ℕ) (d : Entry) (is : device_of e l.bus ≡ Some d) where
       -- an entry after it
-      entry_was : (k : ℕ) (f : Device) → slice_get (slice_set l.bus.devices.entries e (device_ticks l.bus.greatest d)) k ≡ Some f
-          → (f0 : Device) × (slice_get l.bus.devices.entries k ≡ Some f0) × (address_of f ≡ address_of f0)
+      entry_was : (k : ℕ) (f : Entry) → slice_get (slice_set l.bus.devices.entries e (device_ticks l.bus.greatest d)) k ≡ Some f
+          → (f0 : Entry) × (slice_get l.bus.devices.entries k ≡ Some f0) × (address_of f ≡ address_of f0)
       entry_was k f at_k = elim (eqb_tells k e) [
         | inl mine ↦
             let there = subst (λ i. slice_get (slice_set l.bus.devices.entries e (device_ticks l.bus.greatest d)) i ≡ Some f) mine.1 at_k in
@@ -113,7 +113,7 @@ module _ {H : Type 0} where
       ]
 
       -- what still waits
-      waits_on : (k began : ℕ) (f : Device) → slice_get (slice_set l.bus.devices.entries e (device_ticks l.bus.greatest d)) k ≡ Some f
+      waits_on : (k began : ℕ) (f : Entry) → slice_get (slice_set l.bus.devices.entries e (device_ticks l.bus.greatest d)) k ≡ Some f
           → begun_of (site_at k l.stations) ≡ Some began → Waits w l.said stamps k (address_of f) (start + began)
       waits_on k began f at_k begun =
           let f0 = entry_was k f at_k in
@@ -127,7 +127,7 @@ module _ {H : Type 0} where
             subst (λ o. IfSome o (λ q. q.address ≡ address_of d)) sent
             (frames_to d.controller.session.state (clocks.seen l.bus.greatest d.controller.session) d.controller.waiting)
 
-        not_mine : (k : ℕ) (f : Device) → IsOurs e l.stations → IsOurs k l.stations → k ≢ e → slice_get (slice_set l.bus.devices.entries e (device_ticks l.bus.greatest d)) k ≡ Some f
+        not_mine : (k : ℕ) (f : Entry) → IsOurs e l.stations → IsOurs k l.stations → k ≢ e → slice_get (slice_set l.bus.devices.entries e (device_ticks l.bus.greatest d)) k ≡ Some f
             → concerns (of_entry k (address_of f)) (from_panel e p) ≡ false
         not_mine k f own mine other at_k =
             let there : device_of k l.bus ≡ Some f = sym (got_other k e (device_ticks l.bus.greatest d) l.bus.devices.entries other) ∙ at_k in
@@ -135,7 +135,7 @@ module _ {H : Type 0} where
             ∙ is_false p.address (address_of f) (λ i. differ e k d f own mine (λ j. other (sym j)) is there (sym to_device ∙ i))
 
         -- what waits beside it
-        others_wait : (k began : ℕ) (f : Device) → IsOurs e l.stations → k ≢ e → slice_get (slice_set l.bus.devices.entries e (device_ticks l.bus.greatest d)) k ≡ Some f
+        others_wait : (k began : ℕ) (f : Entry) → IsOurs e l.stations → k ≢ e → slice_get (slice_set l.bus.devices.entries e (device_ticks l.bus.greatest d)) k ≡ Some f
             → begun_of (site_at k l.stations) ≡ Some began
             → Waits w (l.said ++ from_panel e p ∷ []) (stamped at (l.said ++ from_panel e p ∷ []) stamps) k (address_of f) (start + began)
         others_wait k began f own other at_k begun =
@@ -255,7 +255,7 @@ module _ {H : Type 0} where
     has_ticked None = rests l.stations (λ k. refl)
     has_ticked (Some e) = by_device (device_of e l.bus) refl
       where
-        by_device : (o : Option Device) → device_of e l.bus ≡ o → HasTicked w start at stamps (panel_says (Some e) (ticks_with e o l.bus).sent (record l {
+        by_device : (o : Option Entry) → device_of e l.bus ≡ o → HasTicked w start at stamps (panel_says (Some e) (ticks_with e o l.bus).sent (record l {
           bus = (ticks_with e o l.bus).bus;
           stations = all_hear (told_by_device e o l.bus) l.stations;
         }))

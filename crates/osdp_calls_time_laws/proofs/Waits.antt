@@ -2,8 +2,8 @@
 use Rattle.std.proofs.Common.{◌≡◌, ◌+◌, ◌≤◌, ◌<◌, ℕ, Bool, true, false, List, [], ◌∷◌, ◌++◌, length, Some, sym, subst, ap, ◌∙◌, arith}
 use Rattle.std.specs.Prelude.{◌^◌, slice_get}
 use Rattle.osdp_bus.specs.Buses.{BusState}
-use Rattle.osdp_bus.specs.Devices.{address_of}
-use Rattle.osdp_bus.specs.declared.device.Device.{Device}
+use Rattle.osdp_bus.specs.Entries.{address_of}
+use Rattle.osdp_bus.specs.declared.entry.Entry.{Entry}
 use Rattle.osdp_bus_time_laws.proofs.Devices as bus_devices
 use Rattle.osdp_link_laws.proofs.Lines.{each_map}
 use Rattle.osdp_link_laws.proofs.Stages.{Each}
@@ -32,7 +32,7 @@ IsPast w said stamps now o = (i : ℕ) (b : Burst) (m : ℕ) → i < o.place →
     → concerns o b ≡ true → m + w < now
 
 -- a device's controller has seen no later moment, and has this quiet wait
-pub record IsOf (q g : ℕ) (d : Device) : Type 0 where
+pub record IsOf (q g : ℕ) (d : Entry) : Type 0 where
   pub seen : d.controller.session.greatest ≤ g
   pub waits : d.controller.session.config.quiet_wait ≡ q
 
@@ -75,8 +75,8 @@ still_waits w at old new stamps k address began same waits in_time i b m is then
 
 module _ {H : Type 0} where
   -- of each entry whose session is to begin
-  abbrev pub AllWait : ℕ → ℕ → List ℕ → List Device → List (Station H) → List Burst → Type 0
-  AllWait w start stamps es ts said = (k : ℕ) (d : Device) (began : ℕ) → slice_get es k ≡ Some d → begun_of (site_at k ts) ≡ Some began
+  abbrev pub AllWait : ℕ → ℕ → List ℕ → List Entry → List (Station H) → List Burst → Type 0
+  AllWait w start stamps es ts said = (k : ℕ) (d : Entry) (began : ℕ) → slice_get es k ≡ Some d → begun_of (site_at k ts) ≡ Some began
       → Waits w said stamps k (address_of d) (start + began)
 
   pub record Runs (w : ℕ) (c : Clock) (l : InUse H) : Type 0 where

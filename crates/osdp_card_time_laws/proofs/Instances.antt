@@ -8,10 +8,10 @@ use Rattle.osdp_msg.specs.declared.command.Command.{Command}
 use Rattle.osdp_msg.specs.declared.event.Event.{Event}
 use Rattle.osdp_controller.specs.declared.report.Report.TheVariants as reports
 use Rattle.osdp_time_laws.proofs.Duties.{until_of}
-use Rattle.osdp_bus.specs.declared.device.Device.{Device}
+use Rattle.osdp_bus.specs.declared.entry.Entry.{Entry}
 use Rattle.osdp_bus.specs.Buses.{BusState, has_report, holder}
 use Rattle.osdp_bus.specs.Deadlines.{acts}
-use Rattle.osdp_bus.specs.Devices.{is_device_due}
+use Rattle.osdp_bus.specs.Entries.{is_device_due}
 use Rattle.osdp_bus_laws.specs.Calls.{Call, OnBytes, Tick, after_call}
 use Rattle.osdp_bus_laws.specs.Fairness.{Begins}
 use Rattle.osdp_bus_laws.proofs.Sound.{nobody}
@@ -42,7 +42,7 @@ either_false true h = refl
 either_false false h = cc
 
 -- an idle line of one entry acts once the moment is reached for which its controller waits
-rests_until : (b : BusState) (d : Device) (at : ℕ) → b.held ≡ [] → has_report b ≡ false → holder b ≡ None → b.devices.entries ≡ d ∷ []
+rests_until : (b : BusState) (d : Entry) (at : ℕ) → b.held ≡ [] → has_report b ≡ false → holder b ≡ None → b.devices.entries ≡ d ∷ []
     → d.controller.waiting ≡ [] → d.controller.session.greatest ≤ b.greatest → acts at b ≡ true → until_of d.controller.session.state ≤ max b.greatest at
 rests_until b d at none untold free entries rests seen so =
     reached_of at b d (λ idle. rests) seen
@@ -51,13 +51,13 @@ rests_until b d at none untold free entries rests seen so =
 
 -- ---- the devices, after each call
 
-abbrev first : Device
+abbrev first : Entry
 first = device_in polled.devices.entries 0
 
-abbrev second : Device
+abbrev second : Entry
 second = device_in answered.devices.entries 0
 
-abbrev third : Device
+abbrev third : Entry
 third = device_in polled_again.devices.entries 0
 
 in_time : KeepsTime 1 all_calls polled

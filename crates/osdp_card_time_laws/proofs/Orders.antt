@@ -9,9 +9,9 @@ use Rattle.osdp_controller.specs.States.{is_closed}
 use Rattle.osdp_controller_laws.specs.Commands.{asked_in, command_of}
 use Rattle.osdp_controller_laws.proofs.Ticks.{takes_front}
 use Rattle.osdp_time_laws.proofs.Orders.{lives}
-use Rattle.osdp_bus.specs.declared.device.Device.{Device}
+use Rattle.osdp_bus.specs.declared.entry.Entry.{Entry}
 use Rattle.osdp_bus.specs.Buses.{BusState, device_of, has_report}
-use Rattle.osdp_bus.specs.Devices.{device_ticks, holds}
+use Rattle.osdp_bus.specs.Entries.{device_ticks, holds}
 use Rattle.osdp_bus.specs.Machine.{device_submits, device_withdraws, submit_refusal_at}
 use Rattle.osdp_bus.specs.Ticking.{bus_ticks}
 use Rattle.osdp_bus_laws.specs.Calls.{Call, Submit, Tick, after_call}
@@ -28,10 +28,10 @@ use Rattle.osdp_card_time_laws.specs.Beside.{accepts, asked_at, waiting_at}
 
 -- ---- an exchange begins
 
-waiting_is : (entry : ℕ) (b : BusState) (d : Device) → device_of entry b ≡ Some d → waiting_at entry b ≡ length d.controller.waiting
+waiting_is : (entry : ℕ) (b : BusState) (d : Entry) → device_of entry b ≡ Some d → waiting_at entry b ≡ length d.controller.waiting
 waiting_is entry b d there = ap (λ o. option_map_or (λ e. length e.controller.waiting) o 0) there
 
-asked_is : (entry : ℕ) (b : BusState) (d : Device) → device_of entry b ≡ Some d → asked_at entry b ≡ asked_in d.controller.session.state
+asked_is : (entry : ℕ) (b : BusState) (d : Entry) → device_of entry b ≡ Some d → asked_at entry b ≡ asked_in d.controller.session.state
 asked_is entry b d there = ap (λ o. option_map_or (λ e. asked_in e.controller.session.state) o None) there
 
 -- it takes the order at the front, or is a POLL where none waits
@@ -59,14 +59,14 @@ begun_takes entry call b under begun = by_waiting under.device.controller.waitin
 
 -- ---- no exchange of the entry begins
 
-abbrev Most : ℕ → Device → Type 0
+abbrev Most : ℕ → Entry → Type 0
 Most most d = length d.controller.waiting ≤ most
 
-most_withdrawn : (most : ℕ) (d : Device) → Most most d → is_closed d.controller.session.state ≡ false → Most most (device_withdraws d)
+most_withdrawn : (most : ℕ) (d : Entry) → Most most d → is_closed d.controller.session.state ≡ false → Most most (device_withdraws d)
 most_withdrawn most d some stands =
     subst (λ t. length (if t then drop 1 d.controller.waiting else d.controller.waiting) ≤ most) (sym stands) some
 
-most_ticked : (most g : ℕ) (d : Device) → holds d ≡ true → Most most d → Most most (device_ticks g d)
+most_ticked : (most g : ℕ) (d : Entry) → holds d ≡ true → Most most d → Most most (device_ticks g d)
 most_ticked most g d stands some =
     let stay = (takes_front g d.controller.session d.controller.waiting).stay (not_idle d.controller.session.state stands) in
     subst (λ (w : List Command). length w ≤ most) (sym stay) some
@@ -89,7 +89,7 @@ module _ (entry : ℕ) (call : Call) (b : BusState) (well : Well b) (under : IsU
   placed : AtPlace entry (Most most) b.devices
   placed = let is = waiting_is entry b under.device under.there in (under.device, under.there, omega arith)
 
-  submitted : (at : ℕ) (command : Command) → call ≡ Submit at command → entry ≡ at → submit_refusal_at at command b ≡ None → (d : Device) → device_of at b ≡ Some d
+  submitted : (at : ℕ) (command : Command) → call ≡ Submit at command → entry ≡ at → submit_refusal_at at command b ≡ None → (d : Entry) → device_of at b ≡ Some d
       → Most most d → Most most (device_submits command d)
   submitted at command is same ok d there some =
       one_more (waiting_at entry b) (accepts call entry b) (length d.controller.waiting) (length (d.controller.waiting ++ command ∷ []))
@@ -117,7 +117,7 @@ module _ (entry : ℕ) (call : Call) (b : BusState) (well : Well b) (under : IsU
   by_duty false other =
       place_then g_then (Most most) (λ p d some. some) entry (most_withdrawn most) call b submitted other refl
       (λ d here. let one = one_device (device_of entry b) under.device d under.there here in
-      subst (λ (k : Device). is_closed k.controller.session.state ≡ false) one (lives under.device.controller.session.state under.under_way))
+      subst (λ (k : Entry). is_closed k.controller.session.state ≡ false) one (lives under.device.controller.session.state under.under_way))
       placed
   by_duty true ends = let tick = tick_of call b ends in by_tick tick.0 tick.1 tick.2
 

@@ -10,8 +10,8 @@ use Rattle.osdp_controller.specs.declared.meaning.ReplyMeaning.TheVariants.{Plai
 use Rattle.osdp_controller.specs.declared.report.Report.TheVariants as reports
 use Rattle.osdp_controller.specs.Answers.{meaning_of}
 use Rattle.osdp_controller_laws.specs.Laws.{exchange_in}
-use Rattle.osdp_bus.specs.declared.device.Device.{Device}
-use Rattle.osdp_bus.specs.Devices.{told_of}
+use Rattle.osdp_bus.specs.declared.entry.Entry.{Entry}
+use Rattle.osdp_bus.specs.Entries.{told_of}
 use Rattle.osdp_bus_laws.specs.Exchanges.{own_frame}
 use Rattle.osdp_reader.specs.declared.handler.Answer.{Answer}
 use Rattle.osdp_reader.specs.declared.kind.Kind.TheVariants.{Taken}
@@ -34,6 +34,6 @@ module _ {H : Type 0} (answer_of : H → Command → Answer) (after : H → Comm
 
 -- this answer to the packet of a POLL tells the controller of the event
 abbrev pub AnswersTellTheFront : Type 0
-AnswersTellTheFront = (event : Event) (p : Packet) (now : ℕ) (d : Device) → exchange_in d.controller.session.state ≡ Some Polling → own_frame d ≡ Some p
+AnswersTellTheFront = (event : Event) (p : Packet) (now : ℕ) (d : Entry) → exchange_in d.controller.session.state ≡ Some Polling → own_frame d ≡ Some p
     → meaning_of (reply_packet p p.sequence (event_reply event)) ≡ Plain (event_reply event)
     → told_of (reply_packet p p.sequence (event_reply event)) now d ≡ Some (reports.Event event)

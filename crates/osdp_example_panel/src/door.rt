@@ -1,13 +1,13 @@
 //! The door: where it is, what it is, and when its session begins. What is to be kept of it is told by a line `keep ..` before anything more is sent.
 
 use super::kept::{Call, Identity, Place, Stand, comset, read_call};
-use osdp_panel::{Address, BusFault, Command, Entry, Panel, Report};
+use osdp_panel::{Address, BusFault, Command, EntryNumber, Panel, Report};
 use osdp_site::{Site, SiteConfig};
 use std::alloc::Global;
 use std::io;
 
 /// The first device of the panel.
-pub const DOOR: Entry = 0;
+pub const DOOR: EntryNumber = 0;
 /// Where it is at first.
 pub const FIRST: Place = Place {
     address: 5,

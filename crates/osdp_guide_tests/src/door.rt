@@ -4,7 +4,7 @@ use crate::device::{Relays, card_was_read, device_turn, new_device};
 use crate::panel::{new_panel, panel_turn};
 use arrayvec::ArrayVec;
 use osdp_device::{Burst, Device, ProgramAnswers};
-use osdp_panel::{Address, Entry, Panel};
+use osdp_panel::{Address, EntryNumber, Panel};
 use std::process::Abort;
 
 /// What stands on the line, in place of what stood there.
@@ -16,7 +16,7 @@ fn carry(line: &mut ArrayVec<u8, 1440>, bytes: &[u8]) {
 /// The line from a moment on, in steps of ten milliseconds, up to another.
 fn run(
     panel: &mut Panel,
-    door: Entry,
+    door: EntryNumber,
     device: &mut Device<ProgramAnswers>,
     relays: &mut Relays,
     from: u64,

@@ -2,8 +2,8 @@
 
 use osdp_names::named::output;
 use osdp_panel::{
-    Address, BusConfig, BusFault, CheckKind, Command, Entry, Event, OutputRecord, Outputs, Panel,
-    Raw, Report, Room, Turn, Unsent,
+    Address, BusConfig, BusFault, CheckKind, Command, EntryNumber, Event, OutputRecord, Outputs,
+    Panel, Raw, Report, Room, Turn, Unsent,
 };
 use std::alloc::Global;
 
@@ -11,7 +11,11 @@ use std::alloc::Global;
 const ORDERS: usize = 64;
 
 /// A panel with one door, whose session begins now.
-pub fn new_panel(alloc: Global, address: Address, now: u64) -> Result<(Panel, Entry), BusFault> {
+pub fn new_panel(
+    alloc: Global,
+    address: Address,
+    now: u64,
+) -> Result<(Panel, EntryNumber), BusFault> {
     let mut panel = Panel::new(alloc, BusConfig::new(CheckKind::Crc, Room::of(ORDERS)))?;
     let door = panel.add(address)?;
     panel.begin(door, now)?;
@@ -24,7 +28,7 @@ fn may_enter(card: &Raw<'_>) -> bool {
 }
 
 /// Orders the door's strike, its output 0, on for three seconds.
-fn open(panel: &mut Panel, door: Entry) {
+fn open(panel: &mut Panel, door: EntryNumber) {
     let strike = OutputRecord {
         output: 0,
         control: output::ON_FOR_A_TIME,
@@ -36,7 +40,7 @@ fn open(panel: &mut Panel, door: Entry) {
 }
 
 /// The door was out of reach: the orders that waited are stale, and the session begins again.
-fn begin_again(panel: &mut Panel, door: Entry, now: u64) {
+fn begin_again(panel: &mut Panel, door: EntryNumber, now: u64) {
     for _ in 0..ORDERS {
         let _ = panel.withdraw(door);
     }
@@ -44,7 +48,13 @@ fn begin_again(panel: &mut Panel, door: Entry, now: u64) {
 }
 
 /// What the panel does with a report. A card that may have been told before makes no second order.
-pub fn decide(panel: &mut Panel, door: Entry, report: &Report<'_>, maybe_again: bool, now: u64) {
+pub fn decide(
+    panel: &mut Panel,
+    door: EntryNumber,
+    report: &Report<'_>,
+    maybe_again: bool,
+    now: u64,
+) {
     match report {
         Report::Event(Event::Raw(card)) if may_enter(card) && !maybe_again => open(panel, door),
         Report::Lost(..) | Report::Moved(..) => begin_again(panel, door, now),
@@ -59,7 +69,7 @@ pub fn decide(panel: &mut Panel, door: Entry, report: &Report<'_>, maybe_again: 
 /// The panel's loop, once: it reads, takes its turn, and decides. Its caller writes what it answers to the port.
 pub fn panel_turn(
     panel: &mut Panel,
-    door: Entry,
+    door: EntryNumber,
     bytes: &[u8],
     now: u64,
     turn: &mut Turn,

@@ -9,8 +9,8 @@ use Rattle.osdp_frame.specs.Items.{items, rest_of}
 use Rattle.osdp_frame.specs.Reading.{RunItem}
 use Rattle.osdp_frame.specs.Receiving.{Received, ends_run}
 use Rattle.osdp_frame_laws.proofs.InTurn.{over_items, over_leaves}
-use Rattle.osdp_bus.specs.declared.device.Device.{Device}
-use Rattle.osdp_bus.specs.Devices.{first_from}
+use Rattle.osdp_bus.specs.declared.entry.Entry.{Entry}
+use Rattle.osdp_bus.specs.Entries.{first_from}
 use Rattle.osdp_line_calls.specs.Passing.{Listening}
 
 module _ (line : RunItem → List ℕ) where
@@ -52,20 +52,20 @@ end_after (Err e) l over new opened s ends same is lefts = tt
 -- ---- entries
 
 -- the device of an entry is tested, and then those after it
-first_step : (test : Device → Bool) (ds : List Device) (i : ℕ) → i < length ds
+first_step : (test : Entry → Bool) (ds : List Entry) (i : ℕ) → i < length ds
     → first_from i test (drop i ds) ≡ (if option_map_or test (slice_get ds i) false then Some i else first_from (i + 1) test (drop (i + 1) ds))
 first_step test ds i within = elim (slice_get_cases ds i).1 [
   | inl here ↦ ap (first_from i test) (drop_more ds i here.0 here.1 ∙ ap (λ d. d ∷ drop (i + 1) ds) here.3) ∙ sym (ap (λ o. if option_map_or test o false then Some i else first_from (i + 1) test (drop (i + 1) ds)) here.2)
   | inr past ↦ absurd (omega (arith, within, past.0))
 ]
 
-pub found : (test : Device → Bool) (ds : List Device) (i : ℕ) → i < length ds → option_map_or test (slice_get ds i) false ≡ true
+pub found : (test : Entry → Bool) (ds : List Entry) (i : ℕ) → i < length ds → option_map_or test (slice_get ds i) false ≡ true
     → first_from i test (drop i ds) ≡ Some i
 found test ds i within is = first_step test ds i within ∙ ap (λ (b : Bool). if b then Some i else first_from (i + 1) test (drop (i + 1) ds)) is
 
-pub not_found : (test : Device → Bool) (ds : List Device) (i : ℕ) → i < length ds → option_map_or test (slice_get ds i) false ≡ false
+pub not_found : (test : Entry → Bool) (ds : List Entry) (i : ℕ) → i < length ds → option_map_or test (slice_get ds i) false ≡ false
     → first_from i test (drop i ds) ≡ first_from (i + 1) test (drop (i + 1) ds)
 not_found test ds i within is = first_step test ds i within ∙ ap (λ (b : Bool). if b then Some i else first_from (i + 1) test (drop (i + 1) ds)) is
 
-pub first_past : (test : Device → Bool) (ds : List Device) (i : ℕ) → length ds ≤ i → first_from i test (drop i ds) ≡ None
+pub first_past : (test : Entry → Bool) (ds : List Entry) (i : ℕ) → length ds ≤ i → first_from i test (drop i ds) ≡ None
 first_past test ds i past = ap (first_from i test) (drop_all i ds past)

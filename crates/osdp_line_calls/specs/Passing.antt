@@ -2,9 +2,9 @@
 use Rattle.std.specs.Prelude.{ℕ, Bool, true, false, ◌&&◌, ◌==◌, max, List, [], ◌∷◌, ◌++◌, codes, drop, flat_map, replicate, slice_get, slice_index, slice_set, if◌then◌else◌, Option, Some, None, Result, Ok, Err}
 use Rattle.std.specs.Fmt.{decimal}
 use Rattle.std.specs.Option.{unwrap_or}
-use Rattle.osdp_bus.specs.declared.device.Device.{Device}
+use Rattle.osdp_bus.specs.declared.entry.Entry.{Entry}
 use Rattle.osdp_bus.specs.declared.fault.BusFault.{BusFault}
-use Rattle.osdp_bus.specs.Devices.{first_from, is_at}
+use Rattle.osdp_bus.specs.Entries.{first_from, is_at}
 use Rattle.osdp_bus.specs.Machine.{changed_unless}
 use Rattle.osdp_controller.specs.declared.report.Report.{Report}
 use Rattle.osdp_controller.specs.declared.report.Report.TheVariants.{Opened, Moved, Lost}
@@ -106,13 +106,13 @@ abbrev pub passed_at : Packet → List Bool → Option ℕ → List ℕ
 passed_at p opened None = []
 passed_at p opened (Some entry) = if is_open entry opened then [] else passed_line entry p.sequence (passed_text p)
 
-abbrev pub passed_item : List Device → List Bool → RunItem → List ℕ
+abbrev pub passed_item : List Entry → List Bool → RunItem → List ℕ
 passed_item devices opened (PacketItem p) = if p.reply then passed_at p opened (first_from 0 (is_at p.address) devices) else []
 passed_item devices opened (SkippedItem byte) = []
 passed_item devices opened (RefusedItem fault) = []
 
 -- the lines of items, one after the other
-abbrev pub passed_items : List Device → List Bool → List RunItem → List ℕ
+abbrev pub passed_items : List Entry → List Bool → List RunItem → List ℕ
 passed_items devices opened parts = flat_map (passed_item devices opened) parts
 
 -- the lines that something heard comes to, and what is known after it
@@ -128,15 +128,15 @@ abbrev pub hears_begin : Option BusFault → ℕ → Listening → Overheard
 hears_begin refusal now l = hears_nothing (changed_unless refusal l (sees now l))
 
 -- the run is over: what is held of it is read to its end
-abbrev pub hears_end : List Device → Listening → Overheard
+abbrev pub hears_end : List Entry → Listening → Overheard
 hears_end devices l = record { text = passed_items devices l.opened (items true l.held); after = record l { held = [] } }
 
 -- a run after which the line was silent for the gap is over
-abbrev pub hears_silence : List Device → Listening → Overheard
+abbrev pub hears_silence : List Entry → Listening → Overheard
 hears_silence devices l = if is_silent_for l.gap l.last l.greatest then hears_end devices l else hears_nothing l
 
 -- bytes of a run that goes on: the items that they decide are read
-abbrev pub hears_run : List Device → List ℕ → Listening → Overheard
+abbrev pub hears_run : List Entry → List ℕ → Listening → Overheard
 hears_run devices list l = record {
   text = passed_items devices l.opened (items false (l.held ++ list));
   after = record l { held = left_over (l.held ++ list); last = l.greatest };
@@ -146,6 +146,6 @@ abbrev pub then_hears : Overheard → (Listening → Overheard) → Overheard
 then_hears first more = let second = more first.after in record { text = first.text ++ second.text; after = second.after }
 
 -- bytes at a moment; none bring the moment alone
-abbrev pub hears_bytes : List Device → List ℕ → ℕ → Listening → Overheard
+abbrev pub hears_bytes : List Entry → List ℕ → ℕ → Listening → Overheard
 hears_bytes devices [] now l = hears_nothing (sees now l)
 hears_bytes devices (byte ∷ list) now l = then_hears (hears_silence devices (sees now l)) (hears_run devices (byte ∷ list))

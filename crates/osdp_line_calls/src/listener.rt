@@ -2,7 +2,7 @@
 
 ghost use Rattle.std.specs.Prelude.{◌≡◌, ◌≤◌, ◌++◌, false, true, [], OnOk, slice_get, slice_set, string_bytes};
 ghost use Rattle.std.specs.Option.{option_map_or};
-ghost use Rattle.osdp_bus.specs.Devices.{first_from, is_at};
+ghost use Rattle.osdp_bus.specs.Entries.{first_from, is_at};
 ghost use Rattle.osdp_bus.specs.Machine.{begin_refusal_at};
 ghost use Rattle.osdp_frame.specs.Items.{items, left_over, rest_of};
 ghost use Rattle.osdp_frame.specs.Receiving.{IsAllRead};
@@ -10,7 +10,7 @@ ghost use Rattle.osdp_frame.specs.Shown.{item_of};
 ghost use Rattle.osdp_line_calls.specs.Passing.{Listening, hears_begin, hears_bytes, hears_end, hears_run, hears_silence, is_open, new_listening, opened_by, opened_told, passed_item, passed_items, sees, then_hears};
 
 use crate::passing::push_passed;
-use osdp_bus::{Bus, Entry};
+use osdp_bus::{Bus, EntryNumber};
 use osdp_controller::Report;
 use osdp_frame::{Address, Item, Receiver};
 use std::alloc::AllocError;
@@ -35,7 +35,7 @@ impl Model for Listener {
 }
 
 /// Whether the device of an entry is at this address.
-fn is_at(bus: &Bus, entry: Entry, address: Address) -> bool
+fn is_at(bus: &Bus, entry: EntryNumber, address: Address) -> bool
     ensures { result ≡ option_map_or (is_at address) (slice_get bus.now.devices.entries entry) false }
 {
     match bus.address(entry) {
@@ -45,7 +45,7 @@ fn is_at(bus: &Bus, entry: Entry, address: Address) -> bool
 }
 
 /// The entry of the device at this address.
-fn entry_at(bus: &Bus, address: Address) -> Option<Entry>
+fn entry_at(bus: &Bus, address: Address) -> Option<EntryNumber>
     ensures { result ≡ first_from 0 (is_at address) bus.now.devices.entries }
 {
     for entry in 0..bus.entries() {
@@ -57,7 +57,7 @@ fn entry_at(bus: &Bus, address: Address) -> Option<Entry>
 }
 
 /// Whether the session of an entry is open.
-fn is_open(opened: &[bool; 16], entry: Entry) -> bool
+fn is_open(opened: &[bool; 16], entry: EntryNumber) -> bool
     ensures { result ≡ is_open entry opened.now }
 {
     match opened.get(entry) {
@@ -67,7 +67,7 @@ fn is_open(opened: &[bool; 16], entry: Entry) -> bool
 }
 
 /// From now on the session of an entry is open, or isn't.
-fn set_open(opened: &mut [bool; 16], entry: Entry, is: bool)
+fn set_open(opened: &mut [bool; 16], entry: EntryNumber, is: bool)
     ensures { opened.new ≡ slice_set opened.old entry is }
 {
     if entry < opened.len() {
@@ -173,7 +173,7 @@ impl Listener {
     }
 
     /// A session of this entry is to begin at a moment. Where it may not, nothing brings the moment.
-    pub(crate) fn hear_begin(&mut self, bus: &Bus, entry: Entry, now: u64)
+    pub(crate) fn hear_begin(&mut self, bus: &Bus, entry: EntryNumber, now: u64)
         ensures { self.new ≡ (hears_begin (begin_refusal_at entry bus.now) now self.old).after }
     {
         if bus.is_closed(entry) == Some(true) {
@@ -246,7 +246,7 @@ impl Listener {
     }
 
     /// A report was told, which may say that a session is open, or isn't any more.
-    pub(crate) fn hear_report(&mut self, report: &Option<(Entry, Report<'_>)>)
+    pub(crate) fn hear_report(&mut self, report: &Option<(EntryNumber, Report<'_>)>)
         ensures { self.new ≡ record self.old { opened = opened_by report.now self.old.opened } }
     {
         let Some((entry, report)) = report else {

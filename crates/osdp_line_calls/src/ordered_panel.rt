@@ -16,7 +16,7 @@ use crate::panel_call::PanelCall;
 use crate::panel_command::PanelSettings;
 use crate::panel_say::{push_refusal, push_sent, push_withdrawal};
 use crate::panel_session::LinePanel;
-use osdp_bus::{Bus, BusFault, Entry};
+use osdp_bus::{Bus, BusFault, EntryNumber};
 use osdp_frame::{Address, Burst};
 use osdp_orders::Orders;
 use std::alloc::{AllocError, Global};
@@ -58,7 +58,7 @@ fn add(
 fn withdraw(
     orders: &mut Orders,
     bus: &mut Bus,
-    entry: Entry,
+    entry: EntryNumber,
     text: &mut String,
 ) -> Result<(), AllocError>
     ensures text { OnOk result (string_bytes text.new ≡ string_bytes text.old ++ withdrawal_line entry (withdrawal entry (both orders.old bus.old))) }

@@ -10,7 +10,7 @@ ghost use Rattle.osdp_line_calls.specs.PanelCalls.{CallFits, IsAddress, IsEntry,
 
 use crate::words::{one_list, one_moment, one_word};
 use arrayvec::ArrayVec;
-use osdp_bus::Entry;
+use osdp_bus::EntryNumber;
 use osdp_frame::Address;
 use osdp_msg::KeptCommand;
 use osdp_words::{number_u8, number_u32};
@@ -23,13 +23,13 @@ pub enum PanelCall {
     /// A device at this address joins the bus.
     Add(Address),
     /// A session of the entry's device begins.
-    Begin(Entry),
+    Begin(EntryNumber),
     /// A command waits for the entry's device.
-    Submit(Entry, KeptCommand),
+    Submit(EntryNumber, KeptCommand),
     /// The command that has waited longest for the entry's device is taken back.
-    Withdraw(Entry),
+    Withdraw(EntryNumber),
     /// The entry's device is at this address from now on.
-    Retarget(Entry, Address),
+    Retarget(EntryNumber, Address),
     /// Bytes have come.
     Bytes(ArrayVec<u8, 4096>),
     /// The line was seen silent.
@@ -39,7 +39,7 @@ pub enum PanelCall {
 }
 
 /// The entry whose number, from 1, a word is.
-fn parse_entry(word: &str) -> Option<Entry>
+fn parse_entry(word: &str) -> Option<EntryNumber>
     ensures { Reads entry_word IsEntry word.now result }
 {
     match number_u32(word)? {
@@ -63,14 +63,14 @@ fn one_address(words: &[&str]) -> Option<Address>
 }
 
 /// One word, and no other: an entry.
-fn one_entry(words: &[&str]) -> Option<Entry>
+fn one_entry(words: &[&str]) -> Option<EntryNumber>
     ensures { ReadsWords (λ n. entry_word n ∷ []) IsEntry (texts words.now) result }
 {
     parse_entry(one_word(words)?)
 }
 
 /// An entry, and the words of a command.
-fn entry_and_command(words: &[&str]) -> Option<(Entry, KeptCommand)>
+fn entry_and_command(words: &[&str]) -> Option<(EntryNumber, KeptCommand)>
     ensures { ReadsWords (λ (x : ℕ × Ordered). entry_word x.0 ∷ command_words x.1) (λ (x : ℕ × Ordered). IsEntry x.0 × CommandFits x.1) (texts words.now) result }
 {
     let [entry, rest @ ..] = words else {
@@ -81,7 +81,7 @@ fn entry_and_command(words: &[&str]) -> Option<(Entry, KeptCommand)>
 }
 
 /// Two words, and no others: an entry and an address.
-fn entry_and_address(words: &[&str]) -> Option<(Entry, Address)>
+fn entry_and_address(words: &[&str]) -> Option<(EntryNumber, Address)>
     ensures { ReadsWords (λ (x : ℕ × ℕ). entry_word x.0 ∷ number x.1 ∷ []) (λ (x : ℕ × ℕ). IsEntry x.0 × IsAddress x.1) (texts words.now) result }
 {
     let [entry, address] = words else {

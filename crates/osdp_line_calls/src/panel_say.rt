@@ -5,7 +5,7 @@ ghost use Rattle.osdp_controller.specs.Lent.{IsWritten};
 ghost use Rattle.osdp_frame.specs.Packet.{Packet};
 ghost use Rattle.osdp_line_calls.specs.PanelTexts.{due_line, event_name, fault_name, refusal_line, report_line, send_line, told_line, with_command, withdrawal_line};
 
-use osdp_bus::{BusFault, Entry};
+use osdp_bus::{BusFault, EntryNumber};
 use osdp_controller::Report;
 use osdp_msg::{Command, Reply};
 use osdp_words::ByteList;
@@ -42,7 +42,7 @@ fn event_name(maybe_again: bool) -> &'static str
 /// Writes what an entry's controller tells.
 fn push_told(
     text: &mut String,
-    entry: Entry,
+    entry: EntryNumber,
     maybe_again: bool,
     report: &Report<'_>,
 ) -> Result<(), AllocError>
@@ -80,7 +80,7 @@ fn push_told(
 /// Writes the report that was taken, where there is one, and whether it is an event that may have been reported before.
 pub(crate) fn push_report(
     text: &mut String,
-    report: &Option<(Entry, Report<'_>)>,
+    report: &Option<(EntryNumber, Report<'_>)>,
     maybe_again: bool,
 ) -> Result<(), AllocError>
     ensures { OnOk result (string_bytes text.new ≡ string_bytes text.old ++ report_line report.now maybe_again) }
@@ -120,7 +120,7 @@ pub(crate) fn push_refusal(text: &mut String, fault: BusFault) -> Result<(), All
 /// Writes the command that was taken back, or why the call is refused.
 pub(crate) fn push_withdrawal(
     text: &mut String,
-    entry: Entry,
+    entry: EntryNumber,
     taken: &Result<Option<Command<'_>>, BusFault>,
 ) -> Result<(), AllocError>
     ensures { OnOk result (string_bytes text.new ≡ string_bytes text.old ++ withdrawal_line entry taken.now) }

@@ -11,7 +11,7 @@ ghost use Rattle.osdp_line_calls.specs.PanelTexts.{refusal_line, send_line, with
 use crate::listener::Listener;
 use crate::panel_call::PanelCall;
 use crate::panel_say::{push_due, push_refusal, push_report, push_sent, push_withdrawal};
-use osdp_bus::{Bus, BusConfig, BusFault, Entry};
+use osdp_bus::{Bus, BusConfig, BusFault, EntryNumber};
 use osdp_frame::{Address, Burst};
 use std::alloc::{AllocError, Global};
 use std::marker::Model;
@@ -43,7 +43,7 @@ fn add(bus: &mut Bus, address: Address, text: &mut String) -> Result<(), AllocEr
 }
 
 /// Takes back a command, and writes which, or why the call is refused.
-fn withdraw(bus: &mut Bus, entry: Entry, text: &mut String) -> Result<(), AllocError>
+fn withdraw(bus: &mut Bus, entry: EntryNumber, text: &mut String) -> Result<(), AllocError>
     ensures text { OnOk result (string_bytes text.new ≡ string_bytes text.old ++ withdrawal_line entry (withdrawal_at entry bus.old)) }
     ensures bus { bus.new ≡ after_withdraw_at entry bus.old }
 {

@@ -5,7 +5,7 @@ ghost use Rattle.std.specs.Fmt.{decimal};
 ghost use Rattle.osdp_words.specs.Word.{bytes, printed};
 ghost use Rattle.osdp_line_calls.specs.Passing.{acts_on, number_text, opening_acts_on, passed_line, passed_reading, passed_text};
 
-use osdp_bus::Entry;
+use osdp_bus::EntryNumber;
 use osdp_frame::FrameView;
 use osdp_msg::{MsgFault, NakReason, Reply};
 use osdp_words::ByteList;
@@ -43,7 +43,7 @@ fn push_number(text: &mut String, number: u8) -> Result<(), AllocError>
 }
 
 /// Writes the name of a line of this entry, and the number of the reply that it tells of.
-fn push_start(text: &mut String, entry: Entry, number: u8) -> Result<(), AllocError>
+fn push_start(text: &mut String, entry: EntryNumber, number: u8) -> Result<(), AllocError>
     ensures { OnOk result (string_bytes text.new ≡ string_bytes text.old ++ (codes "passed over" ++ (codes " " ++ (decimal (entry + 1) ++ (codes " " ++ number_text number))))) }
 {
     let counted = entry as u128 + 1;
@@ -54,7 +54,7 @@ fn push_start(text: &mut String, entry: Entry, number: u8) -> Result<(), AllocEr
 /// Writes what is told of a reply with this number, as it was read, where an opening passes it over.
 fn push_reading(
     text: &mut String,
-    entry: Entry,
+    entry: EntryNumber,
     number: u8,
     code: u8,
     reading: Result<Reply<'_>, MsgFault>,
@@ -78,7 +78,12 @@ fn push_reading(
 }
 
 /// Writes what is told of a packet with a security block: its body.
-fn push_block(text: &mut String, entry: Entry, number: u8, body: &[u8]) -> Result<(), AllocError>
+fn push_block(
+    text: &mut String,
+    entry: EntryNumber,
+    number: u8,
+    body: &[u8],
+) -> Result<(), AllocError>
     ensures { OnOk result (string_bytes text.new ≡ string_bytes text.old ++ passed_line entry number (Some (codes "block " ++ printed (bytes body.now)))) }
 {
     push_start(text, entry, number)?;
@@ -88,7 +93,7 @@ fn push_block(text: &mut String, entry: Entry, number: u8, body: &[u8]) -> Resul
 /// Writes what is told of a packet of a reader, where an opening passes it over.
 pub(crate) fn push_passed(
     text: &mut String,
-    entry: Entry,
+    entry: EntryNumber,
     frame: &FrameView<'_>,
 ) -> Result<(), AllocError>
     ensures { OnOk result (string_bytes text.new ≡ string_bytes text.old ++ passed_line entry frame.now.sequence (passed_text frame.now)) }

@@ -4,7 +4,7 @@ use Rattle.std.specs.Prelude.{◌↔◌, if◌then◌else◌}
 use Rattle.osdp_controller.specs.Hearing.{comset_of}
 use Rattle.osdp_controller.proofs.Choices.{either_way}
 use Rattle.osdp_bus.specs.declared.config.BusConfig.{BusConfig}
-use Rattle.osdp_bus.specs.declared.device.Device.{Device}
+use Rattle.osdp_bus.specs.declared.entry.Entry.{Entry}
 use Rattle.osdp_bus.specs.declared.fault.BusFault.{BusFault}
 use Rattle.osdp_bus.specs.Buses.{BusState, device_of, seen}
 use Rattle.osdp_bus.specs.Hearing.{after_bytes, ends_run}
@@ -45,7 +45,7 @@ record IsAs (l k : Listening) : Type 0 where
   greatest : k.greatest ≡ l.greatest
   opened : k.opened ≡ l.opened
 
-silence_as : (ds : List Device) (l : Listening) → IsAs l (hears_silence ds l).after
+silence_as : (ds : List Entry) (l : Listening) → IsAs l (hears_silence ds l).after
 silence_as ds l =
     either_way (λ (o : Overheard). IsAs l o.after) _ (hears_end ds l) (hears_nothing l)
     (λ h. record { gap = refl; last = refl; greatest = refl; opened = refl })
@@ -233,7 +233,7 @@ well_new config is = record {
 known : (s : Session) → Well s → (entry : ℕ) → is_open entry s.listening.opened ≡ open_of (device_of entry s.bus)
 known s well entry = ap (λ o. with_report o entry (is_open entry s.listening.opened)) (sym well.untold) ∙ sym (well.agree.are entry)
 
-shut : (s : Session) → Well s → (entry : ℕ) (d : Device) → device_of entry s.bus ≡ Some d
+shut : (s : Session) → Well s → (entry : ℕ) (d : Entry) → device_of entry s.bus ≡ Some d
     → (is_open entry s.listening.opened ≡ false) ↔ IsNotOpen d.controller.session
 shut s well entry d at =
     let is : is_open entry s.listening.opened ≡ open_in d.controller.session.state = known s well entry ∙ ap open_of at in

@@ -12,11 +12,11 @@ use Rattle.osdp_controller_laws.proofs.Closed.{was_closed}
 use Rattle.osdp_frame.specs.Items.{items}
 use Rattle.osdp_frame.specs.Packet.{Packet}
 use Rattle.osdp_frame.specs.Reading.{RunItem}
-use Rattle.osdp_bus.specs.declared.device.Device.{Device}
+use Rattle.osdp_bus.specs.declared.entry.Entry.{Entry}
 use Rattle.osdp_bus.specs.declared.fault.BusFault.{BusFault}
 use Rattle.osdp_bus.specs.declared.fault.BusFault.TheVariants.{TooMany, AddressTaken, OutOfRange}
 use Rattle.osdp_bus.specs.Buses.{BusState, Devices, device_of, has_report, holder, is_silent, seen, waiting_after}
-use Rattle.osdp_bus.specs.Devices.{device_hears, device_ticks, is_taken, step_of, told_of}
+use Rattle.osdp_bus.specs.Entries.{device_hears, device_ticks, is_taken, step_of, told_of}
 use Rattle.osdp_bus.specs.Hearing.{after_bytes, ends_run, ends_silent, hears_items, hears_with}
 use Rattle.osdp_bus.specs.Machine.{add_refusal, after_add, after_begin_at, after_next_report, begin_refusal_at, begin_refusal_of, changed_unless, changes_device, device_begins, device_withdraws, most_devices, new_device}
 use Rattle.osdp_bus.specs.Ticking.{BusTicked, bus_ticks, is_due_at, next_due, stays, ticks_at, ticks_by, ticks_free, ticks_held, ticks_on, ticks_with}
@@ -30,11 +30,11 @@ use Rattle.osdp_bus_laws.proofs.Turning.{set_here, set_other}
 use Rattle.osdp_line_calls.specs.Passing.{is_open, opened_by, opened_told, set_open}
 use Rattle.osdp_line_laws.proofs.OneSession.{heard_as, open_in, open_told, ticked_as}
 
-abbrev pub open_of : Option Device → Bool
+abbrev pub open_of : Option Entry → Bool
 open_of None = false
 open_of (Some d) = open_in d.controller.session.state
 
-abbrev pub open_at : ℕ → List Device → Bool
+abbrev pub open_at : ℕ → List Entry → Bool
 open_at j ds = open_of (slice_get ds j)
 
 -- with a report that waits to be taken
@@ -53,7 +53,7 @@ pub record Agree (opened : List Bool) (ds : Devices) : Type 0 where
 differs : (i j : ℕ) → (i == j) ≡ false → (j ≡ i) → ⊥
 differs i j other same = let is = eq-eqb i j (sym same) in cc
 
-open_set : (ds : List Device) (i : ℕ) (d e : Device) (j : ℕ) → slice_get ds i ≡ Some d
+open_set : (ds : List Entry) (i : ℕ) (d e : Entry) (j : ℕ) → slice_get ds i ≡ Some d
     → open_at j (slice_set ds i e) ≡ (if i == j then open_of (Some e) else open_at j ds)
 open_set ds i d e j at = go (i == j) refl
   where
@@ -61,7 +61,7 @@ open_set ds i d e j at = go (i == j) refl
     go true is = ap (λ k. open_at k (slice_set ds i e)) (sym (eqb-true i j is)) ∙ ap open_of (set_here ds i d e at)
     go false other = ap open_of (set_other ds i j e (differs i j other))
 
-there : (ds : List Device) (i : ℕ) (d : Device) (j : ℕ) → slice_get ds i ≡ Some d → (i == j) ≡ true → open_at j ds ≡ open_of (Some d)
+there : (ds : List Entry) (i : ℕ) (d : Entry) (j : ℕ) → slice_get ds i ≡ Some d → (i == j) ≡ true → open_at j ds ≡ open_of (Some d)
 there ds i d j at same = ap (λ k. open_at k ds) (sym (eqb-true i j same)) ∙ ap open_of at
 
 -- a device that tells what becomes of its session, or nothing
@@ -85,7 +85,7 @@ abbrev entry_in : Option (ℕ × Report) → ℕ
 entry_in None = 0
 entry_in (Some told) = told.0
 
-agree_set : (opened : List Bool) (ds : Devices) (i : ℕ) (d e : Device) (told : Option Report) → slice_get ds.entries i ≡ Some d
+agree_set : (opened : List Bool) (ds : Devices) (i : ℕ) (d e : Entry) (told : Option Report) → slice_get ds.entries i ≡ Some d
     → open_of (Some e) ≡ open_told told (open_of (Some d)) → (is_some ds.report ≡ true → told ≡ None) → Agree opened ds
     → Agree opened (record { entries = slice_set ds.entries i e; report = waiting_after i told ds.report })
 agree_set opened ds i d e told at is quiet agree = record {
@@ -114,7 +114,7 @@ none_told (Some report) h = cc
 abbrev AgreeSoundly : List Bool → Devices → Type 0
 AgreeSoundly opened ds = Sound ds × Agree opened ds
 
-agree_packet : (opened : List Bool) (now : ℕ) (p : Packet) (i : ℕ) (d : Device) (ds : Devices) → slice_get ds.entries i ≡ Some d → AgreeSoundly opened ds
+agree_packet : (opened : List Bool) (now : ℕ) (p : Packet) (i : ℕ) (d : Entry) (ds : Devices) → slice_get ds.entries i ≡ Some d → AgreeSoundly opened ds
     → AgreeSoundly opened (hears_with p now i (Some d) ds)
 agree_packet opened now p i d ds at (sound, agree) = (
   sound_packet now p i d ds at sound,
@@ -153,7 +153,7 @@ module _ (opened : List Bool) where
   abbrev TickAgrees : BusTicked → Type 0
   TickAgrees t = AgreeBus t.bus
 
-  agree_ticks_with : (i : ℕ) (o : Option Device) (b : BusState) → device_of i b ≡ o → has_report b ≡ false → AgreeBus b → TickAgrees (ticks_with i o b)
+  agree_ticks_with : (i : ℕ) (o : Option Entry) (b : BusState) → device_of i b ≡ o → has_report b ≡ false → AgreeBus b → TickAgrees (ticks_with i o b)
   agree_ticks_with i None b at none agree = agree
   agree_ticks_with i (Some d) b at none agree =
       agree_set opened b.devices i d (device_ticks b.greatest d) (step_of b.greatest d).report at
@@ -184,11 +184,11 @@ module _ (opened : List Bool) where
 
   -- ---- the calls of its user
 
-  agree_changes : (entry : ℕ) (change : Device → Device) (b : BusState)
-      → ((d : Device) → device_of entry b ≡ Some d → open_of (Some (change d)) ≡ open_of (Some d)) → AgreeBus b → AgreeBus (changes_device entry change b)
+  agree_changes : (entry : ℕ) (change : Entry → Entry) (b : BusState)
+      → ((d : Entry) → device_of entry b ≡ Some d → open_of (Some (change d)) ≡ open_of (Some d)) → AgreeBus b → AgreeBus (changes_device entry change b)
   agree_changes entry change b same agree = by_device (device_of entry b) refl
     where
-      by_device : (o : Option Device) → device_of entry b ≡ o
+      by_device : (o : Option Entry) → device_of entry b ≡ o
           → AgreeBus (option_map_or (λ d. record b { devices = record b.devices { entries = slice_set b.devices.entries entry (change d) } }) o b)
       by_device None at = agree
       by_device (Some d) at = agree_set opened b.devices entry d (change d) None at (same d at) (λ some. refl) agree
@@ -205,8 +205,8 @@ module _ (opened : List Bool) where
   agree_unless None b c before after = after
   agree_unless (Some fault) b c before after = before
 
-  pub agree_submit : (entry : ℕ) (b : BusState) (f : Option BusFault) (change : Device → Device)
-      → ((d : Device) → open_of (Some (change d)) ≡ open_of (Some d)) → AgreeBus b → AgreeBus (changed_unless f b (changes_device entry change b))
+  pub agree_submit : (entry : ℕ) (b : BusState) (f : Option BusFault) (change : Entry → Entry)
+      → ((d : Entry) → open_of (Some (change d)) ≡ open_of (Some d)) → AgreeBus b → AgreeBus (changed_unless f b (changes_device entry change b))
   agree_submit entry b f change same agree =
       agree_unless f b (changes_device entry change b) agree (agree_changes entry change b (λ d at. same d) agree)
 
@@ -214,7 +214,7 @@ module _ (opened : List Bool) where
   agree_withdraw entry b agree = agree_changes entry device_withdraws b (λ d at. refl) agree
 
   -- a device comes after them all, where fewer than sixteen are there
-  open_added : (ds : List Device) (e : Device) (j : ℕ) → open_of (Some e) ≡ false → open_at j (ds ++ e ∷ []) ≡ open_at j ds
+  open_added : (ds : List Entry) (e : Entry) (j : ℕ) → open_of (Some e) ≡ false → open_at j (ds ++ e ∷ []) ≡ open_at j ds
   open_added [] e zero shut = shut
   open_added [] e (suc j) shut = refl
   open_added (x ∷ ds) e zero shut = refl

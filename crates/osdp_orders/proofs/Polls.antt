@@ -6,7 +6,7 @@ use Rattle.osdp_frame.specs.Packet.{Packet}
 use Rattle.osdp_frame.specs.Spelling.{Spells, address_byte, control_byte, front, start_of_message}
 use Rattle.osdp_controller.specs.Lent.{IsWritten}
 use Rattle.osdp_bus.specs.Buses.{BusState}
-use Rattle.osdp_bus.specs.Devices.{first_from, is_at}
+use Rattle.osdp_bus.specs.Entries.{first_from, is_at}
 use Rattle.osdp_orders.specs.Orders.{is_poll, polled_by, polled_in}
 
 -- by its body

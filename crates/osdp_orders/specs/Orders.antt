@@ -7,11 +7,11 @@ use Rattle.osdp_msg.specs.declared.command.Command.{Command}
 use Rattle.osdp_msg.specs.declared.limits.Room.{Room}
 use Rattle.osdp_ring.specs.Ring.{popped}
 use Rattle.osdp_controller.specs.States.{is_closed}
-use Rattle.osdp_bus.specs.declared.device.Device.{Device}
+use Rattle.osdp_bus.specs.declared.entry.Entry.{Entry}
 use Rattle.osdp_bus.specs.declared.fault.BusFault.{BusFault}
 use Rattle.osdp_bus.specs.declared.fault.BusFault.TheVariants.{NoMemory}
 use Rattle.osdp_bus.specs.Buses.{BusState, device_of}
-use Rattle.osdp_bus.specs.Devices.{first_from, is_at}
+use Rattle.osdp_bus.specs.Entries.{first_from, is_at}
 use Rattle.osdp_bus.specs.Machine.{add_refusal, after_begin_at, after_submit_at, after_withdraw_at, begin_refusal_at, is_withdrawn_at, order_refusal_at, withdrawal_at}
 use Rattle.osdp_bus.specs.Machine.{after_add as bus_after_add}
 use Rattle.osdp_bus.specs.Ticking.{BusTicked, bus_ticks}
@@ -47,7 +47,7 @@ with_queue entry q o = record o { queues = slice_set o.queues entry q }
 abbrev pub waiting_in : ℕ → BusState → ℕ
 waiting_in entry b = option_map_or (λ d. length d.controller.waiting) (device_of entry b) 0
 
-abbrev pub is_empty_in : Option Device → Bool
+abbrev pub is_empty_in : Option Entry → Bool
 is_empty_in None = false
 is_empty_in (Some d) = length d.controller.waiting == 0
 
@@ -94,7 +94,7 @@ abbrev pub after_submit : ℕ → Command → PanelState → PanelState
 after_submit entry c x = after_submit_in entry c (queue_of entry x.orders) x
 
 -- withdrawing: those that wait in the controller first, and then those that are held back, of an entry whose session is closed
-abbrev pub is_closed_in : Option Device → Bool
+abbrev pub is_closed_in : Option Entry → Bool
 is_closed_in None = false
 is_closed_in (Some d) = is_closed d.controller.session.state
 

@@ -3,14 +3,14 @@
 ghost use Rattle.std.specs.Prelude.{◌≡◌, ℕ, List, IfErr, IfOk, is_some};
 ghost use Rattle.osdp_bus.specs.declared.fault.BusFault.TheVariants.{NoMemory};
 ghost use Rattle.osdp_bus.specs.Buses.{device_of};
-ghost use Rattle.osdp_bus.specs.Devices.{first_from, is_at};
+ghost use Rattle.osdp_bus.specs.Entries.{first_from, is_at};
 ghost use Rattle.osdp_bus.specs.Machine.{begin_refusal_at, changed_unless, unless_refused};
 ghost use Rattle.osdp_bus.specs.Ticking.{bus_ticks};
 ghost use Rattle.osdp_controller.specs.Lent.{IsWritten};
 ghost use Rattle.osdp_orders.specs.Orders.{AddEnds, after_begin, held_back, held_count, queue_of, after_submit, after_tick, after_withdraw, both, is_at_entry, is_closed_in, is_empty_in, is_taken_back, lets_go, new_orders, polled_in, submit_refusal, waiting, withdrawal};
 
 use crate::queue::Queue;
-use osdp_bus::{Bus, BusFault, Entry};
+use osdp_bus::{Bus, BusFault, EntryNumber};
 use osdp_frame::{Address, Burst};
 use osdp_msg::{Command, Room};
 use std::alloc::Global;
@@ -45,7 +45,7 @@ impl Model for Orders {
 }
 
 /// Whether an entry has this address.
-fn is_at(bus: &Bus, entry: Entry, address: u8) -> bool
+fn is_at(bus: &Bus, entry: EntryNumber, address: u8) -> bool
     ensures { result ≡ is_at_entry address entry bus.now }
 {
     match bus.address(entry) {
@@ -55,7 +55,7 @@ fn is_at(bus: &Bus, entry: Entry, address: u8) -> bool
 }
 
 /// The first entry with this address.
-fn entry_at(bus: &Bus, address: u8) -> Option<Entry>
+fn entry_at(bus: &Bus, address: u8) -> Option<EntryNumber>
     ensures { result ≡ first_from 0 (is_at address) bus.now.devices.entries }
 {
     for entry in 0..bus.entries() {
@@ -67,7 +67,7 @@ fn entry_at(bus: &Bus, address: u8) -> Option<Entry>
 }
 
 /// The entry to which a burst is a POLL.
-fn polled(bus: &Bus, burst: &[u8]) -> Option<Entry>
+fn polled(bus: &Bus, burst: &[u8]) -> Option<EntryNumber>
     ensures { result ≡ polled_in burst.now bus.now }
 {
     if burst.len() <= CODE_AT || burst[CODE_AT] != POLL {
@@ -97,7 +97,7 @@ impl Orders {
     }
 
     /// Adds a device to the bus, and its queue. The faults are those of `Bus::add`; NoMemory (B1) may come before them.
-    pub fn add(&mut self, bus: &mut Bus, address: Address) -> Result<Entry, BusFault>
+    pub fn add(&mut self, bus: &mut Bus, address: Address) -> Result<EntryNumber, BusFault>
         ensures { AddEnds address (both self.old bus.old) (both self.new bus.new) result }
     {
         if !self.on || bus.entries() >= MOST_ENTRIES {
@@ -120,7 +120,7 @@ impl Orders {
     pub fn submit(
         &mut self,
         bus: &mut Bus,
-        entry: Entry,
+        entry: EntryNumber,
         command: &Command<'_>,
     ) -> Result<(), BusFault>
         ensures result { result ≡ unless_refused (submit_refusal entry command.now (both self.old bus.old)) }
@@ -150,7 +150,7 @@ impl Orders {
     pub fn withdrawable<'a>(
         &'a self,
         bus: &'a Bus,
-        entry: Entry,
+        entry: EntryNumber,
     ) -> Result<Option<Command<'a>>, BusFault>
         ensures { result ≡ withdrawal entry (both self.now bus.now) }
     {
@@ -161,7 +161,7 @@ impl Orders {
     }
 
     /// The order that has waited longest of those that are held back, where no session has begun.
-    fn held_back(&self, bus: &Bus, entry: Entry) -> Option<Command<'_>>
+    fn held_back(&self, bus: &Bus, entry: EntryNumber) -> Option<Command<'_>>
         ensures { result ≡ held_back entry (both self.now bus.now) }
     {
         if entry >= self.queues.len() || !is_closed(bus, entry) {
@@ -173,7 +173,7 @@ impl Orders {
     /// Takes that order back. Whether there was one; else nothing changes.
     ///
     /// NoEntry (B4).
-    pub fn withdraw(&mut self, bus: &mut Bus, entry: Entry) -> Result<bool, BusFault>
+    pub fn withdraw(&mut self, bus: &mut Bus, entry: EntryNumber) -> Result<bool, BusFault>
         ensures result { result ≡ is_taken_back (withdrawal entry (both self.old bus.old)) }
         ensures both { both self.new bus.new ≡ after_withdraw entry (both self.old bus.old) }
     {
@@ -191,7 +191,7 @@ impl Orders {
     }
 
     /// How many orders wait for a device, those that are held back too; the outstanding one isn't counted. None where there is no such entry.
-    pub fn waiting(&self, bus: &Bus, entry: Entry) -> Option<usize>
+    pub fn waiting(&self, bus: &Bus, entry: EntryNumber) -> Option<usize>
         ensures { result ≡ waiting entry (both self.now bus.now) }
     {
         let before = bus.waiting(entry)?;
@@ -199,7 +199,7 @@ impl Orders {
     }
 
     /// How many orders of an entry are held back.
-    fn held(&self, entry: Entry) -> usize
+    fn held(&self, entry: EntryNumber) -> usize
         ensures { result ≡ held_count (queue_of entry self.now) }
     {
         if entry < self.queues.len() {
@@ -210,7 +210,7 @@ impl Orders {
     }
 
     /// Begins a session of a device, in which the first order may go at once. The faults are those of `Bus::begin`.
-    pub fn begin(&mut self, bus: &mut Bus, entry: Entry, now: u64) -> Result<(), BusFault>
+    pub fn begin(&mut self, bus: &mut Bus, entry: EntryNumber, now: u64) -> Result<(), BusFault>
         ensures result { result ≡ unless_refused (begin_refusal_at entry bus.old) }
         ensures both { both self.new bus.new ≡ after_begin entry now (both self.old bus.old) }
     {
@@ -236,7 +236,7 @@ impl Orders {
     }
 
     /// The order that has waited longest goes to its controller, where none waits there.
-    fn let_go(&mut self, bus: &mut Bus, entry: Entry)
+    fn let_go(&mut self, bus: &mut Bus, entry: EntryNumber)
         ensures { both self.new bus.new ≡ lets_go entry (both self.old bus.old) }
     {
         if entry >= self.queues.len() || bus.waiting(entry) != Some(0) {
@@ -247,7 +247,7 @@ impl Orders {
 }
 
 /// Whether the session of an entry is closed.
-fn is_closed(bus: &Bus, entry: Entry) -> bool
+fn is_closed(bus: &Bus, entry: EntryNumber) -> bool
     ensures { result ≡ is_closed_in (device_of entry bus.now) }
 {
     bus.is_closed(entry) == Some(true)

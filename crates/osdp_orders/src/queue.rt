@@ -4,7 +4,7 @@ ghost use Rattle.std.specs.Prelude.{◌≡◌, IfErr, IfOk, None};
 ghost use Rattle.osdp_bus.specs.declared.fault.BusFault.TheVariants.{NoMemory};
 ghost use Rattle.osdp_orders.specs.Queues.{after_hold, first_held, goes, hold_refusal, new_queue};
 
-use osdp_bus::{Bus, BusFault, Entry};
+use osdp_bus::{Bus, BusFault, EntryNumber};
 use osdp_msg::{Command, Room, Spelling};
 use osdp_ring::Ring;
 use std::alloc::Global;
@@ -75,7 +75,7 @@ impl Queue {
     }
 
     /// The order that has waited longest goes to its controller, and the next one waits for a POLL. Where none is held back the next may go at once.
-    pub(crate) fn go(&mut self, bus: &mut Bus, entry: Entry)
+    pub(crate) fn go(&mut self, bus: &mut Bus, entry: EntryNumber)
         ensures queue { self.new ≡ (goes entry self.old bus.old).queue }
         ensures bus { bus.new ≡ (goes entry self.old bus.old).bus }
     {

@@ -13,7 +13,7 @@ use Rattle.osdp_controller.specs.States.{is_closed}
 use Rattle.osdp_controller_laws.specs.Commands.{asked_in, command_of}
 use Rattle.osdp_controller_laws.specs.Laws.{exchange_in}
 use Rattle.osdp_time_laws.specs.Orders.{is_under_way}
-use Rattle.osdp_bus.specs.declared.device.Device.{Device}
+use Rattle.osdp_bus.specs.declared.entry.Entry.{Entry}
 use Rattle.osdp_bus.specs.declared.fault.BusFault.{BusFault}
 use Rattle.osdp_bus.specs.Buses.{BusState, device_of}
 use Rattle.osdp_bus.specs.Machine.{after_begin_at, after_submit_at, begin_refusal_at, changed_unless, device_submits, leads_nowhere, submit_refusal_at}
@@ -149,7 +149,7 @@ module _ (entry : ℕ) where
   Owes x = (last : Call) (between : List Call) → is_some (goes_out entry last (after_calls between x)) ≡ true → heard_along entry (between ++ last ∷ []) x ≡ true
 
   record Bars (x : PanelState) : Type 0 where
-    device : Device
+    device : Entry
     there : device_of entry x.bus ≡ Some device
     why : (Owes x × (polls_in (state_of device) ≡ false)) ⊎ (is_under_way (state_of device) ≡ false)
 
@@ -165,7 +165,7 @@ module _ (entry : ℕ) where
   still_none a true begins none = absurd (let some = begins refl in cc)
 
   -- nothing is heard of it but that its session has ended
-  heard_is : (call : Call) (x : PanelState) (d e : Device) → device_of entry x.bus ≡ Some d → device_of entry (after_call call x).bus ≡ Some e
+  heard_is : (call : Call) (x : PanelState) (d e : Entry) → device_of entry x.bus ≡ Some d → device_of entry (after_call call x).bus ≡ Some e
       → polls_in (state_of d) ≡ false → is_heard entry call x ≡ is_closed (state_of e)
   heard_is call x d e at after none =
       ap (λ o. (polls_of o && not (polls_at entry (after_call call x))) || is_closed_at entry (after_call call x)) at
@@ -211,7 +211,7 @@ module _ (entry : ℕ) where
       out : is_some (goes_out entry call x) ≡ true
       out = ap (λ (o : Option Command). is_some o) (asks_out call x c none asks)
 
-      by_device : (o : Option Device) → device_of entry (after_call call x).bus ≡ o → Bars (after_call call x)
+      by_device : (o : Option Entry) → device_of entry (after_call call x).bus ≡ o → Bars (after_call call x)
       by_device None at = absurd (let nothing = sym (ap asked_of at) ∙ asks in cc)
       by_device (Some e) at = record {
         device = e;
@@ -232,7 +232,7 @@ module _ (entry : ℕ) where
       → asked_at entry (after_call call x) ≡ None
   none_asked call x bars begun same = by_why bars.why
     where
-      owed : Owes x → polls_in (state_of bars.device) ≡ false → (o : Option Device) → device_of entry (after_call call x).bus ≡ o → (a : Option Command)
+      owed : Owes x → polls_in (state_of bars.device) ≡ false → (o : Option Entry) → device_of entry (after_call call x).bus ≡ o → (a : Option Command)
           → asked_of o ≡ a → a ≡ None
       owed owes none o at None asks = refl
       owed owes none None at (Some c) asks = absurd cc
@@ -248,7 +248,7 @@ module _ (entry : ℕ) where
 
   -- ---- the orders that follow a tick leave what is asked
 
-  set_asks : (t : Bool) (k : ℕ) (c : Command) (b : BusState) (f : Device) → nat_eq entry k ≡ t → device_of k b ≡ Some f
+  set_asks : (t : Bool) (k : ℕ) (c : Command) (b : BusState) (f : Entry) → nat_eq entry k ≡ t → device_of k b ≡ Some f
       → asked_of (slice_get (slice_set b.devices.entries k (device_submits c f)) entry) ≡ asked_of (device_of entry b)
   set_asks true k c b f same at =
       let here : entry ≡ k = eqb-true entry k same in
@@ -259,7 +259,7 @@ module _ (entry : ℕ) where
   submit_asks : (k : ℕ) (c : Command) (b : BusState) → asked_of (device_of entry (after_submit_at k c b)) ≡ asked_of (device_of entry b)
   submit_asks k c b = by_device (device_of k b) refl
     where
-      by_device : (o : Option Device) → device_of k b ≡ o
+      by_device : (o : Option Entry) → device_of k b ≡ o
           → asked_of (device_of entry (option_map_or (λ d. record b { devices = record b.devices { entries = slice_set b.devices.entries k (device_submits c d) } }) o b))
           ≡ asked_of (device_of entry b)
       by_device None at = refl
@@ -285,7 +285,7 @@ module _ (entry : ℕ) where
   asked_is : (b : BusState) → asked_at_bus entry b ≡ asked_of (device_of entry b)
   asked_is b = by_device (device_of entry b)
     where
-      by_device : (o : Option Device) → option_map_or (λ (d : Device). asked_in (state_of d)) o None ≡ asked_of o
+      by_device : (o : Option Entry) → option_map_or (λ (d : Entry). asked_in (state_of d)) o None ≡ asked_of o
       by_device None = refl
       by_device (Some d) = refl
 

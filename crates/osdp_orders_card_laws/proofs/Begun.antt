@@ -19,9 +19,9 @@ use Rattle.osdp_controller_laws.specs.Commands.{GoesOn, IsAnswered, asked_in, co
 use Rattle.osdp_controller_laws.specs.Laws.{exchange_in}
 use Rattle.osdp_controller_laws.proofs.Endings.{frame_ends}
 use Rattle.osdp_time_laws.specs.Orders.{is_under_way}
-use Rattle.osdp_bus.specs.declared.device.Device.{Device}
+use Rattle.osdp_bus.specs.declared.entry.Entry.{Entry}
 use Rattle.osdp_bus.specs.Buses.{BusState, Devices, device_of, waiting_after}
-use Rattle.osdp_bus.specs.Devices.{device_hears, device_ticks, told_of}
+use Rattle.osdp_bus.specs.Entries.{device_hears, device_ticks, told_of}
 use Rattle.osdp_bus.specs.Hearing.{hears_with}
 use Rattle.osdp_bus.specs.Ticking.{BusTicked}
 use Rattle.osdp_bus_laws.specs.Calls.{Call, after_call}
@@ -37,7 +37,7 @@ use Rattle.osdp_orders_card_laws.proofs.Unbegun.{There, asking_keeps, leaves_sam
 
 -- the order of an entry that waits for its answer is this one, or a report waits
 module _ (entry : ℕ) (c : Command) where
-  abbrev Asks : Device → Type 0
+  abbrev Asks : Entry → Type 0
   Asks d = asked_in (state_of d) ≡ Some c
 
   abbrev AsksOrTold : Devices → Type 0
@@ -51,7 +51,7 @@ module _ (entry : ℕ) (c : Command) where
   told_now i None waiting tells = absurd cc
   told_now i (Some report) waiting tells = refl
 
-  module _ (g : ℕ) (p : Packet) (i : ℕ) (d : Device) (ds : Devices) (at : slice_get ds.entries i ≡ Some d) where
+  module _ (g : ℕ) (p : Packet) (i : ℕ) (d : Entry) (ds : Devices) (at : slice_get ds.entries i ≡ Some d) where
     abbrev after : Devices
     after = hears_with p g i (Some d) ds
 
@@ -96,11 +96,11 @@ none_asked_before call entry b begun = by_device (device_of entry b) refl
     never c (inl place) = still_free begun.now b begun.free entry place.0 place.1 (asks_holds (state_of place.0) c place.2)
     never c (inr told) = let untold = begun.free.after in cc
 
-    by_asked : (d : Device) → device_of entry b ≡ Some d → (o : Option Command) → asked_in (state_of d) ≡ o → o ≡ None
+    by_asked : (d : Entry) → device_of entry b ≡ Some d → (o : Option Command) → asked_in (state_of d) ≡ o → o ≡ None
     by_asked d at None asks = refl
     by_asked d at (Some c) asks = absurd (never c (asks_then entry c begun.now b (inl (d, at, asks))))
 
-    by_device : (o : Option Device) → device_of entry b ≡ o → asked_of o ≡ None
+    by_device : (o : Option Entry) → device_of entry b ≡ o → asked_of o ≡ None
     by_device None at = refl
     by_device (Some d) at = by_asked d at (asked_in (state_of d)) refl
 
@@ -114,7 +114,7 @@ opens_first (Idle due) s w never same = absurd cc
 opens_first (Waiting until sends o) s w never same = absurd cc
 opens_first (Pausing until o) s w never same = absurd cc
 
-pub opening_begins : (call : Call) (entry : ℕ) (b : BusState) (d : Device) → Begins call entry b → device_of entry b ≡ Some d → is_under_way (state_of d) ≡ false
+pub opening_begins : (call : Call) (entry : ℕ) (b : BusState) (d : Entry) → Begins call entry b → device_of entry b ≡ Some d → is_under_way (state_of d) ≡ false
     → asked_of (device_of entry (after_call call b)) ≡ None
 opening_begins call entry b d begun at never =
     let n = begun.now in
@@ -122,7 +122,7 @@ opening_begins call entry b d begun at never =
     let f = begun.next.due.device in
     let kept = asking_keeps (There entry (state_of d)) (packet_leaves entry (state_of d)) n b (d, at, leaves_same (state_of d)) in
     let one : kept.0 ≡ f = one_device (device_of entry r) kept.0 f kept.1 begun.next.due.there in
-    let unopened : is_under_way (state_of f) ≡ false = ap (λ (e : Device). is_under_way (state_of e)) (sym one) ∙ kept.2.unopened never in
+    let unopened : is_under_way (state_of f) ≡ false = ap (λ (e : Entry). is_under_way (state_of e)) (sym one) ∙ kept.2.unopened never in
     let after : device_of entry (after_call call b) ≡ Some (device_ticks r.greatest f) =
     ap (λ c. device_of entry (after_call c b)) begun.tick ∙ ap (λ (t : BusTicked). device_of entry t.bus) (begun_ticked n entry b begun.free begun.next)
     ∙ set_here r.devices.entries entry f (device_ticks r.greatest f) begun.next.due.there in

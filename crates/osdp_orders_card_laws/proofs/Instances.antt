@@ -10,10 +10,10 @@ use Rattle.osdp_msg.specs.declared.command.Command.TheVariants.{Id}
 use Rattle.osdp_msg.specs.declared.event.Event.{Event}
 use Rattle.osdp_controller.specs.declared.report.Report.TheVariants as reports
 use Rattle.osdp_time_laws.proofs.Duties.{until_of}
-use Rattle.osdp_bus.specs.declared.device.Device.{Device}
+use Rattle.osdp_bus.specs.declared.entry.Entry.{Entry}
 use Rattle.osdp_bus.specs.Buses.{BusState, has_report, holder}
 use Rattle.osdp_bus.specs.Deadlines.{acts}
-use Rattle.osdp_bus.specs.Devices.{is_device_due}
+use Rattle.osdp_bus.specs.Entries.{is_device_due}
 use Rattle.osdp_bus_laws.specs.Calls.{Call, NextReport, OnBytes, Submit, Tick, after_call}
 use Rattle.osdp_bus_laws.specs.Exchanges.{IsOutstandingAt}
 use Rattle.osdp_bus_laws.specs.Fairness.{Begins}
@@ -62,7 +62,7 @@ b9 = after_call (Submit 0 (Id 0)) b8
 abbrev b10 : BusState
 b10 = after_call (OnBytes card_answer 24) b9
 
-abbrev device : BusState → Device
+abbrev device : BusState → Entry
 device b = device_in b.devices.entries 0
 
 -- ---- duties
@@ -72,7 +72,7 @@ either_false true h = refl
 either_false false h = cc
 
 -- an idle line of one entry acts once the moment is reached for which its controller waits
-rests_until : (b : BusState) (d : Device) (at : ℕ) → b.held ≡ [] → has_report b ≡ false → holder b ≡ None → b.devices.entries ≡ d ∷ []
+rests_until : (b : BusState) (d : Entry) (at : ℕ) → b.held ≡ [] → has_report b ≡ false → holder b ≡ None → b.devices.entries ≡ d ∷ []
     → d.controller.waiting ≡ [] → d.controller.session.greatest ≤ b.greatest → acts at b ≡ true → until_of d.controller.session.state ≤ max b.greatest at
 rests_until b d at none untold free entries rests seen so =
     reached_of at b d (λ idle. rests) seen

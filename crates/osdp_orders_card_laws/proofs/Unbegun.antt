@@ -20,9 +20,9 @@ use Rattle.osdp_controller_laws.proofs.Endings.{frame_ends, tells_ends}
 use Rattle.osdp_controller_laws.proofs.InOrder.{none_outstanding}
 use Rattle.osdp_controller_laws.proofs.Stepwise.{frames_in_steps}
 use Rattle.osdp_time_laws.specs.Orders.{is_under_way}
-use Rattle.osdp_bus.specs.declared.device.Device.{Device}
+use Rattle.osdp_bus.specs.declared.entry.Entry.{Entry}
 use Rattle.osdp_bus.specs.Buses.{BusState, Devices, has_report, is_silent, seen}
-use Rattle.osdp_bus.specs.Devices.{device_hears, device_ticks, holds}
+use Rattle.osdp_bus.specs.Entries.{device_hears, device_ticks, holds}
 use Rattle.osdp_bus.specs.Hearing.{after_bytes, ends_run, hears_with}
 use Rattle.osdp_bus.specs.Machine.{add_refusal, after_add, after_begin_at, after_retarget_at, after_submit_at, begin_refusal_at, changes_device, device_begins, device_retargets, device_submits, device_withdraws, new_device, retarget_refusal_at, submit_refusal_at}
 use Rattle.osdp_bus.specs.Ticking.{BusTicked, bus_ticks, stays, ticks_on}
@@ -91,13 +91,13 @@ ticked_by (Some x) g s w is stands = by_end ((tells_ends g s).by_tick x w is)
     by_end (inl on) = goes_on s.state (ticks g s w).session.state x is on.outstanding
     by_end (inr over) = ends s.state (ticks g s w).session.state x is (closed_none (ticks g s w).session.state over.ended)
 
-abbrev pub state_of : Device → State
+abbrev pub state_of : Entry → State
 state_of d = d.controller.session.state
 
 -- ---- what comes in: what each packet keeps
 
 module _ (P : Devices → Type 0)
-    (kept : (g : ℕ) (p : Packet) (i : ℕ) (d : Device) (ds : Devices) → slice_get ds.entries i ≡ Some d → P ds → P (hears_with p g i (Some d) ds)) where
+    (kept : (g : ℕ) (p : Packet) (i : ℕ) (d : Entry) (ds : Devices) → slice_get ds.entries i ≡ Some d → P ds → P (hears_with p g i (Some d) ds)) where
   pub run_keeps : (b : BusState) → P b.devices → P (ends_run b).devices
   run_keeps b is = items_keep b.greatest P (kept b.greatest) (items true b.held) b.devices is
 
@@ -116,22 +116,22 @@ module _ (P : Devices → Type 0)
 -- ---- the device of an entry
 
 module _ (entry : ℕ) (first : State) where
-  abbrev pub Left : Device → Type 0
+  abbrev pub Left : Entry → Type 0
   Left d = Leaves first (state_of d)
 
   abbrev pub There : Devices → Type 0
   There ds = AtPlace entry Left ds
 
-  heard : (g : ℕ) (p : Packet) (d : Device) → Left d → Left (device_hears p g d)
+  heard : (g : ℕ) (p : Packet) (d : Entry) → Left d → Left (device_hears p g d)
   heard g p d left =
       leaves_then first (state_of d) (state_of (device_hears p g d)) left (heard_by (exchange_in (state_of d)) p g d.controller.session refl)
 
-  ticked : (g : ℕ) (d : Device) → holds d ≡ true → Left d → Left (device_ticks g d)
+  ticked : (g : ℕ) (d : Entry) → holds d ≡ true → Left d → Left (device_ticks g d)
   ticked g d stands left =
       leaves_then first (state_of d) (state_of (device_ticks g d)) left
       (ticked_by (exchange_in (state_of d)) g d.controller.session d.controller.waiting refl stands)
 
-  packet_by : (t : Bool) (g : ℕ) (p : Packet) (i : ℕ) (d : Device) (ds : Devices) → nat_eq entry i ≡ t → slice_get ds.entries i ≡ Some d → There ds
+  packet_by : (t : Bool) (g : ℕ) (p : Packet) (i : ℕ) (d : Entry) (ds : Devices) → nat_eq entry i ≡ t → slice_get ds.entries i ≡ Some d → There ds
       → There (hears_with p g i (Some d) ds)
   packet_by true g p i d ds same at there =
       let here : entry ≡ i = eqb-true entry i same in
@@ -143,7 +143,7 @@ module _ (entry : ℕ) (first : State) where
   packet_by false g p i d ds other at there =
       (there.0, set_other ds.entries i entry (device_hears p g d) (eqb-false entry i other) ∙ there.1, there.2)
 
-  pub packet_leaves : (g : ℕ) (p : Packet) (i : ℕ) (d : Device) (ds : Devices) → slice_get ds.entries i ≡ Some d → There ds → There (hears_with p g i (Some d) ds)
+  pub packet_leaves : (g : ℕ) (p : Packet) (i : ℕ) (d : Entry) (ds : Devices) → slice_get ds.entries i ≡ Some d → There ds → There (hears_with p g i (Some d) ds)
   packet_leaves g p i d ds at there = packet_by (nat_eq entry i) g p i d ds refl at there
 
   -- ---- the calls of the user
@@ -151,12 +151,12 @@ module _ (entry : ℕ) (first : State) where
   abbrev ThereIn : BusState → Type 0
   ThereIn b = There b.devices
 
-  changed : (change : Device → Device) (at : ℕ) (b : BusState) → ((d : Device) → Leaves (state_of d) (state_of (change d))) → ThereIn b
+  changed : (change : Entry → Entry) (at : ℕ) (b : BusState) → ((d : Entry) → Leaves (state_of d) (state_of (change d))) → ThereIn b
       → ThereIn (changes_device at change b)
   changed change at b changes there =
       changed_place Left entry change at b (λ same d is left. leaves_then first (state_of d) (state_of (change d)) left (changes d)) there
 
-  begins_quiet : (g : ℕ) (d : Device) → Leaves (state_of d) (state_of (device_begins g d))
+  begins_quiet : (g : ℕ) (d : Entry) → Leaves (state_of d) (state_of (device_begins g d))
   begins_quiet g d = record { polls = λ h. absurd cc; unopened = λ never. refl }
 
   -- ---- a tick

@@ -3,7 +3,7 @@ use Rattle.std.proofs.Common.{◌≡◌, ◌∙◌, ap, sym, inl, inr, refl, ℕ
 use Rattle.std.specs.Prelude.{◌⊎◌, if◌then◌else◌, is_none, is_some}
 use Rattle.std.proofs.lemmas.Bool.{eqb-true}
 use Rattle.osdp_msg.specs.declared.command.Command.{Command}
-use Rattle.osdp_bus.specs.declared.device.Device.{Device}
+use Rattle.osdp_bus.specs.declared.entry.Entry.{Entry}
 use Rattle.osdp_bus.specs.Buses.{device_of}
 use Rattle.osdp_bus.specs.Machine.{order_refusal_of, withdrawal_of}
 use Rattle.osdp_bus_laws.specs.Calls.{Call, Add, Begin, Submit, Withdraw, Retarget, OnBytes, OnSilence, Tick, NextReport}
@@ -18,19 +18,19 @@ use Rattle.osdp_orders_laws.proofs.Steps.{Gives, Owes, heard, listed, orders, ou
 
 -- ---- what the definitions say of an entry that there is, or isn't
 
-pub out_is : (entry : ℕ) (call : Call) (d e : Device) (x : PanelState) → device_of entry x.bus ≡ Some d → device_of entry (after_call call x).bus ≡ Some e
+pub out_is : (entry : ℕ) (call : Call) (d e : Entry) (x : PanelState) → device_of entry x.bus ≡ Some d → device_of entry (after_call call x).bus ≡ Some e
     → goes_out entry call x ≡ out d e
 out_is entry call d e x at after =
     ap (λ o. if is_none (asked_of o) then asked_of (device_of entry (after_call call x).bus) else None) at
     ∙ ap (λ o. if is_none (asked_of (Some d)) then asked_of o else None) after
 
-heard_is : (entry : ℕ) (call : Call) (d e : Device) (x : PanelState) → device_of entry x.bus ≡ Some d → device_of entry (after_call call x).bus ≡ Some e
+heard_is : (entry : ℕ) (call : Call) (d e : Entry) (x : PanelState) → device_of entry x.bus ≡ Some d → device_of entry (after_call call x).bus ≡ Some e
     → is_heard entry call x ≡ heard d e
 heard_is entry call d e x at after =
     ap (λ o. (polls_of o && not (polls_of (device_of entry (after_call call x).bus))) || is_closed_in (device_of entry (after_call call x).bus)) at
     ∙ ap (λ o. (polls_of (Some d) && not (polls_of o)) || is_closed_in o) after
 
-pub waiting_is : (entry : ℕ) (d : Device) (q : Queue) (x : PanelState) → At entry d q x → waiting_orders entry x ≡ orders d q
+pub waiting_is : (entry : ℕ) (d : Entry) (q : Queue) (x : PanelState) → At entry d q x → waiting_orders entry x ≡ orders d q
 waiting_is entry d q x at = ap (λ o. in_controller o ++ held_in (queue_of entry x.orders)) at.device ∙ ap (λ o. in_controller (Some d) ++ held_in o) at.queue
 
 none_out : (entry : ℕ) (call : Call) (x : PanelState) → Nobody entry x → Nobody entry (after_call call x) ⊎ New entry (after_call call x) → goes_out entry call x ≡ None
@@ -53,7 +53,7 @@ not_some : {P : Type 0} (o : Option Command) → o ≡ None → is_some o ≡ tr
 not_some None none some = absurd cc
 not_some (Some c) none some = absurd cc
 
-heard_by : (entry : ℕ) (last : Call) (between : List Call) (x : PanelState) → Inv x → (d : Device) (q : Queue) → At entry d q x → Owes d q
+heard_by : (entry : ℕ) (last : Call) (between : List Call) (x : PanelState) → Inv x → (d : Entry) (q : Queue) → At entry d q x → Owes d q
     → is_some (goes_out entry last (after_calls between x)) ≡ true → heard_along entry (between ++ last ∷ []) x ≡ true
 heard_by entry last [] x inv d q at owes goes =
     let g = each entry d q x at (inv.paced entry d q at) last inv.sound in
@@ -78,7 +78,7 @@ heard_by entry last (call ∷ between) x inv d q at owes goes =
 pub polls_stand : (x : PanelState) → Inv x → PollsStandBetween x
 polls_stand x inv entry first last between goes_first goes_last = by_device (device_of entry x.bus) refl
   where
-    by_device : (o : Option Device) → device_of entry x.bus ≡ o → heard_along entry (between ++ last ∷ []) (after_call first x) ≡ true
+    by_device : (o : Option Entry) → device_of entry x.bus ≡ o → heard_along entry (between ++ last ∷ []) (after_call first x) ≡ true
     by_device None none =
         let nobody_there = nobody entry x inv none in
         not_some (goes_out entry first x) (none_out entry first x nobody_there (fresh first entry x inv nobody_there)) goes_first
@@ -148,7 +148,7 @@ pub one_place : (entry : ℕ) (call : Call) (x : PanelState) → Inv x → Order
     ≡ waiting_orders entry x ++ listed (accepted_in entry call x)
 one_place entry call x inv written = by_device (device_of entry x.bus) refl
   where
-    by_device : (o : Option Device) → device_of entry x.bus ≡ o
+    by_device : (o : Option Entry) → device_of entry x.bus ≡ o
         → (listed (goes_out entry call x) ++ listed (taken_back_in entry call x)) ++ waiting_orders entry (after_call call x)
         ≡ waiting_orders entry x ++ listed (accepted_in entry call x)
     by_device None nothing =

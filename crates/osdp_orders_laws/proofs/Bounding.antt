@@ -7,7 +7,7 @@ use Rattle.std.proofs.lemmas.Bool.{eqb-true}
 use Rattle.osdp_msg.specs.declared.command.Command.{Command}
 use Rattle.osdp_time_laws.proofs.Orders.{lives}
 use Rattle.osdp_bus.specs.declared.config.BusConfig.{BusConfig}
-use Rattle.osdp_bus.specs.declared.device.Device.{Device}
+use Rattle.osdp_bus.specs.declared.entry.Entry.{Entry}
 use Rattle.osdp_bus.specs.Buses.{BusState, device_of}
 use Rattle.osdp_bus_laws.specs.Calls.{Call, Add, Begin, Submit, Withdraw, Retarget, OnBytes, OnSilence, Tick, NextReport}
 use Rattle.osdp_bus_laws.specs.Calls.{after_calls as after_bus_calls}
@@ -134,13 +134,13 @@ module _ (config : BusConfig) (late : ℕ) (time : ℕ → ℕ) (n entry limit :
   each = config.poll_interval + 2 * turns_of time late n
 
   -- one is the next to go out, in the controller of the entry
-  pub record IsNext (d : Device) : Type 0 where
+  pub record IsNext (d : Entry) : Type 0 where
     pub command : Command
     pub rest : List Command
     pub is : waits d ≡ command ∷ rest
 
   -- the next exchange of the entry begins by a moment: it asks an order, or a POLL comes before the order
-  pub record Stage (before : ℕ) (calls : List Call) (x : PanelState) (d : Device) : Type 0 where
+  pub record Stage (before : ℕ) (calls : List Call) (x : PanelState) (d : Entry) : Type 0 where
     pub moment : ℕ
     pub soon : x.bus.greatest ≤ moment
     pub goes : BeginsBy moment zero entry (all_bus_calls calls x) x.bus
@@ -149,7 +149,7 @@ module _ (config : BusConfig) (late : ℕ) (time : ℕ → ℕ) (n entry limit :
   abbrev pub Stages : ℕ → List Call → PanelState → Type 0
   Stages before calls x = (under : IsUnderWay entry x.bus) → Stage before calls x under.device
 
-  either_fits : (before m : ℕ) (d : Device) → (IsNext d × (m + before * each ≤ limit)) ⊎ (m + turns + before * each ≤ limit) → m + before * each ≤ limit
+  either_fits : (before m : ℕ) (d : Entry) → (IsNext d × (m + before * each ≤ limit)) ⊎ (m + turns + before * each ≤ limit) → m + before * each ≤ limit
   either_fits before m d (inl fits) = fits.1
   either_fits before m d (inr fits) = sooner m (before * each) turns limit fits
 
@@ -188,7 +188,7 @@ module _ (config : BusConfig) (late : ℕ) (time : ℕ → ℕ) (n entry limit :
             },
           )
         where
-          by_fits : {e f : Device} → (IsNext under.device × (stage.moment + before * each ≤ limit)) ⊎ (stage.moment + turns + before * each ≤ limit)
+          by_fits : {e f : Entry} → (IsNext under.device × (stage.moment + before * each ≤ limit)) ⊎ (stage.moment + turns + before * each ≤ limit)
               → Keeps under.device e → e ≡ f → (IsNext f × (stage.moment + before * each ≤ limit)) ⊎ (stage.moment + turns + before * each ≤ limit)
           by_fits (inr fits) kept same = inr fits
           by_fits (inl (first, fits)) kept same = inl (

@@ -4,10 +4,10 @@ use Rattle.std.specs.Prelude.{not, slice_get, slice_set}
 use Rattle.std.specs.Option.{option_map_or}
 use Rattle.osdp_frame.specs.Items.{items}
 use Rattle.osdp_controller.proofs.Choices.{either_way}
-use Rattle.osdp_bus.specs.declared.device.Device.{Device}
+use Rattle.osdp_bus.specs.declared.entry.Entry.{Entry}
 use Rattle.osdp_bus.specs.declared.fault.BusFault.{BusFault}
 use Rattle.osdp_bus.specs.Buses.{BusState, Devices, device_of, has_report, holder, is_silent, seen}
-use Rattle.osdp_bus.specs.Devices.{device_hears}
+use Rattle.osdp_bus.specs.Entries.{device_hears}
 use Rattle.osdp_bus.specs.Hearing.{after_bytes, ends_run, ends_silent}
 use Rattle.osdp_bus.specs.Machine.{after_begin_at, after_retarget_at, after_submit_at, begin_refusal_at, changed_unless, changes_device, device_begins, device_retargets, device_submits, device_withdraws, retarget_refusal_at, submit_refusal_at}
 use Rattle.osdp_bus.specs.Ticking.{BusTicked, bus_ticks, is_due_at, is_held_and_due, next_due, stays, ticks_at, ticks_by, ticks_held, ticks_on, ticks_with}
@@ -58,7 +58,7 @@ module _ (n : ℕ) where
   abbrev CountsTicked : BusTicked → Type 0
   CountsTicked t = Counts t.bus
 
-  with_one : (i : ℕ) (o : Option Device) (b : BusState) → Counts b → CountsTicked (ticks_with i o b)
+  with_one : (i : ℕ) (o : Option Entry) (b : BusState) → Counts b → CountsTicked (ticks_with i o b)
   with_one i None b is = is
   with_one i (Some d) b is = set_length b.devices.entries i _ ∙ is
 
@@ -81,10 +81,10 @@ module _ (n : ℕ) where
       let e = ends_silent (seen now b) in
       either_way CountsTicked (has_report b) (stays (seen now b)) (ticks_on e) (λ h. is) (λ h. by_holder (holder e) e (silent (seen now b) is))
 
-  pub changes : (entry : ℕ) (change : Device → Device) (b : BusState) → Counts b → Counts (changes_device entry change b)
+  pub changes : (entry : ℕ) (change : Entry → Entry) (b : BusState) → Counts b → Counts (changes_device entry change b)
   changes entry change b is = by_device (device_of entry b)
     where
-      by_device : (o : Option Device)
+      by_device : (o : Option Entry)
           → Counts (option_map_or (λ d. record b { devices = record b.devices { entries = slice_set b.devices.entries entry (change d) } }) o b)
       by_device None = is
       by_device (Some d) = set_length b.devices.entries entry (change d) ∙ is

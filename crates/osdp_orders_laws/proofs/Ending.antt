@@ -14,10 +14,10 @@ use Rattle.osdp_controller_laws.specs.Commands.{tells_end}
 use Rattle.osdp_controller_laws.proofs.Endings.{tells_ends}
 use Rattle.osdp_controller.proofs.Choices.{either_way}
 use Rattle.osdp_time_laws.proofs.Orders.{lives}
-use Rattle.osdp_bus.specs.declared.device.Device.{Device}
+use Rattle.osdp_bus.specs.declared.entry.Entry.{Entry}
 use Rattle.osdp_bus.specs.declared.fault.BusFault.{BusFault}
 use Rattle.osdp_bus.specs.Buses.{BusState, Devices, device_of, has_report, holder, is_silent, seen, waiting_after}
-use Rattle.osdp_bus.specs.Devices.{device_hears, device_ticks, holds, step_of, told_of}
+use Rattle.osdp_bus.specs.Entries.{device_hears, device_ticks, holds, step_of, told_of}
 use Rattle.osdp_bus.specs.Hearing.{after_bytes, ends_run, hears_items, hears_with}
 use Rattle.osdp_bus.specs.Machine.{add_refusal, after_add, after_begin_at, after_retarget_at, after_submit_at, begin_refusal_at, changed_unless, changes_device, device_begins, device_retargets, device_submits, device_withdraws, new_device, retarget_refusal_at, submit_refusal_at}
 use Rattle.osdp_bus.specs.Ticking.{BusTicked, bus_ticks, is_due_at, is_held_and_due, next_due, stays, ticks_at, ticks_by, ticks_held, ticks_on, ticks_with}
@@ -48,13 +48,13 @@ ends_by : (b : Bool) (o : Option Report) → b ≡ tells_end o → b ≡ true �
 ends_by b None is over = absurd cc
 ends_by b (Some r) is over = (r, refl, sym is ∙ over)
 
-heard_end : (p : Packet) (now : ℕ) (d : Device) → closed d ≡ false → closed (device_hears p now d) ≡ true
+heard_end : (p : Packet) (now : ℕ) (d : Entry) → closed d ≡ false → closed (device_hears p now d) ≡ true
     → (r : Report) × (told_of p now d ≡ Some r) × (tells_end (Some r) ≡ true)
 heard_end p now d stands over =
     ends_by (closed (device_hears p now d)) (told_of p now d)
     ((tells_ends now d.controller.session).closed_by_frame p ∙ ap (λ t. t || tells_end (told_of p now d)) stands) over
 
-ticked_end : (now : ℕ) (d : Device) → closed d ≡ false → closed (device_ticks now d) ≡ true
+ticked_end : (now : ℕ) (d : Entry) → closed d ≡ false → closed (device_ticks now d) ≡ true
     → (r : Report) × ((step_of now d).report ≡ Some r) × (tells_end (Some r) ≡ true)
 ticked_end now d stands over =
     ends_by (closed (device_ticks now d)) (step_of now d).report
@@ -75,7 +75,7 @@ no_report (Some r) h = cc
 
 -- one exchange at most is outstanding
 abbrev Alone : Devices → Type 0
-Alone ds = (i j : ℕ) (d e : Device) → slice_get ds.entries i ≡ Some d → holds d ≡ true → slice_get ds.entries j ≡ Some e → holds e ≡ true → i ≡ j
+Alone ds = (i j : ℕ) (d e : Entry) → slice_get ds.entries i ≡ Some d → holds d ≡ true → slice_get ds.entries j ≡ Some e → holds e ≡ true → i ≡ j
 
 module _ (entry : ℕ) where
   abbrev Told : Devices → Type 0
@@ -89,14 +89,14 @@ module _ (entry : ℕ) where
   Both ds = Alone ds × Ends ds
 
   -- a packet
-  module _ (now : ℕ) (p : Packet) (i : ℕ) (d : Device) (ds : Devices) (at : slice_get ds.entries i ≡ Some d) where
+  module _ (now : ℕ) (p : Packet) (i : ℕ) (d : Entry) (ds : Devices) (at : slice_get ds.entries i ≡ Some d) where
     abbrev after : Devices
     after = hears_with p now i (Some d) ds
 
-    was_held : (j : ℕ) (f : Device) → slice_get after.entries j ≡ Some f → holds f ≡ true → (g : Device) × (slice_get ds.entries j ≡ Some g) × (holds g ≡ true)
+    was_held : (j : ℕ) (f : Entry) → slice_get after.entries j ≡ Some f → holds f ≡ true → (g : Entry) × (slice_get ds.entries j ≡ Some g) × (holds g ≡ true)
     was_held j f there stands = by_place (replaced ds.entries i (device_hears p now d) j f there)
       where
-        by_place : IsAt ds.entries i (device_hears p now d) j f → (g : Device) × (slice_get ds.entries j ≡ Some g) × (holds g ≡ true)
+        by_place : IsAt ds.entries i (device_hears p now d) j f → (g : Entry) × (slice_get ds.entries j ≡ Some g) × (holds g ≡ true)
         by_place (inl (here, same)) = (d, ap (slice_get ds.entries) here ∙ at, heard_holds p now d (sym (ap holds same) ∙ stands))
         by_place (inr (other, was)) = (f, was, stands)
 
@@ -174,7 +174,7 @@ module _ (entry : ℕ) where
   untold : (b : BusState) → has_report b ≡ false → Told b.devices → ⊥
   untold b none told = let some = ap (λ o. is_some o) told.1 in let both = sym some ∙ none in cc
 
-  with_device : (k : ℕ) (o : Option Device) (b : BusState) → device_of k b ≡ o → AtPlace entry (λ d. closed d ≡ false) b.devices → Ticks (ticks_with k o b)
+  with_device : (k : ℕ) (o : Option Entry) (b : BusState) → device_of k b ≡ o → AtPlace entry (λ d. closed d ≡ false) b.devices → Ticks (ticks_with k o b)
   with_device k None b at place = inl place
   with_device k (Some d) b at (e, there, stands) = by_same (nat_eq entry k) refl
     where
@@ -226,7 +226,7 @@ module _ (entry : ℕ) where
   abbrev Stands : BusState → Type 0
   Stands b = AtPlace entry (λ d. closed d ≡ false) b.devices
 
-  changed : (change : Device → Device) → ((d : Device) → closed d ≡ false → closed (change d) ≡ false) → (at : ℕ) (b : BusState) → Stands b
+  changed : (change : Entry → Entry) → ((d : Entry) → closed d ≡ false → closed (change d) ≡ false) → (at : ℕ) (b : BusState) → Stands b
       → Stands (changes_device at change b)
   changed change keeps at b (d, there, stands) = by_same (nat_eq entry at) refl
     where
@@ -239,7 +239,7 @@ module _ (entry : ℕ) where
   unless None b c before later = later
   unless (Some fault) b c before later = before
 
-  in_front : (ds : List Device) (e : Device) (i : ℕ) (d : Device) → slice_get ds i ≡ Some d → slice_get (ds ++ e ∷ []) i ≡ Some d
+  in_front : (ds : List Entry) (e : Entry) (i : ℕ) (d : Entry) → slice_get ds i ≡ Some d → slice_get (ds ++ e ∷ []) i ≡ Some d
   in_front [] e i d at = absurd cc
   in_front (x ∷ ds) e zero d at = at
   in_front (x ∷ ds) e (suc i) d at = in_front ds e i d at
@@ -279,10 +279,10 @@ module _ (entry : ℕ) where
       by_call NextReport = inl stands
 
   -- orders that come after it leave that as it is
-  same_report : (at : ℕ) (change : Device → Device) (b : BusState) → (changes_device at change b).devices.report ≡ b.devices.report
+  same_report : (at : ℕ) (change : Entry → Entry) (b : BusState) → (changes_device at change b).devices.report ≡ b.devices.report
   same_report at change b = by_device (device_of at b)
     where
-      by_device : (o : Option Device)
+      by_device : (o : Option Entry)
           → (option_map_or (λ d. record b { devices = record b.devices { entries = slice_set b.devices.entries at (change d) } }) o b).devices.report ≡ b.devices.report
       by_device None = refl
       by_device (Some d) = refl

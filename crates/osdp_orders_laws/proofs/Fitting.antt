@@ -11,7 +11,7 @@ use Rattle.osdp_controller.specs.declared.fault.ControllerFault.TheVariants as c
 use Rattle.osdp_controller.specs.Hearing.{comset_of}
 use Rattle.osdp_controller.specs.Machine.{Machine, bytes_waiting, command_size, has_room, submit_refusal as refusal_of_controller}
 use Rattle.osdp_ring.specs.Ring.{fits_in, popped, total}
-use Rattle.osdp_bus.specs.declared.device.Device.{Device}
+use Rattle.osdp_bus.specs.declared.entry.Entry.{Entry}
 use Rattle.osdp_bus.specs.declared.fault.BusFault.{BusFault}
 use Rattle.osdp_bus.specs.declared.fault.BusFault.TheVariants.{AddressOutOfRange, AddressTaken, Full}
 use Rattle.osdp_bus.specs.Buses.{BusState, device_of}
@@ -228,7 +228,7 @@ has_its_room c m none some small =
     ∙ ap (λ t. t && nat_le (command_size c) (m.room - 0)) (lt-ltb 0 m.capacity (omega (arith, some)))
     ∙ le-leb (command_size c) (m.room - 0) (omega (arith, small))
 
-pub not_refused : (entry : ℕ) (c : Command) (d : Device) (b : BusState) → device_of entry b ≡ Some d → d.controller.waiting ≡ [] → 1 ≤ d.controller.capacity
+pub not_refused : (entry : ℕ) (c : Command) (d : Entry) (b : BusState) → device_of entry b ≡ Some d → d.controller.waiting ≡ [] → 1 ≤ d.controller.capacity
     → c ≢ Poll → comset_of c ≡ None → command_size c ≤ d.controller.room → order_refusal_at entry c b ≡ None
 not_refused entry c d b at none some no_poll no_comset small =
     ap (λ o. order_refusal_of entry c o b) at

@@ -12,9 +12,9 @@ use Rattle.osdp_controller.specs.declared.exchange.Exchange.TheVariants.{Opening
 use Rattle.osdp_controller.specs.Sessions.{frame_of}
 use Rattle.osdp_controller_laws.specs.Laws.{exchange_in}
 use Rattle.osdp_bus.specs.declared.config.BusConfig.{BusConfig}
-use Rattle.osdp_bus.specs.declared.device.Device.{Device}
+use Rattle.osdp_bus.specs.declared.entry.Entry.{Entry}
 use Rattle.osdp_bus.specs.Buses.{BusState, device_of, new_bus, seen}
-use Rattle.osdp_bus.specs.Devices.{address_of, first_from, is_at}
+use Rattle.osdp_bus.specs.Entries.{address_of, first_from, is_at}
 use Rattle.osdp_bus.specs.Machine.{after_begin_at, begin_refusal_of, changed_unless, device_begins, device_submits, order_refusal_at}
 use Rattle.osdp_bus.specs.Ticking.{bus_ticks}
 use Rattle.osdp_bus.proofs.Waiting.{IsFound, found}
@@ -75,7 +75,7 @@ reached_along config (call ∷ calls) x r =
 pub reached_config : (config : BusConfig) (b : BusState) → Reached config b → b.config ≡ config
 reached_config config b r = ap (λ (c : BusState). c.config) r.is ∙ config_along r.calls (new_bus config)
 
-room_at : (config : BusConfig) (entry : ℕ) (d : Device) (b : BusState) → Reached config b → device_of entry b ≡ Some d → d.controller.room ≡ config.room.bytes
+room_at : (config : BusConfig) (entry : ℕ) (d : Entry) (b : BusState) → Reached config b → device_of entry b ≡ Some d → d.controller.room ≡ config.room.bytes
 room_at config entry d b r at =
     let rooms : HasRooms b = subst HasRooms (sym r.is) (always_rooms config r.calls) in
     ap (λ (room : Room). room.bytes) (rooms entry d at) ∙ ap (λ (c : BusConfig). c.room.bytes) (reached_config config b r)
@@ -85,15 +85,15 @@ room_at config entry d b r at =
 abbrev IsNext : ℕ → PanelState → Type 0
 IsNext entry x = OneIsNext entry x
 
-one_waits : (entry : ℕ) (d : Device) (x : PanelState) → device_of entry x.bus ≡ Some d → (c : Command) (rest : List Command) → waits d ≡ c ∷ rest → IsNext entry x
+one_waits : (entry : ℕ) (d : Entry) (x : PanelState) → device_of entry x.bus ≡ Some d → (c : Command) (rest : List Command) → waits d ≡ c ∷ rest → IsNext entry x
 one_waits entry d x at c rest some = inr (c, rest, ap in_controller at ∙ some)
 
-none_waits : (entry : ℕ) (d : Device) (q : Queue) (x : PanelState) → At entry d q x → waits d ≡ [] → q.held.items ≡ [] → IsNext entry x
+none_waits : (entry : ℕ) (d : Entry) (q : Queue) (x : PanelState) → At entry d q x → waits d ≡ [] → q.held.items ≡ [] → IsNext entry x
 none_waits entry d q x at empty none =
     inl (ap (λ o. in_controller o ++ held_in (queue_of entry x.orders)) at.device ∙ ap (λ o. waits d ++ held_in o) at.queue
     ∙ ap (λ w. w ++ map command_kept q.held.items) empty ∙ ap (λ (items : List (List ℕ)). map command_kept items) none)
 
-module _ (config : BusConfig) (entry : ℕ) (d : Device) (q : Queue) (x : PanelState) (at : At entry d q x) (sound : SoundBus x.bus) (reached : Reached config x.bus)
+module _ (config : BusConfig) (entry : ℕ) (d : Entry) (q : Queue) (x : PanelState) (at : At entry d q x) (sound : SoundBus x.bus) (reached : Reached config x.bus)
     (fits : Fits config.room q) where
   abbrev NextAfter : Gone → Type 0
   NextAfter g = IsNext entry (gone_to entry x.orders g)
@@ -135,8 +135,8 @@ module _ (config : BusConfig) (entry : ℕ) (d : Device) (q : Queue) (x : PanelS
 
 -- ---- whom a POLL asks
 
-first_at : (test : Device → Bool) (ds : List Device) (k : ℕ) (d : Device) → slice_get ds k ≡ Some d → test d ≡ true
-    → ((j : ℕ) (f : Device) → slice_get ds j ≡ Some f → test f ≡ true → j ≡ k) → first_from 0 test ds ≡ Some k
+first_at : (test : Entry → Bool) (ds : List Entry) (k : ℕ) (d : Entry) → slice_get ds k ≡ Some d → test d ≡ true
+    → ((j : ℕ) (f : Entry) → slice_get ds j ≡ Some f → test f ≡ true → j ≡ k) → first_from 0 test ds ≡ Some k
 first_at test ds k d at passes only = by_found (first_from 0 test ds) refl
   where
     by_found : (o : Option ℕ) → first_from 0 test ds ≡ o → first_from 0 test ds ≡ Some k
@@ -153,7 +153,7 @@ polling_is (Some Opening) h = absurd cc
 polling_is (Some (Asking c)) h = absurd cc
 polling_is None h = absurd cc
 
-pub asked_entry : (entry : ℕ) (d : Device) (p : Packet) (b : BusState) → Sound b.devices → device_of entry b ≡ Some d → own_frame d ≡ Some p → polls d ≡ true
+pub asked_entry : (entry : ℕ) (d : Entry) (p : Packet) (b : BusState) → Sound b.devices → device_of entry b ≡ Some d → own_frame d ≡ Some p → polls d ≡ true
     → polled_by (Some p) b ≡ Some entry
 asked_entry entry d p b sound at own polling =
     let s = d.controller.session in
@@ -169,7 +169,7 @@ asked_entry entry d p b sound at own polling =
 -- ---- the law
 
 module _ (config : BusConfig) (x : PanelState) (inv : Inv x) (reached : Reached config x.bus) (fit : AllFit config.room x.orders) (entry : ℕ) where
-  queue_for : (d : Device) (b : BusState) → device_of entry b ≡ Some d → length b.devices.entries ≡ length x.bus.devices.entries
+  queue_for : (d : Entry) (b : BusState) → device_of entry b ≡ Some d → length b.devices.entries ≡ length x.bus.devices.entries
       → (q : Queue) × (queue_of entry x.orders ≡ Some q)
   queue_for d b at many =
       something_at x.orders.queues entry (length b.devices.entries) (within_at b.devices.entries entry d at) (many ∙ sym inv.many)
@@ -190,7 +190,7 @@ module _ (config : BusConfig) (x : PanelState) (inv : Inv x) (reached : Reached 
       subst (λ c. IsNext entry (after_call c x)) (sym a.begin)
       (subst (λ f. IsNext entry (begins_in f entry a.now x)) (sym a.accepted) (by_device a (device_of entry x.bus) refl))
     where
-      by_device : (a : Begins entry call x) (o : Option Device) → device_of entry x.bus ≡ o
+      by_device : (a : Begins entry call x) (o : Option Entry) → device_of entry x.bus ≡ o
           → IsNext entry (lets_go_of entry (queue_of entry x.orders) (both x.orders (after_begin_at entry a.now x.bus)))
       by_device a None none = absurd (let refused = sym (ap begin_refusal_of none) ∙ a.accepted in cc)
       by_device a (Some d) at =

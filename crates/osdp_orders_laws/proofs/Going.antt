@@ -9,7 +9,7 @@ use Rattle.osdp_controller.specs.Machine.{begin_refusal}
 use Rattle.osdp_controller.specs.States.{is_closed}
 use Rattle.osdp_controller_laws.proofs.Closed.{was_closed}
 use Rattle.osdp_ring.specs.Ring.{popped}
-use Rattle.osdp_bus.specs.declared.device.Device.{Device}
+use Rattle.osdp_bus.specs.declared.entry.Entry.{Entry}
 use Rattle.osdp_bus.specs.declared.fault.BusFault.{BusFault}
 use Rattle.osdp_bus.specs.Buses.{BusState, device_of, seen}
 use Rattle.osdp_bus.specs.Machine.{add_refusal, after_begin_at, after_retarget_at, after_submit_at, after_withdraw_at, begin_refusal_at, begin_refusal_of, changed_unless, changes_device, device_begins, device_retargets, device_submits, device_withdraws, is_withdrawn_at, is_withdrawn_of, new_device, order_refusal_at, retarget_refusal_at, withdrawal_of, withdrawn_of}
@@ -30,28 +30,28 @@ use Rattle.osdp_orders_laws.proofs.Polling.{polled}
 use Rattle.osdp_orders_laws.proofs.Steps.{LetGo, Paced, Steps, Stills, asked, closed, held, let_first, let_next, listed, ordered, out_none, same_stills, stills, taken, waits}
 use Rattle.osdp_orders_laws.proofs.Ticking.{ticks_device}
 
-pub record At (entry : ℕ) (d : Device) (q : Queue) (x : PanelState) : Type 0 where
+pub record At (entry : ℕ) (d : Entry) (q : Queue) (x : PanelState) : Type 0 where
   pub device : device_of entry x.bus ≡ Some d
   pub queue : queue_of entry x.orders ≡ Some q
 
 -- where the entry comes to
-pub record Goes (entry : ℕ) (d : Device) (q : Queue) (new back : Option Command) (x : PanelState) : Type 0 where
-  pub device : Device
+pub record Goes (entry : ℕ) (d : Entry) (q : Queue) (new back : Option Command) (x : PanelState) : Type 0 where
+  pub device : Entry
   pub queue : Queue
   pub at : At entry device queue x
   pub steps : Steps d q device queue new back
 
 -- ---- one device or one queue is changed
 
-pub changed_here : (entry : ℕ) (change : Device → Device) (d : Device) (b : BusState) → device_of entry b ≡ Some d → device_of entry (changes_device entry change b) ≡ Some (change d)
+pub changed_here : (entry : ℕ) (change : Entry → Entry) (d : Entry) (b : BusState) → device_of entry b ≡ Some d → device_of entry (changes_device entry change b) ≡ Some (change d)
 changed_here entry change d b at =
     ap (λ o. device_of entry (option_map_or (λ d. record b { devices = record b.devices { entries = slice_set b.devices.entries entry (change d) } }) o b)) at
     ∙ set_same b.devices.entries entry d (change d) at
 
-pub changed_there : (entry other : ℕ) (change : Device → Device) (b : BusState) → (entry ≡ other → ⊥) → device_of entry (changes_device other change b) ≡ device_of entry b
+pub changed_there : (entry other : ℕ) (change : Entry → Entry) (b : BusState) → (entry ≡ other → ⊥) → device_of entry (changes_device other change b) ≡ device_of entry b
 changed_there entry other change b apart = by_device (device_of other b)
   where
-    by_device : (o : Option Device)
+    by_device : (o : Option Entry)
         → device_of entry (option_map_or (λ d. record b { devices = record b.devices { entries = slice_set b.devices.entries other (change d) } }) o b) ≡ device_of entry b
     by_device None = refl
     by_device (Some d) = set_apart b.devices.entries other entry (change d) apart
@@ -70,11 +70,11 @@ first_there : (o : Option Command) (entry other : ℕ) (q : Queue) (b : BusState
 first_there None entry other q b apart = refl
 first_there (Some c) entry other q b apart = gone_there (order_refusal_at other c b) entry other c q b apart
 
-either_at : (t : Bool) (entry : ℕ) (d : Device) (q : Queue) (x y : PanelState) → At entry d q x → At entry d q y → At entry d q (if t then y else x)
+either_at : (t : Bool) (entry : ℕ) (d : Entry) (q : Queue) (x y : PanelState) → At entry d q x → At entry d q y → At entry d q (if t then y else x)
 either_at true entry d q x y here there = there
 either_at false entry d q x y here there = here
 
-let_there : (o : Option Queue) (entry other : ℕ) (d : Device) (q : Queue) (x : PanelState) → (entry ≡ other → ⊥) → At entry d q x → At entry d q (lets_go_of other o x)
+let_there : (o : Option Queue) (entry other : ℕ) (d : Entry) (q : Queue) (x : PanelState) → (entry ≡ other → ⊥) → At entry d q x → At entry d q (lets_go_of other o x)
 let_there None entry other d q x apart at = at
 let_there (Some r) entry other d q x apart at =
     either_at (is_empty_in (device_of other x.bus)) entry d q x (gone_to other x.orders (goes_from other r x.bus)) at
@@ -89,7 +89,7 @@ pub no_commands : (w : List Command) → (length w == 0) ≡ true → w ≡ []
 no_commands [] h = refl
 no_commands (c ∷ w) h = absurd (let e = eqb-true (length (c ∷ w)) 0 h in omega (arith, e))
 
-module _ (entry : ℕ) (first d : Device) (q : Queue) (x : PanelState) (at : At entry d q x) (steps : Steps first q d q None None) (let_go : LetGo first q d) where
+module _ (entry : ℕ) (first d : Entry) (q : Queue) (x : PanelState) (at : At entry d q x) (steps : Steps first q d q None None) (let_go : LetGo first q d) where
   abbrev GoesIn : PanelState → Type 0
   GoesIn y = Goes entry first q None None y
 
@@ -138,11 +138,11 @@ module _ (entry : ℕ) (first d : Device) (q : Queue) (x : PanelState) (at : At 
 
 -- ---- each call
 
-module _ (entry : ℕ) (d : Device) (q : Queue) (x : PanelState) (at : At entry d q x) (paced : Paced d q) where
+module _ (entry : ℕ) (d : Entry) (q : Queue) (x : PanelState) (at : At entry d q x) (paced : Paced d q) where
   abbrev Stays : PanelState → Type 0
   Stays y = Goes entry d q None None y
 
-  still : (e : Device) (y : PanelState) → At entry e q y → Stills d e → Stays y
+  still : (e : Entry) (y : PanelState) → At entry e q y → Stills d e → Stays y
   still e y there s = record { device = e; queue = q; at = there; steps = stills d e q paced s }
 
   same_at : (y : PanelState) → At entry d q y → Stays y
@@ -381,7 +381,7 @@ module _ (entry : ℕ) (d : Device) (q : Queue) (x : PanelState) (at : At entry 
     abbrev after : PanelState
     after = both x.orders (bus_ticks now x.bus).bus
 
-    module _ (e : Device) (there : device_of entry (bus_ticks now x.bus).bus ≡ Some e) (steps : Steps d q e q None None) where
+    module _ (e : Entry) (there : device_of entry (bus_ticks now x.bus).bus ≡ Some e) (steps : Steps d q e q None None) where
       by_polled : (o : Option ℕ) → polled_by (bus_ticks now x.bus).sent (bus_ticks now x.bus).bus ≡ o → Stays (lets_go_after o after)
       by_polled None none = record { device = e; queue = q; at = record { device = there; queue = at.queue }; steps = steps }
       by_polled (Some k) is = by_same (nat_eq entry k) refl

@@ -15,9 +15,9 @@ use Rattle.osdp_controller_laws.specs.Laws.{exchange_in}
 use Rattle.osdp_controller_laws.proofs.Endings.{frame_ends}
 use Rattle.osdp_controller_laws.proofs.InOrder.{none_outstanding}
 use Rattle.osdp_controller_laws.proofs.Stepwise.{frames_in_steps}
-use Rattle.osdp_bus.specs.declared.device.Device.{Device}
+use Rattle.osdp_bus.specs.declared.entry.Entry.{Entry}
 use Rattle.osdp_bus.specs.Buses.{BusState, Devices, is_silent, seen, waiting_after}
-use Rattle.osdp_bus.specs.Devices.{device_hears, told_of}
+use Rattle.osdp_bus.specs.Entries.{device_hears, told_of}
 use Rattle.osdp_bus.specs.Hearing.{after_bytes, ends_run, hears_items, hears_with}
 use Rattle.osdp_bus_laws.specs.Turns.{asking, judged}
 use Rattle.osdp_bus_laws.proofs.Hearing.{items_keep}
@@ -47,7 +47,7 @@ by_end x h (inr answered) = by_told (told_some h.report (submitted_command x) an
     by_told (inl nothing) = inl (none ∙ sym nothing)
     by_told (inr told) = inr (none, told)
 
-pub by_exchange : (o : Option Exchange) (p : Packet) (now : ℕ) (d : Device) → exchange_in d.controller.session.state ≡ o
+pub by_exchange : (o : Option Exchange) (p : Packet) (now : ℕ) (d : Entry) → exchange_in d.controller.session.state ≡ o
     → Ends (asked d) (hears p now d.controller.session)
 by_exchange None p now d is =
     let ignored = (frames_in_steps p now d.controller.session).not_outstanding (none_outstanding d.controller.session.state is) in
@@ -57,10 +57,10 @@ by_exchange (Some x) p now d is =
 
 -- ---- all that comes in
 
-module _ (g : ℕ) (entry : ℕ) (first : Device) where
+module _ (g : ℕ) (entry : ℕ) (first : Entry) where
   -- the device of the entry, whose orders wait as before; what it asks stays, or has ended, and then a report waits
   pub record Hears (ds : Devices) : Type 0 where
-    pub device : Device
+    pub device : Entry
     pub there : slice_get ds.entries entry ≡ Some device
     pub waiting : waits device ≡ waits first
     pub asks : (asked device ≡ asked first) ⊎ ((asked device ≡ None) × (is_some ds.report ≡ true))
@@ -73,7 +73,7 @@ module _ (g : ℕ) (entry : ℕ) (first : Device) where
   some_told i None waiting some = absurd cc
   some_told i (Some report) waiting some = refl
 
-  packet_by : (t : Bool) (p : Packet) (i : ℕ) (d : Device) (ds : Devices) → nat_eq entry i ≡ t → slice_get ds.entries i ≡ Some d → Hears ds → Hears (hears_with p g i (Some d) ds)
+  packet_by : (t : Bool) (p : Packet) (i : ℕ) (d : Entry) (ds : Devices) → nat_eq entry i ≡ t → slice_get ds.entries i ≡ Some d → Hears ds → Hears (hears_with p g i (Some d) ds)
   packet_by true p i d ds same at h =
       let here : entry ≡ i = eqb-true entry i same in
       let one : h.device ≡ d = one_device (slice_get ds.entries i) h.device d (sym (ap (slice_get ds.entries) here) ∙ h.there) at in
@@ -101,7 +101,7 @@ module _ (g : ℕ) (entry : ℕ) (first : Device) where
       by_before (inl was) = inl was
       by_before (inr (none, some)) = inr (none, some_after i (told_of p g d) ds.report some)
 
-  hears_one : (p : Packet) (i : ℕ) (d : Device) (ds : Devices) → slice_get ds.entries i ≡ Some d → Hears ds → Hears (hears_with p g i (Some d) ds)
+  hears_one : (p : Packet) (i : ℕ) (d : Entry) (ds : Devices) → slice_get ds.entries i ≡ Some d → Hears ds → Hears (hears_with p g i (Some d) ds)
   hears_one p i d ds at h = packet_by (nat_eq entry i) p i d ds refl at h
 
   hears_all : (moment : ℕ) (ended : Bool) (bytes : List ℕ) (ds : Devices) → moment ≡ g → Hears ds → Hears (hears_items moment (items ended bytes) ds)
@@ -133,14 +133,14 @@ module _ (g : ℕ) (entry : ℕ) (first : Device) where
   pub hears_nothing : (ds : Devices) → slice_get ds.entries entry ≡ Some first → Hears ds
   hears_nothing ds at = record { device = first; there = at; waiting = refl; asks = inl refl }
 
-pub stills_heard : (g entry : ℕ) (first : Device) (ds : Devices) → (h : Hears g entry first ds) → Stills first h.device
+pub stills_heard : (g entry : ℕ) (first : Entry) (ds : Devices) → (h : Hears g entry first ds) → Stills first h.device
 stills_heard g entry first ds h = record { waiting = h.waiting; asks = by_asks h.asks }
   where
     by_asks : (asked h.device ≡ asked first) ⊎ ((asked h.device ≡ None) × (is_some ds.report ≡ true)) → (asked h.device ≡ asked first) ⊎ (asked h.device ≡ None)
     by_asks (inl same) = inl same
     by_asks (inr (none, some)) = inr none
 
-pub stills_hears : (p : Packet) (g : ℕ) (d e : Device) → Stills d e → Stills d (device_hears p g e)
+pub stills_hears : (p : Packet) (g : ℕ) (d e : Entry) → Stills d e → Stills d (device_hears p g e)
 stills_hears p g d e s = record { waiting = s.waiting; asks = by_end (by_exchange (exchange_in e.controller.session.state) p g e refl) s.asks }
   where
     by_end : Ends (asked e) (hears p g e.controller.session) → (asked e ≡ asked d) ⊎ (asked e ≡ None)

@@ -7,7 +7,7 @@ use Rattle.osdp_msg.specs.declared.command.Command.{Command}
 use Rattle.osdp_msg.specs.declared.limits.Room.{Room}
 use Rattle.osdp_ring.specs.Ring.{popped}
 use Rattle.osdp_bus.specs.declared.config.BusConfig.{BusConfig}
-use Rattle.osdp_bus.specs.declared.device.Device.{Device}
+use Rattle.osdp_bus.specs.declared.entry.Entry.{Entry}
 use Rattle.osdp_bus.specs.declared.fault.BusFault.{BusFault}
 use Rattle.osdp_bus.specs.Buses.{BusState, device_of, seen}
 use Rattle.osdp_bus.specs.Machine.{add_refusal, after_begin_at, after_submit_at, after_withdraw_at, begin_refusal_at, changed_unless, device_begins, device_submits, device_withdraws, is_withdrawn_at, new_device, order_refusal_at}
@@ -132,7 +132,7 @@ pub record Inv (x : PanelState) : Type 0 where
   pub on : x.orders.on ≡ true
   pub sound : SoundBus x.bus
   pub many : length x.orders.queues ≡ length x.bus.devices.entries
-  pub paced : (entry : ℕ) (d : Device) (q : Queue) → At entry d q x → Paced d q
+  pub paced : (entry : ℕ) (d : Entry) (q : Queue) → At entry d q x → Paced d q
 
 nothing_at : {X : Type 0} (xs : List X) (i : ℕ) → length xs ≤ i → slice_get xs i ≡ None
 nothing_at xs i past = elim (slice_get_cases xs i).1 [
@@ -163,7 +163,7 @@ last_is [] y = refl
 last_is (x ∷ xs) y = last_is xs y
 
 -- an entry that there is has its queue
-pub has_queue : (entry : ℕ) (d : Device) (x : PanelState) → Inv x → device_of entry x.bus ≡ Some d → (q : Queue) × At entry d q x
+pub has_queue : (entry : ℕ) (d : Entry) (x : PanelState) → Inv x → device_of entry x.bus ≡ Some d → (q : Queue) × At entry d q x
 has_queue entry d x inv at =
     let q = something_at x.orders.queues entry (length x.bus.devices.entries) (within_at x.bus.devices.entries entry d at) (sym inv.many) in
     (q.0, record { device = at; queue = q.1 })
@@ -200,7 +200,7 @@ after_added : (f : Option BusFault) (address entry : ℕ) (x : PanelState) → I
 after_added (Some fault) address entry x inv none = inl none
 after_added None address entry x inv none = by_place (nat_eq entry (length x.bus.devices.entries)) refl
   where
-    new : Device
+    new : Entry
     new = new_device address x.bus.config
 
     by_place : (t : Bool) → nat_eq entry (length x.bus.devices.entries) ≡ t → Nobody entry (after_add address x) ⊎ New entry (after_add address x)
@@ -285,17 +285,17 @@ inv_after call x inv = record {
   paced = λ entry e r at. by_before entry e r at (device_of entry x.bus) refl;
 }
   where
-    as_one : (entry : ℕ) (d e : Device) (q r : Queue) → At entry d q (after_call call x) → At entry e r (after_call call x) → Paced d q → Paced e r
+    as_one : (entry : ℕ) (d e : Entry) (q r : Queue) → At entry d q (after_call call x) → At entry e r (after_call call x) → Paced d q → Paced e r
     as_one entry d e q r here there paced =
         subst (λ f. Paced f r) (one_device (device_of entry (after_call call x).bus) d e here.device there.device)
         (subst (λ f. Paced d f) (one_queue (queue_of entry (after_call call x).orders) q r here.queue there.queue) paced)
 
-    by_new : (entry : ℕ) (e : Device) (r : Queue) → At entry e r (after_call call x) → Nobody entry (after_call call x) ⊎ New entry (after_call call x) → Paced e r
+    by_new : (entry : ℕ) (e : Entry) (r : Queue) → At entry e r (after_call call x) → Nobody entry (after_call call x) ⊎ New entry (after_call call x) → Paced e r
     by_new entry e r at (inl none) = absurd (let here = at.device in let nothing = none.device in cc)
     by_new entry e r at (inr new) =
         as_one entry (new_device new.address new.config) e (new_queue new.room) r new.at at (record { free = λ h. (refl, refl); one = omega arith })
 
-    by_before : (entry : ℕ) (e : Device) (r : Queue) → At entry e r (after_call call x) → (o : Option Device) → device_of entry x.bus ≡ o → Paced e r
+    by_before : (entry : ℕ) (e : Entry) (r : Queue) → At entry e r (after_call call x) → (o : Option Entry) → device_of entry x.bus ≡ o → Paced e r
     by_before entry e r at None none = by_new entry e r at (fresh call entry x inv (nobody entry x inv none))
     by_before entry e r at (Some d) there =
         let q = has_queue entry d x inv there in

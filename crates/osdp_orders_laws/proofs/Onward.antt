@@ -7,10 +7,10 @@ use Rattle.osdp_msg.specs.declared.command.Command.{Command}
 use Rattle.osdp_controller.specs.declared.session.Session.{Session}
 use Rattle.osdp_controller.specs.Machine.{is_outstanding}
 use Rattle.osdp_time_laws.specs.Orders.{is_under_way}
-use Rattle.osdp_bus.specs.declared.device.Device.{Device}
+use Rattle.osdp_bus.specs.declared.entry.Entry.{Entry}
 use Rattle.osdp_bus.specs.declared.fault.BusFault.{BusFault}
 use Rattle.osdp_bus.specs.Buses.{BusState, device_of, has_report}
-use Rattle.osdp_bus.specs.Devices.{device_hears, device_ticks, holds}
+use Rattle.osdp_bus.specs.Entries.{device_hears, device_ticks, holds}
 use Rattle.osdp_bus.specs.Machine.{after_submit_at, changed_unless, device_submits, device_withdraws, submit_refusal_at}
 use Rattle.osdp_bus.specs.Ticking.{bus_ticks}
 use Rattle.osdp_bus_laws.specs.Calls.{Call, Submit, Tick, after_call, after_calls}
@@ -33,15 +33,15 @@ use Rattle.osdp_orders_laws.proofs.Steps.{Stills, asked, closed, same_stills, wa
 
 -- ---- what waits stays, more may come after it, and what is asked stays or is none any more
 
-pub record Keeps (d e : Device) : Type 0 where
+pub record Keeps (d e : Entry) : Type 0 where
   pub more : List Command
   pub waiting : waits e ≡ waits d ++ more
   pub asks : (asked e ≡ asked d) ⊎ (asked e ≡ None)
 
-keeps_same : (d : Device) → Keeps d d
+keeps_same : (d : Entry) → Keeps d d
 keeps_same d = record { more = []; waiting = sym (append-nil (waits d)); asks = inl refl }
 
-keeps_still : (d e f : Device) → Keeps d e → Stills e f → Keeps d f
+keeps_still : (d e f : Entry) → Keeps d e → Stills e f → Keeps d f
 keeps_still d e f k s = record { more = k.more; waiting = s.waiting ∙ k.waiting; asks = by_asks s.asks k.asks }
   where
     by_asks : (asked f ≡ asked e) ⊎ (asked f ≡ None) → (asked e ≡ asked d) ⊎ (asked e ≡ None) → (asked f ≡ asked d) ⊎ (asked f ≡ None)
@@ -49,21 +49,21 @@ keeps_still d e f k s = record { more = k.more; waiting = s.waiting ∙ k.waitin
     by_asks (inl same) (inl was) = inl (same ∙ was)
     by_asks (inl same) (inr none) = inr (same ∙ none)
 
-keeps_heard : (g : ℕ) (d : Device) (p : Packet) (e : Device) → Keeps d e → Keeps d (device_hears p g e)
+keeps_heard : (g : ℕ) (d : Entry) (p : Packet) (e : Entry) → Keeps d e → Keeps d (device_hears p g e)
 keeps_heard g d p e k = keeps_still d e (device_hears p g e) k (stills_hears p g e e (same_stills e))
 
-keeps_submitted : (d : Device) (c : Command) (e : Device) → Keeps d e → Keeps d (device_submits c e)
+keeps_submitted : (d : Entry) (c : Command) (e : Entry) → Keeps d e → Keeps d (device_submits c e)
 keeps_submitted d c e k = record {
   more = k.more ++ c ∷ [];
   waiting = ap (λ w. w ++ c ∷ []) k.waiting ∙ append_assoc (waits d) k.more (c ∷ []);
   asks = k.asks;
 }
 
-keeps_withdrawn : (d e : Device) → Keeps d e → closed e ≡ false → Keeps d (device_withdraws e)
+keeps_withdrawn : (d e : Entry) → Keeps d e → closed e ≡ false → Keeps d (device_withdraws e)
 keeps_withdrawn d e k stands =
     keeps_still d e (device_withdraws e) k (record { waiting = ap (λ t. if t then drop 1 (waits e) else waits e) stands; asks = inl refl })
 
-module _ (entry : ℕ) (call : Call) (b : BusState) (sound : SoundBus b) (d : Device) (at : device_of entry b ≡ Some d) (stands : closed d ≡ false)
+module _ (entry : ℕ) (call : Call) (b : BusState) (sound : SoundBus b) (d : Entry) (at : device_of entry b ≡ Some d) (stands : closed d ≡ false)
     (not : Begins call entry b → ⊥) where
   abbrev g_then : ℕ
   g_then = (after_call call b).greatest
@@ -71,8 +71,8 @@ module _ (entry : ℕ) (call : Call) (b : BusState) (sound : SoundBus b) (d : De
   abbrev place : AtPlace entry (Keeps d) b.devices
   place = (d, at, keeps_same d)
 
-  lives : (f : Device) → device_of entry b ≡ Some f → closed f ≡ false
-  lives f here = let one = one_device (device_of entry b) d f at here in subst (λ (k : Device). closed k ≡ false) one stands
+  lives : (f : Entry) → device_of entry b ≡ Some f → closed f ≡ false
+  lives f here = let one = one_device (device_of entry b) d f at here in subst (λ (k : Entry). closed k ≡ false) one stands
 
   by_outcome : (now : ℕ) → call ≡ Tick now → Outcome g_then (Keeps d) (keeps_heard g_then d) entry now b (bus_ticks now b)
       → AtPlace entry (Keeps d) (bus_ticks now b).bus.devices
@@ -102,7 +102,7 @@ module _ (entry : ℕ) (call : Call) (b : BusState) (sound : SoundBus b) (d : De
   keeps_call = by_duty (ends_duty call b) refl
 
 -- where an exchange of the entry begins, it asked nothing before
-pub none_before : (call : Call) (entry : ℕ) (b : BusState) (d : Device) → device_of entry b ≡ Some d → Begins call entry b → asked d ≡ None
+pub none_before : (call : Call) (entry : ℕ) (b : BusState) (d : Entry) → device_of entry b ≡ Some d → Begins call entry b → asked d ≡ None
 none_before call entry b d at begun =
     let n = begun.now in
     let r = asking n b in
@@ -112,7 +112,7 @@ none_before call entry b d at begun =
     let one : h.device ≡ f = one_device (device_of entry r) h.device f h.there begun.next.due.there in
     by_asks h.device f r one (none_asked f.controller.session.state free) h.asks begun.free.after
   where
-    by_asks : (h f : Device) (r : BusState) → h ≡ f → asked f ≡ None → (asked h ≡ asked d) ⊎ ((asked h ≡ None) × (is_some r.devices.report ≡ true)) → has_report r ≡ false
+    by_asks : (h f : Entry) (r : BusState) → h ≡ f → asked f ≡ None → (asked h ≡ asked d) ⊎ ((asked h ≡ None) × (is_some r.devices.report ≡ true)) → has_report r ≡ false
         → asked d ≡ None
     by_asks h f r one none (inl same) untold = sym same ∙ ap asked one ∙ none
     by_asks h f r one none (inr (ended, told)) untold = absurd cc
@@ -126,18 +126,18 @@ abbrev pub AreOrders : List Call → Type 0
 AreOrders [] = Unit {0}
 AreOrders (call ∷ calls) = IsOrder call × AreOrders calls
 
-pub record SameSession (d e : Device) : Type 0 where
+pub record SameSession (d e : Entry) : Type 0 where
   pub session : e.controller.session ≡ d.controller.session
   pub more : List Command
   pub waiting : waits e ≡ waits d ++ more
 
-abbrev pub Leads : ℕ → Device → BusState → Type 0
-Leads entry d b = (e : Device) × (device_of entry b ≡ Some e) × SameSession d e
+abbrev pub Leads : ℕ → Entry → BusState → Type 0
+Leads entry d b = (e : Entry) × (device_of entry b ≡ Some e) × SameSession d e
 
-stays_there : (entry : ℕ) (d : Device) (b : BusState) → device_of entry b ≡ Some d → Leads entry d b
+stays_there : (entry : ℕ) (d : Entry) (b : BusState) → device_of entry b ≡ Some d → Leads entry d b
 stays_there entry d b at = (d, at, record { session = refl; more = []; waiting = sym (append-nil (waits d)) })
 
-submits : (f : Option BusFault) (entry at : ℕ) (c : Command) (d : Device) (b : BusState) → device_of entry b ≡ Some d
+submits : (f : Option BusFault) (entry at : ℕ) (c : Command) (d : Entry) (b : BusState) → device_of entry b ≡ Some d
     → Leads entry d (changed_unless f b (after_submit_at at c b))
 submits (Some fault) entry at c d b there = stays_there entry d b there
 submits None entry at c d b there = by_same (nat_eq entry at) refl
@@ -151,18 +151,18 @@ submits None entry at c d b there = by_same (nat_eq entry at) refl
         )
     by_same false other = stays_there entry d (after_submit_at at c b) (changed_there entry at (device_submits c) b (eqb-false entry at other) ∙ there)
 
-one_order : (entry : ℕ) (call : Call) → IsOrder call → (d : Device) (b : BusState) → device_of entry b ≡ Some d → Leads entry d (after_call call b)
+one_order : (entry : ℕ) (call : Call) → IsOrder call → (d : Entry) (b : BusState) → device_of entry b ≡ Some d → Leads entry d (after_call call b)
 one_order entry call (at, c, is) d b there =
     subst (λ call. Leads entry d (after_call call b)) (sym is) (submits (submit_refusal_at at c b) entry at c d b there)
 
-same_then : (d e f : Device) → SameSession d e → SameSession e f → SameSession d f
+same_then : (d e f : Entry) → SameSession d e → SameSession e f → SameSession d f
 same_then d e f s t = record {
   session = t.session ∙ s.session;
   more = s.more ++ t.more;
   waiting = t.waiting ∙ ap (λ w. w ++ t.more) s.waiting ∙ append_assoc (waits d) s.more t.more;
 }
 
-pub orders_lead : (entry : ℕ) (cs : List Call) → AreOrders cs → (d : Device) (b : BusState) → device_of entry b ≡ Some d → Leads entry d (after_calls cs b)
+pub orders_lead : (entry : ℕ) (cs : List Call) → AreOrders cs → (d : Entry) (b : BusState) → device_of entry b ≡ Some d → Leads entry d (after_calls cs b)
 orders_lead entry [] are d b there = stays_there entry d b there
 orders_lead entry (call ∷ cs) are d b there =
     let one = one_order entry call are.0 d b there in
@@ -179,7 +179,7 @@ pub orders_moment : (cs : List Call) → AreOrders cs → (b : BusState) → (af
 orders_moment [] are b = refl
 orders_moment (call ∷ cs) are b = orders_moment cs are.1 (after_call call b) ∙ one_moment call b are.0
 
-pub under_then : (entry : ℕ) (d e : Device) (b : BusState) → device_of entry b ≡ Some e → SameSession d e → is_under_way d.controller.session.state ≡ true → IsUnderWay entry b
+pub under_then : (entry : ℕ) (d e : Entry) (b : BusState) → device_of entry b ≡ Some e → SameSession d e → is_under_way d.controller.session.state ≡ true → IsUnderWay entry b
 under_then entry d e b there same under =
     record { device = e; there = there; under_way = ap (λ (s : Session). is_under_way s.state) same.session ∙ under }
 

@@ -10,7 +10,7 @@ use Rattle.osdp_controller.specs.Hearing.{comset_of}
 use Rattle.osdp_controller_laws.specs.Laws.{exchange_in}
 use Rattle.osdp_time_laws.specs.Orders.{is_under_way}
 use Rattle.osdp_bus.specs.declared.config.BusConfig.{BusConfig}
-use Rattle.osdp_bus.specs.declared.device.Device.{Device}
+use Rattle.osdp_bus.specs.declared.entry.Entry.{Entry}
 use Rattle.osdp_bus.specs.declared.fault.BusFault.{BusFault}
 use Rattle.osdp_bus.specs.Buses.{BusState, device_of}
 use Rattle.osdp_bus.specs.Machine.{after_submit_at, changed_unless, device_submits, leads_nowhere, submit_refusal_at}
@@ -90,7 +90,7 @@ module _ (config : BusConfig) (entry now : ℕ) (x : PanelState) (holds : Holds 
   z = both x.orders (bus_ticks now x.bus).bus
 
   -- the POLL is its
-  poll_of : (e : Device) × (device_of entry b ≡ Some e) × (is_polling (exchange_in e.controller.session.state) ≡ true)
+  poll_of : (e : Entry) × (device_of entry b ≡ Some e) × (is_polling (exchange_in e.controller.session.state) ≡ true)
       × (is_under_way e.controller.session.state ≡ true) × (waits e ≡ [])
   poll_of =
       let f = polls_else x.bus (Tick now) entry under.device under.there under.under_way none begun in
@@ -106,13 +106,13 @@ module _ (config : BusConfig) (entry now : ℕ) (x : PanelState) (holds : Holds 
           let one = one_device (device_of entry b) e.0 sends.device e.1 sends.there in
           ap (λ o. polled_by o b) sends.sent
           ∙ asked_entry entry sends.device sends.frame b (sound_call (Tick now) x.bus holds.well.sound).devices sends.there sends.own
-          (sym (ap (λ (d : Device). is_polling (exchange_in d.controller.session.state)) one) ∙ e.2)
+          (sym (ap (λ (d : Entry). is_polling (exchange_in d.controller.session.state)) one) ∙ e.2)
 
   -- the order that has been held back longest goes
   pub record Next : Type 0 where
     pub order : Command
     pub calls : bus_calls (Tick now) x ≡ Tick now ∷ Submit entry order ∷ []
-    pub device : Device
+    pub device : Entry
     pub there : device_of entry b ≡ Some device
     pub under_way : is_under_way device.controller.session.state ≡ true
     pub empty : waits device ≡ []
@@ -151,7 +151,7 @@ module _ (config : BusConfig) (entry now : ℕ) (x : PanelState) (holds : Holds 
   module _ (late : ℕ) (time : ℕ → ℕ) (n : ℕ) (rest : List Call) (keeps : KeepsTurns late time n rest (after_call (Tick now) x).bus) where
     pub record HasTurn : Type 0 where
       pub goes : BeginsBy ((after_call (Tick now) x).bus.greatest + (0 + 1) * turns_of time late n) zero entry rest (after_call (Tick now) x).bus
-      pub device : Device
+      pub device : Entry
       pub there : device_of entry (after_call (Tick now) x).bus ≡ Some device
       pub order : Command
       pub one : waits device ≡ order ∷ []

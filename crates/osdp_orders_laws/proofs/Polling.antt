@@ -21,9 +21,9 @@ use Rattle.osdp_controller.specs.Ticking.{Ticked, begins, gives_up, sends_frame,
 use Rattle.osdp_controller.proofs.Choices.{either_way}
 use Rattle.osdp_controller_laws.specs.Commands.{asked_in}
 use Rattle.osdp_controller_laws.specs.Laws.{exchange_in}
-use Rattle.osdp_bus.specs.declared.device.Device.{Device}
+use Rattle.osdp_bus.specs.declared.entry.Entry.{Entry}
 use Rattle.osdp_bus.specs.Buses.{BusState, device_of, has_report, holder, seen}
-use Rattle.osdp_bus.specs.Devices.{address_of, device_ticks, first_from, holds, is_at}
+use Rattle.osdp_bus.specs.Entries.{address_of, device_ticks, first_from, holds, is_at}
 use Rattle.osdp_bus.specs.Hearing.{ends_run}
 use Rattle.osdp_bus.specs.Ticking.{BusTicked, bus_ticks, is_due_at, is_held_and_due, next_due, stays, ticks_at, ticks_by, ticks_held, ticks_on, ticks_with}
 use Rattle.osdp_bus.proofs.Waiting.{IsFound, found}
@@ -39,7 +39,7 @@ use Rattle.osdp_orders_laws.proofs.Steps.{Stills, asked, closed, polls, waits}
 -- ---- a device that begins an exchange, and one that holds the line
 
 -- nothing is asked, or the order that waited at the front is
-abbrev pub Begun : Device → Device → Type 0
+abbrev pub Begun : Entry → Entry → Type 0
 Begun d e =
     ((asked e ≡ None) × (waits e ≡ waits d))
     ⊎ ((c : Command) × (asked e ≡ Some c) × (waits d ≡ c ∷ waits e) × (polls e ≡ false) × (closed e ≡ false))
@@ -66,7 +66,7 @@ none_asked (Idle due) free = refl
 none_asked (Waiting until sends o) free = absurd cc
 none_asked (Pausing until o) free = absurd cc
 
-pub begun : (g : ℕ) (d : Device) → holds d ≡ false → Begun d (device_ticks g d)
+pub begun : (g : ℕ) (d : Entry) → holds d ≡ false → Begun d (device_ticks g d)
 begun g d free =
     begun_in d.controller.session.state (seen_by g d.controller.session) d.controller.waiting free (none_asked d.controller.session.state free)
 
@@ -86,7 +86,7 @@ stills_in (Waiting until sends o) s w stands same =
 stills_in (Pausing until o) s w stands same =
     either_way (StillsIn (submitted_command o.exchange) w) (nat_le until s.greatest) (sends_frame 1 o s w) (stays_in s w) (λ b. (refl, inl refl)) (λ b. (refl, inl same))
 
-pub holder_ticks : (g : ℕ) (d : Device) → holds d ≡ true → Stills d (device_ticks g d)
+pub holder_ticks : (g : ℕ) (d : Entry) → holds d ≡ true → Stills d (device_ticks g d)
 holder_ticks g d stands =
     let is = stills_in d.controller.session.state (seen_by g d.controller.session) d.controller.waiting stands refl in
     record { waiting = is.0; asks = is.1 }
@@ -94,9 +94,9 @@ holder_ticks g d stands =
 -- ---- the packet of a tick is that of an exchange which is outstanding then
 
 abbrev IsSomeones : BusTicked → Type 0
-IsSomeones t = (p : Packet) → t.sent ≡ Some p → (k : ℕ) × ((d : Device) × (device_of k t.bus ≡ Some d) × (own_frame d ≡ Some p))
+IsSomeones t = (p : Packet) → t.sent ≡ Some p → (k : ℕ) × ((d : Entry) × (device_of k t.bus ≡ Some d) × (own_frame d ≡ Some p))
 
-sent_with : (k : ℕ) (o : Option Device) (b : BusState) → device_of k b ≡ o → IsSomeones (ticks_with k o b)
+sent_with : (k : ℕ) (o : Option Entry) (b : BusState) → device_of k b ≡ o → IsSomeones (ticks_with k o b)
 sent_with k None b at p h = absurd cc
 sent_with k (Some d) b at p h =
     (k, (device_ticks b.greatest d, set_here b.devices.entries k d (device_ticks b.greatest d) at, frame_sent b.greatest d p h))
@@ -142,8 +142,8 @@ own_in : (o : Option Exchange) (s : Session) (p : Packet) → option_map (λ x. 
 own_in None s p h = absurd cc
 own_in (Some x) s p h = (x, refl, cc)
 
-module _ (entry : ℕ) (d : Device) (c : BusState) (sound : Sound c.devices) (at : device_of entry c ≡ Some d) where
-  by_sender : (p : Packet) (k : ℕ) (e : Device) → device_of k c ≡ Some e → own_frame e ≡ Some p → is_poll p.body ≡ true → address_of d ≡ address_byte p
+module _ (entry : ℕ) (d : Entry) (c : BusState) (sound : Sound c.devices) (at : device_of entry c ≡ Some d) where
+  by_sender : (p : Packet) (k : ℕ) (e : Entry) → device_of k c ≡ Some e → own_frame e ≡ Some p → is_poll p.body ≡ true → address_of d ≡ address_byte p
       → polls d ≡ true
   by_sender p k e there own poll same =
       let s = e.controller.session in
@@ -157,7 +157,7 @@ module _ (entry : ℕ) (d : Device) (c : BusState) (sound : Sound c.devices) (at
       poll_exchange x.0 (submitted s.config s.state x.0 is.state x.1) (ap (λ (f : Packet). is_poll f.body) x.2 ∙ poll) in
       sym (ap polls one) ∙ ap is_polling x.1 ∙ ap (λ y. is_polling (Some y)) polling
 
-  by_packet : (sent : Option Packet) → ((p : Packet) → sent ≡ Some p → (k : ℕ) × ((e : Device) × (device_of k c ≡ Some e) × (own_frame e ≡ Some p)))
+  by_packet : (sent : Option Packet) → ((p : Packet) → sent ≡ Some p → (k : ℕ) × ((e : Entry) × (device_of k c ≡ Some e) × (own_frame e ≡ Some p)))
       → polled_by sent c ≡ Some entry → polls d ≡ true
   by_packet None sender h = absurd cc
   by_packet (Some p) sender h = by_code (is_poll p.body) refl h
@@ -172,6 +172,6 @@ module _ (entry : ℕ) (d : Device) (c : BusState) (sound : Sound c.devices) (at
           let same : address_of here.1.0 ≡ address_byte p = eqb-true (address_of here.1.0) (address_byte p) here.1.1.2 in
           by_sender p s.0 s.1.0 s.1.1 s.1.2 poll (sym (ap address_of one) ∙ same)
 
-pub polled : (now entry : ℕ) (d : Device) (b : BusState) → Sound (bus_ticks now b).bus.devices → device_of entry (bus_ticks now b).bus ≡ Some d
+pub polled : (now entry : ℕ) (d : Entry) (b : BusState) → Sound (bus_ticks now b).bus.devices → device_of entry (bus_ticks now b).bus ≡ Some d
     → polled_by (bus_ticks now b).sent (bus_ticks now b).bus ≡ Some entry → polls d ≡ true
 polled now entry d b sound at h = by_packet entry d (bus_ticks now b).bus sound at (bus_ticks now b).sent (sent_tick now b) h

@@ -11,12 +11,12 @@ use Rattle.osdp_controller.specs.declared.state.State.{State}
 use Rattle.osdp_controller.specs.declared.state.State.TheVariants.{Closed, Idle}
 use Rattle.osdp_controller.specs.States.{is_idle}
 use Rattle.osdp_time_laws.proofs.Duties.{until_of}
-use Rattle.osdp_bus.specs.declared.device.Device.{Device}
+use Rattle.osdp_bus.specs.declared.entry.Entry.{Entry}
 use Rattle.osdp_bus.specs.Buses.{BusState, device_of, has_report, holder, new_bus}
 use Rattle.osdp_bus.specs.Deadlines.{acts}
 use Rattle.osdp_bus.specs.Machine.{new_device}
 use Rattle.osdp_bus.specs.Remembering.{Remembered}
-use Rattle.osdp_bus.specs.Devices.{holds, is_device_due}
+use Rattle.osdp_bus.specs.Entries.{holds, is_device_due}
 use Rattle.osdp_bus_laws.specs.Calls.{Begin, Call, NextReport, OnBytes, Submit, Tick, after_call}
 use Rattle.osdp_bus_time_laws.specs.Clock.{DoneBy, IsOwed, KeepsTime}
 use Rattle.osdp_bus_time_laws.specs.Instances.{ack_bytes, pd_id_bytes, short_line}
@@ -54,13 +54,13 @@ same_moment : (n : ℕ) → n ≤ n
 same_moment n = omega arith
 
 -- an entry that holds the line is due only once the moment of its wait is reached
-held_until : (call : Call) (b : BusState) (entry at until g : ℕ) (d : Device) → b.held ≡ [] → has_report b ≡ false → holder b ≡ Some entry → device_of entry b ≡ Some d
+held_until : (call : Call) (b : BusState) (entry at until g : ℕ) (d : Entry) → b.held ≡ [] → has_report b ≡ false → holder b ≡ Some entry → device_of entry b ≡ Some d
     → holds d ≡ true → d.controller.session.greatest ≡ g → b.greatest ≡ g → until_of d.controller.session.state ≡ until → IsOwed at call b → until ≤ at
 held_until call b entry at until g d none untold held there stands seen now is owed =
     let due = owed_from call b entry at d none untold held there stands (omega (arith, seen, now)) owed in omega (arith, due, is)
 
 -- and one of two that hold no line
-free_until : (call : Call) (b : BusState) (at until g : ℕ) (d e : Device) → b.held ≡ [] → has_report b ≡ false → holder b ≡ None → b.devices.entries ≡ d ∷ e ∷ []
+free_until : (call : Call) (b : BusState) (at until g : ℕ) (d e : Entry) → b.held ≡ [] → has_report b ≡ false → holder b ≡ None → b.devices.entries ≡ d ∷ e ∷ []
     → b.greatest ≡ g → g < until
     → (is_device_due (max b.greatest at) d ≡ true → until ≤ max b.greatest at) → (is_device_due (max b.greatest at) e ≡ true → until ≤ max b.greatest at)
     → IsOwed at call b → until ≤ at
@@ -76,7 +76,7 @@ free_until call b at until g d e none untold free are now later first other owed
     by_due false false due other_due so = absurd cc
 
 -- a controller with no command that waits
-waits_until : (at until : ℕ) (b : BusState) (d : Device) → (is_idle d.controller.session.state ≡ true → d.controller.waiting ≡ [])
+waits_until : (at until : ℕ) (b : BusState) (d : Entry) → (is_idle d.controller.session.state ≡ true → d.controller.waiting ≡ [])
     → d.controller.session.greatest ≤ b.greatest → until_of d.controller.session.state ≡ until → is_device_due (max b.greatest at) d ≡ true → until ≤ max b.greatest at
 waits_until at until b d rests seen is due = let reached = reached_of at b d rests seen due in omega (arith, reached, is)
 
@@ -117,7 +117,7 @@ two b is = omega (arith, is)
 
 -- ---- a bus of the two, as it is where no exchange is outstanding and no report waits, whatever it remembers
 
-abbrev of_address : ℕ → State → ℕ → ℕ → List Command → Device
+abbrev of_address : ℕ → State → ℕ → ℕ → List Command → Entry
 of_address address state number greatest waiting = record (new_device address short_line) {
   controller = record (new_device address short_line).controller {
     session = record (new_device address short_line).controller.session { state = state; number = number; greatest = greatest };
@@ -125,7 +125,7 @@ of_address address state number greatest waiting = record (new_device address sh
   };
 }
 
-abbrev rests_at : ℕ → ℕ → Device → Device → List Remembered → BusState
+abbrev rests_at : ℕ → ℕ → Entry → Entry → List Remembered → BusState
 rests_at now first d e remembered = record (new_bus short_line) {
   devices = record { entries = d ∷ e ∷ []; report = None };
   last = now;
@@ -135,7 +135,7 @@ rests_at now first d e remembered = record (new_bus short_line) {
 }
 
 -- a bus with these
-rests_so : (b : BusState) (now first : ℕ) (d e : Device) → b.config ≡ short_line → b.devices ≡ record { entries = d ∷ e ∷ []; report = None } → b.held ≡ [] → b.last ≡ now
+rests_so : (b : BusState) (now first : ℕ) (d e : Entry) → b.config ≡ short_line → b.devices ≡ record { entries = d ∷ e ∷ []; report = None } → b.held ≡ [] → b.last ≡ now
     → b.greatest ≡ now → b.first ≡ first → b ≡ rests_at now first d e b.remembered
 rests_so b now first d e config devices held last greatest at =
     (λ i. record {
@@ -203,7 +203,7 @@ module _ (remembered : List Remembered) where
     (two other_asked refl, (two other_answered refl, (two last_taken refl, two (after_call (Tick 21) last_taken) refl))),
   )
 
-never : (d : Device) (now until : ℕ) → is_device_due now d ≡ false → is_device_due now d ≡ true → until ≤ now
+never : (d : Entry) (now until : ℕ) → is_device_due now d ≡ false → is_device_due now d ≡ true → until ≤ now
 never d now until none due = absurd cc
 
 -- ---- from the moment on at which the order before it has been answered

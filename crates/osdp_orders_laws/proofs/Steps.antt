@@ -8,7 +8,7 @@ use Rattle.osdp_controller_laws.specs.Commands.{asked_in}
 use Rattle.osdp_controller_laws.specs.Laws.{exchange_in}
 use Rattle.osdp_controller.proofs.Waiting.{map_push}
 use Rattle.osdp_ring.specs.Ring.{popped}
-use Rattle.osdp_bus.specs.declared.device.Device.{Device}
+use Rattle.osdp_bus.specs.declared.entry.Entry.{Entry}
 use Rattle.osdp_bus.specs.Machine.{device_submits}
 use Rattle.osdp_bus_laws.proofs.Places.{both_false}
 use Rattle.osdp_orders.specs.declared.queue.Queue.{Queue}
@@ -19,34 +19,34 @@ use Rattle.osdp_orders_laws.specs.Places.{IsWritten}
 abbrev pub listed : Option Command → List Command
 listed o = option_to_list o
 
-abbrev pub asked : Device → Option Command
+abbrev pub asked : Entry → Option Command
 asked d = asked_in d.controller.session.state
 
-abbrev pub polls : Device → Bool
+abbrev pub polls : Entry → Bool
 polls d = is_polling (exchange_in d.controller.session.state)
 
-abbrev pub closed : Device → Bool
+abbrev pub closed : Entry → Bool
 closed d = is_closed d.controller.session.state
 
-abbrev pub waits : Device → List Command
+abbrev pub waits : Entry → List Command
 waits d = d.controller.waiting
 
-abbrev pub out : Device → Device → Option Command
+abbrev pub out : Entry → Entry → Option Command
 out d e = if is_none (asked d) then asked e else None
 
-abbrev pub heard : Device → Device → Bool
+abbrev pub heard : Entry → Entry → Bool
 heard d e = (polls d && not (polls e)) || closed e
 
-abbrev pub orders : Device → Queue → List Command
+abbrev pub orders : Entry → Queue → List Command
 orders d q = d.controller.waiting ++ map command_kept q.held.items
 
 -- at most one order waits in the controller, and where the next may go at once none waits at all
-pub record Paced (d : Device) (q : Queue) : Type 0 where
+pub record Paced (d : Entry) (q : Queue) : Type 0 where
   pub free : q.may_go ≡ true → (waits d ≡ []) × (q.held.items ≡ [])
   pub one : length (waits d) ≤ 1
 
 -- an order has gone out, and no POLL has been answered since in the same session
-pub record Owes (d : Device) (q : Queue) : Type 0 where
+pub record Owes (d : Entry) (q : Queue) : Type 0 where
   pub stands : closed d ≡ false
   pub why : ((waits d ≡ []) × (q.may_go ≡ false)) ⊎ (polls d ≡ true)
 
@@ -55,7 +55,7 @@ abbrev pub Gives : Option Command → Type 0
 Gives None = Unit {0}
 Gives (Some c) = IsWritten c
 
-pub record Steps (d : Device) (q : Queue) (e : Device) (r : Queue) (new back : Option Command) : Type 0 where
+pub record Steps (d : Entry) (q : Queue) (e : Entry) (r : Queue) (new back : Option Command) : Type 0 where
   pub paced : Paced e r
   pub keeps : Owes d q → heard d e ≡ false → (out d e ≡ None) × Owes e r
   pub owes : is_some (out d e) ≡ true → Owes e r
@@ -77,11 +77,11 @@ none_goes (Some c) none some = absurd cc
 
 -- ---- nothing goes out: what waits stays, and the order that is asked stays or is none any more
 
-pub record Stills (d e : Device) : Type 0 where
+pub record Stills (d e : Entry) : Type 0 where
   pub waiting : waits e ≡ waits d
   pub asks : (asked e ≡ asked d) ⊎ (asked e ≡ None)
 
-pub stills : (d e : Device) (q : Queue) → Paced d q → Stills d e → Steps d q e q None None
+pub stills : (d e : Entry) (q : Queue) → Paced d q → Stills d e → Steps d q e q None None
 stills d e q paced s =
     let none = out_none (asked d) (asked e) s.asks in record {
       paced = record { free = λ h. (s.waiting ∙ (paced.free h).0, (paced.free h).1); one = subst (λ (w : List Command). length w ≤ 1) (sym s.waiting) paced.one };
@@ -96,7 +96,7 @@ stills d e q paced s =
     why (inl (empty, bound)) h = inl (s.waiting ∙ empty, bound)
     why (inr p) h = inr (still_polls (polls d) (polls e) h p)
 
-pub same_stills : (d : Device) → Stills d d
+pub same_stills : (d : Entry) → Stills d d
 same_stills d = record { waiting = refl; asks = inl refl }
 
 -- ---- an order goes out
@@ -113,7 +113,7 @@ asks_out : (a b : Option Command) (c : Command) → a ≡ None → b ≡ Some c 
 asks_out None b c none is = is
 asks_out (Some other) b c none is = absurd cc
 
-pub goes : (d e : Device) (q : Queue) (c : Command) → Paced d q → asked d ≡ None → asked e ≡ Some c → waits d ≡ c ∷ waits e → polls e ≡ false → closed e ≡ false
+pub goes : (d e : Entry) (q : Queue) (c : Command) → Paced d q → asked d ≡ None → asked e ≡ Some c → waits d ≡ c ∷ waits e → polls e ≡ false → closed e ≡ false
     → Steps d q e q None None
 goes d e q c paced free asks front not_polls stands =
     let empty : waits e ≡ [] = alone c (waits e) (subst (λ (w : List Command). length w ≤ 1) front paced.one) in
@@ -131,11 +131,11 @@ goes d e q c paced free asks front not_polls stands =
 
 -- ---- what is held back is let go, after a POLL or as a session begins
 
-abbrev pub LetGo : Device → Queue → Device → Type 0
+abbrev pub LetGo : Entry → Queue → Entry → Type 0
 LetGo d q e = (polls e ≡ true) ⊎ ((Owes d q → ⊥) × (out d e ≡ None))
 
-module _ (d e : Device) (q : Queue) (steps : Steps d q e q None None) (let_go : LetGo d q e) where
-  keeps_let : (f : Device) (r : Queue) → f.controller.session ≡ e.controller.session → Owes d q → heard d e ≡ false → (out d e ≡ None) × Owes f r
+module _ (d e : Entry) (q : Queue) (steps : Steps d q e q None None) (let_go : LetGo d q e) where
+  keeps_let : (f : Entry) (r : Queue) → f.controller.session ≡ e.controller.session → Owes d q → heard d e ≡ false → (out d e ≡ None) × Owes f r
   keeps_let f r same owes h = by_cause let_go
     where
       by_cause : LetGo d q e → (out d e ≡ None) × Owes f r
@@ -144,7 +144,7 @@ module _ (d e : Device) (q : Queue) (steps : Steps d q e q None None) (let_go : 
           (kept.0, record { stands = ap (λ s. is_closed s.state) same ∙ kept.1.stands; why = inr (ap (λ s. is_polling (exchange_in s.state)) same ∙ p) })
       by_cause (inr (never, none)) = absurd (never owes)
 
-  owes_let : (f : Device) (r : Queue) → f.controller.session ≡ e.controller.session → is_some (out d e) ≡ true → Owes f r
+  owes_let : (f : Entry) (r : Queue) → f.controller.session ≡ e.controller.session → is_some (out d e) ≡ true → Owes f r
   owes_let f r same some = by_cause let_go
     where
       by_cause : LetGo d q e → Owes f r
@@ -181,7 +181,7 @@ module _ (d e : Device) (q : Queue) (steps : Steps d q e q None None) (let_go : 
 
 -- ---- an order is accepted
 
-pub ordered : (d : Device) (q : Queue) (c : Command) → Paced d q → q.may_go ≡ true → Steps d q (device_submits c d) (record q { may_go = false }) (Some c) None
+pub ordered : (d : Entry) (q : Queue) (c : Command) → Paced d q → q.may_go ≡ true → Steps d q (device_submits c d) (record q { may_go = false }) (Some c) None
 ordered d q c paced may =
     let e = device_submits c d in
     let free = paced.free may in
@@ -203,7 +203,7 @@ ordered d q c paced may =
     why (inl (empty, bound)) = absurd cc
     why (inr p) = inr p
 
-pub held : (d : Device) (q : Queue) (c : Command) → Paced d q → q.may_go ≡ false → Steps d q d (after_hold c q) (Some c) None
+pub held : (d : Entry) (q : Queue) (c : Command) → Paced d q → q.may_go ≡ false → Steps d q d (after_hold c q) (Some c) None
 held d q c paced bound =
     let none = out_none (asked d) (asked d) (inl refl) in record {
       paced = record { free = λ h. absurd cc; one = paced.one };
@@ -218,7 +218,7 @@ held d q c paced bound =
 -- ---- an order is taken back
 
 -- what leaves is the first of those that wait
-pub taken : (d e : Device) (q r : Queue) (back : Option Command) → Paced d q → asked e ≡ asked d → polls e ≡ polls d → closed d ≡ true
+pub taken : (d e : Entry) (q r : Queue) (back : Option Command) → Paced d q → asked e ≡ asked d → polls e ≡ polls d → closed d ≡ true
     → (r.may_go ≡ true → (waits e ≡ []) × (r.held.items ≡ [])) → length (waits e) ≤ 1 → listed back ++ orders e r ≡ orders d q → Steps d q e r None back
 taken d e q r back paced asks polls_same is_over free one place =
     let none = out_none (asked d) (asked e) (inl asks) in record {

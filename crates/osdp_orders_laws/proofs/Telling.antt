@@ -6,7 +6,7 @@ use Rattle.std.proofs.lemmas.List.{length-map}
 use Rattle.osdp_msg.specs.declared.command.Command.{Command}
 use Rattle.osdp_msg.specs.Kept.{command_kept}
 use Rattle.osdp_controller.specs.States.{is_closed}
-use Rattle.osdp_bus.specs.declared.device.Device.{Device}
+use Rattle.osdp_bus.specs.declared.entry.Entry.{Entry}
 use Rattle.osdp_bus.specs.Machine.{withdrawal_of}
 use Rattle.osdp_orders.specs.declared.queue.Queue.{Queue}
 use Rattle.osdp_orders.specs.Orders.{PanelState, held_back, held_count, held_of, is_closed_in, or_held, queue_of, with_held}
@@ -42,7 +42,7 @@ tell_all x entry d at =
     let back : held_back entry x ≡ (if over then slice_get held 0 else None) =
     ap (λ o. if is_closed_in o then held_of (queue_of entry x.orders) else None) at ∙ ap (λ o. if over then o else None) (first_held_is (queue_of entry x.orders)) in record {
       counted =
-          ap (λ o. with_held (option_map (λ (e : Device). length e.controller.waiting) o) (held_count (queue_of entry x.orders))) at
+          ap (λ o. with_held (option_map (λ (e : Entry). length e.controller.waiting) o) (held_count (queue_of entry x.orders))) at
           ∙ ap (λ (n : ℕ). Some (min n (2 ^ 64 - 1)))
           (ap (λ (n : ℕ). length w + n) (held_length (queue_of entry x.orders)) ∙ sym (length-append w held) ∙ sym (ap (λ (l : List Command). length l) all));
       withdrawable =

@@ -2,9 +2,9 @@
 use Rattle.std.proofs.Common.{◌≡◌, ◌∙◌, ap, sym, subst, inl, inr, refl, ℕ, Bool, true, false, max, Some, None}
 use Rattle.std.specs.Prelude.{◌⊎◌, if◌then◌else◌, is_some, nat_eq}
 use Rattle.std.proofs.lemmas.Bool.{eqb-true, eqb-false}
-use Rattle.osdp_bus.specs.declared.device.Device.{Device}
+use Rattle.osdp_bus.specs.declared.entry.Entry.{Entry}
 use Rattle.osdp_bus.specs.Buses.{BusState, device_of, has_report, seen}
-use Rattle.osdp_bus.specs.Devices.{device_ticks, holds}
+use Rattle.osdp_bus.specs.Entries.{device_ticks, holds}
 use Rattle.osdp_bus.specs.Ticking.{BusTicked, bus_ticks, stays, ticks_on, ticks_with}
 use Rattle.osdp_bus_laws.specs.Calls.{Tick}
 use Rattle.osdp_bus_laws.specs.Fairness.{Begins}
@@ -19,7 +19,7 @@ use Rattle.osdp_orders_laws.proofs.Hearing.{hears_asking, hears_nothing, stills_
 use Rattle.osdp_orders_laws.proofs.Polling.{Begun, begun, holder_ticks, none_asked}
 use Rattle.osdp_orders_laws.proofs.Steps.{Paced, Steps, Stills, asked, goes, same_stills, stills, waits}
 
-pub both_stills : (d e f : Device) → Stills d e → Stills e f → Stills d f
+pub both_stills : (d e f : Entry) → Stills d e → Stills e f → Stills d f
 both_stills d e f s t = record { waiting = t.waiting ∙ s.waiting; asks = by_asks t.asks s.asks }
   where
     by_asks : (asked f ≡ asked e) ⊎ (asked f ≡ None) → (asked e ≡ asked d) ⊎ (asked e ≡ None) → (asked f ≡ asked d) ⊎ (asked f ≡ None)
@@ -27,11 +27,11 @@ both_stills d e f s t = record { waiting = t.waiting ∙ s.waiting; asks = by_as
     by_asks (inl same) (inl was) = inl (same ∙ was)
     by_asks (inl same) (inr none) = inr (same ∙ none)
 
-module _ (now entry : ℕ) (b : BusState) (d : Device) (q : Queue) (sound : SoundBus b) (at : device_of entry b ≡ Some d) (paced : Paced d q) where
+module _ (now entry : ℕ) (b : BusState) (d : Entry) (q : Queue) (sound : SoundBus b) (at : device_of entry b ≡ Some d) (paced : Paced d q) where
   abbrev pub Ticks : BusTicked → Type 0
-  Ticks t = (e : Device) × (device_of entry t.bus ≡ Some e) × Steps d q e q None None
+  Ticks t = (e : Entry) × (device_of entry t.bus ≡ Some e) × Steps d q e q None None
 
-  still_there : (t : BusTicked) (e : Device) → device_of entry t.bus ≡ Some e → Stills d e → Ticks t
+  still_there : (t : BusTicked) (e : Entry) → device_of entry t.bus ≡ Some e → Stills d e → Ticks t
   still_there t e there s = (e, there, stills d e q paced s)
 
   -- it begins an exchange
@@ -50,12 +50,12 @@ module _ (now entry : ℕ) (b : BusState) (d : Device) (q : Queue) (sound : Soun
       let waiting : waits f ≡ waits d = sym (ap waits one) ∙ h.waiting in
       by_begun e there f waiting (by_asks h.device f r one (none_asked f.controller.session.state free) h.asks begins.free.after) (begun r.greatest f free)
     where
-      by_asks : (h f : Device) (r : BusState) → h ≡ f → asked f ≡ None → (asked h ≡ asked d) ⊎ ((asked h ≡ None) × (is_some r.devices.report ≡ true)) → has_report r ≡ false
+      by_asks : (h f : Entry) (r : BusState) → h ≡ f → asked f ≡ None → (asked h ≡ asked d) ⊎ ((asked h ≡ None) × (is_some r.devices.report ≡ true)) → has_report r ≡ false
           → asked d ≡ None
       by_asks h f r one none (inl same) untold = sym same ∙ ap asked one ∙ none
       by_asks h f r one none (inr (ended, told)) untold = absurd cc
 
-      by_begun : (e : Device) → device_of entry (bus_ticks now b).bus ≡ Some e → (f : Device) → waits f ≡ waits d → asked d ≡ None → Begun f e → Ticks (bus_ticks now b)
+      by_begun : (e : Entry) → device_of entry (bus_ticks now b).bus ≡ Some e → (f : Entry) → waits f ≡ waits d → asked d ≡ None → Begun f e → Ticks (bus_ticks now b)
       by_begun e there f waiting free (inl (none, same)) = still_there (bus_ticks now b) e there (record { waiting = same ∙ waiting; asks = inr none })
       by_begun e there f waiting free (inr (c, asks, front, not_polls, stands)) =
           (e, there, goes d e q c paced free asks (sym waiting ∙ front) not_polls stands)

@@ -8,7 +8,7 @@ use Rattle.osdp_controller.specs.Machine.{is_outstanding}
 use Rattle.osdp_controller_laws.specs.Commands.{asked_in, command_of}
 use Rattle.osdp_time_laws.specs.Orders.{is_under_way}
 use Rattle.osdp_time_laws.proofs.Orders.{lives}
-use Rattle.osdp_bus.specs.declared.device.Device.{Device}
+use Rattle.osdp_bus.specs.declared.entry.Entry.{Entry}
 use Rattle.osdp_bus.specs.Buses.{BusState, device_of}
 use Rattle.osdp_bus_laws.specs.Calls.{Call}
 use Rattle.osdp_bus_laws.specs.Calls.{after_call as after_bus_call, after_calls as after_bus_calls}
@@ -47,13 +47,13 @@ pub record Starts (entry : ℕ) (cs : List Call) (b : BusState) : Type 0 where
   pub begins : Begins heads.first entry b
 
 -- none does: what waits stays, and the exchange that is to begin by a moment still is
-pub record Rests (m entry : ℕ) (d : Device) (cs rest : List Call) (b : BusState) : Type 0 where
-  pub device : Device
+pub record Rests (m entry : ℕ) (d : Entry) (cs rest : List Call) (b : BusState) : Type 0 where
+  pub device : Entry
   pub there : device_of entry (after_bus_calls cs b) ≡ Some device
   pub kept : Keeps d device
   pub goes : BeginsBy m zero entry rest (after_bus_calls cs b)
 
-keeps_then : (d e f : Device) → Keeps d e → SameSession e f → Keeps d f
+keeps_then : (d e f : Entry) → Keeps d e → SameSession e f → Keeps d f
 keeps_then d e f k s = record {
   more = k.more ++ s.more;
   waiting = s.waiting ∙ ap (λ w. w ++ s.more) k.waiting ∙ append_assoc (waits d) k.more s.more;
@@ -103,7 +103,7 @@ module _ (m entry : ℕ) (cs rest : List Call) (b : BusState) (well : Well b) (u
           goes = by_session e.0 e.1 lead.0 lead.1 lead.2 (is_under_way e.0.controller.session.state) refl;
         }
       where
-        by_session : (e : Device) → device_of entry (after_bus_call first b) ≡ Some e → (f : Device) → device_of entry (after_bus_calls (first ∷ tail) b) ≡ Some f
+        by_session : (e : Entry) → device_of entry (after_bus_call first b) ≡ Some e → (f : Entry) → device_of entry (after_bus_calls (first ∷ tail) b) ≡ Some f
             → SameSession e f → (t : Bool) → is_under_way e.controller.session.state ≡ t → BeginsBy m zero entry rest (after_bus_calls (first ∷ tail) b)
         by_session e at f there same true stands =
             orders_go m entry tail rest are (after_bus_call first b) (record { device = e; there = at; under_way = stands }) ((goes_first under).1 not)
@@ -111,7 +111,7 @@ module _ (m entry : ℕ) (cs rest : List Call) (b : BusState) (well : Well b) (u
             over_goes m entry rest (after_bus_calls (first ∷ tail) b)
             (λ now. (let one = one_device (device_of entry (after_bus_calls (first ∷ tail) b)) f now.device there now.there in
             let ended : is_under_way now.device.controller.session.state ≡ false =
-            sym (ap (λ (k : Device). is_under_way k.controller.session.state) one) ∙ ap (λ (t : Session). is_under_way t.state) same.session ∙ over in
+            sym (ap (λ (k : Entry). is_under_way k.controller.session.state) one) ∙ ap (λ (t : Session). is_under_way t.state) same.session ∙ over in
             let going = now.under_way in
             cc))
 
@@ -141,7 +141,7 @@ module _ (m entry : ℕ) (cs rest : List Call) (b : BusState) (well : Well b) (u
 -- ---- an exchange of the entry begins
 
 module _ (entry : ℕ) (cs : List Call) (b : BusState) (under : IsUnderWay entry b) (s : Starts entry cs b) where
-  abbrev d : Device
+  abbrev d : Entry
   d = under.device
 
   abbrev first : Call
@@ -149,7 +149,7 @@ module _ (entry : ℕ) (cs : List Call) (b : BusState) (under : IsUnderWay entry
 
   -- it asks the order that waits at the front
   pub asks_front : (c : Command) (w : List Command) → waits under.device ≡ c ∷ w
-      → (e : Device) × (device_of entry (after_bus_calls cs b) ≡ Some e) × (asked e ≡ Some c)
+      → (e : Entry) × (device_of entry (after_bus_calls cs b) ≡ Some e) × (asked e ≡ Some c)
   asks_front c w front =
       let f = takes_the_front b s.heads.first entry c w under.device under.there under.under_way front s.begins in
       let lead = orders_lead entry s.heads.tail s.heads.orders f.0 (after_bus_call s.heads.first b) f.1 in
@@ -160,7 +160,7 @@ module _ (entry : ℕ) (cs : List Call) (b : BusState) (under : IsUnderWay entry
       )
 
   -- and where none waits it is a POLL
-  pub asks_none : waits under.device ≡ [] → (e : Device) × (device_of entry (after_bus_calls cs b) ≡ Some e) × (asked e ≡ None)
+  pub asks_none : waits under.device ≡ [] → (e : Entry) × (device_of entry (after_bus_calls cs b) ≡ Some e) × (asked e ≡ None)
   asks_none none =
       let f = polls_else b s.heads.first entry under.device under.there under.under_way none s.begins in
       let lead = orders_lead entry s.heads.tail s.heads.orders f.0 (after_bus_call s.heads.first b) f.1 in

@@ -2,7 +2,7 @@
 use Rattle.std.proofs.Common.{◌≡◌, ◌∙◌, ap, refl, ℕ, zero, suc, ◌-◌, ◌^◌, min, Bool, true, false, List, [], ◌∷◌, ◌++◌, length, Option, Some, None, Result, Ok, Err, arith}
 use Rattle.std.specs.Prelude.{if◌then◌else◌, option_map, slice_get}
 use Rattle.osdp_msg.specs.declared.command.Command.{Command}
-use Rattle.osdp_bus.specs.declared.device.Device.{Device}
+use Rattle.osdp_bus.specs.declared.entry.Entry.{Entry}
 use Rattle.osdp_bus.specs.declared.fault.BusFault.{BusFault}
 use Rattle.osdp_bus.specs.Buses.{device_of, new_bus}
 use Rattle.osdp_bus.specs.Machine.{add_refusal, after_begin_at, begin_refusal_at, changed_unless, withdrawal_at}
@@ -86,7 +86,7 @@ module _ (x : PanelState) (off : Off x) where
   held_none true entry = ap held_of (no_queue entry)
   held_none false entry = refl
 
-  counted : (o : Option Device) → with_held (option_map (λ (d : Device). length d.controller.waiting) o) 0 ≡ option_map (λ (d : Device). min (length d.controller.waiting) (2 ^ 64 - 1)) o
+  counted : (o : Option Entry) → with_held (option_map (λ (d : Entry). length d.controller.waiting) o) 0 ≡ option_map (λ (d : Entry). min (length d.controller.waiting) (2 ^ 64 - 1)) o
   counted None = refl
   counted (Some d) = ap (λ (n : ℕ). Some (min n (2 ^ 64 - 1))) (omega arith)
 
@@ -97,7 +97,7 @@ module _ (x : PanelState) (off : Off x) where
     withdrawal = λ entry.
         ap (λ o. or_held (withdrawal_at entry x.bus) o) (held_none (is_closed_in (device_of entry x.bus)) entry) ∙ or_none (withdrawal_at entry x.bus);
     waiting = λ entry.
-        ap (λ q. with_held (option_map (λ (d : Device). length d.controller.waiting) (device_of entry x.bus)) (held_count q)) (no_queue entry)
+        ap (λ q. with_held (option_map (λ (d : Entry). length d.controller.waiting) (device_of entry x.bus)) (held_count q)) (no_queue entry)
         ∙ counted (device_of entry x.bus);
   }
 

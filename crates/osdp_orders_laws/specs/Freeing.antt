@@ -3,7 +3,7 @@ use Rattle.std.specs.Prelude.{◌≡◌, ◌⊎◌, ℕ, true, List, [], ◌∷�
 use Rattle.osdp_frame.specs.Packet.{Packet}
 use Rattle.osdp_msg.specs.declared.command.Command.{Command}
 use Rattle.osdp_bus.specs.declared.config.BusConfig.{BusConfig}
-use Rattle.osdp_bus.specs.declared.device.Device.{Device}
+use Rattle.osdp_bus.specs.declared.entry.Entry.{Entry}
 use Rattle.osdp_bus.specs.Buses.{device_of}
 use Rattle.osdp_bus.specs.Machine.{begin_refusal_at}
 use Rattle.osdp_bus.specs.Settings.{IsBusConfig}
@@ -21,7 +21,7 @@ pub record IsAsked (entry : ℕ) (call : Call) (x : PanelState) : Type 0 where
   pub tick : call ≡ Tick now
   pub packet : Packet
   pub sent : (bus_ticks now x.bus).sent ≡ Some packet
-  pub device : Device
+  pub device : Entry
   pub there : device_of entry (bus_ticks now x.bus).bus ≡ Some device
   pub own : own_frame device ≡ Some packet
   pub polls : polls_of (Some device) ≡ true

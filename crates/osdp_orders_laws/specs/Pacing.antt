@@ -5,14 +5,14 @@ use Rattle.osdp_controller.specs.declared.exchange.Exchange.{Exchange}
 use Rattle.osdp_controller.specs.declared.exchange.Exchange.TheVariants.{Polling}
 use Rattle.osdp_controller_laws.specs.Commands.{asked_in}
 use Rattle.osdp_controller_laws.specs.Laws.{exchange_in}
-use Rattle.osdp_bus.specs.declared.device.Device.{Device}
+use Rattle.osdp_bus.specs.declared.entry.Entry.{Entry}
 use Rattle.osdp_bus.specs.Buses.{device_of}
 use Rattle.osdp_bus_laws.specs.Calls.{Call}
 use Rattle.osdp_orders.specs.Orders.{PanelState, is_closed_in}
 use Rattle.osdp_orders_laws.specs.Calls.{after_call, after_calls}
 
 -- the order of an entry that waits for its answer
-abbrev pub asked_of : Option Device → Option Command
+abbrev pub asked_of : Option Entry → Option Command
 asked_of None = None
 asked_of (Some d) = asked_in d.controller.session.state
 
@@ -24,7 +24,7 @@ abbrev pub is_polling : Option Exchange → Bool
 is_polling (Some Polling) = true
 is_polling _ = false
 
-abbrev pub polls_of : Option Device → Bool
+abbrev pub polls_of : Option Entry → Bool
 polls_of None = false
 polls_of (Some d) = is_polling (exchange_in d.controller.session.state)
 

@@ -4,7 +4,7 @@ use Rattle.std.specs.Prelude.{◌≡◌, ℕ, ◌-◌, ◌^◌, min, ◌&&◌, �
 use Rattle.osdp_msg.specs.declared.command.Command.{Command}
 use Rattle.osdp_msg.specs.Kept.{command_kept}
 use Rattle.osdp_controller.specs.States.{is_closed}
-use Rattle.osdp_bus.specs.declared.device.Device.{Device}
+use Rattle.osdp_bus.specs.declared.entry.Entry.{Entry}
 use Rattle.osdp_bus.specs.declared.fault.BusFault.{BusFault}
 use Rattle.osdp_bus.specs.Buses.{device_of}
 use Rattle.osdp_bus_laws.specs.Calls.{Call, Submit, Withdraw}
@@ -15,7 +15,7 @@ use Rattle.osdp_orders_laws.specs.Calls.{after_call, after_calls}
 use Rattle.osdp_orders_laws.specs.Pacing.{goes_out}
 
 -- the orders of an entry that wait: those in its controller, and then those that are held back
-abbrev pub in_controller : Option Device → List Command
+abbrev pub in_controller : Option Entry → List Command
 in_controller None = []
 in_controller (Some d) = d.controller.waiting
 
@@ -67,9 +67,9 @@ OrdersKeepTheirPlaces x = (entry : ℕ) (calls : List Call) → AreWritten calls
     → left entry calls x ++ waiting_orders entry (after_calls calls x) ≡ waiting_orders entry x ++ accepted entry calls x
 
 -- of an entry that there is: how many wait is told, and the one that has waited longest may be withdrawn, where there is no session
-pub record TellsWhatWaits (entry : ℕ) (d : Device) (x : PanelState) : Type 0 where
+pub record TellsWhatWaits (entry : ℕ) (d : Entry) (x : PanelState) : Type 0 where
   pub counted : waiting entry x ≡ Some (min (length (waiting_orders entry x)) (2 ^ 64 - 1))
   pub withdrawable : withdrawal entry x ≡ Ok (if is_closed d.controller.session.state then slice_get (waiting_orders entry x) 0 else None)
 
 abbrev pub TellAllThatWaits : PanelState → Type 0
-TellAllThatWaits x = (entry : ℕ) (d : Device) → device_of entry x.bus ≡ Some d → TellsWhatWaits entry d x
+TellAllThatWaits x = (entry : ℕ) (d : Entry) → device_of entry x.bus ≡ Some d → TellsWhatWaits entry d x

@@ -5,7 +5,7 @@ use Rattle.std.specs.Option.{option_map_or}
 use Rattle.osdp_msg.specs.declared.command.Command.{Command}
 use Rattle.osdp_bus.specs.declared.fault.BusFault.{BusFault}
 use Rattle.osdp_controller.proofs.Choices.{either_way}
-use Rattle.osdp_bus.specs.declared.device.Device.{Device}
+use Rattle.osdp_bus.specs.declared.entry.Entry.{Entry}
 use Rattle.osdp_bus.specs.Buses.{BusState, device_of, has_report, holder, seen}
 use Rattle.osdp_bus.specs.Hearing.{ends_run, ends_silent}
 use Rattle.osdp_bus.specs.Machine.{after_next_report, device_submits, order_refusal_at}
@@ -27,7 +27,7 @@ seen_again now b =
 
 -- a tick leaves a run that is over
 
-over_with : (i : ℕ) (o : Option Device) (b : BusState) → b.held ≡ [] → (ticks_with i o b).bus.held ≡ []
+over_with : (i : ℕ) (o : Option Entry) (b : BusState) → b.held ≡ [] → (ticks_with i o b).bus.held ≡ []
 over_with i None b h = h
 over_with i (Some d) b h = h
 
@@ -50,7 +50,7 @@ over_by (Some i) b h =
 
 -- an order that goes to its controller leaves what is held of the line
 
-orders_held : (o : Option Device) (entry : ℕ) (c : Command) (b : BusState)
+orders_held : (o : Option Entry) (entry : ℕ) (c : Command) (b : BusState)
     → (option_map_or (λ d. record b {
       devices = record b.devices { entries = slice_set b.devices.entries entry (device_submits c d) };
     }) o b).held ≡ b.held

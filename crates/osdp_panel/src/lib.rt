@@ -31,7 +31,7 @@ mod unsent;
 
 ghost use Rattle.std.specs.Prelude.{◌≡◌, [], None, false};
 
-pub use osdp_bus::{Bus, BusConfig, BusFault, Entry, Told};
+pub use osdp_bus::{Bus, BusConfig, BusFault, EntryNumber, Told};
 pub use osdp_controller::{LostCause, Report};
 pub use osdp_frame::{Address, Burst, CheckKind};
 pub use osdp_msg::{

@@ -3,7 +3,7 @@
 ghost use Rattle.std.specs.Prelude.{◌≡◌, ◌↔◌, IfErr, IsSome, IsTrue, None, OnOk, Some, false, is_some, length, option_map, true};
 ghost use Rattle.osdp_bus.specs.Buses.{device_of, is_maybe_again};
 ghost use Rattle.osdp_bus.specs.Deadlines.{IsDeadline};
-ghost use Rattle.osdp_bus.specs.Devices.{address_of};
+ghost use Rattle.osdp_bus.specs.Entries.{address_of};
 ghost use Rattle.osdp_bus.specs.Machine.{after_retarget_at, after_next_report, begin_refusal_at, changed_unless, retarget_refusal_at, unless_refused};
 ghost use Rattle.osdp_controller.specs.Lent.{IsWritten};
 ghost use Rattle.osdp_controller.specs.States.{is_closed};
@@ -13,7 +13,7 @@ ghost use Rattle.osdp_panel.specs.Turns.{after_panel_turn, heard_in, ticked_in, 
 
 use crate::Turn;
 use crate::unsent::Unsent;
-use osdp_bus::{Bus, BusConfig, BusFault, Entry, Told};
+use osdp_bus::{Bus, BusConfig, BusFault, EntryNumber, Told};
 use osdp_frame::Address;
 use osdp_msg::Command;
 use osdp_orders::Orders;
@@ -76,14 +76,14 @@ impl Panel {
     /// Adds a device at an address, whose session is closed, and tells its entry. It takes the memory for the device and for its commands.
     ///
     /// The faults are those of `Bus::add`. Where orders wait for POLLs, NoMemory (B1) may come before them.
-    pub fn add(&mut self, address: Address) -> Result<Entry, BusFault>
+    pub fn add(&mut self, address: Address) -> Result<EntryNumber, BusFault>
         ensures { AddEnds address self.old self.new result }
     {
         self.orders.add(&mut self.bus, address)
     }
 
     /// Sets the address of a device, and frees the one that is reserved for it. The faults are those of `Bus::retarget`.
-    pub fn retarget(&mut self, entry: Entry, address: Address) -> Result<(), BusFault>
+    pub fn retarget(&mut self, entry: EntryNumber, address: Address) -> Result<(), BusFault>
         ensures result { result ≡ unless_refused (retarget_refusal_at entry address self.old.bus) }
         ensures panel { self.new ≡ record self.old { bus = changed_unless (retarget_refusal_at entry address self.old.bus) self.old.bus (after_retarget_at entry address self.old.bus) } }
     {
@@ -91,7 +91,7 @@ impl Panel {
     }
 
     /// Begins a session of a device. The faults are those of `Bus::begin`.
-    pub fn begin(&mut self, entry: Entry, now: u64) -> Result<(), BusFault>
+    pub fn begin(&mut self, entry: EntryNumber, now: u64) -> Result<(), BusFault>
         ensures result { result ≡ unless_refused (begin_refusal_at entry self.old.bus) }
         ensures panel { self.new ≡ after_begin entry now self.old }
     {
@@ -100,7 +100,7 @@ impl Panel {
 
     /// Puts a command after those that wait for a device. The faults are those of `Bus::submit`; while orders are held back a COMSET is refused as one for which
     /// there is no room (C3), and is to be ordered again.
-    pub fn submit(&mut self, entry: Entry, command: &Command<'_>) -> Result<(), BusFault>
+    pub fn submit(&mut self, entry: EntryNumber, command: &Command<'_>) -> Result<(), BusFault>
         ensures accepted { OnOk result ((submit_refusal entry command.now self.old ≡ None) × (self.new ≡ after_submit entry command.now self.old)) }
         ensures refused { IfErr result (λ fault. (submit_refusal entry command.now self.old ≡ Some fault) × (self.new ≡ self.old)) }
     {
@@ -108,14 +108,14 @@ impl Panel {
     }
 
     /// The command that may be withdrawn of a device: the one that has waited longest. None where none waits, or where its session has begun.
-    pub fn withdrawable(&self, entry: Entry) -> Result<Option<Command<'_>>, BusFault>
+    pub fn withdrawable(&self, entry: EntryNumber) -> Result<Option<Command<'_>>, BusFault>
         ensures { result ≡ withdrawal entry self.now }
     {
         self.orders.withdrawable(&self.bus, entry)
     }
 
     /// Takes that command back. Whether there was one; else nothing changes.
-    pub fn withdraw(&mut self, entry: Entry) -> Result<bool, BusFault>
+    pub fn withdraw(&mut self, entry: EntryNumber) -> Result<bool, BusFault>
         ensures result { result ≡ is_taken_back (withdrawal entry self.old) }
         ensures panel { self.new ≡ after_withdraw entry self.old }
     {
@@ -158,21 +158,21 @@ impl Panel {
     }
 
     /// The address of a device. None where there is no such entry.
-    pub fn address(&self, entry: Entry) -> Option<Address>
+    pub fn address(&self, entry: EntryNumber) -> Option<Address>
         ensures { result ≡ option_map address_of (device_of entry self.now.bus) }
     {
         self.bus.address(entry)
     }
 
     /// How many commands wait for a device, those that are held back too; the outstanding one isn't counted. None where there is no such entry.
-    pub fn waiting(&self, entry: Entry) -> Option<usize>
+    pub fn waiting(&self, entry: EntryNumber) -> Option<usize>
         ensures { result ≡ waiting entry self.now }
     {
         self.orders.waiting(&self.bus, entry)
     }
 
     /// Whether the session of a device is closed. None where there is no such entry.
-    pub fn is_closed(&self, entry: Entry) -> Option<bool>
+    pub fn is_closed(&self, entry: EntryNumber) -> Option<bool>
         ensures { result ≡ option_map (λ d. is_closed d.controller.session.state) (device_of entry self.now.bus) }
     {
         self.bus.is_closed(entry)

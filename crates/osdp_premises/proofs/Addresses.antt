@@ -7,7 +7,7 @@ use Rattle.osdp_msg.specs.declared.command_fields.Communication.{Communication}
 use Rattle.osdp_controller.specs.Hearing.{comset_of}
 use Rattle.osdp_bus.specs.Buses.{device_of}
 use Rattle.osdp_bus.specs.Machine.{retarget_refusal_at, submit_refusal_at}
-use Rattle.osdp_bus.specs.declared.device.Device.{Device}
+use Rattle.osdp_bus.specs.declared.entry.Entry.{Entry}
 use Rattle.osdp_bus.specs.declared.fault.BusFault.{BusFault}
 use Rattle.osdp_bus_laws.specs.Calls as bus
 use Rattle.osdp_reader.specs.Table.{command_in, new_address}
@@ -38,7 +38,7 @@ away_decides k a q = Decides-like ((q.0 == k) || not (q.1.address == a)) to from
     from : (q.0 ≢ k → q.1.address ≢ a) → (q.0 ≡ k) ⊎ (q.1.address ≡ a → ⊥)
     from all = ⊎_elim (λ same. inl same) (λ other. inr (all other)) (cases_eq q.0 k)
 
-asked_decides : (a : ℕ) (d : Device) → Decides (is_asked_to a d) (Somewhere (Sets a) (unended_of d))
+asked_decides : (a : ℕ) (d : Entry) → Decides (is_asked_to a d) (Somewhere (Sets a) (unended_of d))
 asked_decides a d = some_decides (sets a) (Sets a) (λ c. number_decides a (new_address c)) (unended_of d)
 
 abbrev Differ : List ℕ → ℕ → ℕ → Type 0
@@ -70,14 +70,14 @@ module _ {H : Type 0} where
       (there_decides (stands_at a) (λ (t : Station H). t.reader.config.address ≡ a) (stands_decides a) (site_at k l.stations))
       (Decides-or asked sent
       (there_decides (λ (t : Station H). is_there_with (is_asked_to a) (device_of k l.bus))
-      (λ (t : Station H). (d : Device) × (device_of k l.bus ≡ Some d) × Somewhere (Sets a) (unended_of d))
-      (λ t. there_decides (is_asked_to a) (λ (d : Device). Somewhere (Sets a) (unended_of d)) (asked_decides a) (device_of k l.bus)) (site_at k l.stations))
+      (λ (t : Station H). (d : Entry) × (device_of k l.bus ≡ Some d) × Somewhere (Sets a) (unended_of d))
+      (λ t. there_decides (is_asked_to a) (λ (d : Entry). Somewhere (Sets a) (unended_of d)) (asked_decides a) (device_of k l.bus)) (site_at k l.stations))
       (there_decides (is_sent_to a k l)
       (λ (t : Station H). Somewhere (λ (q : ℕ × Packet). (q.0 ≡ k) × SetsReader a q.1) (ahead_of_device k t.place l.openings l.said))
       (sent_decides a k l) (site_at k l.stations))))
     where
       to : ((t : Station H) × (site_at k l.stations ≡ Some t) × (t.reader.config.address ≡ a))
-          ⊎ (((t : Station H) × (site_at k l.stations ≡ Some t) × ((d : Device) × (device_of k l.bus ≡ Some d) × Somewhere (Sets a) (unended_of d)))
+          ⊎ (((t : Station H) × (site_at k l.stations ≡ Some t) × ((d : Entry) × (device_of k l.bus ≡ Some d) × Somewhere (Sets a) (unended_of d)))
           ⊎ ((t : Station H) × (site_at k l.stations ≡ Some t)
           × Somewhere (λ (q : ℕ × Packet). (q.0 ≡ k) × SetsReader a q.1) (ahead_of_device k t.place l.openings l.said))) → MayBeAt a k l
       to (inl h) = IsThere h.0 h.1 h.2
@@ -85,7 +85,7 @@ module _ {H : Type 0} where
       to (inr (inr h)) = IsSaid h.0 h.1 h.2
 
       from : MayBeAt a k l → ((t : Station H) × (site_at k l.stations ≡ Some t) × (t.reader.config.address ≡ a))
-          ⊎ (((t : Station H) × (site_at k l.stations ≡ Some t) × ((d : Device) × (device_of k l.bus ≡ Some d) × Somewhere (Sets a) (unended_of d)))
+          ⊎ (((t : Station H) × (site_at k l.stations ≡ Some t) × ((d : Entry) × (device_of k l.bus ≡ Some d) × Somewhere (Sets a) (unended_of d)))
           ⊎ ((t : Station H) × (site_at k l.stations ≡ Some t)
           × Somewhere (λ (q : ℕ × Packet). (q.0 ≡ k) × SetsReader a q.1) (ahead_of_device k t.place l.openings l.said)))
       from (IsThere t at is) = inl (t, at, is)
@@ -101,13 +101,13 @@ module _ {H : Type 0} where
   -- an entry of ours is at an address
   abbrev OursAt : ℕ → ℕ → InUse H → Type 0
   OursAt a j l = (t : Station H) × (site_at j l.stations ≡ Some t)
-      × ((d : Device) × (device_of j l.bus ≡ Some d) × (d.controller.session.config.address ≡ a))
+      × ((d : Entry) × (device_of j l.bus ≡ Some d) × (d.controller.session.config.address ≡ a))
 
   ours_decides : (a j : ℕ) (l : InUse H) → Decides (is_ours_at a j l) (OursAt a j l)
   ours_decides a j l =
       there_decides (λ (t : Station H). is_there_with (is_entry_at a) (device_of j l.bus))
-      (λ (t : Station H). (d : Device) × (device_of j l.bus ≡ Some d) × (d.controller.session.config.address ≡ a))
-      (λ t. there_decides (is_entry_at a) (λ (d : Device). d.controller.session.config.address ≡ a)
+      (λ (t : Station H). (d : Entry) × (device_of j l.bus ≡ Some d) × (d.controller.session.config.address ≡ a))
+      (λ t. there_decides (is_entry_at a) (λ (d : Entry). d.controller.session.config.address ≡ a)
       (λ d. Decides-eqb d.controller.session.config.address a) (device_of j l.bus)) (site_at j l.stations)
 
   pub no_others_decides : (k a : ℕ) (l : InUse H) → Decides (is_no_others k a l) (IsNoOthers k a l)

@@ -13,7 +13,7 @@ use Rattle.osdp_msg.specs.declared.command.Command.{Command}
 use Rattle.osdp_bus.specs.Buses.{device_of}
 use Rattle.osdp_bus.specs.Machine.{new_device}
 use Rattle.osdp_bus.specs.Settings.{IsBusConfig}
-use Rattle.osdp_bus.specs.declared.device.Device.{Device}
+use Rattle.osdp_bus.specs.declared.entry.Entry.{Entry}
 use Rattle.osdp_bus.proofs.Defaults.{bus_in_range}
 use Rattle.osdp_device.specs.Telling.{items_of}
 use Rattle.osdp_link_laws.specs.Link.{new_account}
@@ -78,7 +78,7 @@ far zero (suc k) other lj lk e = let e' : 3 ≡ 4 = e in absurd (omega (arith, e
 far (suc j) zero other lj lk e = let e' : 4 ≡ 3 = e in absurd (omega (arith, e'))
 far (suc j) (suc k) other lj lk e = other (omega (arith, lj, lk))
 
-abbrev the_entry : Option Device → Device
+abbrev the_entry : Option Entry → Entry
 the_entry None = new_device 0 twice
 the_entry (Some d) = d
 
@@ -223,7 +223,7 @@ module _ {H : Type 0} (answer_of : H → Command → Answer) (after : H → Comm
   there None handler some = absurd (let e = some in cc)
   there (Some t) handler some = refl
 
-  stands_there : (o : Option Device) → is_some o ≡ true → o ≡ Some (the_entry o)
+  stands_there : (o : Option Entry) → is_some o ≡ true → o ≡ Some (the_entry o)
   stands_there None some = absurd (let e = some in cc)
   stands_there (Some d) some = refl
 

@@ -6,9 +6,9 @@ use Rattle.osdp_msg.specs.declared.command.Command.{Command}
 use Rattle.osdp_msg.specs.declared.command_fields.Communication.{Communication}
 use Rattle.osdp_controller.specs.Hearing.{comset_of}
 use Rattle.osdp_bus.specs.Buses.{BusState, device_of}
-use Rattle.osdp_bus.specs.Devices.{address_of}
+use Rattle.osdp_bus.specs.Entries.{address_of}
 use Rattle.osdp_bus.specs.Machine.{retarget_refusal_at, submit_refusal_at}
-use Rattle.osdp_bus.specs.declared.device.Device.{Device}
+use Rattle.osdp_bus.specs.declared.entry.Entry.{Entry}
 use Rattle.osdp_bus.specs.declared.fault.BusFault.{BusFault}
 use Rattle.osdp_bus_laws.specs.Calls as bus
 use Rattle.osdp_reader.specs.declared.handler.Answer.{Answer}
@@ -25,12 +25,12 @@ use Rattle.osdp_premises.proofs.Exactly.{exact}
 is_that_one : {A : Type 0} (x y : A) → Some x ≡ Some y → x ≡ y
 is_that_one x y e = cc
 
-known_decides : (address : ℕ) (d : Device) (note : Note) → Decides (is_known address d note) (IsKnown address d note)
+known_decides : (address : ℕ) (d : Entry) (note : Note) → Decides (is_known address d note) (IsKnown address d note)
 known_decides address d note = some_decides (λ a. a == address) (λ a. a ≡ address) (λ a. Decides-eqb a address) (address_of d ∷ note.addresses)
 
 -- no other entry knows it
 abbrev Unknown : ℕ → ℕ → BusState → (ℕ → Note) → Type 0
-Unknown k address b notes = (j : ℕ) (d : Device) → j ≢ k → device_of j b ≡ Some d → IsKnown address d (notes j) → ⊥
+Unknown k address b notes = (j : ℕ) (d : Entry) → j ≢ k → device_of j b ≡ Some d → IsKnown address d (notes j) → ⊥
 
 unknown_decides : (k address : ℕ) (b : BusState) (notes : ℕ → Note) → Decides (is_unknown_beside k address b notes) (Unknown k address b notes)
 unknown_decides k address b notes =
@@ -38,7 +38,7 @@ unknown_decides k address b notes =
     (λ h j d other at known. h j other (d, at, known))
     (λ all j other held. all j held.0 other held.1 held.2)
     (other_decides k (length b.devices.entries) (λ j. not (is_there_with (λ d. is_known address d (notes j)) (device_of j b)))
-    (λ j. ((d : Device) × (device_of j b ≡ Some d) × IsKnown address d (notes j)) → ⊥)
+    (λ j. ((d : Entry) × (device_of j b ≡ Some d) × IsKnown address d (notes j)) → ⊥)
     (λ j. Decides-not (is_there_with (λ d. is_known address d (notes j)) (device_of j b))
     (there_decides (λ d. is_known address d (notes j)) (λ d. IsKnown address d (notes j)) (λ d. known_decides address d (notes j)) (device_of j b)))
     (λ j above held. let below = get_below j b.devices.entries held.0 held.1 in absurd (omega (arith, above, below))))
@@ -60,7 +60,7 @@ panel_decides (bus.Submit k command) b notes =
     ((c : Communication) → comset_of command ≡ Some c → Unknown k c.address b notes) (asked_decides k (comset_of command) b notes)
 panel_decides (bus.Retarget k address) b notes =
     refused_decides (retarget_refusal_at k address b) (if_there (λ d. is_known address d (notes k)) (device_of k b))
-    ((d : Device) → device_of k b ≡ Some d → IsKnown address d (notes k))
+    ((d : Entry) → device_of k b ≡ Some d → IsKnown address d (notes k))
     (if_decides (λ d. is_known address d (notes k)) (λ d. IsKnown address d (notes k)) (λ d. known_decides address d (notes k)) (device_of k b))
 panel_decides (bus.Add address) b notes = always tt
 panel_decides (bus.Begin entry now) b notes = always tt
@@ -80,8 +80,8 @@ module _ {H : Type 0} where
       Decides-like (keeps_rule (NewPanel config addresses) l notes)
       (λ h k a d at there. h k (site_below k addresses a at) a at d there)
       (λ all k below a at d there. all k a d at there)
-      (below_decides known (λ k. (a : ℕ) → site_at k addresses ≡ Some a → (d : Device) → device_of k l.bus ≡ Some d → IsKnown a d (notes k))
-      (λ k. if_decides (λ a. if_there (λ d. is_known a d (notes k)) (device_of k l.bus)) (λ a. (d : Device) → device_of k l.bus ≡ Some d → IsKnown a d (notes k))
+      (below_decides known (λ k. (a : ℕ) → site_at k addresses ≡ Some a → (d : Entry) → device_of k l.bus ≡ Some d → IsKnown a d (notes k))
+      (λ k. if_decides (λ a. if_there (λ d. is_known a d (notes k)) (device_of k l.bus)) (λ a. (d : Entry) → device_of k l.bus ≡ Some d → IsKnown a d (notes k))
       (λ a. if_decides (λ d. is_known a d (notes k)) (λ d. IsKnown a d (notes k)) (λ d. known_decides a d (notes k)) (device_of k l.bus)) (site_at k addresses))
       (length addresses))
   rule_exact (SubmitEvent k event) l notes = always tt

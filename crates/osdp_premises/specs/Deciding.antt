@@ -10,7 +10,7 @@ use Rattle.osdp_msg.specs.declared.command_fields.Communication.{Communication}
 use Rattle.osdp_controller.specs.Hearing.{comset_of}
 use Rattle.osdp_bus.specs.Buses.{device_of}
 use Rattle.osdp_bus.specs.Machine.{retarget_refusal_at, submit_refusal_at}
-use Rattle.osdp_bus.specs.declared.device.Device.{Device}
+use Rattle.osdp_bus.specs.declared.entry.Entry.{Entry}
 use Rattle.osdp_bus.specs.declared.fault.BusFault.{BusFault}
 use Rattle.osdp_bus_laws.specs.Calls as bus
 use Rattle.osdp_device.specs.Telling.{items_of}
@@ -84,7 +84,7 @@ sets address command = is_there_with (λ to. to == address) (new_address command
 abbrev pub sets_reader : ℕ → Packet → Bool
 sets_reader address p = is_there_with (λ to. to == address) (address_in (command_in p))
 
-abbrev pub is_asked_to : ℕ → Device → Bool
+abbrev pub is_asked_to : ℕ → Entry → Bool
 is_asked_to address d = some_of (sets address) (unended_of d)
 
 -- of each entry but this one
@@ -95,7 +95,7 @@ abbrev pub address_asked : Option Communication → Option ℕ
 address_asked None = None
 address_asked (Some asked) = Some asked.address
 
-abbrev pub is_entry_at : ℕ → Device → Bool
+abbrev pub is_entry_at : ℕ → Entry → Bool
 is_entry_at address d = d.controller.session.config.address == address
 
 abbrev pub differ : Option ℕ → Option ℕ → Bool

@@ -14,7 +14,7 @@ use Rattle.osdp_msg.specs.declared.limits.Room.{Room}
 use Rattle.osdp_bus.specs.Buses.{new_bus}
 use Rattle.osdp_bus.specs.Settings.{default_config}
 use Rattle.osdp_bus.specs.declared.config.BusConfig.{BusConfig}
-use Rattle.osdp_bus.specs.declared.device.Device.{Device}
+use Rattle.osdp_bus.specs.declared.entry.Entry.{Entry}
 use Rattle.osdp_bus_laws.specs.Calls as bus
 use Rattle.osdp_link_laws.specs.Link.{Account, new_account}
 use Rattle.osdp_reader.specs.State.{new_reader}
@@ -345,8 +345,8 @@ module _ {H : Type 0} where
       pub first : Station H
       pub before : Station H
       pub next : Station H
-      pub entry : Device
-      pub next_entry : Device
+      pub entry : Entry
+      pub next_entry : Entry
       pub at : site_at count (long_day handler other) ≡ Some (calls call [])
       pub happens : IsBeforeAndAfter answer_of after (first_line handler) (take count (long_day handler other)) (calls call []) k first before next
           entry next_entry

@@ -4,9 +4,9 @@ use Rattle.std.specs.Bool.{Decides}
 use Rattle.osdp_msg.specs.declared.command.Command.{Command}
 use Rattle.osdp_controller.specs.Hearing.{comset_of}
 use Rattle.osdp_bus.specs.Buses.{BusState, device_of}
-use Rattle.osdp_bus.specs.Devices.{address_of}
+use Rattle.osdp_bus.specs.Entries.{address_of}
 use Rattle.osdp_bus.specs.Machine.{retarget_refusal_at, submit_refusal_at}
-use Rattle.osdp_bus.specs.declared.device.Device.{Device}
+use Rattle.osdp_bus.specs.declared.entry.Entry.{Entry}
 use Rattle.osdp_bus.specs.declared.fault.BusFault.{BusFault}
 use Rattle.osdp_bus_laws.specs.Calls as bus
 use Rattle.osdp_reader.specs.declared.handler.Answer.{Answer}
@@ -19,7 +19,7 @@ use Rattle.osdp_premises.specs.Deciding.{address_asked, each_below, each_other, 
 use Rattle.osdp_premises.specs.Exactly.{AllInRange}
 
 -- an address of an entry, as its program knows it
-abbrev pub is_known : ℕ → Device → Note → Bool
+abbrev pub is_known : ℕ → Entry → Note → Bool
 is_known address d note = some_of (λ a. a == address) (address_of d ∷ note.addresses)
 
 -- an address of no other entry

@@ -2,7 +2,7 @@
 use Rattle.std.proofs.Common.{◌≡◌, ℕ, List, ◌∷◌, Some, subst, ap, ◌∙◌}
 use Rattle.osdp_msg.specs.declared.command.Command.{Command}
 use Rattle.osdp_bus.specs.Buses.{device_of}
-use Rattle.osdp_bus.specs.declared.device.Device.{Device}
+use Rattle.osdp_bus.specs.declared.entry.Entry.{Entry}
 use Rattle.osdp_link_laws.specs.Headline.{EachIsOnce}
 use Rattle.osdp_reader.specs.declared.handler.Answer.{Answer}
 use Rattle.osdp_shared_line.specs.Line.{Net, RestartPanel, site_at}
@@ -16,7 +16,7 @@ use Rattle.osdp_calls.proofs.Setting.{first_net, first_site, first_there}
 module _ {H : Type 0} (answer_of : H → Command → Answer) (after : H → Command → H) where
   pub entry_of : (l : InUse H) (steps : List (Step H)) → IsSetUp l → AllKeep answer_of after steps l → (k : ℕ) (last : Station H)
       → site_at k (after_calls answer_of after steps l).stations ≡ Some last
-      → (entry : Device) × (device_of k (after_calls answer_of after steps l).bus ≡ Some entry)
+      → (entry : Entry) × (device_of k (after_calls answer_of after steps l).bus ≡ Some entry)
   entry_of l steps up keep k last there =
       let c = comes answer_of after l steps up keep in
       let s = its_site answer_of after k last (after_calls answer_of after steps l) c.came.net c.came.same there in

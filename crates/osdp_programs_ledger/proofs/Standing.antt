@@ -5,7 +5,7 @@ use Rattle.std.proofs.lemmas.List.{length-append}
 use Rattle.std.specs.List.{list_all, list_any}
 use Rattle.std.specs.Prelude.{not, ◌==◌, ◌&&◌, ◌||◌, nat_le, nat_lt}
 use Rattle.osdp_bus.specs.Buses.{new_bus}
-use Rattle.osdp_bus.specs.Devices.{takes_up}
+use Rattle.osdp_bus.specs.Entries.{takes_up}
 use Rattle.osdp_bus.specs.Machine.{most_devices, new_device}
 use Rattle.osdp_bus.specs.declared.config.BusConfig.{BusConfig}
 use Rattle.osdp_bus.specs.declared.fault.BusFault.TheVariants.{AddressTaken, OutOfRange, TooMany}

@@ -2,7 +2,7 @@
 use Rattle.std.specs.Prelude.{◌≡◌, ℕ, List, ◌++◌, map, Some}
 use Rattle.osdp_msg.specs.declared.command.Command.{Command}
 use Rattle.osdp_bus.specs.Buses.{device_of}
-use Rattle.osdp_bus.specs.declared.device.Device.{Device}
+use Rattle.osdp_bus.specs.declared.entry.Entry.{Entry}
 use Rattle.osdp_reader.specs.declared.handler.Answer.{Answer}
 use Rattle.osdp_ledger.specs.History.{AreAllowed, new_history, runs}
 use Rattle.osdp_shared_line.specs.Line.{site_at}
@@ -20,7 +20,7 @@ module _ {H : Type 0} (P : PanelKind H) (D : DeviceKind H) (answer_of : H → Co
   -- an entry of the panel's program, with the device that its program has at the end: each step of its ledger, read off these calls, may happen where it
   -- does, and so the promises hold
   pub record HoldsOnceAt (k : ℕ) (first : Station H) (w : Programs P D) (d : D.Program) (steps : List (Step H)) (l : InUse H) : Type 0 where
-    pub entry : Device
+    pub entry : Entry
     pub has : device_of k (P.bus w.panel) ≡ Some entry
     pub station : Station H
     pub held : held_by station ≡ D.held d

@@ -4,7 +4,7 @@ use Rattle.osdp_msg.specs.declared.command.Command.{Command}
 use Rattle.osdp_msg.specs.declared.reply.Reply.{Reply}
 use Rattle.osdp_bus.specs.Buses.{device_of}
 use Rattle.osdp_bus.specs.declared.config.BusConfig.{BusConfig}
-use Rattle.osdp_bus.specs.declared.device.Device.{Device}
+use Rattle.osdp_bus.specs.declared.entry.Entry.{Entry}
 use Rattle.osdp_reader.specs.declared.handler.Answer.{Answer}
 use Rattle.osdp_ledger.specs.History.{AreAllowed, End, History, new_history, runs}
 use Rattle.osdp_ledger.specs.Ledger.{Card, Order}
@@ -36,7 +36,7 @@ module _ {H : Type 0} (answer_of : H → Command → Answer) (after : H → Comm
   -- a device with this reader, at the entry that the bus of the run has
   pub record HoldsOnceInRun (config : BusConfig) (readers : List (Given H)) (steps : List SimStep) (gap : ℕ) (calls : List (Step H)) (k : ℕ)
       (given : Given H) (u : ReaderSite H) : Type 0 where
-    pub entry : Device
+    pub entry : Entry
     pub has : device_of k (run answer_of after steps (set_up config readers)).bus ≡ Some entry
     pub station : Station H
     pub there : site_at k (after_calls answer_of after calls (line_at_first config gap readers)).stations ≡ Some station

@@ -6,7 +6,7 @@ use Rattle.std.proofs.lemmas.List.{append-nil, append_assoc}
 use Rattle.osdp_bus.specs.Buses.{BusState, new_bus}
 use Rattle.osdp_bus.specs.Machine.{after_add, after_begin_at, begin_refusal_at, begin_refusal_of, device_begins, new_device}
 use Rattle.osdp_bus.specs.declared.config.BusConfig.{BusConfig}
-use Rattle.osdp_bus.specs.declared.device.Device.{Device}
+use Rattle.osdp_bus.specs.declared.entry.Entry.{Entry}
 use Rattle.osdp_sim_bus.specs.State.{Given, address_of, begun_bus, begun_device, bus_with}
 
 -- the last one
@@ -23,7 +23,7 @@ pub may_begin : (address : ℕ) (b : BusState) → begin_refusal_at (length b.de
 may_begin address b = ap begin_refusal_of (last_there b.devices.entries (new_device address b.config))
 
 -- one device more, whose session has begun
-pub begins_added : {H : Type 0} (config : BusConfig) (devices : List Device) (given : Given H)
+pub begins_added : {H : Type 0} (config : BusConfig) (devices : List Entry) (given : Given H)
     → after_begin_at (length devices) 0 (after_add (address_of given) (bus_with config devices))
     ≡ bus_with config (devices ++ begun_device config given ∷ [])
 begins_added config devices given =

@@ -8,7 +8,7 @@ use Rattle.osdp_controller.specs.declared.report.Report.{Report}
 use Rattle.osdp_reader.specs.declared.handler.Answer.{Answer}
 use Rattle.osdp_bus.specs.Buses.{BusState, device_of, seen}
 use Rattle.osdp_bus.specs.Machine.{after_next_report, device_begins, device_submits, submit_refusal_at}
-use Rattle.osdp_bus.specs.declared.device.Device.{Device}
+use Rattle.osdp_bus.specs.declared.entry.Entry.{Entry}
 use Rattle.osdp_bus.specs.declared.fault.BusFault.{BusFault}
 use Rattle.std.specs.Prelude.{max}
 use Rattle.osdp_frame.specs.Items.{packets_in}
@@ -29,7 +29,7 @@ module _ {H : Type 0} (answer_of : H → Command → Answer) (after : H → Comm
   where_told true new old before later = later
   where_told false new old before later = before
 
-  changed_told : (entry : ℕ) (change : Device → Device) (b : BusState) (o : Option Device) → b.devices.report ≡ None
+  changed_told : (entry : ℕ) (change : Entry → Entry) (b : BusState) (o : Option Entry) → b.devices.report ≡ None
       → (option_map_or (λ d. record b { devices = record b.devices { entries = slice_set b.devices.entries entry (change d) } }) o b).devices.report ≡ None
   changed_told entry change b None h = h
   changed_told entry change b (Some d) h = h

@@ -5,7 +5,7 @@ use Rattle.osdp_reader.specs.State.{ReaderState, new_reader}
 use Rattle.osdp_bus.specs.Buses.{BusState, new_bus}
 use Rattle.osdp_bus.specs.Machine.{device_begins, new_device}
 use Rattle.osdp_bus.specs.declared.config.BusConfig.{BusConfig}
-use Rattle.osdp_bus.specs.declared.device.Device.{Device}
+use Rattle.osdp_bus.specs.declared.entry.Entry.{Entry}
 use Rattle.osdp_sim.specs.Account.{Account, empty_account, with_session}
 use Rattle.osdp_sim.specs.Line.{IsSent}
 use Rattle.osdp_sim.specs.State.{room_for}
@@ -28,7 +28,7 @@ abbrev pub Given : Type 0 → Type 0
 Given H = ReaderConfig × ℕ × H
 
 -- a bus to which nothing has come yet, with these devices
-abbrev pub bus_with : BusConfig → List Device → BusState
+abbrev pub bus_with : BusConfig → List Entry → BusState
 bus_with config devices =
     let new = new_bus config in
     record new { devices = record new.devices { entries = devices } }
@@ -38,7 +38,7 @@ module _ {H : Type 0} where
   address_of given = given.0.address
 
   -- the panel's device for a reader: its first session begins at moment 0
-  abbrev pub begun_device : BusConfig → Given H → Device
+  abbrev pub begun_device : BusConfig → Given H → Entry
   begun_device config given = device_begins 0 (new_device (address_of given) config)
 
   abbrev pub new_site : Given H → ReaderSite H

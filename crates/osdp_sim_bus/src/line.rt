@@ -9,7 +9,7 @@ ghost use Rattle.osdp_sim_bus.specs.Room.{HasPlace, sites_of};
 ghost use Rattle.osdp_sim_bus.specs.Steps.{changed_site, hears_run, site_hears, site_is_told, site_says};
 
 use crate::site::ReaderSite;
-use osdp_bus::{Bus, Entry};
+use osdp_bus::{Bus, EntryNumber};
 use osdp_controller::Report;
 use osdp_frame::{Burst, FrameView};
 use osdp_reader::Handler;
@@ -61,7 +61,7 @@ pub fn hear_all<H: Handler>(
 }
 
 /// A report goes to the account of its entry's reader, if there is one.
-pub fn tell<H: Handler>(sites: &mut [ReaderSite<H>], entry: Entry, report: &Report<'_>)
+pub fn tell<H: Handler>(sites: &mut [ReaderSite<H>], entry: EntryNumber, report: &Report<'_>)
     requires { All HasPlace sites.old }
     ensures { sites_of sites.new ≡ changed_site entry (site_is_told report.now) (sites_of sites.old) }
 {

@@ -18,7 +18,7 @@ use Rattle.osdp_reader.specs.declared.handler.Answer.{Answer}
 use Rattle.osdp_bus.specs.Buses.{device_of}
 use Rattle.osdp_bus.specs.Machine.{after_submit_at, bus_fault, device_submits, is_comset_refused, submit_refusal_at, submit_refusal_of}
 use Rattle.osdp_bus.specs.declared.config.BusConfig.{BusConfig}
-use Rattle.osdp_bus.specs.declared.device.Device.{Device}
+use Rattle.osdp_bus.specs.declared.entry.Entry.{Entry}
 use Rattle.osdp_bus.specs.declared.fault.BusFault.{BusFault}
 use Rattle.osdp_bus.specs.declared.fault.BusFault.TheVariants.{AddressTaken}
 use Rattle.osdp_link_laws.specs.Sessions.{IsAmong}
@@ -50,11 +50,11 @@ module _ {H : Type 0} (answer_of : H → Command → Answer) (after : H → Comm
 
   -- so from each state that these steps are taken from
   abbrev RestAccepts : ℕ → List SimStep → Type 0
-  RestAccepts k list = (n : ℕ) (s : LineState H) (d : Device) (u : ReaderSite H) → device_of k s.bus ≡ Some d → slice_get s.sites k ≡ Some u
+  RestAccepts k list = (n : ℕ) (s : LineState H) (d : Entry) (u : ReaderSite H) → device_of k s.bus ≡ Some d → slice_get s.sites k ≡ Some u
       → ShortCommands n d.controller → Each OrderFits list → Each IsNoComset (commands_for (suc k) list)
       → AcceptsIssued (d.controller.capacity - n) k (commands_for (suc k) list) u.account.issued (run answer_of after list s)
 
-  carried : (k : ℕ) (list : List SimStep) → RestAccepts k list → (n : ℕ) (s t : LineState H) (d : Device) (u : ReaderSite H) → device_of k s.bus ≡ Some d
+  carried : (k : ℕ) (list : List SimStep) → RestAccepts k list → (n : ℕ) (s t : LineState H) (d : Entry) (u : ReaderSite H) → device_of k s.bus ≡ Some d
       → slice_get s.sites k ≡ Some u → ShortCommands n d.controller → Each OrderFits list → Each IsNoComset (commands_for (suc k) list)
       → Keeps k s.bus.devices.entries t.bus.devices.entries → StaysAt (SameIssued answer_of after) k s.sites t.sites
       → AcceptsIssued (d.controller.capacity - n) k (commands_for (suc k) list) u.account.issued (run answer_of after list t)
@@ -69,7 +69,7 @@ module _ {H : Type 0} (answer_of : H → Command → Answer) (after : H → Comm
             (subst (λ cs. Accepts (e.0.controller.capacity - n) (commands_for (suc k) list) cs last.site.account.issued) v.2 last.accepts);
       }
 
-  idle_accepts : (k : ℕ) (list : List SimStep) → RestAccepts k list → (step : SimStep) → IsNoOrder step → (n : ℕ) (s : LineState H) (d : Device) (u : ReaderSite H)
+  idle_accepts : (k : ℕ) (list : List SimStep) → RestAccepts k list → (step : SimStep) → IsNoOrder step → (n : ℕ) (s : LineState H) (d : Entry) (u : ReaderSite H)
       → device_of k s.bus ≡ Some d → slice_get s.sites k ≡ Some u → ShortCommands n d.controller → Each OrderFits list
       → Each IsNoComset (commands_for (suc k) list)
       → AcceptsIssued (d.controller.capacity - n) k (commands_for (suc k) list) u.account.issued (run answer_of after (step ∷ list) s)
@@ -85,13 +85,13 @@ module _ {H : Type 0} (answer_of : H → Command → Answer) (after : H → Comm
   told_by_bus None refused is = refused refl
   told_by_bus (Some fault) refused is = absurd cc
 
-  submitted_there : (k : ℕ) (c : Command) (s : LineState H) (d : Device) → device_of k s.bus ≡ Some d
+  submitted_there : (k : ℕ) (c : Command) (s : LineState H) (d : Entry) → device_of k s.bus ≡ Some d
       → slice_get (after_submit_at k c s.bus).devices.entries k ≡ Some (device_submits c d)
   submitted_there k c s d at =
       ap (λ o. slice_get (option_map_or (λ x. record s.bus { devices = record s.bus.devices { entries = slice_set s.bus.devices.entries k (device_submits c x) } }) o s.bus).devices.entries k) at
       ∙ get_set k d (device_submits c d) s.bus.devices.entries at
 
-  module _ (k : ℕ) (c : Command) (list : List SimStep) (rest : RestAccepts k list) (n : ℕ) (s : LineState H) (d : Device) (u : ReaderSite H)
+  module _ (k : ℕ) (c : Command) (list : List SimStep) (rest : RestAccepts k list) (n : ℕ) (s : LineState H) (d : Entry) (u : ReaderSite H)
       (at : device_of k s.bus ≡ Some d) (sited : slice_get s.sites k ≡ Some u) (few : ShortCommands n d.controller) (fits : CommandFits c) (fit : Each OrderFits list) where
     abbrev Goal : List Command → Option BusFault → Type 0
     Goal cs fault = AcceptsIssued (d.controller.capacity - n) k (cs ++ commands_for (suc k) list) u.account.issued (run answer_of after list (issued fault k c s))
@@ -181,10 +181,10 @@ module _ {H : Type 0} (answer_of : H → Command → Answer) (after : H → Comm
   -- ---- whatever there is room for, some of the commands, in their order
 
   abbrev RestAmong : ℕ → List SimStep → Type 0
-  RestAmong k list = (s : LineState H) (d : Device) (u : ReaderSite H) → device_of k s.bus ≡ Some d → slice_get s.sites k ≡ Some u
+  RestAmong k list = (s : LineState H) (d : Entry) (u : ReaderSite H) → device_of k s.bus ≡ Some d → slice_get s.sites k ≡ Some u
       → AcceptsIssued 0 k (commands_for (suc k) list) u.account.issued (run answer_of after list s)
 
-  carried_among : (k : ℕ) (list : List SimStep) → RestAmong k list → (s t : LineState H) (d : Device) (u : ReaderSite H) → device_of k s.bus ≡ Some d
+  carried_among : (k : ℕ) (list : List SimStep) → RestAmong k list → (s t : LineState H) (d : Entry) (u : ReaderSite H) → device_of k s.bus ≡ Some d
       → slice_get s.sites k ≡ Some u → Keeps k s.bus.devices.entries t.bus.devices.entries → StaysAt (SameIssued answer_of after) k s.sites t.sites
       → AcceptsIssued 0 k (commands_for (suc k) list) u.account.issued (run answer_of after list t)
   carried_among k list rest s t d u at sited keeps stays =
@@ -197,14 +197,14 @@ module _ {H : Type 0} (answer_of : H → Command → Answer) (after : H → Comm
         accepts = subst (λ cs. Accepts 0 (commands_for (suc k) list) cs last.site.account.issued) v.2 last.accepts;
       }
 
-  idle_among : (k : ℕ) (list : List SimStep) → RestAmong k list → (step : SimStep) → IsNoOrder step → (s : LineState H) (d : Device) (u : ReaderSite H)
+  idle_among : (k : ℕ) (list : List SimStep) → RestAmong k list → (step : SimStep) → IsNoOrder step → (s : LineState H) (d : Entry) (u : ReaderSite H)
       → device_of k s.bus ≡ Some d → slice_get s.sites k ≡ Some u
       → AcceptsIssued 0 k (commands_for (suc k) list) u.account.issued (run answer_of after (step ∷ list) s)
   idle_among k list rest step idles s d u at sited =
       carried_among k list rest s (after_step answer_of after step s) d u at sited
       ((idle_device answer_of after) k step s idles) ((idle_sites answer_of after) (SameIssued answer_of after) (issued_idle answer_of after) k step s idles)
 
-  module _ (k : ℕ) (c : Command) (list : List SimStep) (rest : RestAmong k list) (s : LineState H) (d : Device) (u : ReaderSite H)
+  module _ (k : ℕ) (c : Command) (list : List SimStep) (rest : RestAmong k list) (s : LineState H) (d : Entry) (u : ReaderSite H)
       (at : device_of k s.bus ≡ Some d) (sited : slice_get s.sites k ≡ Some u) where
     abbrev Among : List Command → Option BusFault → Type 0
     Among cs fault = AcceptsIssued 0 k (cs ++ commands_for (suc k) list) u.account.issued (run answer_of after list (issued fault k c s))

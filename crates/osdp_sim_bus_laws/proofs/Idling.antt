@@ -11,7 +11,7 @@ use Rattle.osdp_reader.specs.Table as reader
 use Rattle.osdp_reader.specs.declared.handler.Answer.{Answer}
 use Rattle.osdp_reader.specs.Queue.{lacks_room}
 use Rattle.osdp_bus.specs.Machine.{after_next_report, submit_refusal_at}
-use Rattle.osdp_bus.specs.declared.device.Device.{Device}
+use Rattle.osdp_bus.specs.declared.entry.Entry.{Entry}
 use Rattle.osdp_bus.specs.declared.fault.BusFault.{BusFault}
 use Rattle.osdp_sim.specs.Line.{handed, left}
 use Rattle.osdp_sim.specs.Steps.{moment_after}
@@ -109,7 +109,7 @@ module _ {H : Type 0} (answer_of : H → Command → Answer) (after : H → Comm
   where_device k true s t is = is
   where_device k false s t is = keeps_all k s.bus.devices.entries
 
-  pub told_device : (k : ℕ) (o : Option (ℕ × Report)) (s : LineState H) (ds : List Device) → Keeps k ds s.bus.devices.entries
+  pub told_device : (k : ℕ) (o : Option (ℕ × Report)) (s : LineState H) (ds : List Entry) → Keeps k ds s.bus.devices.entries
       → Keeps k ds (report_told o s).bus.devices.entries
   told_device k None s ds is = is
   told_device k (Some (entry, r)) s ds is = is

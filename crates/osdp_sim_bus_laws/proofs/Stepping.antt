@@ -16,7 +16,7 @@ use Rattle.osdp_controller.specs.declared.state.State.{State}
 use Rattle.osdp_controller.specs.declared.state.State.TheVariants.{Closed, Quiet, Idle, Waiting, Pausing}
 use Rattle.osdp_reader.specs.declared.handler.Answer.{Answer}
 use Rattle.osdp_bus.specs.Machine.{begin_refusal_of, begin_refusal_at, bus_fault}
-use Rattle.osdp_bus.specs.declared.device.Device.{Device}
+use Rattle.osdp_bus.specs.declared.entry.Entry.{Entry}
 use Rattle.osdp_link_laws.specs.Peers.{IsPlainlySaid}
 use Rattle.osdp_link_laws.specs.Link as link
 use Rattle.osdp_link_laws.specs.Ordinary.{IsUndisturbed}
@@ -61,14 +61,14 @@ pub none_on : (ps : List (ℕ × Packet)) → (length (map spelling (packets_on 
 none_on [] e = refl
 none_on (p ∷ ps) e = absurd (let some = ne_eqb (length (map spelling (packets_on (p ∷ ps)))) 0 (λ h. omega (arith, h)) in cc)
 
-abbrev has_ended : Option Device → Bool
-has_ended o = option_map_or (λ (d : Device). is_closed d.controller.session.state) o false
+abbrev has_ended : Option Entry → Bool
+has_ended o = option_map_or (λ (d : Entry). is_closed d.controller.session.state) o false
 
-nobody_ended : (o : Option Device) → o ≡ None → has_ended o ≡ true → ⊥
+nobody_ended : (o : Option Entry) → o ≡ None → has_ended o ≡ true → ⊥
 nobody_ended None none ended = cc
 nobody_ended (Some d) none ended = cc
 
-ended_closed : (o : Option Device) (d : Device) → o ≡ Some d → has_ended o ≡ true → is_closed d.controller.session.state ≡ true
+ended_closed : (o : Option Entry) (d : Entry) → o ≡ Some d → has_ended o ≡ true → is_closed d.controller.session.state ≡ true
 ended_closed o d is ended = subst (λ p. has_ended p ≡ true) is ended
 
 module _ {H : Type 0} (answer_of : H → Command → Answer) (after : H → Command → H) where

@@ -7,9 +7,9 @@ use Rattle.osdp_frame.specs.Packet.{Packet}
 use Rattle.osdp_frame.specs.Reading.{RunItem, PacketItem, SkippedItem, RefusedItem}
 use Rattle.osdp_msg.specs.declared.command.Command.{Command}
 use Rattle.osdp_controller.proofs.Choices.{either_way}
-use Rattle.osdp_bus.specs.declared.device.Device.{Device}
+use Rattle.osdp_bus.specs.declared.entry.Entry.{Entry}
 use Rattle.osdp_bus.specs.Buses.{BusState, Devices, device_of, has_report, holder, is_silent, seen}
-use Rattle.osdp_bus.specs.Devices.{device_hears, device_ticks, first_from, is_at}
+use Rattle.osdp_bus.specs.Entries.{device_hears, device_ticks, first_from, is_at}
 use Rattle.osdp_bus.specs.Hearing.{after_bytes, ends_run, ends_silent, hears_at, hears_item, hears_items, hears_with}
 use Rattle.osdp_bus.specs.Machine.{after_begin_at, after_submit_at, changes_device, device_begins, device_submits}
 use Rattle.osdp_bus.specs.Ticking.{BusTicked, bus_ticks, is_due_at, is_held_and_due, next_due, stays, ticks_at, ticks_by, ticks_held, ticks_on, ticks_with}
@@ -18,31 +18,31 @@ use Rattle.osdp_sim_laws.proofs.Room.{FewCommands, fewer_commands, same_commands
 use Rattle.osdp_sim_bus_laws.proofs.Places.{StaysAt, set_other, stays_all, stays_set, stays_then}
 
 -- no more commands wait, with no more bytes, and there is room for as many
-abbrev pub IsFewer : Device → Device → Type 0
+abbrev pub IsFewer : Entry → Entry → Type 0
 IsFewer d e = FewCommands d.controller e.controller
 
-as_before : (d : Device) → IsFewer d d
+as_before : (d : Entry) → IsFewer d d
 as_before d = same_commands d.controller
 
-fewer_then : (d e f : Device) → IsFewer d e → IsFewer e f → IsFewer d f
+fewer_then : (d e f : Entry) → IsFewer d e → IsFewer e f → IsFewer d f
 fewer_then d e f one more = fewer_commands d.controller e.controller f.controller one more
 
 -- so it is of the device at this place
-abbrev pub Keeps : ℕ → List Device → List Device → Type 0
+abbrev pub Keeps : ℕ → List Entry → List Entry → Type 0
 Keeps k ds es = StaysAt IsFewer k ds es
 
-pub keeps_all : (k : ℕ) (ds : List Device) → Keeps k ds ds
+pub keeps_all : (k : ℕ) (ds : List Entry) → Keeps k ds ds
 keeps_all = stays_all IsFewer as_before
 
-keeps_then : (k : ℕ) (ds es fs : List Device) → Keeps k ds es → Keeps k es fs → Keeps k ds fs
+keeps_then : (k : ℕ) (ds es fs : List Entry) → Keeps k ds es → Keeps k es fs → Keeps k ds fs
 keeps_then = stays_then IsFewer fewer_then
 
-keeps_set : (k i : ℕ) (d e : Device) (ds : List Device) → slice_get ds i ≡ Some d → IsFewer d e → Keeps k ds (slice_set ds i e)
+keeps_set : (k i : ℕ) (d e : Entry) (ds : List Entry) → slice_get ds i ≡ Some d → IsFewer d e → Keeps k ds (slice_set ds i e)
 keeps_set = stays_set IsFewer as_before
 
 -- ---- what comes in
 
-keeps_with : (k : ℕ) (p : Packet) (now i : ℕ) (o : Option Device) (ds : Devices) → slice_get ds.entries i ≡ o
+keeps_with : (k : ℕ) (p : Packet) (now i : ℕ) (o : Option Entry) (ds : Devices) → slice_get ds.entries i ≡ o
     → Keeps k ds.entries (hears_with p now i o ds).entries
 keeps_with k p now i None ds at = keeps_all k ds.entries
 keeps_with k p now i (Some d) ds at =
@@ -91,7 +91,7 @@ keeps_hears k (byte ∷ bytes) now b =
 abbrev TickKeeps : ℕ → BusState → BusTicked → Type 0
 TickKeeps k b t = BusKeeps k b t.bus
 
-keeps_ticks_with : (k i : ℕ) (o : Option Device) (b : BusState) → device_of i b ≡ o → TickKeeps k b (ticks_with i o b)
+keeps_ticks_with : (k i : ℕ) (o : Option Entry) (b : BusState) → device_of i b ≡ o → TickKeeps k b (ticks_with i o b)
 keeps_ticks_with k i None b at = keeps_all k b.devices.entries
 keeps_ticks_with k i (Some d) b at =
     let few = tick_few d.controller.session.state _ d.controller.waiting in
@@ -122,10 +122,10 @@ keeps_tick k now b =
 
 -- ---- calls for one device
 
-keeps_changes : (k entry : ℕ) (change : Device → Device) (b : BusState) → ((d : Device) → IsFewer d (change d)) → BusKeeps k b (changes_device entry change b)
+keeps_changes : (k entry : ℕ) (change : Entry → Entry) (b : BusState) → ((d : Entry) → IsFewer d (change d)) → BusKeeps k b (changes_device entry change b)
 keeps_changes k entry change b is = by_device (device_of entry b) refl
   where
-    by_device : (o : Option Device) → device_of entry b ≡ o
+    by_device : (o : Option Entry) → device_of entry b ≡ o
         → BusKeeps k b (option_map_or (λ d. record b { devices = record b.devices { entries = slice_set b.devices.entries entry (change d) } }) o b)
     by_device None at = keeps_all k b.devices.entries
     by_device (Some d) at = keeps_set k entry d (change d) b.devices.entries at (is d)
@@ -138,7 +138,7 @@ keeps_begin k entry now b =
 pub keeps_other : (k entry : ℕ) (command : Command) (b : BusState) → (k ≡ entry → ⊥) → BusKeeps k b (after_submit_at entry command b)
 keeps_other k entry command b other = by_device (device_of entry b)
   where
-    by_device : (o : Option Device)
+    by_device : (o : Option Entry)
         → BusKeeps k b (option_map_or (λ d. record b { devices = record b.devices { entries = slice_set b.devices.entries entry (device_submits command d) } }) o b)
     by_device None = keeps_all k b.devices.entries
     by_device (Some d) = set_other IsFewer as_before k entry (device_submits command d) b.devices.entries other

@@ -30,6 +30,6 @@ mod site;
 mod subject;
 
 pub use fault::SiteFault;
-pub use osdp_panel::{Command, Entry, Panel, Report};
+pub use osdp_panel::{Command, EntryNumber, Panel, Report};
 pub use place::Presence;
 pub use site::{Site, SiteConfig};

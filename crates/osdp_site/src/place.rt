@@ -8,7 +8,7 @@ ghost use Rattle.osdp_site.specs.Places.{after_wants, change_of, changed_unless,
 use crate::fault::SiteFault;
 use crate::subject::Subject;
 use osdp_msg::KeptCommand;
-use osdp_panel::{Command, Entry, Panel, Report};
+use osdp_panel::{Command, EntryNumber, Panel, Report};
 use std::alloc::Global;
 use std::marker::Model;
 
@@ -43,7 +43,7 @@ impl Model for Place {
 }
 
 /// The orders that wait for a device are taken back, and its session begins, where none has.
-fn begin_anew(panel: &mut Panel, entry: Entry, now: u64)
+fn begin_anew(panel: &mut Panel, entry: EntryNumber, now: u64)
     ensures { panel.new ≡ begins_anew entry now panel.old }
 {
     for _ in 0..panel.waiting(entry).unwrap_or(0) {
@@ -171,7 +171,7 @@ impl Place {
     }
 
     /// What is wanted and not submitted yet goes to the panel, up to the first that it refuses.
-    fn refresh(&mut self, panel: &mut Panel, entry: Entry)
+    fn refresh(&mut self, panel: &mut Panel, entry: EntryNumber)
         ensures place { self.new ≡ (submitted self.old (submits entry (due_of self.old) panel.old)).place }
         ensures panel { panel.new ≡ (submits entry (due_of self.old) panel.old).panel }
     {
@@ -184,7 +184,7 @@ impl Place {
     }
 
     /// Begins a session that is due, and submits what is wanted to a device that is online.
-    pub(crate) fn act(&mut self, panel: &mut Panel, entry: Entry, now: u64)
+    pub(crate) fn act(&mut self, panel: &mut Panel, entry: EntryNumber, now: u64)
         ensures place { self.new ≡ (acts_at entry now (record { place = self.old; panel = panel.old })).place }
         ensures panel { panel.new ≡ (acts_at entry now (record { place = self.old; panel = panel.old })).panel }
     {

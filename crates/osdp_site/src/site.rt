@@ -7,7 +7,7 @@ ghost use Rattle.osdp_site.specs.Sites.{acts, earlier, heeds_at, new_site, next_
 
 use crate::fault::SiteFault;
 use crate::place::{Place, Presence};
-use osdp_panel::{Command, Entry, Panel, Report};
+use osdp_panel::{Command, EntryNumber, Panel, Report};
 use std::alloc::Global;
 use std::marker::Model;
 
@@ -93,7 +93,7 @@ impl Site {
     /// state, a sound that is counted, a text with command 3 or 4; NoState (P6) for a command that says no state: an output with control 0 or above 6, an LED whose
     /// permanent control isn't 1, tone 0, a text with another command, and each other kind of command; else Full (P3) where as many states are wanted as there is
     /// room for. Nothing has changed then.
-    pub fn wants(&mut self, entry: Entry, command: &Command<'_>) -> Result<(), SiteFault>
+    pub fn wants(&mut self, entry: EntryNumber, command: &Command<'_>) -> Result<(), SiteFault>
         ensures result { result ≡ unless_refused (wants_refusal_at entry command.now self.old) }
         ensures site { self.new ≡ changed_unless (wants_refusal_at entry command.now self.old) self.old (wants_at entry command.now self.old) }
     {
@@ -105,7 +105,7 @@ impl Site {
 
     /// A report of the panel, at the moment at which it came. Where the device is online or offline by it and wasn't before, that is told, once. A session that is
     /// lost or moved makes the next one due after the pause. A report of no entry of this site changes nothing.
-    pub fn heed(&mut self, entry: Entry, report: &Report<'_>, now: u64) -> Option<Presence>
+    pub fn heed(&mut self, entry: EntryNumber, report: &Report<'_>, now: u64) -> Option<Presence>
         ensures told { result ≡ told_at entry now report.now self.old }
         ensures site { self.new ≡ heeds_at entry now report.now self.old }
     {
@@ -140,7 +140,7 @@ impl Site {
 
     /// Whether a session of a device is due: the next `act` begins it. A program whose device may be elsewhere sets its address and its rate before. None where
     /// there is no such entry.
-    pub fn is_due(&self, entry: Entry, now: u64) -> Option<bool>
+    pub fn is_due(&self, entry: EntryNumber, now: u64) -> Option<bool>
         ensures { result ≡ option_map (is_due now) (place_of entry self.now) }
     {
         if entry >= self.places.len() {
@@ -150,7 +150,7 @@ impl Site {
     }
 
     /// Whether a device is online, and since when. None where there is no such entry.
-    pub fn presence(&self, entry: Entry) -> Option<Presence>
+    pub fn presence(&self, entry: EntryNumber) -> Option<Presence>
         ensures { result ≡ option_map (λ p. p.presence) (place_of entry self.now) }
     {
         if entry >= self.places.len() {
@@ -160,7 +160,7 @@ impl Site {
     }
 
     /// Whether a device is online and all that is wanted of it was submitted since its session opened. None where there is no such entry.
-    pub fn is_refreshed(&self, entry: Entry) -> Option<bool>
+    pub fn is_refreshed(&self, entry: EntryNumber) -> Option<bool>
         ensures { result ≡ option_map is_refreshed (place_of entry self.now) }
     {
         if entry >= self.places.len() {

@@ -1,12 +1,13 @@
 //! What is refused; what comes to the panel, and when; and what is told.
 
 use osdp_panel::{
-    Address, BusConfig, CheckKind, Command, Entry, LostCause, Panel, PdId, Report, Room, Spelling,
+    Address, BusConfig, CheckKind, Command, EntryNumber, LostCause, Panel, PdId, Report, Room,
+    Spelling,
 };
 use osdp_site::{Presence, Site, SiteConfig, SiteFault};
 use std::alloc::Global;
 
-const DOOR: Entry = 0;
+const DOOR: EntryNumber = 0;
 
 /// A panel with one device, and room for two commands.
 fn new_panel(alloc: Global) -> Option<Panel> {
@@ -25,7 +26,7 @@ fn new_site(alloc: Global) -> Option<Site> {
 }
 
 /// Wants what a text says; NoMemory stands for a text of no command.
-fn wants(site: &mut Site, entry: Entry, text: &str) -> Result<(), SiteFault> {
+fn wants(site: &mut Site, entry: EntryNumber, text: &str) -> Result<(), SiteFault> {
     let mut place = Spelling::new();
     match Command::parse_line(text, &mut place) {
         Ok(command) => site.wants(entry, &command),

@@ -2,7 +2,7 @@
 //! `5 at 7 9600 or 5 9600 is 53494D 1 12345`, by the address at which the device was first. The panel in C keeps the same lines.
 #![allow(dead_code)] // a device's program has no use for it
 use super::{Port, RATES};
-use osdp::{Command, Entry, Moment, Panel, PdId, Reply, Report, Site};
+use osdp::{Command, EntryNumber, Moment, Panel, PdId, Reply, Report, Site};
 use std::error::Error;
 use std::fs::{self, File};
 use std::io::{self, Write};
@@ -67,7 +67,7 @@ pub fn keep_text(path: &str, text: &str) -> io::Result<()> {
 }
 
 pub struct Door {
-    pub entry: Entry,
+    pub entry: EntryNumber,
     /// Whether its session is open, and it is the device that stood there before.
     pub may_order: bool,
     /// It says when the next session begins.

@@ -1,6 +1,6 @@
 //! Rows of calls with their answers.
 
-use osdp_bus::{Bus, BusConfig, BusFault, Entry};
+use osdp_bus::{Bus, BusConfig, BusFault, EntryNumber};
 use osdp_controller::Report;
 use osdp_frame::{Address, Burst, CheckKind};
 use osdp_msg::{Command, Room, Spelling};
@@ -20,11 +20,11 @@ pub enum Row {
     /// The line is silent at a moment.
     Silence(u64),
     /// A report of this kind waits from this entry.
-    Told(Entry, &'static str),
+    Told(EntryNumber, &'static str),
     /// No report waits.
     Quiet,
     /// A session begins at a moment.
-    Begins(Entry, u64, Result<(), BusFault>),
+    Begins(EntryNumber, u64, Result<(), BusFault>),
     /// The next tick that does something is at this moment.
     Due(Option<u64>),
 }
@@ -47,7 +47,7 @@ pub fn new_bus(rt: &impl Abort, alloc: Global, addresses: &[u8]) -> Bus {
 }
 
 /// Adds a device at the address of this number.
-pub fn add(rt: &impl Abort, bus: &mut Bus, address: u8) -> Result<Entry, BusFault> {
+pub fn add(rt: &impl Abort, bus: &mut Bus, address: u8) -> Result<EntryNumber, BusFault> {
     bus.add(Address::new(address).expect(rt, "an address"))
 }
 
@@ -57,7 +57,12 @@ pub fn command<'a>(rt: &impl Abort, words: &[&str], place: &'a mut Spelling) -> 
 }
 
 /// Why a command of these words is refused, if it is.
-pub fn submit(rt: &impl Abort, bus: &mut Bus, entry: Entry, words: &[&str]) -> Option<BusFault> {
+pub fn submit(
+    rt: &impl Abort,
+    bus: &mut Bus,
+    entry: EntryNumber,
+    words: &[&str],
+) -> Option<BusFault> {
     let mut place = Spelling::new();
     bus.submit(entry, &command(rt, words, &mut place)).err()
 }
@@ -76,7 +81,7 @@ pub fn kind(report: &Report<'_>) -> &'static str {
 }
 
 /// A report of this kind waits from this entry. The word `none` is for no report.
-pub fn is_told(rt: &impl Abort, bus: &mut Bus, entry: Entry, expected: &str) {
+pub fn is_told(rt: &impl Abort, bus: &mut Bus, entry: EntryNumber, expected: &str) {
     match bus.report() {
         Some((teller, report)) => {
             assert_eq!(rt; teller, entry);

@@ -1,5 +1,5 @@
 use Rattle.std.proofs.Common.{sym, ◌∙◌, arith}
-use Rattle.osdp_bus.specs.Devices.{is_at}
+use Rattle.osdp_bus.specs.Entries.{is_at}
 use Rattle.osdp_orders.proofs.Entries.{found, not_found}
 use Rattle.osdp_orders.proofs.orders.entry_at.Goals as goal
 

@@ -5,7 +5,7 @@ ghost use Rattle.osdp_controller.specs.Comsets.{is_comset};
 ghost use Rattle.osdp_controller.specs.Hearing.{comset_of};
 ghost use Rattle.osdp_controller.specs.Lent.{IsWritten};
 ghost use Rattle.osdp_controller.specs.Machine.{begin_refusal, retarget_refusal, submit_refusal};
-ghost use Rattle.osdp_bus.specs.Devices.{device_hears, device_ticks, freed_with, holds, is_at, is_device_due, is_reserved, reserved_after, reserved_for, step_of, takes_up, told_of};
+ghost use Rattle.osdp_bus.specs.Entries.{device_hears, device_ticks, freed_with, holds, is_at, is_device_due, is_reserved, reserved_after, reserved_for, step_of, takes_up, told_of};
 ghost use Rattle.osdp_bus.specs.Machine.{bus_fault, device_begins, device_retargets, device_submits, device_withdraws, reserved_without, withdrawn_of};
 ghost use Rattle.osdp_bus.specs.Waits.{IsDueFrom};
 
@@ -16,12 +16,12 @@ use osdp_msg::{Command, Communication};
 
 /// A device: its controller, and the address that is reserved for it.
 #[derive(Debug, Drop)]
-pub struct Device {
+pub struct Entry {
     pub controller: Controller,
     pub reserved: Option<u8>,
 }
 
-impl Device {
+impl Entry {
     /// Whether it is at this address.
     pub(crate) fn is_at(&self, address: u8) -> bool
         ensures { result ≡ is_at address self.now }

@@ -1,6 +1,6 @@
 use Rattle.std.proofs.Common.{◌≡◌, drop}
-use Rattle.osdp_bus.specs.Devices.{first_from, is_at}
-use Rattle.osdp_bus.proofs.device_list.first_at.Given as goal
+use Rattle.osdp_bus.specs.Entries.{first_from, is_at}
+use Rattle.osdp_bus.proofs.entry_list.first_at.Given as goal
 
 -- the devices that are left give what all of them do
 abbrev pub invariant-loop-i : goal.invariant-loop-i

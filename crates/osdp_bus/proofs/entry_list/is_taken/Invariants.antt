@@ -1,7 +1,7 @@
 use Rattle.std.proofs.Common.{◌≡◌, drop}
 use Rattle.std.specs.List.{list_any}
-use Rattle.osdp_bus.specs.Devices.{takes_up}
-use Rattle.osdp_bus.proofs.device_list.is_taken.Given as goal
+use Rattle.osdp_bus.specs.Entries.{takes_up}
+use Rattle.osdp_bus.proofs.entry_list.is_taken.Given as goal
 
 -- the devices that are left tell what all of them do
 abbrev pub invariant-loop-device : goal.invariant-loop-device

@@ -1,6 +1,6 @@
 use Rattle.std.proofs.Common.{true, false, sym, ◌∙◌}
 use Rattle.osdp_bus.proofs.Waiting.{due_from}
-use Rattle.osdp_bus.proofs.device.Device.deadline.Goals as goal
+use Rattle.osdp_bus.proofs.entry.Entry.deadline.Goals as goal
 
 pub returns-then-is_due : goal.returns-then-is_due
 returns-then-is_due c =

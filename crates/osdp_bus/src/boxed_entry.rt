@@ -2,14 +2,14 @@
 
 ghost use Rattle.std.specs.Borrow.{Lends, sem};
 ghost use Rattle.std.specs.Prelude.{◌≡◌, ◌<◌, IfErr, IfOk};
-ghost use Rattle.osdp_bus.specs.contracts.boxed_device.BoxedDevice as boxed;
-ghost use Rattle.osdp_bus.specs.contracts.device.Device as plain;
+ghost use Rattle.osdp_bus.specs.contracts.boxed_entry.BoxedEntry as boxed;
+ghost use Rattle.osdp_bus.specs.contracts.entry.Entry as plain;
 ghost use Rattle.osdp_bus.specs.declared.fault.BusFault.TheVariants.{NoMemory};
 ghost use Rattle.osdp_bus.specs.Machine.{new_device};
 ghost use Rattle.osdp_bus.specs.Settings.{IsBusConfig};
 
 use crate::config::BusConfig;
-use crate::device::Device;
+use crate::entry::Entry;
 use crate::fault::BusFault;
 use osdp_controller::Controller;
 use osdp_frame::Address;
@@ -19,26 +19,26 @@ use std::ops::{Deref, DerefMut};
 
 /// A device in a block of memory of its own. To contracts it is the device: where it lies is nobody's concern.
 #[derive(Debug, Drop)]
-pub struct BoxedDevice {
-    block: Box<Device>,
+pub struct BoxedEntry {
+    block: Box<Entry>,
 }
 
-impl Model for BoxedDevice {
-    ghost use Rattle.osdp_bus.specs.declared.device.Device.{Device};
+impl Model for BoxedEntry {
+    ghost use Rattle.osdp_bus.specs.declared.entry.Entry.{Entry};
 
-    ghost Value = { Device };
+    ghost Value = { Entry };
 
     ghost view = { λ b. b.block.value };
 }
 
-impl BoxedDevice {
+impl BoxedEntry {
     /// A new device at the address of one. It takes the memory for its waiting commands, and then its block. Where there is none for
     /// the block the other is given back. The device is matched where it is made, since `?` would copy it on the stack.
     pub(crate) fn new(
         alloc: Global,
         address: Address,
         config: &BusConfig,
-    ) -> Result<BoxedDevice, BusFault>
+    ) -> Result<BoxedEntry, BusFault>
         requires config { IsBusConfig config.now }
         requires device { address < 127 }
         ensures made { IfOk result (λ d. d ≡ new_device address config.now) }
@@ -47,12 +47,12 @@ impl BoxedDevice {
         match Controller::new(alloc, config.of_controller(address), config.room) {
             Ok(controller) => match Box::new(
                 alloc,
-                Device {
+                Entry {
                     controller,
                     reserved: None,
                 },
             ) {
-                Ok(block) => Ok(BoxedDevice { block }),
+                Ok(block) => Ok(BoxedEntry { block }),
                 Err(_) => Err(BusFault::NoMemory),
             },
             Err(_) => Err(BusFault::NoMemory),
@@ -60,22 +60,22 @@ impl BoxedDevice {
     }
 }
 
-impl Deref for BoxedDevice {
-    type Target = Device;
+impl Deref for BoxedEntry {
+    type Target = Entry;
 
     ghost deref_gives = { λ b d. d ≡ b };
 
-    fn deref(&self) -> &Device
+    fn deref(&self) -> &Entry
         ensures { result.now ≡ self.now }
     {
         self.block.as_ref()
     }
 }
 
-impl DerefMut for BoxedDevice {
+impl DerefMut for BoxedEntry {
     ghost deref_mut_gives = { λ b d. d ≡ b };
 
-    fn deref_mut(&mut self) -> &mut Device
+    fn deref_mut(&mut self) -> &mut Entry
         ensures* writes_back { sem 𝓛 (Lends boxed.the_row plain.the_row self.entry result (λ w. w)) }
         ensures value { result.now ≡ self.old }
     {

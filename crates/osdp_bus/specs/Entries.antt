@@ -11,12 +11,12 @@ use Rattle.osdp_controller.specs.Comsets.{is_comset}
 use Rattle.osdp_controller.specs.Hearing.{hears}
 use Rattle.osdp_controller.specs.Machine.{after_frame, after_tick, is_due, is_outstanding}
 use Rattle.osdp_controller.specs.Ticking.{Step, ticks}
-use Rattle.osdp_bus.specs.declared.device.Device.{Device}
+use Rattle.osdp_bus.specs.declared.entry.Entry.{Entry}
 
-abbrev pub address_of : Device → ℕ
+abbrev pub address_of : Entry → ℕ
 address_of d = d.controller.session.config.address
 
-abbrev pub is_at : ℕ → Device → Bool
+abbrev pub is_at : ℕ → Entry → Bool
 is_at address d = address_of d == address
 
 abbrev pub is_reserved : ℕ → Option ℕ → Bool
@@ -24,15 +24,15 @@ is_reserved address None = false
 is_reserved address (Some reserved) = reserved == address
 
 -- the address is that of the device, or reserved for it
-abbrev pub takes_up : ℕ → Device → Bool
+abbrev pub takes_up : ℕ → Entry → Bool
 takes_up address d = is_at address d || is_reserved address d.reserved
 
 -- some device takes the address up
-abbrev pub is_taken : ℕ → List Device → Bool
+abbrev pub is_taken : ℕ → List Entry → Bool
 is_taken address devices = list_any (takes_up address) devices
 
 -- some device other than that of this entry does
-abbrev pub is_taken_beside : ℕ → ℕ → List Device → Bool
+abbrev pub is_taken_beside : ℕ → ℕ → List Entry → Bool
 is_taken_beside entry address devices =
     is_taken address (take entry devices) || is_taken address (drop (entry + 1) devices)
 
@@ -56,39 +56,39 @@ reserved_after None reserved = reserved
 reserved_after (Some report) reserved = reserved_told report reserved
 
 -- an exchange of the device's controller is outstanding
-abbrev pub holds : Device → Bool
+abbrev pub holds : Entry → Bool
 holds d = is_outstanding d.controller.session.state
 
 -- a tick of its controller would send or report
-abbrev pub is_device_due : ℕ → Device → Bool
+abbrev pub is_device_due : ℕ → Entry → Bool
 is_device_due now d = is_due now d.controller
 
 -- what its controller tells of a packet, and the device after it
-abbrev pub told_of : Packet → ℕ → Device → Option Report
+abbrev pub told_of : Packet → ℕ → Entry → Option Report
 told_of p now d = (hears p now d.controller.session).report
 
-abbrev pub device_hears : Packet → ℕ → Device → Device
+abbrev pub device_hears : Packet → ℕ → Entry → Entry
 device_hears p now d = record {
   controller = after_frame p now d.controller;
   reserved = reserved_after (told_of p now d) d.reserved;
 }
 
 -- what its controller sends and tells at a tick, and the device after it
-abbrev pub step_of : ℕ → Device → Step
+abbrev pub step_of : ℕ → Entry → Step
 step_of now d = (ticks now d.controller.session d.controller.waiting).step
 
-abbrev pub device_ticks : ℕ → Device → Device
+abbrev pub device_ticks : ℕ → Entry → Entry
 device_ticks now d = record {
   controller = after_tick now d.controller;
   reserved = reserved_after (step_of now d).report d.reserved;
 }
 
 -- the first device that passes a test, by its number; the first of the list has number `at`
-abbrev pub first_from : ℕ → (Device → Bool) → List Device → Option ℕ
+abbrev pub first_from : ℕ → (Entry → Bool) → List Entry → Option ℕ
 first_from at test [] = None
 first_from at test (d ∷ ds) = if test d then Some at else first_from (at + 1) test ds
 
 -- the same around the list, beginning with number `first`
-abbrev pub first_around : ℕ → (Device → Bool) → List Device → Option ℕ
+abbrev pub first_around : ℕ → (Entry → Bool) → List Entry → Option ℕ
 first_around first test devices =
     option_or (first_from first test (drop first devices)) (first_from 0 test (take first devices))

@@ -1,6 +1,6 @@
 use Rattle.std.proofs.Common.{take}
 use Rattle.osdp_bus.specs.Waits.{IsDueFrom, any_due}
-use Rattle.osdp_bus.proofs.device_list.earliest.Given as goal
+use Rattle.osdp_bus.proofs.entry_list.earliest.Given as goal
 
 -- what holds of the devices so far
 abbrev pub invariant-loop-device : goal.invariant-loop-device

@@ -1,26 +1,26 @@
 //! The devices of a bus, and the report of one that waits.
 
 ghost use Rattle.std.specs.Prelude.{◌≡◌, ◌+◌, ◌<◌, ◌≤◌, ◌^◌, IfSome, length, vec_capacity};
-ghost use Rattle.osdp_bus.specs.Devices.{first_around, first_from, holds, is_at, is_device_due, is_taken, is_taken_beside};
+ghost use Rattle.osdp_bus.specs.Entries.{first_around, first_from, holds, is_at, is_device_due, is_taken, is_taken_beside};
 ghost use Rattle.osdp_bus.specs.Hearing.{hears_item, hears_packet};
 ghost use Rattle.osdp_bus.specs.Private.{devices_of};
 ghost use Rattle.osdp_bus.specs.Waits.{IsDueFrom, any_due, earlier};
 ghost use Rattle.osdp_frame.specs.Shown.{item_of};
 
-use crate::Entry;
-use crate::boxed_device::BoxedDevice;
+use crate::EntryNumber;
+use crate::boxed_entry::BoxedEntry;
 use crate::told::Told;
 use osdp_frame::{FrameView, Item};
 
 /// The devices in the order of adding, and the report that waits to be taken.
 #[derive(Debug, Drop)]
-pub struct DeviceList {
-    pub entries: Vec<BoxedDevice>,
+pub struct EntryList {
+    pub entries: Vec<BoxedEntry>,
     pub report: Told,
 }
 
 /// The first device at this address.
-fn first_at(devices: &[BoxedDevice], address: u8) -> Option<Entry>
+fn first_at(devices: &[BoxedEntry], address: u8) -> Option<EntryNumber>
     ensures place { result ≡ first_from 0 (is_at address) devices.now }
     ensures within { IfSome result (λ entry. entry < length devices.now) }
 {
@@ -33,7 +33,7 @@ fn first_at(devices: &[BoxedDevice], address: u8) -> Option<Entry>
 }
 
 /// The first device whose exchange is outstanding.
-pub(crate) fn first_holding(devices: &[BoxedDevice]) -> Option<Entry>
+pub(crate) fn first_holding(devices: &[BoxedEntry]) -> Option<EntryNumber>
     ensures { result ≡ first_from 0 holds devices.now }
 {
     for (i, device) in devices.iter().enumerate() {
@@ -45,7 +45,7 @@ pub(crate) fn first_holding(devices: &[BoxedDevice]) -> Option<Entry>
 }
 
 /// The first device that is due, by its number, where the first of them has number `at`.
-fn first_due(devices: &[BoxedDevice], at: Entry, now: u64) -> Option<Entry>
+fn first_due(devices: &[BoxedEntry], at: EntryNumber, now: u64) -> Option<EntryNumber>
     requires { at + length devices.now < 2 ^ 63 }
     ensures { result ≡ first_from at (is_device_due now) devices.now }
 {
@@ -58,7 +58,7 @@ fn first_due(devices: &[BoxedDevice], at: Entry, now: u64) -> Option<Entry>
 }
 
 /// The first device in turn that is due, beginning with that of this entry.
-pub(crate) fn next_due(devices: &[BoxedDevice], first: Entry, now: u64) -> Option<Entry>
+pub(crate) fn next_due(devices: &[BoxedEntry], first: EntryNumber, now: u64) -> Option<EntryNumber>
     requires { first ≤ length devices.now }
     ensures { result ≡ first_around first (is_device_due now) devices.now }
 {
@@ -69,7 +69,7 @@ pub(crate) fn next_due(devices: &[BoxedDevice], first: Entry, now: u64) -> Optio
 }
 
 /// From when on some device is due, but not before this moment. None where none ever is.
-pub(crate) fn earliest(devices: &[BoxedDevice], now: u64) -> Option<u64>
+pub(crate) fn earliest(devices: &[BoxedEntry], now: u64) -> Option<u64>
     ensures { IsDueFrom (any_due devices.now) now result }
 {
     let mut first = None;
@@ -91,7 +91,7 @@ pub(crate) fn earlier(a: Option<u64>, b: Option<u64>) -> Option<u64>
 }
 
 /// Whether some device takes the address up.
-pub(crate) fn is_taken(devices: &[BoxedDevice], address: u8) -> bool
+pub(crate) fn is_taken(devices: &[BoxedEntry], address: u8) -> bool
     ensures { result ≡ is_taken address devices.now }
 {
     for device in devices {
@@ -103,14 +103,14 @@ pub(crate) fn is_taken(devices: &[BoxedDevice], address: u8) -> bool
 }
 
 /// Whether some device other than that of this entry takes the address up.
-pub(crate) fn is_taken_beside(devices: &[BoxedDevice], entry: Entry, address: u8) -> bool
+pub(crate) fn is_taken_beside(devices: &[BoxedEntry], entry: EntryNumber, address: u8) -> bool
     requires { entry < length devices.now }
     ensures { result ≡ is_taken_beside entry address devices.now }
 {
     is_taken(&devices[..entry], address) || is_taken(&devices[entry + 1..], address)
 }
 
-impl DeviceList {
+impl EntryList {
     /// A packet comes from the line.
     #[inline(always)]
     fn hear(&mut self, frame: &FrameView<'_>, now: u64)
