@@ -4,15 +4,9 @@ use Rattle.std.proofs.lemmas.Bool.Decides.{eqb_tells}
 use Rattle.std.proofs.lemmas.List.{map-append}
 use Rattle.std.specs.Prelude.{◌==◌}
 use Rattle.osdp_frame.specs.Packet.{Packet}
-use Rattle.osdp_msg.specs.Events.{event_in}
 use Rattle.osdp_msg.specs.declared.command.Command.{Command}
-use Rattle.osdp_msg.specs.declared.command.Command.TheVariants.{Id, Poll}
 use Rattle.osdp_msg.specs.declared.event.Event.{Event}
-use Rattle.osdp_msg.specs.declared.reply.Reply.{Reply}
 use Rattle.osdp_controller.specs.declared.report.Report.{Report}
-use Rattle.osdp_controller.specs.declared.report.Report.TheVariants as report
-use Rattle.osdp_controller.specs.declared.state.State.{State}
-use Rattle.osdp_controller.specs.declared.state.State.TheVariants.{Closed, Quiet, Idle, Waiting, Pausing}
 use Rattle.osdp_bus.specs.Buses.{BusState, device_of}
 use Rattle.osdp_bus.specs.Machine.{changed_unless, submit_refusal_at, withdrawal_at}
 use Rattle.osdp_bus.specs.Ticking.{bus_ticks}
@@ -23,18 +17,15 @@ use Rattle.osdp_bus_laws.specs.Reports.{told_in}
 use Rattle.osdp_device.specs.Telling.{items_of}
 use Rattle.osdp_reader.specs.Queue.{lacks_room, never_offered}
 use Rattle.osdp_reader.specs.State.{ReaderState}
-use Rattle.osdp_reader.specs.Table.{hears, kind_of}
 use Rattle.osdp_reader.specs.declared.handler.Answer.{Answer}
-use Rattle.osdp_reader.specs.declared.kind.Kind.{Kind}
-use Rattle.osdp_reader.specs.declared.kind.Kind.TheVariants as kind
 use Rattle.osdp_ledger.specs.Ledger as ledger
 use Rattle.osdp_ledger.specs.Ledger.{Card, Ledger, Order, new_ledger}
 use Rattle.osdp_ledger.specs.History.{History, new_history, runs, steps_on}
 use Rattle.osdp_link_laws.specs.Sessions.{unless_full}
-use Rattle.osdp_link_laws.proofs.Lines.{both, each_append}
+use Rattle.osdp_link_laws.proofs.Lines.{both, each_append, each_map}
 use Rattle.osdp_link_laws.proofs.Stages.{Each}
 use Rattle.osdp_link_ledger.specs.Steps as links
-use Rattle.osdp_link_ledger.specs.Steps.{acts, acts_at_zero, acts_on, after_steps, gets, leaves, leaving, offers, opens, queues, submits, told, withdraws, withdraws_event}
+use Rattle.osdp_link_ledger.specs.Steps.{after_steps, queues, submits, withdraws, withdraws_event}
 use Rattle.osdp_link_ledger.proofs.Lists.{commands, events}
 use Rattle.osdp_shared_line.specs.Line.{site_at}
 use Rattle.osdp_calls.specs.Accepted.{accepted_by, accepted_by_panel, all_accepted, all_queued, queued_at, queued_by}
@@ -42,6 +33,8 @@ use Rattle.osdp_calls.specs.Calls as calls
 use Rattle.osdp_calls.specs.Calls.{Call, NewDevice, NewPanel, Next, OfPanel, Pending, SetHandler, Silence, Step, SubmitEvent, Take, TickDevice, WithdrawEvent, after_call, asked_at, first_answered, read_up_to}
 use Rattle.osdp_calls.specs.Handing.{heard}
 use Rattle.osdp_calls.specs.Lines.{InUse, Station}
+use Rattle.osdp_link_ledger.proofs.Plain.{IsDone}
+use Rattle.osdp_calls_ledger.proofs.Allowing.{answered_done, opening_open, reported_done}
 use Rattle.osdp_calls_ledger.specs.Steps.{answered, device_steps, given_back, opening, panel_restarts, panel_steps, reported, steps_along, steps_at, steps_from, steps_of}
 
 -- ---- what steps accept
@@ -100,76 +93,27 @@ no_events [] none = refl
 no_events (ledger.Queue card ∷ steps) none = absurd none.0
 no_events (_ ∷ steps) none = no_events steps none.1
 
-told_none : (r : Option Report) (g : Ledger) → Each AcceptsNone (told r g)
-told_none None g = tt
-told_none (Some (report.Opened id)) g = tt
-told_none (Some (report.Settled command answer)) g = (tt, tt)
-told_none (Some (report.Moved command moved)) g = (tt, (tt, tt))
-told_none (Some (report.Event event)) g = (tt, tt)
-told_none (Some (report.PollAnswered answer)) g = tt
-told_none (Some (report.Unread command code)) g = (tt, tt)
-told_none (Some (report.Lost cause (Some command))) g = (tt, tt)
-told_none (Some (report.Lost cause None)) g = (tt, tt)
+done_accepts : (step : ledger.Step) → IsDone step → AcceptsNone step
+done_accepts (ledger.Submit order) done = absurd done
+done_accepts (ledger.Queue card) done = absurd done
+done_accepts (ledger.Lapse card) done = absurd done
+done_accepts _ done = tt
 
-pub reported_none : (k : ℕ) (told_all : List (ℕ × Report)) (g : Ledger) → Each AcceptsNone (reported k told_all g)
-reported_none k [] g = tt
-reported_none k (x ∷ xs) g =
-    let here = cond (x.0 == k) (told (Some x.1) g) [] in
-    each_append AcceptsNone here (reported k xs (after_steps here g)) (both (Each AcceptsNone) (x.0 == k) (told (Some x.1) g) [] (told_none (Some x.1) g) tt)
-    (reported_none k xs (after_steps here g))
+reported_none : (k : ℕ) (all : List (ℕ × Report)) (g : Ledger) → Each AcceptsNone (reported k all g)
+reported_none k all g = each_map IsDone AcceptsNone done_accepts (reported k all g) (reported_done k all g)
 
-opens_accept : (st : State) (sent : Option Packet) → Each AcceptsNone (opens st sent)
-opens_accept (Quiet until) (Some p) = (tt, tt)
-opens_accept (Quiet until) None = tt
-opens_accept Closed sent = tt
-opens_accept (Idle due) sent = tt
-opens_accept (Waiting until sends o) sent = tt
-opens_accept (Pausing until o) sent = tt
+opening_none : (k : ℕ) (o : Option ℕ) (sent : Option Packet) (q : Option Entry) → Each AcceptsNone (opening k o sent q)
+opening_none k o sent q = opening_open AcceptsNone tt k o sent q
 
-pub opening_none : (k : ℕ) (o : Option ℕ) (sent : Option Packet) (q : Option Entry) → Each AcceptsNone (opening k o sent q)
-opening_none k None sent q = tt
-opening_none k (Some e) sent None = tt
-opening_none k (Some e) sent (Some d) =
-    both (Each AcceptsNone) (e == k) (opens d.controller.session.state sent) [] (opens_accept d.controller.session.state sent) tt
-
-pub withdraws_none : (o : Option Command) (g : Ledger) → Each AcceptsNone (withdraws o g)
+withdraws_none : (o : Option Command) (g : Ledger) → Each AcceptsNone (withdraws o g)
 withdraws_none None g = tt
 withdraws_none (Some command) g = (tt, tt)
 
-pub withdraws_event_none : (o : Option Event) (ever : Bool) (g : Ledger) → Each AcceptsNone (withdraws_event o ever g)
+withdraws_event_none : (o : Option Event) (ever : Bool) (g : Ledger) → Each AcceptsNone (withdraws_event o ever g)
 withdraws_event_none None ever g = tt
 withdraws_event_none (Some event) ever g = (tt, tt)
 
-leaves_none : (es : List Event) (g : Ledger) → Each AcceptsNone (leaves es g)
-leaves_none [] g = tt
-leaves_none (e ∷ es) g = (tt, tt)
-
-offers_none : (o : Option Event) (g : Ledger) → Each AcceptsNone (offers o g)
-offers_none None g = tt
-offers_none (Some event) g = (tt, tt)
-
-acts_on_none : (command : Command) (answer : Reply) (g : Ledger) → Each AcceptsNone (acts_on command answer g)
-acts_on_none Poll answer g = offers_none (event_in answer) g
-acts_on_none command answer g = (tt, tt)
-
-acts_at_zero_none : (command : Command) (answer : Reply) (g : Ledger) → Each AcceptsNone (acts_at_zero command answer g)
-acts_at_zero_none (Id kept) answer g = tt
-acts_at_zero_none command answer g = (tt, tt)
-
-acts_none : (k : Kind) (command : Option Command) (said : Option Reply) (g : Ledger) → Each AcceptsNone (acts k command said g)
-acts_none kind.Taken (Some command) (Some answer) g = acts_on_none command answer g
-acts_none kind.Zero (Some command) (Some answer) g = acts_at_zero_none command answer g
-acts_none kind.Taken None said g = tt
-acts_none kind.Taken (Some command) None g = tt
-acts_none kind.Zero None said g = tt
-acts_none kind.Zero (Some command) None g = tt
-acts_none kind.Silent command said g = tt
-acts_none kind.Secured command said g = tt
-acts_none kind.Repeat command said g = tt
-acts_none kind.Busy command said g = tt
-acts_none kind.Wrong command said g = tt
-
-pub restarts_none : (o : Option Entry) → Each AcceptsNone (panel_restarts o)
+restarts_none : (o : Option Entry) → Each AcceptsNone (panel_restarts o)
 restarts_none None = tt
 restarts_none (Some d) = (tt, tt)
 
@@ -221,13 +165,8 @@ panel_events k (bus.Retarget i address) b g = refl
 panel_events k bus.NextReport b g = refl
 
 module _ {H : Type 0} (answer_of : H → Command → Answer) (after : H → Command → H) where
-  pub gets_accept : (o : Option Packet) (r : ReaderState H) (g : Ledger) → Each AcceptsNone (answered answer_of after o r g)
-  gets_accept None r g = tt
-  gets_accept (Some p) r g =
-      let out = hears answer_of after r p in
-      let left = leaves (leaving (kind_of r p) r.queue) g in
-      each_append AcceptsNone left (acts (kind_of r p) out.command out.said (after_steps left g)) (leaves_none (leaving (kind_of r p) r.queue) g)
-      (acts_none (kind_of r p) out.command out.said (after_steps left g))
+  gets_accept : (o : Option Packet) (r : ReaderState H) (g : Ledger) → Each AcceptsNone (answered answer_of after o r g)
+  gets_accept o r g = each_map IsDone AcceptsNone done_accepts (answered answer_of after o r g) (answered_done answer_of after o r g)
 
   -- ---- .. and those of its devices
 

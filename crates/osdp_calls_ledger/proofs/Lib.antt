@@ -6,7 +6,11 @@ pub mod Reading
 pub mod Ticks
 pub mod Nexting
 pub mod Calling
+pub mod Allowing
 pub mod Accepted
 pub mod Exits
 pub mod Keeping
 pub mod Promising
+pub mod Histories
+pub mod Unbroken
+pub mod OneDevice

@@ -1,19 +1,13 @@
 -- What is promised is what the ledger of each entry's steps says.
-use Rattle.std.proofs.Common.{refl, sym}
+use Rattle.std.proofs.Common.{sym}
 use Rattle.osdp_msg.specs.declared.command.Command.{Command}
 use Rattle.osdp_reader.specs.declared.handler.Answer.{Answer}
 use Rattle.osdp_ledger.specs.Laws.{TellsInTurn}
 use Rattle.osdp_calls_ledger.specs.Laws.{EachKeepsLedger}
 use Rattle.osdp_calls.specs.Programs.{CallsRuleSuffices}
-use Rattle.osdp_calls_ledger.specs.Promises.{LedgerHoldsOnce, RestartsCost, RuledLedgerHoldsOnce}
+use Rattle.osdp_calls_ledger.specs.Promises.{LedgerHoldsOnce, RuledLedgerHoldsOnce}
 use Rattle.osdp_calls_ledger.specs.Steps.{steps_from}
 use Rattle.osdp_calls_ledger.proofs.Exits.{all_exits}
-
-pub restarts_cost : RestartsCost
-restarts_cost h = (
-  λ on_wire. record { ended = refl; same = (refl, refl, refl) },
-  record { left = refl; same = (refl, refl, refl, refl) },
-)
 
 module _ {H : Type 0} (answer_of : H → Command → Answer) (after : H → Command → H) where
   pub holds_once : EachKeepsLedger answer_of after → TellsInTurn → LedgerHoldsOnce answer_of after

@@ -66,7 +66,7 @@ either_first (Idle due) s waiting g = sym (append-nil (told (ticks_in (Idle due)
 either_first (Waiting until sends o) s waiting g = sym (append-nil (told (ticks_in (Waiting until sends o) s waiting).step.report g))
 either_first (Pausing until o) s waiting g = sym (append-nil (told (ticks_in (Pausing until o) s waiting).step.report g))
 
-nothing_sent : (k : ℕ) (o : Option ℕ) (sent : Option Packet) (q : Option Entry) → sent ≡ None → opening k o sent q ≡ []
+pub nothing_sent : (k : ℕ) (o : Option ℕ) (sent : Option Packet) (q : Option Entry) → sent ≡ None → opening k o sent q ≡ []
 nothing_sent k None sent q none = refl
 nothing_sent k (Some e) sent None none = refl
 nothing_sent k (Some e) sent (Some d) none = ap (λ x. cond (e == k) (opens d.controller.session.state x) []) none ∙ by_test (e == k)
@@ -75,7 +75,7 @@ nothing_sent k (Some e) sent (Some d) none = ap (λ x. cond (e == k) (opens d.co
     by_test true = opens_none d.controller.session.state
     by_test false = refl
 
-other_opens : (k e : ℕ) (sent : Option Packet) (q : Option Entry) → e ≢ k → opening k (Some e) sent q ≡ []
+pub other_opens : (k e : ℕ) (sent : Option Packet) (q : Option Entry) → e ≢ k → opening k (Some e) sent q ≡ []
 other_opens k e sent None other = refl
 other_opens k e sent (Some d) other = ap (λ b. cond b (opens d.controller.session.state sent) []) (is_false e k other)
 

@@ -1,13 +1,13 @@
 -- What the programs of each entry are promised, a sentence each: what the ledger of its steps says.
-use Rattle.std.specs.Prelude.{◌≡◌, ◌⊎◌, ℕ, Bool, List, ◌++◌, All, map, option_to_list, Some}
+use Rattle.std.specs.Prelude.{◌≡◌, ◌⊎◌, ℕ, List, ◌++◌, All, map, option_to_list, Some}
 use Rattle.osdp_msg.specs.declared.command.Command.{Command}
 use Rattle.osdp_msg.specs.declared.event.Event.{Event}
 use Rattle.osdp_bus.specs.Buses.{device_of}
 use Rattle.osdp_bus.specs.declared.entry.Entry.{Entry}
 use Rattle.osdp_reader.specs.declared.handler.Answer.{Answer}
-use Rattle.osdp_ledger.specs.History.{AfterReport, AreAllowed, History, Left, TakenBack, ThrownAway, ends_at_restart, new_history, runs, steps_on}
+use Rattle.osdp_ledger.specs.History.{AfterReport, AreAllowed, History, Left, TakenBack, ThrownAway, new_history, runs}
 use Rattle.osdp_ledger.specs.Laws.{EventsHold, IsOneUntold, OrdersHold}
-use Rattle.osdp_ledger.specs.Ledger.{Card, Order, RestartDevice, RestartPanel}
+use Rattle.osdp_ledger.specs.Ledger.{Card, Order}
 use Rattle.osdp_link_laws.specs.Link.{outstanding_command}
 use Rattle.osdp_shared_line.specs.Line.{site_at}
 use Rattle.osdp_calls.specs.Accepted.{all_accepted, all_queued}
@@ -36,19 +36,6 @@ pub record HoldsOnce {H : Type 0} (commands : List Command) (events : List Event
   pub exits : All LeftSo h.left
   -- Of the last command acted on and the last event offered, at most one isn't told yet.
   pub untold : IsOneUntold h.ledger
-
--- A restart of the panel costs the commands that are ahead: the one on the wire is cut off, and those that wait are forgotten. It costs no event.
-pub record PanelCosts (on_wire : Bool) (h next : History) : Type 0 where
-  pub ended : next.ended ≡ h.ended ++ ends_at_restart h.ledger.is_open on_wire h.ledger.ahead
-  pub same : (next.acted ≡ h.acted) × (next.reports ≡ h.reports) × (next.left ≡ h.left)
-
--- A restart of the device costs the events of its queue, and no command.
-pub record DeviceCosts (h next : History) : Type 0 where
-  pub left : next.left ≡ h.left ++ map (λ c. record { session = h.sessions; card = c; why = ThrownAway }) h.ledger.cards
-  pub same : (next.acted ≡ h.acted) × (next.reports ≡ h.reports) × (next.ended ≡ h.ended) × (next.ledger.ahead ≡ h.ledger.ahead)
-
-abbrev pub RestartsCost : Type 0
-RestartsCost = (h : History) → ((on_wire : Bool) → PanelCosts on_wire h (steps_on (RestartPanel on_wire) h)) × DeviceCosts h (steps_on RestartDevice h)
 
 module _ {H : Type 0} (answer_of : H → Command → Answer) (after : H → Command → H) where
   -- of each entry, after these calls: each step of its ledger may happen where it does, and so they hold

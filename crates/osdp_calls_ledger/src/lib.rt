@@ -3,7 +3,11 @@
 #![tactic(auto)]
 
 ghost use Rattle.osdp_calls_ledger.specs.Laws.{EachKeepsLedger};
-ghost use Rattle.osdp_calls_ledger.specs.Promises.{LedgerHoldsOnce, RestartsCost, RuledLedgerHoldsOnce};
+ghost use Rattle.osdp_calls_ledger.specs.OneDevice.{OneDeviceHoldsOnce};
+ghost use Rattle.osdp_calls_ledger.specs.Promises.{LedgerHoldsOnce, RuledLedgerHoldsOnce};
+ghost use Rattle.osdp_calls_ledger.specs.Refusals.{CallsRefuseNoNumber};
+ghost use Rattle.osdp_calls_ledger.specs.Restarts.{NewDeviceCosts, NewDeviceReportsNoMore, NewPanelCosts};
+ghost use Rattle.osdp_calls_ledger.specs.Undisturbed.{OrdinaryCallsEndTold};
 
 use osdp_reader::Handler;
 
@@ -34,8 +38,42 @@ pub fn ledger_holds_once<H: Handler>()
     osdp_ledger::tells_in_turn();
 }
 
-/// A restart of the panel costs the commands that are ahead, of which the one on the wire is cut off, and a restart of a device the events of its
-/// queue, whatever has happened before.
-pub fn restarts_cost()
-    ensures { RestartsCost }
-{}
+/// A restart of the panel costs an entry the commands that are ahead, of which the one on the wire is cut off, and a restart of its device costs the events
+/// of the device's queue, whatever was called before. A restart of the panel costs no event, and one of the device no command.
+///
+/// Of the events that were queued before a restart of the device, no more is reported but the one that it had offered in this session, which wasn't
+/// reported yet.
+pub fn restarts_cost<H: Handler>()
+    ensures device { NewDeviceCosts H.answer_of H.after }
+    ensures since { NewDeviceReportsNoMore H.answer_of H.after }
+    ensures panel { NewPanelCosts H.answer_of H.after }
+{
+    each_keeps_ledger::<H>();
+    osdp_ledger::restarts_cost();
+}
+
+/// Where the device of an entry is never made anew, and its program sets no handler, each command that it acted on has the answer of its settings, to ID,
+/// CAP and COMSET, or of its one handler, to all others, in order, whatever the other programs call. None of its events is thrown away.
+pub fn one_device_holds_once<H: Handler>()
+    ensures { OneDeviceHoldsOnce H.answer_of H.after }
+{
+    each_keeps_ledger::<H>();
+    osdp_shared_line::each_is_a_link::<H>();
+    osdp_link_laws::answers_of_one_handler::<H>();
+    osdp_ledger::throws_none_away();
+}
+
+/// Where neither end of an entry is made anew, and nothing of it is taken back, each of its commands that has ended was settled or told in doubt, and each
+/// of its events that has left was reported, whatever the other programs call. This asks nothing of what the ends read.
+pub fn ordinary_is_undisturbed<H: Handler>()
+    ensures { OrdinaryCallsEndTold H.answer_of H.after }
+{
+    osdp_ledger::plain_steps_end_told();
+}
+
+/// No session of an entry in which its device has lost no power ends because the device refused a number, whatever the panel's program calls next.
+pub fn refuses_no_number<H: Handler>()
+    ensures { CallsRefuseNoNumber H.answer_of H.after }
+{
+    osdp_calls::refuses_no_number::<H>();
+}

@@ -425,6 +425,35 @@ keeps (RestartPanel on_wire) h may i = by_state h.ledger.is_open i
     by_state true i = i
     by_state false i = i
 
+upto : (c d : Card) → IsUpTo c d → c.place ≤ d.place
+upto c d (inl same) = let e = ap (λ (x : Card). x.place) same in omega (arith, e)
+upto c d (inr less) = omega (arith, less)
+
+-- what waits was queued with or after all that is reported
+passed_none : (offer : Offer) (sessions shown : ℕ) (cards : List Card) (reports : List Told) (left : List Left) → OfferIs offer sessions shown cards reports left
+    → All (λ (d : Card). All (λ (a : Told). a.1.place ≤ d.place) reports) cards
+passed_none NoOffer sessions shown cards reports left h =
+    All-weaker (λ (d : Card). All (λ (a : Told). Follows a (sessions, d)) reports) (λ (d : Card). All (λ (a : Told). a.1.place ≤ d.place) reports)
+    (λ d all. All-weaker (λ (a : Told). Follows a (sessions, d)) (λ (a : Told). a.1.place ≤ d.place) (λ a f. before d a f) reports all) cards h
+  where
+    before : (d : Card) (a : Told) → Follows a (sessions, d) → a.1.place ≤ d.place
+    before d a (inl less) = omega (arith, less)
+    before d a (inr same) = let e = ap (λ (x : Card). x.place) same.0 in omega (arith, e)
+passed_none (Unreported c) sessions shown cards reports left h =
+    All-weaker (IsUpTo c) (λ (d : Card). All (λ (a : Told). a.1.place ≤ d.place) reports)
+    (λ d up. All-weaker (λ (a : Told). Follows a (sessions, c)) (λ (a : Told). a.1.place ≤ d.place) (λ a f. before d a up f) reports h.1) cards h.2
+  where
+    before : (d : Card) (a : Told) → IsUpTo c d → Follows a (sessions, c) → a.1.place ≤ d.place
+    before d a up (inl less) = let le = upto c d up in omega (arith, less, le)
+    before d a up (inr same) = let le = upto c d up in let e = ap (λ (x : Card). x.place) same.0 in omega (arith, e, le)
+passed_none (Reported c) sessions shown cards reports left h =
+    All-weaker (IsUpTo c) (λ (d : Card). All (λ (a : Told). a.1.place ≤ d.place) reports)
+    (λ d up. All-weaker (IsAtMost c) (λ (a : Told). a.1.place ≤ d.place) (λ a most. before d a up most) reports h.1) cards h.2
+  where
+    before : (d : Card) (a : Told) → IsUpTo c d → IsAtMost c a → a.1.place ≤ d.place
+    before d a up (inl less) = let le = upto c d up in omega (arith, less, le)
+    before d a up (inr same) = let le = upto c d up in let e = ap (λ (x : Card). x.place) same in omega (arith, e, le)
+
 hold : (steps : List Step) (h : History) → AreAllowed steps h → Events h → Known h → EventsHold (runs steps h)
 hold [] h allowed i known = record {
   each = i.each;
@@ -433,6 +462,7 @@ hold [] h allowed i known = record {
   gone = known.gone;
   told = known.told;
   in_turn = i.in_turn;
+  in_order = passed_none h.ledger.offer h.sessions h.ledger.shown h.ledger.cards h.reports h.left i.offer_is;
   reported = i.reported;
   withdrawn = i.withdrawn;
   no_later = i.no_later;

@@ -5,3 +5,6 @@ pub mod Submitted
 pub mod Orders
 pub mod Events
 pub mod Untold
+pub mod Restarts
+pub mod Skipping
+pub mod Plain

@@ -1,5 +1,5 @@
 -- What the ledger promises, whatever steps happen where each may.
-use Rattle.std.specs.Prelude.{◌≡◌, ◌≤◌, ◌<◌, ◌+◌, ◌⊎◌, ◌==◌, ℕ, if◌then◌else◌, List, [], ◌∷◌, ◌++◌, All, AllPairs, Contains, map, None, Some}
+use Rattle.std.specs.Prelude.{◌≡◌, ◌≢◌, ◌≤◌, ◌<◌, ◌+◌, ◌⊎◌, ◌==◌, ℕ, if◌then◌else◌, List, [], ◌∷◌, ◌++◌, All, AllPairs, Contains, map, None, Some}
 use Rattle.osdp_msg.specs.declared.reply.Reply.{Reply}
 use Rattle.osdp_ledger.specs.Ledger.{Card, IsReported, Ledger, Order, Step, is_in_front}
 use Rattle.osdp_ledger.specs.History.{AreAllowed, AfterReport, CutOff, End, History, InDoubt, Left, Settled, TakenBack, new_history, runs}
@@ -53,6 +53,8 @@ pub record EventsHold (h : History) : Type 0 where
   -- they are reported in the order in which they were queued, in each session once. One is told again at most as the first of a session, where it was the
   -- last one reported before.
   pub in_turn : AllPairs Follows h.reports
+  -- none that waits is passed over: what is reported was not queued after it
+  pub in_order : All (λ (c : Card). All (λ (told : ℕ × Card). told.1.place ≤ c.place) h.reports) h.ledger.cards
   -- none leaves for having been reported that wasn't
   pub reported : All (λ (w : Left). w.why ≡ AfterReport → (session : ℕ) × Contains h.reports (session, w.card)) h.left
   -- none that was taken back is reported
@@ -72,3 +74,12 @@ IsOneUntold l = (l.acted ≡ None) ⊎ IsReported l.offer
 
 abbrev pub TellsInTurn : Type 0
 TellsInTurn = (steps : List Step) → AreAllowed steps new_history → IsOneUntold (runs steps new_history).ledger
+
+-- an event was reported, or has left for another reason
+abbrev pub IsToldOrGone : History → Card → Type 0
+IsToldOrGone h card = ((session : ℕ) × Contains h.reports (session, card)) ⊎ ((w : Left) × Contains h.left w × (w.card ≡ card) × (w.why ≢ AfterReport))
+
+-- None is skipped: an event that was queued before one that is reported was reported too, or was taken back, or has lapsed, or was thrown away.
+abbrev pub SkipsNone : Type 0
+SkipsNone = (steps : List Step) → AreAllowed steps new_history → let h = runs steps new_history in
+    (told : ℕ × Card) (card : Card) → Contains h.reports told → Contains h.queued card → card.place < told.1.place → IsToldOrGone h card

@@ -1,4 +1,6 @@
 pub mod Ledger
 pub mod History
 pub mod Laws
+pub mod Plain
+pub mod Restarts
 pub mod Instance

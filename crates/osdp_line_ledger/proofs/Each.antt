@@ -18,7 +18,7 @@ some_same x y e = cc
 
 module _ {H : Type 0} (answer_of : H → Command → Answer) (after : H → Command → H) where
   -- the view of the last site is the link after its moves
-  viewed : (n : Net H) (moves : List (NetMove H)) (k : ℕ) (s last : Site H) → IsItsLink answer_of after k s moves n
+  pub viewed : (n : Net H) (moves : List (NetMove H)) (k : ℕ) (s last : Site H) → IsItsLink answer_of after k s moves n
       → site_at k (run answer_of after moves n).sites ≡ Some last
       → view k last (run answer_of after moves n) ≡ link.run answer_of after (moves_of answer_of after k moves n) (view k s n)
   viewed n moves k s last h is =

@@ -11,3 +11,5 @@ pub mod Keeping
 pub mod Running
 pub mod Tallies
 pub mod Accounts
+pub mod Answered
+pub mod Plain

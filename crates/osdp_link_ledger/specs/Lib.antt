@@ -1,3 +1,5 @@
 pub mod Steps
 pub mod Laws
 pub mod Accounts
+pub mod Answers
+pub mod Ordinary

@@ -3,7 +3,9 @@
 #![tactic(auto)]
 
 ghost use Rattle.osdp_link_ledger.specs.Accounts.{LedgerTellsAccounts};
+ghost use Rattle.osdp_link_ledger.specs.Answers.{ActsHaveAnswersOfOneHandler};
 ghost use Rattle.osdp_link_ledger.specs.Laws.{HoldsByLedger, LinkKeepsLedger};
+ghost use Rattle.osdp_link_ledger.specs.Ordinary.{OrdinaryMovesEndTold};
 
 use osdp_reader::Handler;
 
@@ -32,4 +34,21 @@ pub fn holds_by_ledger<H: Handler>()
     link_keeps_ledger::<H>();
     osdp_ledger::keeps_orders();
     osdp_ledger::keeps_events();
+}
+
+/// Where the device never changes, each command that it acted on has the answer of its settings, to ID, CAP and COMSET, or of its one handler, to all
+/// others, in order. A restart with the handler that it has is no change.
+pub fn acts_have_answers_of_one_handler<H: Handler>()
+    ensures { ActsHaveAnswersOfOneHandler H.answer_of H.after }
+{
+    ledger_tells_accounts::<H>();
+    osdp_link_laws::answers_of_one_handler::<H>();
+}
+
+/// Where neither end restarts and nothing is withdrawn, each command that has ended was settled or told in doubt, and each event that has left was
+/// reported. So none is forgotten, cut off, given back or thrown away.
+pub fn ordinary_moves_end_told<H: Handler>()
+    ensures { OrdinaryMovesEndTold H.answer_of H.after }
+{
+    osdp_ledger::plain_steps_end_told();
 }

@@ -1,5 +1,3 @@
-mod Plain
-mod Answered
 mod Telling
 mod Queued
 mod SeveralQueued

@@ -6,14 +6,17 @@ use Rattle.osdp_ledger.specs.Laws.{TellsInTurn}
 use Rattle.osdp_link_laws.specs.Headline.{HoldsOnce}
 use Rattle.osdp_link_laws.specs.Link as link
 use Rattle.osdp_link_laws.specs.Link.{Move}
-use Rattle.osdp_link_laws.specs.OneHandler.{GivesItsAnswers}
-use Rattle.osdp_link_laws.specs.Ordinary.{IsSteady}
+use Rattle.osdp_link_laws.specs.OneHandler.{KeepsDevice}
+use Rattle.osdp_link_laws.specs.Ordinary.{IsOrdinary, IsSteady}
 use Rattle.osdp_link_laws.specs.Sessions.{CommandsHavePlaces, all_queued, all_submitted}
-use Rattle.osdp_link_laws.proofs.Lines.{each_append}
-use Rattle.osdp_link_laws.proofs.OrdinaryRuns.{steady_ordinary}
+use Rattle.osdp_link_laws.proofs.Lines.{each_all, each_append, each_of}
+use Rattle.osdp_link_laws.proofs.OrdinaryRuns.{keep_device, steady_ordinary}
 use Rattle.osdp_link_laws.proofs.Stages.{Each}
 use Rattle.osdp_link_ledger.specs.Accounts.{LedgerTellsAccounts}
+use Rattle.osdp_link_ledger.specs.Answers.{ActsHaveAnswersOfOneHandler}
 use Rattle.osdp_link_ledger.specs.Laws.{HoldsByLedger, LinkKeepsLedger}
+use Rattle.osdp_link_ledger.specs.Ordinary.{OrdinaryMovesEndTold}
+use Rattle.osdp_link_ledger.proofs.Answered.{keep_handler}
 use Rattle.osdp_sim.specs.Runs.{FitAlong, is_well, run, steps_done}
 use Rattle.osdp_sim.specs.State.{set_up}
 use Rattle.osdp_sim.specs.Steps.{StepFits, after_step, fault_of}
@@ -26,8 +29,6 @@ use Rattle.osdp_sim_laws.specs.Progress.{IsRun}
 use Rattle.osdp_sim_laws.proofs.Holding.{answers}
 use Rattle.osdp_sim_ledger.specs.OneReader.{KeepsLedger, RunKeepsLedger, steps_of_run}
 use Rattle.osdp_sim_ledger.specs.Telling.{TellsByLedger}
-use Rattle.osdp_sim_ledger.proofs.Answered.{keep_handler}
-use Rattle.osdp_sim_ledger.proofs.Plain.{link_plain}
 use Rattle.osdp_sim_ledger.proofs.Queued.{all_queue}
 use Rattle.osdp_sim_ledger.proofs.Telling.{tells_once}
 
@@ -62,7 +63,7 @@ module _ {H : Type 0} (answer_of : H → Command → Answer) (after : H → Comm
         fits = (holds_on (after_step answer_of after) (StepFits answer_of after) before later s (subst (λ xs. FitAlong answer_of after xs s) same is.fits)).0;
       }
 
-  module _ (moves : ScheduleIsMoves answer_of after) (once : HoldsOnce answer_of after) (gives : GivesItsAnswers answer_of after)
+  module _ (moves : ScheduleIsMoves answer_of after) (once : HoldsOnce answer_of after) (acts : ActsHaveAnswersOfOneHandler answer_of after) (told : OrdinaryMovesEndTold answer_of after)
       (places : CommandsHavePlaces answer_of after) (keeps : LinkKeepsLedger answer_of after) (tells : LedgerTellsAccounts answer_of after)
       (holds : HoldsByLedger answer_of after) (in_turn : TellsInTurn) where
     one_run : (config : SimConfig) (handler : H) (steps : List SimStep) → IsRun answer_of after config handler steps → KeepsLedger answer_of after config handler steps
@@ -80,9 +81,9 @@ module _ {H : Type 0} (answer_of : H → Command → Answer) (after : H → Comm
           accounts = tells l ms m.begins m.fit;
           orders = held.0;
           events = held.1;
-          plain = link_plain answer_of after ms l (steady_ordinary ms steady);
+          told = told l ms (each_all IsOrdinary ms (steady_ordinary ms steady));
           once = once l ms m.begins m.fit;
-          answers = gives l ms m.begins m.fit (keep_handler answer_of after ms l steady);
+          answers = acts l ms m.begins m.fit (keep_handler answer_of after ms l (each_of KeepsDevice ms (keep_device ms steady)));
           lists = m.follows.tells;
           issued = m.follows.tells.issued ∙ sym (places l ms m.begins m.fit);
           queued_so = all_queue answer_of after moves config handler is.settings steps is.well is.fits;

@@ -1,5 +1,5 @@
 -- The run over a bus, for each of its readers.
-use Rattle.std.proofs.Common.{◌≡◌, ◌++◌, ℕ, true, List, [], ◌∷◌, Some, refl, subst, sym, ap, ◌∙◌}
+use Rattle.std.proofs.Common.{◌≡◌, ◌++◌, ℕ, true, List, [], Some, refl, subst, sym, ap, ◌∙◌}
 use Rattle.std.proofs.lemmas.Option.{slice_get-map}
 use Rattle.std.specs.Prelude.{option_map, slice_get}
 use Rattle.osdp_msg.specs.declared.command.Command.{Command}
@@ -10,13 +10,16 @@ use Rattle.osdp_bus_links.proofs.Keeping.{moves_usual}
 use Rattle.osdp_bus_links.proofs.Names.{are_steady}
 use Rattle.osdp_ledger.specs.Laws.{TellsInTurn}
 use Rattle.osdp_line_ledger.specs.Laws.{EachKeepsLedger}
-use Rattle.osdp_link_laws.specs.Link as link
-use Rattle.osdp_link_laws.specs.OneHandler.{AreItsAnswers, GivesItsAnswers}
+use Rattle.osdp_link_laws.specs.OneHandler.{KeepsDevice}
+use Rattle.osdp_link_laws.specs.Ordinary.{IsOrdinary}
 use Rattle.osdp_link_laws.specs.Sessions.{all_queued, all_submitted, queued}
-use Rattle.osdp_link_laws.proofs.Lines.{each_of}
-use Rattle.osdp_link_laws.proofs.OrdinaryRuns.{steady_ordinary}
+use Rattle.osdp_link_laws.proofs.Lines.{each_all, each_of}
+use Rattle.osdp_link_laws.proofs.OrdinaryRuns.{keep_device, steady_ordinary}
+use Rattle.osdp_link_ledger.specs.Answers.{ActsHaveAnswersOfOneHandler}
+use Rattle.osdp_link_ledger.specs.Ordinary.{OrdinaryMovesEndTold}
+use Rattle.osdp_link_ledger.proofs.Answered.{keep_handler}
 use Rattle.osdp_shared_line.specs.Addresses.{NobodyElseHears}
-use Rattle.osdp_shared_line.specs.Line.{Site, run}
+use Rattle.osdp_shared_line.specs.Line.{run}
 use Rattle.osdp_shared_line.specs.Runs as runs
 use Rattle.osdp_shared_line.specs.Runs.{EachHasSessionsInARow, EachHoldsOnce, EachIsALink}
 use Rattle.osdp_shared_line.specs.Views.{EachMoveIsItsOwn, view}
@@ -34,16 +37,11 @@ use Rattle.osdp_sim_bus_laws.proofs.Beginning.{follows_first, has_site, is_set_u
 use Rattle.osdp_sim_bus_laws.proofs.Rows.{IsRun, account_at, answers, told_by}
 use Rattle.osdp_sim_ledger.specs.SeveralReaders.{BusRunKeepsLedgers, first_net, first_site, steps_of_reader}
 use Rattle.osdp_sim_ledger.specs.Telling.{TellsByLedger}
-use Rattle.osdp_sim_ledger.proofs.Answered.{keep_handler}
-use Rattle.osdp_sim_ledger.proofs.Plain.{link_plain}
 use Rattle.osdp_sim_ledger.proofs.SeveralQueued.{all_queue, site_of}
 use Rattle.osdp_sim_ledger.proofs.Telling.{tells_once}
 
-one_site : {H : Type 0} {s t : Site H} → Some s ≡ Some t → s ≡ t
-one_site is = cc
-
 module _ {H : Type 0} (answer_of : H → Command → Answer) (after : H → Command → H) (schedules : SchedulesAreMoves answer_of after)
-    (own : EachMoveIsItsOwn answer_of after) (links : EachIsALink answer_of after) (gives : GivesItsAnswers answer_of after) (nobody : NobodyElseHears answer_of after) (once : EachHoldsOnce answer_of after)
+    (own : EachMoveIsItsOwn answer_of after) (links : EachIsALink answer_of after) (acts : ActsHaveAnswersOfOneHandler answer_of after) (told : OrdinaryMovesEndTold answer_of after) (nobody : NobodyElseHears answer_of after) (once : EachHoldsOnce answer_of after)
     (rows : EachHasSessionsInARow answer_of after) (keeps : EachKeepsLedger answer_of after) (in_turn : TellsInTurn) where
   abbrev HasKept : ℕ → Given H → BusConfig → List (Given H) → List SimStep → List Account → Type 0
   HasKept k given config readers steps told =
@@ -82,11 +80,9 @@ module _ {H : Type 0} (answer_of : H → Command → Answer) (after : H → Comm
               accounts = kept.accounts;
               orders = kept.orders;
               events = kept.events;
-              plain = link_plain answer_of after mine l (steady_ordinary mine steady);
+              told = told l mine (each_all IsOrdinary mine (steady_ordinary mine steady));
               once = once n0 moves up done.fits k first t.0 from t.1;
-              answers = subst (λ (v : Site H). AreItsAnswers answer_of after given.0 given.2 (v.account ∷ v.earlier)) (one_site (sym its.moved.there ∙ t.1))
-                  (subst (λ (v : link.Link H). AreItsAnswers answer_of after given.0 given.2 (v.account ∷ v.earlier)) (sym its.moved.moved)
-                  (gives l mine (up.begins k first from) its.fits (keep_handler answer_of after mine l steady)));
+              answers = acts l mine (up.begins k first from) its.fits (keep_handler answer_of after mine l (each_of KeepsDevice mine (keep_device mine steady)));
               lists = t.2.tells;
               issued = t.2.tells.issued ∙ sym row.commands;
               queued_so = found.2 ∙ sym (in_link answer_of after queued own k moves n0 first heard done.fits from) ∙ sym (events_counted answer_of after mine l);

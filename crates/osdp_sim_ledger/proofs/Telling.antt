@@ -4,23 +4,20 @@ use Rattle.std.proofs.lemmas.List.{map-append}
 use Rattle.osdp_msg.specs.declared.command.Command.{Command}
 use Rattle.osdp_msg.specs.declared.event.Event.{Event}
 use Rattle.osdp_msg.specs.declared.reply.Reply.{Reply}
-use Rattle.osdp_ledger.specs.History.{AfterReport, AreAllowed, End, Left, new_history, runs}
+use Rattle.osdp_ledger.specs.History.{AreAllowed, new_history, runs}
 use Rattle.osdp_ledger.specs.Laws.{EventsHold, OrdersHold, TellsInTurn}
 use Rattle.osdp_ledger.specs.Ledger.{Order, Step}
+use Rattle.osdp_ledger.specs.Plain.{AllTold}
 use Rattle.osdp_reader.specs.declared.config.ReaderConfig.{ReaderConfig}
 use Rattle.osdp_reader.specs.declared.handler.Answer.{Answer}
 use Rattle.osdp_link_laws.specs.Headline.{EachIsOnce, asked}
 use Rattle.osdp_link_laws.specs.Link as link
 use Rattle.osdp_link_laws.specs.Link.{Link}
-use Rattle.osdp_link_laws.specs.OneHandler.{AreItsAnswers, with_answers}
-use Rattle.osdp_link_laws.proofs.Lines.{each_all}
-use Rattle.osdp_link_laws.proofs.Stages.{Each}
 use Rattle.osdp_link_ledger.specs.Accounts.{TellsAccounts, in_all}
+use Rattle.osdp_link_ledger.specs.Answers.{HasAnswersOf}
 use Rattle.osdp_sim.specs.Account.{Account}
 use Rattle.osdp_sim_laws.specs.Accounts.{IsOf, all_in}
-use Rattle.osdp_sim_ledger.specs.Telling.{EndsTold, TellsByLedger}
-use Rattle.osdp_sim_ledger.proofs.Answered.{all_answers}
-use Rattle.osdp_sim_ledger.proofs.Plain.{IsPlain, runs_told}
+use Rattle.osdp_sim_ledger.specs.Telling.{TellsByLedger}
 
 -- ---- lists of sessions
 
@@ -46,9 +43,9 @@ module _ {H : Type 0} (answer_of : H → Command → Answer) (after : H → Comm
     pub accounts : TellsAccounts accepted queued l (runs steps new_history)
     pub orders : OrdersHold (runs steps new_history)
     pub events : EventsHold (runs steps new_history)
-    pub plain : Each IsPlain steps
+    pub told : AllTold (runs steps new_history)
     pub once : EachIsOnce (l.account ∷ l.earlier)
-    pub answers : AreItsAnswers answer_of after config handler (l.account ∷ l.earlier)
+    pub answers : HasAnswersOf answer_of after config handler (runs steps new_history)
     pub lists : IsOf a l.account l.earlier
     pub issued : a.issued ≡ accepted
     pub queued_so : a.queued ≡ queued
@@ -58,22 +55,19 @@ module _ {H : Type 0} (answer_of : H → Command → Answer) (after : H → Comm
   tells_once in_turn config handler a accepted queued l steps is =
       let h = runs steps new_history in
       let sessions = l.account ∷ l.earlier in
-      let told = runs_told steps new_history is.plain (record { ended = tt; left = tt }) in
       record {
         allowed = is.allowed;
         tells = record {
           issued = is.issued ∙ sym is.accounts.orders;
           queued = is.queued_so ∙ sym is.accounts.cards;
           taken = is.lists.taken ∙ sym (sym (commands_acted h.acted) ∙ ap (map asked) is.accounts.acted ∙ taken_in sessions is.once);
-          answers = is.accounts.acted ∙ same_lists (λ t. t.given) sessions ∙ all_answers answer_of after config handler sessions is.answers
-              ∙ ap (with_answers answer_of after config handler) (sym is.lists.taken);
+          answers = is.answers;
           settled = is.lists.settled ∙ sym (is.accounts.settled ∙ same_lists (λ t. t.settled) sessions);
           unsettled = is.lists.unsettled ∙ sym (is.accounts.in_doubt ∙ same_lists (λ t. t.unsettled) sessions);
           reported = is.lists.reported ∙ sym (is.accounts.reported ∙ same_lists (λ t. t.reported) sessions);
           orders = is.orders;
           cards = is.events;
-          ends = each_all (λ (e : Order × End). EndsTold e.1) h.ended told.ended;
-          exits = each_all (λ (w : Left). w.why ≡ AfterReport) h.left told.left;
+          ends = is.told;
           untold = in_turn steps is.allowed;
         };
       }

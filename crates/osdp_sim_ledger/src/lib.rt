@@ -18,11 +18,12 @@ pub fn run_keeps_ledger<H: Handler>()
 {
     osdp_sim_laws::schedule_is_moves::<H>();
     osdp_link_laws::holds_once::<H>();
-    osdp_link_laws::answers_of_one_handler::<H>();
     osdp_link_laws::sessions_in_a_row::<H>();
     osdp_link_ledger::link_keeps_ledger::<H>();
     osdp_link_ledger::ledger_tells_accounts::<H>();
     osdp_link_ledger::holds_by_ledger::<H>();
+    osdp_link_ledger::acts_have_answers_of_one_handler::<H>();
+    osdp_link_ledger::ordinary_moves_end_told::<H>();
     osdp_ledger::tells_in_turn();
 }
 
@@ -34,7 +35,8 @@ pub fn bus_run_keeps_ledgers<H: Handler>()
     osdp_sim_bus_laws::schedules_are_moves::<H>();
     osdp_shared_line::each_move_is_its_own::<H>();
     osdp_shared_line::each_is_a_link::<H>();
-    osdp_link_laws::answers_of_one_handler::<H>();
+    osdp_link_ledger::acts_have_answers_of_one_handler::<H>();
+    osdp_link_ledger::ordinary_moves_end_told::<H>();
     osdp_shared_line::nobody_else_hears::<H>();
     osdp_shared_line::promises::each_holds_once::<H>();
     osdp_shared_line::promises::each_has_sessions_in_a_row::<H>();

@@ -1,0 +1,182 @@
+-- What ordinary moves show: steps by which nobody loses power, and nothing is taken back.
+use Rattle.std.proofs.Common.{◌+◌, ℕ, Bool, true, false, List, [], ◌∷◌, Option, Some, None}
+use Rattle.osdp_frame.specs.Packet.{Packet}
+use Rattle.osdp_msg.specs.Events.{event_in}
+use Rattle.osdp_msg.specs.declared.command.Command.{Command}
+use Rattle.osdp_msg.specs.declared.command.Command.TheVariants.{Id, Poll}
+use Rattle.osdp_msg.specs.declared.event.Event.{Event}
+use Rattle.osdp_msg.specs.declared.reply.Reply.{Reply}
+use Rattle.osdp_controller.specs.Machine.{submit_refusal}
+use Rattle.osdp_controller.specs.Ticking.{ticks}
+use Rattle.osdp_controller.specs.declared.fault.ControllerFault.{ControllerFault}
+use Rattle.osdp_controller.specs.declared.report.Report.{Report}
+use Rattle.osdp_controller.specs.declared.report.Report.TheVariants as report
+use Rattle.osdp_controller.specs.declared.state.State.{State}
+use Rattle.osdp_controller.specs.declared.state.State.TheVariants.{Closed, Quiet, Idle, Waiting, Pausing}
+use Rattle.osdp_reader.specs.Queue.{lacks_room}
+use Rattle.osdp_reader.specs.State.{ReaderState}
+use Rattle.osdp_reader.specs.Table.{hears, kind_of}
+use Rattle.osdp_reader.specs.declared.handler.Answer.{Answer}
+use Rattle.osdp_reader.specs.declared.kind.Kind.{Kind}
+use Rattle.osdp_reader.specs.declared.kind.Kind.TheVariants as kind
+use Rattle.osdp_ledger.specs.Plain.{IsPlain, PlainStepsEndTold}
+use Rattle.osdp_ledger.specs.Ledger as ledger
+use Rattle.osdp_ledger.specs.Ledger.{Act, Close, Doubt, Lapse, Leave, Ledger, Offers, Open, Report as Reports, RestartDevice, RestartPanel, Settle, Step, new_ledger}
+use Rattle.osdp_link_laws.specs.Link as link
+use Rattle.osdp_link_laws.specs.Link.{Delivered, Delivery, Link, Lost, LoseToController, LoseToReader, Move, Reopen, Repeated, RestartController, RestartReader, Retarget, SetBusy, SetHandler, Tick, ToController, ToReader, after_move}
+use Rattle.osdp_link_laws.specs.Ordinary.{IsOrdinary}
+use Rattle.osdp_link_laws.specs.Refusals.{told_by_front}
+use Rattle.osdp_link_laws.proofs.Lines.{each_all, each_append, each_map, each_of}
+use Rattle.osdp_link_laws.proofs.Stages.{Each}
+use Rattle.osdp_link_ledger.specs.Ordinary.{OrdinaryMovesEndTold}
+use Rattle.osdp_link_ledger.specs.Steps.{acts, acts_at_zero, acts_on, after_steps, all_steps, gets, leaves, leaving, offers, opens, queued_before, queues, steps_before, steps_from, steps_of, submits, submitted_before, to_reader, told}
+
+-- ---- what the device has done, and what is reported
+
+abbrev pub IsDone : Step → Type 0
+IsDone (Act order answer) = Unit {0}
+IsDone (Settle order answer) = Unit {0}
+IsDone (Doubt order) = Unit {0}
+IsDone Close = Unit {0}
+IsDone (Offers card) = Unit {0}
+IsDone (Reports card) = Unit {0}
+IsDone (Leave card) = Unit {0}
+IsDone _ = ⊥
+
+done_plain : (step : Step) → IsDone step → IsPlain step
+done_plain (ledger.Withdraw order) done = absurd done
+done_plain (ledger.WithdrawEvent card) done = absurd done
+done_plain (Lapse card) done = absurd done
+done_plain RestartDevice done = absurd done
+done_plain (RestartPanel on_wire) done = absurd done
+done_plain _ done = tt
+
+pub are_plain : (steps : List Step) → Each IsDone steps → Each IsPlain steps
+are_plain steps done = each_map IsDone IsPlain done_plain steps done
+
+-- ---- the panel
+
+pub submits_plain : (fault : Option ControllerFault) (c : Command) (g : Ledger) → Each IsPlain (submits fault c g)
+submits_plain None c g = (tt, tt)
+submits_plain (Some fault) c g = tt
+
+pub opens_open : (P : Step → Type 0) → P Open → (state : State) (sent : Option Packet) → Each P (opens state sent)
+opens_open P is (Quiet until) (Some frame) = (is, tt)
+opens_open P is (Quiet until) None = tt
+opens_open P is Closed sent = tt
+opens_open P is (Idle due) sent = tt
+opens_open P is (Waiting until sends o) sent = tt
+opens_open P is (Pausing until o) sent = tt
+
+pub told_done : (r : Option Report) (g : Ledger) → Each IsDone (told r g)
+told_done None g = tt
+told_done (Some (report.Opened id)) g = tt
+told_done (Some (report.Settled command answer)) g = (tt, tt)
+told_done (Some (report.Moved command answered)) g = (tt, (tt, tt))
+told_done (Some (report.Event event)) g = (tt, tt)
+told_done (Some (report.PollAnswered answer)) g = tt
+told_done (Some (report.Unread command code)) g = (tt, tt)
+told_done (Some (report.Lost cause (Some command))) g = (tt, tt)
+told_done (Some (report.Lost cause None)) g = (tt, tt)
+
+-- ---- the device
+
+pub queues_plain : (full : Bool) (e : Event) (g : Ledger) → Each IsPlain (queues full e g)
+queues_plain true e g = tt
+queues_plain false e g = (tt, tt)
+
+leaves_done : (es : List Event) (g : Ledger) → Each IsDone (leaves es g)
+leaves_done [] g = tt
+leaves_done (e ∷ es) g = (tt, tt)
+
+offers_done : (e : Option Event) (g : Ledger) → Each IsDone (offers e g)
+offers_done None g = tt
+offers_done (Some e) g = (tt, tt)
+
+acts_on_done : (c : Command) (answer : Reply) (g : Ledger) → Each IsDone (acts_on c answer g)
+acts_on_done Poll answer g = offers_done (event_in answer) g
+acts_on_done c answer g = (tt, tt)
+
+acts_at_zero_done : (c : Command) (answer : Reply) (g : Ledger) → Each IsDone (acts_at_zero c answer g)
+acts_at_zero_done (Id kept) answer g = tt
+acts_at_zero_done c answer g = (tt, tt)
+
+acts_done : (k : Kind) (c : Option Command) (said : Option Reply) (g : Ledger) → Each IsDone (acts k c said g)
+acts_done kind.Taken (Some c) (Some answer) g = acts_on_done c answer g
+acts_done kind.Taken (Some c) None g = tt
+acts_done kind.Taken None said g = tt
+acts_done kind.Zero (Some c) (Some answer) g = acts_at_zero_done c answer g
+acts_done kind.Zero (Some c) None g = tt
+acts_done kind.Zero None said g = tt
+acts_done kind.Silent c said g = tt
+acts_done kind.Secured c said g = tt
+acts_done kind.Repeat c said g = tt
+acts_done kind.Busy c said g = tt
+acts_done kind.Wrong c said g = tt
+
+-- ---- from the beginning
+
+submitted_plain : (place : ℕ) (cs : List Command) → Each IsPlain (submitted_before place cs)
+submitted_plain place [] = tt
+submitted_plain place (c ∷ cs) = (tt, submitted_plain (place + 1) cs)
+
+pub queued_plain : (place : ℕ) (es : List Event) → Each IsPlain (queued_before place es)
+queued_plain place [] = tt
+queued_plain place (e ∷ es) = (tt, queued_plain (place + 1) es)
+
+module _ {H : Type 0} (answer_of : H → Command → Answer) (after : H → Command → H) where
+  pub gets_done : (p : Packet) (r : ReaderState H) (g : Ledger) → Each IsDone (gets answer_of after p r g)
+  gets_done p r g =
+      let o = hears answer_of after r p in
+      let left = leaves (leaving (kind_of r p) r.queue) g in
+      each_append IsDone left (acts (kind_of r p) o.command o.said (after_steps left g))
+      (leaves_done (leaving (kind_of r p) r.queue) g) (acts_done (kind_of r p) o.command o.said (after_steps left g))
+
+  to_reader_plain : (ps : List Packet) (how : Delivery) (r : ReaderState H) (g : Ledger) → Each IsPlain (to_reader answer_of after ps how r g)
+  to_reader_plain [] how r g = tt
+  to_reader_plain (p ∷ ps) Delivered r g = are_plain (gets answer_of after p r g) (gets_done p r g)
+  to_reader_plain (p ∷ ps) Lost r g = tt
+  to_reader_plain (p ∷ ps) Repeated r g = are_plain (gets answer_of after p r g) (gets_done p r g)
+
+  -- ---- moves
+
+  move_plain : (m : Move H) (l : Link H) (g : Ledger) → IsOrdinary m → Each IsPlain (steps_of answer_of after m l g)
+  move_plain (link.Submit c) l g ordinary = submits_plain (submit_refusal c l.controller) c g
+  move_plain (link.Queue e) l g ordinary = queues_plain (lacks_room e l.reader.queue) e g
+  move_plain (SetBusy busy) l g ordinary = tt
+  move_plain (Tick now) l g ordinary =
+      let t = ticks now l.controller.session l.controller.waiting in
+      each_append IsPlain (opens l.controller.session.state t.step.frame) (told t.step.report g) (opens_open IsPlain tt l.controller.session.state t.step.frame) (are_plain (told t.step.report g) (told_done t.step.report g))
+  move_plain (ToReader how) l g ordinary = to_reader_plain l.to_reader how l.reader g
+  move_plain (ToController how now) l g ordinary =
+      let r = told_by_front how l.to_controller now l.controller.session in are_plain (told r g) (told_done r g)
+  move_plain (Reopen now) l g ordinary = tt
+  move_plain (SetHandler handler) l g ordinary = tt
+  move_plain link.Withdraw l g ordinary = absurd ordinary
+  move_plain (Retarget address) l g ordinary = tt
+  move_plain link.WithdrawEvent l g ordinary = absurd ordinary
+  move_plain (RestartReader address handler room) l g ordinary = absurd ordinary
+  move_plain (RestartController config room) l g ordinary = absurd ordinary
+  move_plain (LoseToReader place) l g ordinary = tt
+  move_plain (LoseToController place) l g ordinary = tt
+
+  moves_plain : (ms : List (Move H)) (l : Link H) (g : Ledger) → Each IsOrdinary ms → Each IsPlain (all_steps answer_of after ms l g)
+  moves_plain [] l g ordinary = tt
+  moves_plain (m ∷ ms) l g ordinary =
+      let steps = steps_of answer_of after m l g in
+      let next = after_move answer_of after m l in
+      each_append IsPlain steps (all_steps answer_of after ms next (after_steps steps g)) (move_plain m l g ordinary.0)
+      (moves_plain ms next (after_steps steps g) ordinary.1)
+
+  link_plain : (ms : List (Move H)) (l : Link H) → Each IsOrdinary ms → Each IsPlain (steps_from answer_of after ms l)
+  link_plain ms l ordinary =
+      let submitted = submitted_before 0 l.controller.waiting in
+      let queued = queued_before 0 l.reader.queue.events in
+      each_append IsPlain (steps_before l) (all_steps answer_of after ms l (after_steps (steps_before l) new_ledger))
+      (each_append IsPlain submitted queued (submitted_plain 0 l.controller.waiting) (queued_plain 0 l.reader.queue.events))
+      (moves_plain ms l (after_steps (steps_before l) new_ledger) ordinary)
+
+  pub ordinary_moves_end_told : PlainStepsEndTold → OrdinaryMovesEndTold answer_of after
+  ordinary_moves_end_told told l moves ordinary =
+      let steps = steps_from answer_of after moves l in
+      told steps (each_all IsPlain steps (link_plain moves l (each_of IsOrdinary moves ordinary)))
