@@ -243,6 +243,19 @@ def looks_at_late(loss):
     says(f"late {loss}", page, ["Nobody broke a rule"])
 
 
+def looks_at_restarts():
+    """A device that loses its number four times, 300 seconds apart, but once 290 and then 310: its median is 300."""
+    line, number = Line(), 0
+    falls = {100000, 390000, 700000, 1000000}
+    for moment in range(0, 1100000, 10000):
+        line.add(moment, "out", packet(5, number, POLL))
+        line.add(moment + 20, "in", packet(5, number, 0x41, bytes([4]), True) if moment in falls else packet(5, number, ACK, b"", True))
+        number = 0 if moment in falls else following(number)
+    for what, text, wanted in (("restarts", line.digits(), "5 restarted 4 times, every 300 s"), ("restarts without moments", re.sub("# .*\n", "", line.digits()), "5 restarted 4 times")):
+        asks(what, [wanted], [each["text"] for each in objects(text)["diagnosis"]])
+        says(what, report(text), [f"Device {wanted}.", "Nobody broke a rule"])
+
+
 def looks_at_accused():
     """A repeat that is answered by something else, and texts that would be tags."""
     line, card = Line(), bytes([0, 0, 8, 0])
@@ -277,6 +290,7 @@ for loss in (0, 1, 5):
     for seed in range(4):
         looks_at_calm(seed, loss)
     looks_at_late(loss)
+looks_at_restarts()
 looks_at_accused()
 looks_at_objects()
 print(f"reports: {faults} faults")

@@ -10,6 +10,7 @@ EVENTS = ("RAW", "FMT", "KEYPAD")
 PLAIN = ("POLL", "ACK")
 SILENT = 3  # so many packets in a row without an answer: the device is offline
 LATE = "a late answer"
+RESTARTED = "restarted"
 REACH = 200  # so many items before an answer are looked at
 
 
@@ -112,6 +113,7 @@ class Figures:
         self.places = {}  # where a packet stands in the list, by its run and place
         self.read_told(told)
         self.read_packets()
+        self.diagnoses = [self.with_period(each) for each in self.diagnoses]
 
     def read_told(self, told):
         self.told, self.diagnoses, self.table = [], [], []
@@ -148,6 +150,19 @@ class Figures:
         """The devices that the monitor's table has, in their order: damage alone makes no device."""
         known = {int(line.split()[0]) for line in self.table if re.match(r"\d+ ", line)}
         return [device for address, device in sorted(self.devices.items()) if address in known]
+
+    def restarts(self, address):
+        """The moments of a device's restarts, in seconds, as far as they have one."""
+        places = [self.places.get((each.run, each.place)) for each in self.told if each.address == address and each.text == RESTARTED]
+        return sorted(self.packets[at].moment for at in places if at is not None and self.packets[at].moment is not None)
+
+    def with_period(self, diagnosis):
+        """A diagnosis; where it counts restarts, with the median of the times between them."""
+        found = re.fullmatch(r"(\d+) restarted (\d+) times", diagnosis)
+        moments = self.restarts(int(found[1])) if found else []
+        if not found or len(moments) < int(found[2]):
+            return diagnosis
+        return f"{diagnosis}, every {rank(sorted(later - one for one, later in zip(moments, moments[1:])), 50):.0f} s"
 
     def accusations(self):
         return [each for each in self.told if each.party != "device"]
