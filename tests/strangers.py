@@ -264,6 +264,46 @@ class GivesUp(Panel):
             super().opens()
 
 
+class Begins(Panel):
+    """It begins a session by one command and by another in turn, all with number 0."""
+
+    def opens(self):
+        self.begun = getattr(self, "begun", 0) + 1
+        self.number, self.sent = 0, 0
+        self.code, self.data = ((ID, bytes([0])), (POLL, b""))[self.begun % 2]
+
+
+class Hanging(Line):
+    """The reader takes the packets in their order, and now and then it hangs for longer than its panel waits three times."""
+
+    ready = 0
+
+    def send(self, now):
+        burst = self.panel.burst()
+        hangs = now >= self.ready and self.chance.random() < 0.05
+        if self.say(burst):
+            self.ready = max(self.ready, now + (self.chance.randrange(620, 900) if hangs else self.habits.delay))
+            self.at(self.ready, "answer", burst)
+        self.waits += 1
+        self.at(now + self.habits.wait, "wait", self.waits)
+
+
+class TwoChecks(Panel):
+    """Its packets with an even number have a sum, the others a CRC."""
+
+    def burst(self):
+        self.sent += 1
+        return packet(self.address, self.number, self.code, self.data, check=("sum", "crc")[self.number % 2])
+
+
+class Checked(Line):
+    """A reply has the check of its packet."""
+
+    def on_answer(self, now, burst):
+        self.habits.check = "crc" if burst[4] & 4 else "sum"
+        super().on_answer(now, burst)
+
+
 class Twin(Line):
     """Two devices at one address, which don't collide: each answers."""
 
@@ -295,6 +335,12 @@ def late_readers():
             for delay in range(240, 391, 35):
                 busy = Line(f"late and busy {delay}", loss, delay=delay, wait=200, repeats=8, pause=50, **QUIET | {"busy": 0.2, "busy_number": number})
                 yield Case(f"late and busy, losses {loss:.0%}", busy, noticed=(LATE,))
+        for delay in range(240, 391, 35):
+            line = Checked(f"late and busy, two checks {delay}", loss, panel=TwoChecks, delay=delay, wait=200, repeats=8, pause=50, **QUIET | {"busy": 0.2, "busy_number": False})
+            yield Case(f"late and busy with two checks, losses {loss:.0%}", line, noticed=(LATE,))
+        for seed in range(10):
+            line = Hanging(f"hangs {seed}", loss, panel=Begins, delay=20, wait=200, repeats=0, pause=50, **QUIET)
+            yield Case(f"late by several packets with number 0, losses {loss:.0%}", line, noticed=(LATE,))
         yield Case(f"a hasty panel, losses {loss:.0%}", Line("hasty", loss, delay=100, wait=60, repeats=8, pause=5, **QUIET), noticed=(LATE,))
 
 

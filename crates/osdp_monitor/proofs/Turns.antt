@@ -1,5 +1,5 @@
 -- A packet after one that was answered, and an ACK that answers a POLL in turn: nothing is found in them.
-use Rattle.std.proofs.Common.{◌≡◌, ◌≢◌, ◌==◌, ◌-◌, ◌&&◌, ◌||◌, not, ◌<◌, ℕ, Bool, true, false, List, Option, Some, None, Result, Ok, Err, refl, ap, subst, arith}
+use Rattle.std.proofs.Common.{◌≡◌, ◌≢◌, ◌==◌, ◌-◌, ◌&&◌, ◌<◌, ℕ, Bool, true, false, List, Option, Some, None, Result, Ok, Err, refl, ap, subst, arith}
 use Rattle.std.proofs.lemmas.Bool.{ne_eqb}
 use Rattle.osdp_frame.specs.Packet.{Packet, next_sequence}
 use Rattle.osdp_msg.specs.declared.command.Command.{Command}
@@ -7,11 +7,11 @@ use Rattle.osdp_msg.specs.declared.command.Command.TheVariants.{Comset, Poll}
 use Rattle.osdp_msg.specs.declared.fault.MsgFault.{MsgFault}
 use Rattle.osdp_msg.specs.declared.reply.Reply.TheVariants.{Ack}
 use Rattle.osdp_monitor.specs.declared.found.Found.{Found}
-use Rattle.osdp_monitor.specs.Known.{Known, is_number, same_check, same_packet}
+use Rattle.osdp_monitor.specs.Known.{Known, same_check, same_packet}
 use Rattle.osdp_monitor.specs.Line.{Knowledge, after_packet, after_reply_if, devices_after, devices_after_reply, devices_after_sent, expected_if, expected_in, found_in, found_in_reply, found_in_sent, moves_to, nothing_wrong}
 use Rattle.osdp_monitor.specs.Panel.{after_sent}
 use Rattle.osdp_monitor.specs.Private.{AnswersPoll, IsNext, IsPollTo, IsSpelledIf, is_next, number_of}
-use Rattle.osdp_monitor.specs.Reader.{after_reply}
+use Rattle.osdp_monitor.specs.Reader.{after_reply, is_owed_number}
 use Rattle.osdp_monitor.specs.Saying.{asked, is_foreign, moved_by, reply_told}
 
 -- the number is not the one taken last
@@ -56,7 +56,7 @@ by_taken (Some t) k p r is first poll ack number check next =
       other_number t r.sequence next,
       next_way t r.sequence next,
       self_is r.sequence,
-      and_false (not k.settled || is_number k.earlier r.sequence),
+      and_false (is_owed_number k r.sequence),
       and_false k.answered,
       own_way r.sequence (begun t r.sequence next),
     ) refl
@@ -82,17 +82,17 @@ goes_nowhere k r ack = by_last k.last
 
 after_taken : (taken : Option ℕ) (k : Known) (p r : Packet) → k.taken ≡ taken → p.sequence ≡ r.sequence
     → is_next taken r.sequence ≡ true → reply_told r ≡ Ok Ack
-    → after_reply k p r ≡ record k { replied = true; answered = true; taken = Some r.sequence; stored = Some r; earlier = None }
+    → after_reply k p r ≡ record k { replied = true; answered = true; taken = Some r.sequence; stored = Some r; earlier = None; older = None }
 after_taken None k p r is number next ack = absurd cc
 after_taken (Some t) k p r is number next ack =
-    simp (is, ack, number, not_zero r.sequence (begun t r.sequence next), other_number t r.sequence next, self_is r.sequence, and_false (not k.settled || is_number k.earlier r.sequence), and_false k.answered, own_way r.sequence (begun t r.sequence next)) refl
+    simp (is, ack, number, not_zero r.sequence (begun t r.sequence next), other_number t r.sequence next, self_is r.sequence, and_false (is_owed_number k r.sequence), and_false k.answered, own_way r.sequence (begun t r.sequence next)) refl
 
 pub is_taken : (k : Known) (r : Packet) → AnswersPoll k r → reply_told r ≡ Ok Ack
-    → after_reply_if k.last k r ≡ record k { replied = true; answered = true; taken = Some r.sequence; stored = Some r; earlier = None }
+    → after_reply_if k.last k r ≡ record k { replied = true; answered = true; taken = Some r.sequence; stored = Some r; earlier = None; older = None }
 is_taken k r a ack = by_last k.last a.last
   where
     by_last : (last : Option Packet) → IsPollTo last r.sequence r.check
-        → after_reply_if last k r ≡ record k { replied = true; answered = true; taken = Some r.sequence; stored = Some r; earlier = None }
+        → after_reply_if last k r ≡ record k { replied = true; answered = true; taken = Some r.sequence; stored = Some r; earlier = None; older = None }
     by_last None poll = absurd poll
     by_last (Some p) (poll, number, check) = after_taken k.taken k p r refl number a.next ack
 
@@ -118,13 +118,13 @@ pub none_found_in_next : (k : Known) (p : Packet) → IsNext k p → found_in_se
 none_found_in_next k p n = next_found k.last k p refl n.next n.replied n.answered
 
 next_sent : (last : Option Packet) (k : Known) (p : Packet) → k.last ≡ last → is_next (number_of last) p.sequence ≡ true → k.replied ≡ true → k.owing ≡ false
-    → k.answered ≡ true → after_sent last k p ≡ record k { last = Some p; replied = false; answered = false; missed = false; earlier = None; settled = true; suspected = k.suspected - 1 }
+    → k.answered ≡ true → after_sent last k p ≡ record k { last = Some p; replied = false; answered = false; missed = false; earlier = None; older = None; settled = true; suspected = k.suspected - 1 }
 next_sent None k p is next replied settled answered = absurd cc
 next_sent (Some last) k p is next replied settled answered =
     simp (is, answered, and_false (p.sequence == next_sequence last.sequence), other_packet last p (other_number last.sequence p.sequence next), replied, settled, not_zero p.sequence (begun last.sequence p.sequence next)) refl
 
 pub is_sent : (k : Known) (p : Packet) → IsNext k p
-    → after_sent k.last k p ≡ record k { last = Some p; replied = false; answered = false; missed = false; earlier = None; settled = true; suspected = k.suspected - 1 }
+    → after_sent k.last k p ≡ record k { last = Some p; replied = false; answered = false; missed = false; earlier = None; older = None; settled = true; suspected = k.suspected - 1 }
 is_sent k p n = next_sent k.last k p refl n.next n.replied n.settled n.answered
 
 -- ---- where nothing is known anew

@@ -21,9 +21,12 @@ pub record Known : Type 0 where
   pub stored : Option Packet
   -- the number of the packet before the last one, where a reply to it may still come
   pub earlier : Option ℕ
+  -- of several packets in a row with number 0, of which the last one is the last: the number of the packet before them, where a reply to it may still come
+  pub older : Option ℕ
   -- whether a reply may still come to an earlier copy of the last packet, or to the packet before where that has the same number
   pub owing : Bool
-  -- whether another packet has been sent since the first one that is known: what is owed to packets before the first nobody knows
+  -- whether another packet has been sent since the first one that is known, where several with number 0 in a row count as one: what is owed to packets
+  -- before the first nobody knows
   pub settled : Bool
   -- of so many more packets to it a doubt is no first one: the panel is accused of it
   pub suspected : ℕ
@@ -37,6 +40,7 @@ nothing_known = record {
   taken = None;
   stored = None;
   earlier = None;
+  older = None;
   owing = false;
   settled = false;
   suspected = 0;

@@ -48,6 +48,14 @@ is_waiting k = k.owing || not k.replied
 abbrev pub left_waiting : Packet → Known → Option ℕ
 left_waiting last k = if is_waiting k then Some last.sequence else None
 
+-- Both have number 0, and a reply to the last packet may still come: the panel begins a session, and goes on to begin it. Such packets count as one.
+abbrev pub is_in_row : Option ℕ → Packet → Bool
+is_in_row earlier p = is_number earlier 0 && p.sequence == 0
+
+-- the number of the packet before all of these, where a reply to it may still come
+abbrev pub before_row : Known → Option ℕ
+before_row k = if is_number k.earlier 0 then k.older else k.earlier
+
 -- another packet than the last
 abbrev pub after_another : Bool → Option ℕ → Known → Packet → Known
 after_another keeps earlier k p = record {
@@ -58,8 +66,9 @@ after_another keeps earlier k p = record {
   taken = if keeps then k.taken else None;
   stored = if keeps then k.stored else None;
   earlier = earlier;
+  older = if is_in_row earlier p then before_row k else None;
   owing = is_number earlier p.sequence;
-  settled = true;
+  settled = not (is_in_row earlier p) || k.settled;
   suspected = still_suspected k.last k p;
 }
 

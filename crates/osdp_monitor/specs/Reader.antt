@@ -87,11 +87,14 @@ tells_number Damage number = false
 tells_number Refusal number = true
 tells_number Answer number = true
 
--- it has the number of the packet before the last one, to which a reply may still come; that one may have any number where it isn't known
-abbrev pub has_earlier_number : Known → Packet → Bool
-has_earlier_number k r = tells_number (said r) r.sequence && (not k.settled || is_number k.earlier r.sequence)
+-- a packet before the last one, to which a reply may still come, has this number; or may have it, where it isn't known
+abbrev pub is_owed_number : Known → ℕ → Bool
+is_owed_number k number = not k.settled || is_number k.earlier number || is_number k.older number
 
--- Such a reply comes late, where the last packet has another number: the panel waits no more for it.
+abbrev pub has_earlier_number : Known → Packet → Bool
+has_earlier_number k r = tells_number (said r) r.sequence && is_owed_number k r.sequence
+
+-- A reply with this number comes late, where the last packet has another: the panel waits no more for it.
 abbrev pub is_late : Known → Packet → Packet → Bool
 is_late k p r = has_earlier_number k r && not (r.sequence == p.sequence)
 
@@ -102,10 +105,6 @@ is_of_either k p r = has_earlier_number k r && p.sequence == 0
 -- It has the next number, and the last packet was answered: the packet that it answers wasn't heard.
 abbrev pub is_unheard : Known → Packet → Packet → Bool
 is_unheard k p r = is_answer (said r) && k.answered && r.sequence == next_sequence p.sequence
-
--- what is not judged
-abbrev pub is_doubtful : Known → Packet → Packet → Bool
-is_doubtful k p r = is_late k p r || is_of_either k p r || is_unheard k p r
 
 -- a reply may still come to the packet before, or to an earlier copy
 abbrev pub is_owed : Known → Bool
@@ -121,6 +120,14 @@ has_no_number Answer number = false
 -- .. where a reply may still come to another packet or to another copy: nobody can tell which it answers
 abbrev pub is_stray : Known → Packet → Bool
 is_stray k r = has_no_number (said r) r.sequence && is_owed k
+
+-- .. to another packet, since the last one is no known repeat
+abbrev pub is_busy_of_either : Known → Packet → Packet → Bool
+is_busy_of_either k p r = is_stray k r && not (is_some (repeat_reply k p))
+
+-- what is not judged
+abbrev pub is_doubtful : Known → Packet → Packet → Bool
+is_doubtful k p r = is_late k p r || is_of_either k p r || is_unheard k p r || is_busy_of_either k p r
 
 -- one more reply to this copy
 abbrev pub is_one_more : Known → Packet → Bool
@@ -142,6 +149,7 @@ after_own is_repeat number k r = record k {
   taken = if is_repeat then k.taken else Some number;
   stored = if is_repeat then k.stored else (if number == 0 then None else Some r);
   earlier = if number == 0 then k.earlier else None;
+  older = if number == 0 then k.older else None;
 }
 
 -- after one with another number nobody knows which the reader took, but at a known repeat

@@ -4,14 +4,14 @@ ghost use Rattle.std.specs.Prelude.{◌≡◌, ◌↔◌, is_some, None, Ok, Som
 ghost use Rattle.osdp_msg.specs.declared.reply.Reply.TheVariants.{Ack};
 ghost use Rattle.osdp_monitor.specs.Known.{nothing_known};
 ghost use Rattle.osdp_monitor.specs.Line.{after_reply_if, found_in_reply, found_in_sent, is_last, moves_to, nothing_wrong};
-ghost use Rattle.osdp_monitor.specs.Panel.{after_another, after_sent, is_waiting, still_suspected};
+ghost use Rattle.osdp_monitor.specs.Panel.{after_another, after_sent, before_row, is_waiting, still_suspected};
 ghost use Rattle.osdp_frame.specs.Packet.{Packet};
 ghost use Rattle.osdp_monitor.specs.Private.{AnswersPoll, IsNext};
-ghost use Rattle.osdp_monitor.specs.Reader.{after_answer, after_own, has_earlier_number, is_late, is_owed, is_stray, is_unheard, repeat_reply};
+ghost use Rattle.osdp_monitor.specs.Reader.{after_answer, after_own, has_earlier_number, is_late, is_owed, is_owed_number, is_stray, is_unheard, repeat_reply};
 ghost use Rattle.osdp_monitor.specs.Saying.{reply_told};
 
 use crate::kept::KeptPacket;
-use crate::panel::{SUSPECTED_FOR, is_after, is_doubt, is_number};
+use crate::panel::{SUSPECTED_FOR, is_after, is_doubt, is_number, is_zero};
 use crate::said::{ReadReply, Said, has_no_number, moved_by, read_command, said_in, tells_number};
 use osdp_frame::{Address, FrameView, Seq};
 use osdp_msg::Reply;
@@ -27,6 +27,7 @@ pub(crate) struct Device {
     pub(crate) taken: Option<Seq>,
     pub(crate) stored: KeptPacket,
     earlier: Option<Seq>,
+    older: Option<Seq>,
     owing: bool,
     pub(crate) settled: bool,
     pub(crate) suspected: u8,
@@ -37,7 +38,7 @@ impl Model for Device {
 
     ghost Value = { Known };
 
-    ghost view = { λ d. record { last = d.last; replied = d.replied; answered = d.answered; missed = d.missed; taken = d.taken; stored = d.stored; earlier = d.earlier; owing = d.owing; settled = d.settled; suspected = d.suspected } };
+    ghost view = { λ d. record { last = d.last; replied = d.replied; answered = d.answered; missed = d.missed; taken = d.taken; stored = d.stored; earlier = d.earlier; older = d.older; owing = d.owing; settled = d.settled; suspected = d.suspected } };
 }
 
 impl Device {
@@ -53,6 +54,7 @@ impl Device {
             taken: None,
             stored: KeptPacket::none(),
             earlier: None,
+            older: None,
             owing: false,
             settled: false,
             suspected: 0,
@@ -70,6 +72,7 @@ impl Device {
         self.taken = None;
         self.stored.forget();
         self.earlier = None;
+        self.older = None;
         self.owing = false;
         self.settled = false;
         self.suspected = 0;
@@ -119,6 +122,7 @@ impl Device {
         self.answered = false;
         self.missed = false;
         self.earlier = None;
+        self.older = None;
         self.settled = true;
         self.suspected = self.suspected.saturating_sub(1);
         true
@@ -154,15 +158,29 @@ impl Device {
         self.send_another(keeps, earlier, packet);
     }
 
+    /// The number of the packet before a row of packets with number 0, where a reply to it may still come.
+    fn before_row(&self) -> Option<Seq>
+        ensures { result ≡ before_row self.now }
+    {
+        if is_zero(self.earlier) {
+            self.older
+        } else {
+            self.earlier
+        }
+    }
+
     /// Another packet than the last was sent to it, which has this number where a reply to it may still come.
     fn send_another(&mut self, keeps: bool, earlier: Option<Seq>, packet: &FrameView<'_>)
         ensures { self.new ≡ after_another keeps earlier self.old packet.now }
     {
         self.suspected = self.still_suspected(packet);
         self.last.keep(packet);
+        let before = self.before_row();
         self.earlier = earlier;
+        let is_in_row = is_zero(self.earlier) && packet.seq().get() == 0;
+        self.older = if is_in_row { before } else { None };
+        self.settled = !is_in_row || self.settled;
         self.owing = is_number(self.earlier, packet.seq());
-        self.settled = true;
         self.missed = !self.replied;
         self.replied = false;
         self.answered = false;
@@ -179,13 +197,19 @@ impl Device {
         number.get() != 0 && is_number(self.taken, number) && self.stored.number().is_some()
     }
 
-    /// Whether a reply has the number of the packet before the last one, to which one may still come.
+    /// Whether a packet before the last one, to which a reply may still come, has this number, or may have it.
+    fn is_owed_number(&self, number: Seq) -> bool
+        ensures { result ≡ is_owed_number self.now number }
+    {
+        !self.settled || is_number(self.earlier, number) || is_number(self.older, number)
+    }
+
+    /// Whether a reply has the number of a packet before the last one, to which one may still come.
     pub(crate) fn has_earlier_number(&self, reply: &ReadReply<'_, '_>) -> bool
         ensures { result ≡ has_earlier_number self.now reply.now }
     {
         let number = reply.packet.seq();
-        tells_number(said_in(reply.read), number.get())
-            && (!self.settled || is_number(self.earlier, number))
+        tells_number(said_in(reply.read), number.get()) && self.is_owed_number(number)
     }
 
     /// Whether it comes late: the last packet has another number.
@@ -212,7 +236,7 @@ impl Device {
     }
 
     /// Whether nobody can tell what it answers: a BUSY with number 0, where a reply may still come to another packet or to another copy.
-    fn is_stray(&self, reply: &ReadReply<'_, '_>) -> bool
+    pub(crate) fn is_stray(&self, reply: &ReadReply<'_, '_>) -> bool
         ensures { result ≡ is_stray self.now reply.now }
     {
         has_no_number(said_in(reply.read), reply.packet.seq().get()) && self.is_owed()
@@ -286,6 +310,7 @@ impl Device {
         self.taken = Some(reply.seq());
         self.stored.keep(reply);
         self.earlier = None;
+        self.older = None;
         true
     }
 
@@ -312,6 +337,7 @@ impl Device {
         self.answered = true;
         if number.get() != 0 {
             self.earlier = None;
+            self.older = None;
         }
         if is_repeat {
             return;

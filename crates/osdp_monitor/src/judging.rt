@@ -5,7 +5,7 @@ ghost use Rattle.osdp_monitor.specs.Line.{expected_if, found_in_reply, found_in_
 ghost use Rattle.osdp_monitor.specs.Panel.{is_first_doubt};
 ghost use Rattle.osdp_frame.specs.Packet.{Packet};
 ghost use Rattle.osdp_monitor.specs.Private.{IsSpelledIf};
-ghost use Rattle.osdp_monitor.specs.Reader.{is_doubtful, is_of_either, is_one_more, reader_accused};
+ghost use Rattle.osdp_monitor.specs.Reader.{is_busy_of_either, is_doubtful, is_of_either, is_one_more, reader_accused};
 ghost use Rattle.osdp_monitor.specs.Saying.{said};
 
 use crate::accusation::Accusation;
@@ -53,11 +53,21 @@ impl Device {
         self.has_earlier_number(reply) && last.seq().get() == 0
     }
 
+    /// Whether it is a BUSY with number 0 that may answer another packet, since the last one is no known repeat.
+    fn is_busy_of_either(&self, last: &FrameView<'_>, reply: &ReadReply<'_, '_>) -> bool
+        ensures { result ≡ is_busy_of_either self.now last.now reply.now }
+    {
+        self.is_stray(reply) && !self.is_repeat(last.seq())
+    }
+
     /// Whether it is not judged.
     fn is_doubtful(&self, last: &FrameView<'_>, reply: &ReadReply<'_, '_>) -> bool
         ensures { result ≡ is_doubtful self.now last.now reply.now }
     {
-        self.is_late(last, reply) || self.is_of_either(last, reply) || self.is_unheard(last, reply)
+        self.is_late(last, reply)
+            || self.is_of_either(last, reply)
+            || self.is_unheard(last, reply)
+            || self.is_busy_of_either(last, reply)
     }
 
     /// Whether it is held to the rules.

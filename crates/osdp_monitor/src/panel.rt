@@ -60,6 +60,16 @@ pub(crate) fn is_number(known: Option<Seq>, number: Seq) -> bool
     }
 }
 
+/// Whether the number is known, and it is 0.
+pub(crate) fn is_zero(known: Option<Seq>) -> bool
+    ensures { result ≡ is_number known 0 }
+{
+    match known {
+        None => false,
+        Some(taken) => taken.get() == 0,
+    }
+}
+
 /// Whether the number is known, and this is the next.
 pub(crate) fn is_after(known: Option<Seq>, number: Seq) -> bool
     ensures { is_next known number ≡ result }

@@ -1,6 +1,6 @@
 -- A reader that answers late, and its listener: what holds of them, whatever is sent.
-use Rattle.std.proofs.Common.{◌≡◌, inl, inr, ℕ, Bool, true, false, List, [], ◌∷◌, ◌++◌, Option, Some, None, refl, sym, subst, ap, ◌∙◌, append_assoc}
-use Rattle.std.proofs.lemmas.Bool.{false≢true}
+use Rattle.std.proofs.Common.{◌≡◌, ◌⊎◌, inl, inr, ℕ, Bool, true, false, eqb, List, [], ◌++◌, Option, Some, None, refl, sym, subst, ap, ◌∙◌, append_assoc}
+use Rattle.std.proofs.lemmas.Bool.{cases_Bool, eqb-false, eqb-true, false≢true}
 use Rattle.osdp_frame.specs.Packet.{Packet}
 use Rattle.osdp_monitor.specs.Known.{Known, nothing_known}
 use Rattle.osdp_monitor.specs.Line.{Knowledge, after_packet, found_in, no_knowledge}
@@ -14,7 +14,7 @@ use Rattle.osdp_monitor_laws.proofs.Numbers.{next_differs}
 use Rattle.osdp_monitor_laws.proofs.ReaderLines.{zero_after}
 use Rattle.osdp_monitor_laws.specs.AnyReader.{AnyReader, Way}
 use Rattle.osdp_monitor_laws.specs.LateReader.{Hears, IsNext, LateLine, MaySend, Owed, known_if, owed_of}
-use Rattle.osdp_monitor_laws.proofs.LateKnown.{AreTo, Chain, HoldsAt, Steps, again_holds, chain_heard, nothing_holds, sent_holds, to_more}
+use Rattle.osdp_monitor_laws.proofs.LateKnown.{AreApart, AreInOrder, AreNumbered, AreTo, Came, Chain, HoldsAt, Steps, again_holds, apart_numbered, apart_zero, chain_heard, nothing_holds, numbered_more, numbered_to, order_more, order_numbered, sent_holds, to_more}
 
 -- ---- the line
 
@@ -24,35 +24,37 @@ pub record Holds (a : ℕ) (l : LateLine) : Type 0 where
   pub from : AnyReader
   pub there : from.address ≡ a
   pub stores : Stores from
-  pub before : Packet
   pub chain : Chain from (l.older ++ l.owed) l.reader
-  pub older_to : AreTo l.older before
   pub owed_to : (x : Packet) → l.last ≡ Some x → AreTo l.owed x
   pub none_owed : l.last ≡ None → l.owed ≡ []
-  pub apart : (w : Owed) (ws : List Owed) → l.older ≡ w ∷ ws → (x : Packet) → l.last ≡ Some x → before.sequence ≡ x.sequence → x.sequence ≡ 0
-  pub at : HoldsAt a (l.known.devices a) from l.last l.answered before l.older l.owed
+  pub none_older : l.last ≡ None → l.older ≡ []
+  pub order : AreInOrder l.older
+  pub zeros : l.answered ≡ true → (x : Packet) → l.last ≡ Some x → x.sequence ≡ 0 → AreNumbered 0 l.older
+  pub apart : (x : Packet) → l.last ≡ Some x → AreApart l.older x
+  pub at : HoldsAt a (l.known.devices a) from l.last l.answered l.older l.owed
 
 -- what stands on its way, with something else known
 pub known_holds : (a : ℕ) (l : LateLine) (known : Knowledge) → (holds : Holds a l) → ((b : ℕ) → TakesZero (known.devices b))
-    → HoldsAt a (known.devices a) holds.from l.last l.answered holds.before l.older l.owed → Holds a (record l { known = known })
+    → HoldsAt a (known.devices a) holds.from l.last l.answered l.older l.owed → Holds a (record l { known = known })
 known_holds a l known holds zero at = record {
   zero = zero;
   place = holds.place;
   from = holds.from;
   there = holds.there;
   stores = holds.stores;
-  before = holds.before;
   chain = holds.chain;
-  older_to = holds.older_to;
   owed_to = holds.owed_to;
   none_owed = holds.none_owed;
+  none_older = holds.none_older;
+  order = holds.order;
+  zeros = holds.zeros;
   apart = holds.apart;
   at = at;
 }
 
 pub forgotten : (a : ℕ) (l : LateLine) → Holds a l → Holds a (record l { known = no_knowledge })
 forgotten a l holds =
-    known_holds a l no_knowledge holds (λ b. zero_untaken nothing_known refl) (nothing_holds a holds.from l.last l.answered holds.before l.older l.owed)
+    known_holds a l no_knowledge holds (λ b. zero_untaken nothing_known refl) (nothing_holds a holds.from l.last l.answered l.older l.owed)
 
 pub zero_if : (read : Bool) (p : Packet) (known : Knowledge) → ((b : ℕ) → TakesZero (known.devices b)) → (b : ℕ) → TakesZero ((known_if read p known).devices b)
 zero_if true p known zero = zero_after known p zero
@@ -68,75 +70,102 @@ to_holds P a true p known command here nothing sent =
 
 -- ---- the panel sends
 
-abbrev before_of : Option Packet → Packet → Packet
-before_of None p = p
-before_of (Some x) p = x
-
 module _ (a : ℕ) (l : LateLine) (p : Packet) (read : Bool) (way : Way) (o : Option Packet) (s : AnyReader) (holds : Holds a l) where
-  abbrev before_is : Packet
-  before_is = before_of l.last p
+  abbrev older : List Owed
+  older = l.older ++ l.owed
 
-  owed_all : (x : Option Packet) → l.last ≡ x → AreTo l.owed (before_of x p)
-  owed_all None none = subst (λ ws. AreTo ws p) (sym (holds.none_owed none)) tt
-  owed_all (Some x) is = holds.owed_to x is
+  -- what is owed then, where the packet before is known, and what was owed to packets before it has its number
+  numbered : (x : Packet) → l.last ≡ Some x → AreNumbered x.sequence l.older → AreNumbered x.sequence older
+  numbered x is are = numbered_more x.sequence l.older l.owed are (numbered_to l.owed x (holds.owed_to x is))
 
-  first_is : (w : Owed) (ws : List Owed) → l.owed ≡ w ∷ ws → before_is ≡ w.packet
-  first_is w ws has = sym (subst (λ vs. AreTo vs before_is) has (owed_all l.last refl)).0
+  next_differs_from : (x : Packet) → l.last ≡ Some x → IsNext l p → x.sequence ≡ p.sequence → p.sequence ≡ 0
+  next_differs_from x is (inl zero) same = zero
+  next_differs_from x is (inr (answered, y, last, next)) same =
+      let mine : y ≡ x = same_some y x (sym last ∙ is) in
+      absurd (next_differs y.sequence (sym next ∙ sym same ∙ ap (λ (z : Packet). z.sequence) (sym mine)))
 
-  apart_then : IsNext l p → (w : Owed) (ws : List Owed) → l.owed ≡ w ∷ ws → before_is.sequence ≡ p.sequence → p.sequence ≡ 0
-  apart_then (inl zero) w ws has same = zero
-  apart_then (inr (answered, x, last, next)) w ws has same =
-      let mine : before_is ≡ x = ap (λ o. before_of o p) last in
-      absurd (next_differs x.sequence (sym next ∙ sym same ∙ ap (λ (y : Packet). y.sequence) mine))
+  order_by : (x : Packet) → l.last ≡ Some x → Came x p l.older → AreInOrder older
+  order_by x is (inl row) =
+      order_more l.older l.owed holds.order (subst (λ n. AreNumbered n l.owed) row.0 (numbered_to l.owed x (holds.owed_to x is)))
+  order_by x is (inr are) = order_numbered x.sequence older (numbered x is are)
+
+  apart_by : (x : Packet) → l.last ≡ Some x → IsNext l p → Came x p l.older → AreApart older p
+  apart_by x is next (inl row) = apart_zero older p row.1
+  apart_by x is next (inr are) = apart_numbered x.sequence older p (numbered x is are) (next_differs_from x is next)
+
+  -- where none was sent nothing is owed
+  none_then : l.last ≡ None → older ≡ []
+  none_then none = ap (λ ws. ws ++ l.owed) (holds.none_older none) ∙ holds.none_owed none
+
+  came_at : (x : Packet) → l.last ≡ Some x → MaySend p way o s l → Came x p l.older
+  came_at x is may = by_zero (cases_Bool (eqb x.sequence 0)) may.next
+    where
+      by_zero : (eqb x.sequence 0 ≡ true) ⊎ (eqb x.sequence 0 ≡ false) → IsNext l p → Came x p l.older
+      by_zero (inr some) next = inr (subst (λ ws. AreNumbered x.sequence ws) (sym (may.came x is (eqb-false x.sequence 0 some))) tt)
+      by_zero (inl zero) (inl begins) = inl (eqb-true x.sequence 0 zero, begins)
+      by_zero (inl zero) (inr next) =
+          let none = eqb-true x.sequence 0 zero in
+          inr (subst (λ n. AreNumbered n l.older) (sym none) (holds.zeros next.0 x is none))
+
+  both : (x : Option Packet) → l.last ≡ x → MaySend p way o s l → AreInOrder older × AreApart older p
+  both None is may =
+      let none = none_then is in
+      (subst AreInOrder (sym none) tt, subst (λ ws. AreApart ws p) (sym none) tt)
+  both (Some x) is may =
+      let came = came_at x is may in
+      (order_by x is came, apart_by x is may.next came)
+
+  answered_next : IsNext l p → (p.sequence ≡ 0) ⊎ (l.answered ≡ true)
+  answered_next (inl zero) = inl zero
+  answered_next (inr next) = inr next.0
 
   pub sends : MaySend p way o s l
-      → Holds a (record { reader = s; last = Some p; answered = false; older = l.owed; owed = owed_of p o; known = known_if read p l.known })
+      → Holds a (record { reader = s; last = Some p; answered = false; older = l.older ++ l.owed; owed = owed_of p o; known = known_if read p l.known })
   sends may =
       let hears = may.hears in
-      let chain : Chain holds.from l.owed l.reader = subst (λ ws. Chain holds.from (ws ++ l.owed) l.reader) may.came holds.chain in
-      let at : HoldsAt a (l.known.devices a) holds.from l.last l.answered holds.before [] l.owed =
-      subst (λ ws. HoldsAt a (l.known.devices a) holds.from l.last l.answered holds.before ws l.owed) may.came holds.at in
+      let is = both l.last refl may in
       record {
         zero = zero_if read p l.known holds.zero;
         place = hears.stays ∙ holds.place;
         from = holds.from;
         there = holds.there;
         stores = holds.stores;
-        before = before_is;
-        chain = chain_heard l.owed holds.from l.reader s p o way hears.goes hears.stays chain;
-        older_to = owed_all l.last refl;
-        owed_to = λ x is. subst (λ y. AreTo (owed_of p o) y) (same_some p x is) (to_more [] p o tt);
+        chain = chain_heard older holds.from l.reader s p o way hears.goes hears.stays holds.chain;
+        owed_to = λ x last. subst (λ y. AreTo (owed_of p o) y) (same_some p x last) (to_more [] p o tt);
         none_owed = λ none. absurd (none_some p (sym none));
-        apart = λ w ws has x is same.
-            let mine : p ≡ x = same_some p x is in
-            ap (λ (y : Packet). y.sequence) (sym mine) ∙ apart_then may.next w ws has (same ∙ ap (λ (y : Packet). y.sequence) (sym mine));
-        at = to_holds (λ k. HoldsAt a k holds.from (Some p) false before_is l.owed (owed_of p o)) a read p l.known hears.to.0 (hears.to.1 ∙ holds.place)
-            (nothing_holds a holds.from (Some p) false before_is l.owed (owed_of p o))
-            (sent_holds (l.known.devices a) p l.last l.answered holds.before l.owed holds.from may.next may.another holds.owed_to o a at before_is first_is);
+        none_older = λ none. absurd (none_some p (sym none));
+        order = is.0;
+        zeros = λ now. absurd (false≢true now);
+        apart = λ x last. subst (λ y. AreApart older y) (same_some p x last) is.1;
+        at = to_holds (λ k. HoldsAt a k holds.from (Some p) false older (owed_of p o)) a read p l.known hears.to.0 (hears.to.1 ∙ holds.place)
+            (nothing_holds a holds.from (Some p) false older (owed_of p o))
+            (sent_holds a (l.known.devices a) p l.last l.answered l.older l.owed holds.from o may.another (answered_next may.next) holds.owed_to
+            (λ x last. came_at x last may) holds.at);
       }
 
   pub repeats : Hears p way o s l → l.last ≡ Some p → Holds a (record l { reader = s; owed = l.owed ++ owed_of p o; known = known_if read p l.known })
   repeats hears last =
-      let at : HoldsAt a (l.known.devices a) holds.from (Some p) l.answered holds.before l.older l.owed =
-      subst (λ x. HoldsAt a (l.known.devices a) holds.from x l.answered holds.before l.older l.owed) last holds.at in
+      let at : HoldsAt a (l.known.devices a) holds.from (Some p) l.answered l.older l.owed =
+      subst (λ x. HoldsAt a (l.known.devices a) holds.from x l.answered l.older l.owed) last holds.at in
       record {
         zero = zero_if read p l.known holds.zero;
         place = hears.stays ∙ holds.place;
         from = holds.from;
         there = holds.there;
         stores = holds.stores;
-        before = holds.before;
         chain = subst (λ ws. Chain holds.from ws s) (append_assoc l.older l.owed (owed_of p o))
             (chain_heard (l.older ++ l.owed) holds.from l.reader s p o way hears.goes hears.stays holds.chain);
-        older_to = holds.older_to;
         owed_to = λ x is. let mine : p ≡ x = same_some p x (sym last ∙ is) in
             subst (λ y. AreTo (l.owed ++ owed_of p o) y) mine (to_more l.owed p o (holds.owed_to p last));
         none_owed = λ none. absurd (none_some p (sym none ∙ last));
+        none_older = holds.none_older;
+        order = holds.order;
+        zeros = holds.zeros;
         apart = holds.apart;
-        at = subst (λ x. HoldsAt a ((known_if read p l.known).devices a) holds.from x l.answered holds.before l.older (l.owed ++ owed_of p o)) (sym last)
-            (to_holds (λ k. HoldsAt a k holds.from (Some p) l.answered holds.before l.older (l.owed ++ owed_of p o)) a read p l.known hears.to.0 (hears.to.1 ∙ holds.place)
-            (nothing_holds a holds.from (Some p) l.answered holds.before l.older (l.owed ++ owed_of p o))
-            (again_holds (l.known.devices a) p l.answered holds.before l.older l.owed holds.from o a at));
+        at = subst (λ x. HoldsAt a ((known_if read p l.known).devices a) holds.from x l.answered l.older (l.owed ++ owed_of p o)) (sym last)
+            (to_holds (λ k. HoldsAt a k holds.from (Some p) l.answered l.older (l.owed ++ owed_of p o)) a read p l.known hears.to.0 (hears.to.1 ∙ holds.place)
+            (nothing_holds a holds.from (Some p) l.answered l.older (l.owed ++ owed_of p o))
+            (again_holds (l.known.devices a) p l.answered l.older l.owed holds.from o a at));
       }
 
 -- ---- an answer comes

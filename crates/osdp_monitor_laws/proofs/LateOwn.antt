@@ -72,9 +72,9 @@ own_number FindsDamage r s p q stores goes says = absurd (no_damage (sym goes.1 
 own_number Refuses r s p q stores goes says = goes.3
 own_number IsSilent r s p q stores goes says = absurd goes
 
-module _ (a : ℕ) (k : Known) (from next : AnyReader) (last : Option Packet) (answered : Bool) (before : Packet) (w : Owed) (ws : List Owed)
+module _ (a : ℕ) (k : Known) (from next : AnyReader) (last : Option Packet) (answered : Bool) (w : Owed) (ws : List Owed)
     (steps : Steps from w next) (stores : Stores steps.start) (takes : TakesZero k)
-    (old : HoldsAt a k from last answered before [] (w ∷ ws)) (to : (x : Packet) → last ≡ Some x → AreTo (w ∷ ws) x) where
+    (old : HoldsAt a k from last answered [] (w ∷ ws)) (to : (x : Packet) → last ≡ Some x → AreTo (w ∷ ws) x) where
   abbrev r : Packet
   r = w.reply
 
@@ -82,7 +82,7 @@ module _ (a : ℕ) (k : Known) (from next : AnyReader) (last : Option Packet) (a
   follows_start = elim steps.begins [ inl same ↦ follows_same k from steps.start same old.follows | inr none ↦ follows_new k steps.start none ]
 
   module _ (l : Packet) (is : k.last ≡ Some l) where
-    so : KnownSo k l last answered before [] (w ∷ ws)
+    so : KnownSo k l last answered [] (w ∷ ws)
     so = old.knows l is
 
     mine : w.packet ≡ l
@@ -147,23 +147,20 @@ module _ (a : ℕ) (k : Known) (from next : AnyReader) (last : Option Packet) (a
     same_last : (x : Packet) → (after_reply k l r).last ≡ Some x → l ≡ x
     same_last x then = same_some l x (sym is ∙ sym (by_reply (λ j. j.last ≡ k.last) k l r refl (λ t. last_by t k l r) x then) ∙ then)
 
-    pub own_holds : HoldsAt a (after_reply k l r) next last (answered || answers last r) before [] ws
+    pub own_holds : HoldsAt a (after_reply k l r) next last (answered || answers last r) [] ws
     own_holds = record {
       follows = own_after;
-      knows = λ x then. subst (λ y. KnownSo (after_reply k l r) y last (answered || answers last r) before [] ws) (same_last x then) (record {
+      knows = λ x then. subst (λ y. KnownSo (after_reply k l r) y last (answered || answers last r) [] ws) (same_last x then) (record {
         last_is = so.last_is;
         taken = taken_then (said r) refl;
         waits = reply_waits w ws k (after_reply k l r) (by_reply (λ j. j.owing ≡ k.owing) k l r refl (λ t. owing_by t k l r) x then) so.waits;
-        left = λ v vs has. absurd (no_nil v vs has);
+        left = tt;
       });
       bare = λ none. by_fate (λ j. j.last ≡ None → j.taken ≡ None) k l r (λ _ here. absurd (none_some l (sym here ∙ is))) (λ _ _. refl)
           (λ here. absurd (none_some l (sym here ∙ last_by (said r) k l r ∙ is))) none;
     }
-      where
-        no_nil : (v : Owed) (vs : List Owed) → [] ≡ v ∷ vs → ⊥
-        no_nil v vs e = cc
 
-  pub own_unknown : k.last ≡ None → HoldsAt a k next last (answered || answers last r) before [] ws
+  pub own_unknown : k.last ≡ None → HoldsAt a k next last (answered || answers last r) [] ws
   own_unknown none = record {
     follows = follows_untaken k next (old.bare none);
     knows = λ l is. absurd (none_some l (sym none ∙ is));

@@ -1,6 +1,6 @@
 -- A reader that answers late, by the rules: what its listener knows follows it, one answer after the other.
 use Rattle.std.proofs.Common.{◌≡◌, ◌⊎◌, inl, inr, ℕ, Bool, true, false, cond, eqb, ◌&&◌, ◌||◌, not, Option, Some, None, refl, sym, subst, ap, ◌∙◌}
-use Rattle.std.proofs.lemmas.Bool.{and_from, and_left, and_right, cases_Bool, cond-false, cond-true, cond_both, eq-eqb, false≢true, not_from_true, or_left, or_right}
+use Rattle.std.proofs.lemmas.Bool.{and_from, and_left, and_right, cases_Bool, cond-false, cond-true, cond_both, eq-eqb, false≢true, not_from_true, or_left}
 use Rattle.std.specs.Prelude.{is_some}
 use Rattle.osdp_frame.specs.Packet.{Packet, next_sequence}
 use Rattle.osdp_monitor.specs.declared.accusation.Accusation.TheVariants.{SecondReply}
@@ -8,11 +8,11 @@ use Rattle.osdp_monitor.specs.declared.said.Said.{Said}
 use Rattle.osdp_monitor.specs.declared.said.Said.TheVariants.{Busy, Damage, Refusal, Answer}
 use Rattle.osdp_monitor.specs.Known.{Known, is_number, nothing_known, same_packet}
 use Rattle.osdp_monitor.specs.Panel.{after_another, after_copy, after_sent, keeps_number, left_waiting}
-use Rattle.osdp_monitor.specs.Reader.{after_answer, after_reply, after_reply_of, answer_accused, has_earlier_number, is_doubtful, is_late, is_of_either, is_one_more, is_owed, is_stray, is_unheard, reader_accused, repeat_reply, reply_accused}
+use Rattle.osdp_monitor.specs.Reader.{after_answer, after_reply, after_reply_of, answer_accused, has_earlier_number, is_doubtful, is_late, is_one_more, is_owed, is_stray, reader_accused, repeat_reply, reply_accused}
 use Rattle.osdp_monitor.specs.Saying.{is_answer, is_damage, said}
 use Rattle.osdp_monitor_laws.proofs.Agreeing.{Agrees, IsAsked, Level, TakesZero, none_some, same_some}
 use Rattle.osdp_monitor_laws.proofs.AnyReaders.{Stores, goes_comes}
-use Rattle.osdp_monitor_laws.proofs.Late.{by_fate, by_number, own_counts}
+use Rattle.osdp_monitor_laws.proofs.Late.{by_fate, by_number, either_doubtful, own_counts}
 use Rattle.osdp_monitor_laws.proofs.Numbers.{next_differs}
 use Rattle.osdp_monitor_laws.proofs.Replying.{taking_agrees}
 use Rattle.osdp_monitor_laws.specs.AnyReader.{AnyReader, Goes, Way, Acts, Repeats, IsBusy, FindsDamage, Refuses, IsSilent}
@@ -227,5 +227,4 @@ late_stays k l q late = cond-true (is_late k l q || is_stray k q) k _ (or_left (
 pub either_accused : (k : Known) (l q : Packet) → has_earlier_number k q ≡ true → l.sequence ≡ 0 → reader_accused k l q ≡ None
 either_accused k l q earlier zero =
     cond-true (is_doubtful k l q) None (cond (is_one_more k q && not (is_owed k)) (Some SecondReply) (reply_accused (said q) k l q))
-    (or_left (is_late k l q || is_of_either k l q) (is_unheard k l q) (or_right (is_late k l q) (is_of_either k l q)
-    (and_from (has_earlier_number k q) (eqb l.sequence 0) earlier (eq-eqb l.sequence 0 zero))))
+    (either_doubtful k l q (and_from (has_earlier_number k q) (eqb l.sequence 0) earlier (eq-eqb l.sequence 0 zero)))

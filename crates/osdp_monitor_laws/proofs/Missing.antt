@@ -12,10 +12,10 @@ use Rattle.osdp_monitor.specs.declared.said.Said.TheVariants.{Busy, Damage, Refu
 use Rattle.osdp_monitor.specs.Known.{Known, is_number, same_check, same_packet}
 use Rattle.osdp_monitor.specs.Line.{Knowledge, after_items, after_packet, found_in, found_in_reply, found_in_sent, nothing_found, notice_if, notice_in_sent}
 use Rattle.osdp_monitor.specs.Panel.{after_another, after_copy, after_sent, is_doubt, is_first_doubt, is_missed, keeps_number, left_waiting, panel_accused, sent_after}
-use Rattle.osdp_monitor.specs.Reader.{after_answer, after_reply_of, answer_accused, has_earlier_number, is_doubtful, is_late, is_of_either, is_one_more, is_owed, is_unheard, reader_accused, repeat_reply, reply_accused, tells_number}
+use Rattle.osdp_monitor.specs.Reader.{after_answer, after_reply_of, answer_accused, has_earlier_number, is_doubtful, is_late, is_one_more, is_owed, is_owed_number, is_stray, is_unheard, reader_accused, repeat_reply, reply_accused, tells_number}
 use Rattle.osdp_monitor.specs.Saying.{is_answer, is_foreign, said}
 use Rattle.osdp_monitor_laws.proofs.Agreeing.{none_some, same_some, sent_asked}
-use Rattle.osdp_monitor_laws.proofs.Late.{by_fate, by_number, own_counts, own_heard, own_in_time}
+use Rattle.osdp_monitor_laws.proofs.Late.{by_fate, by_number, certain, own_counts, own_heard, own_in_time}
 use Rattle.osdp_monitor_laws.proofs.Numbers.{next_above_zero, next_differs}
 use Rattle.osdp_monitor_laws.proofs.PanelLines.{last_by}
 use Rattle.osdp_monitor_laws.proofs.Remembering.{after_append, after_one, at_remembered, forgotten_append, items_keep}
@@ -350,15 +350,14 @@ abbrev IsAccused : Option Accusation → Type 0
 IsAccused o = (accusation : Accusation) × (o ≡ Some accusation)
 
 -- it is judged
-pub none_doubtful : (k : Known) (q s : Packet) (n : ℕ) → n ≢ 0 → q.sequence ≡ n → SaysOther n s → is_doubtful k q s ≡ false
-none_doubtful k q s n above number says =
-    or_from (is_late k q s || is_of_either k q s) (is_unheard k q s)
-    (or_from (is_late k q s) (is_of_either k q s) (in_time says) (and_right (has_earlier_number k s) (eqb q.sequence 0) (ne_eqb q.sequence 0 (λ zero. above (sym number ∙ zero)))))
-    (heard says)
+pub none_doubtful : (k : Known) (q r s : Packet) (n : ℕ) → n ≢ 0 → q.sequence ≡ n → repeat_reply k q ≡ Some r → SaysOther n s → is_doubtful k q s ≡ false
+none_doubtful k q r s n above number stored says =
+    certain k q s (in_time says) (and_right (has_earlier_number k s) (eqb q.sequence 0) (ne_eqb q.sequence 0 (λ zero. above (sym number ∙ zero)))) (heard says)
+    (and_right (is_stray k s) (not (is_some (repeat_reply k q))) (not_from_true (is_some (repeat_reply k q)) (ap is_some stored)))
   where
     tells_none : said s ≡ Busy → s.sequence ≡ 0 → has_earlier_number k s ≡ false
     tells_none busy zero =
-        and_left (tells_number (said s) s.sequence) (not k.settled || is_number k.earlier s.sequence)
+        and_left (tells_number (said s) s.sequence) (is_owed_number k s.sequence)
         (ap (λ t. tells_number t s.sequence) busy ∙ not_from_true (eqb s.sequence 0) (eq-eqb s.sequence 0 zero))
 
     in_time : SaysOther n s → is_late k q s ≡ false
@@ -379,7 +378,7 @@ other_accused : (n : ℕ) (r : Packet) (k : Known) (q s : Packet) → n ≢ 0 �
 other_accused n r k q s above last number known says other =
     let stored : repeat_reply k q ≡ Some r = old_repeat k q n above number known.1.0 ∙ known.1.1 in
     subst IsAccused (sym (cond-false (is_doubtful k q s) None (cond (is_one_more k s && not (is_owed k)) (Some SecondReply) (reply_accused (said s) k q s))
-    (none_doubtful k q s n above number says)))
+    (none_doubtful k q r s n above number stored says)))
     (cond_both (is_one_more k s && not (is_owed k)) (Some SecondReply) (reply_accused (said s) k q s) IsAccused (λ _. (SecondReply, refl))
     (λ _. elim says [
       | inl answer ↦ (

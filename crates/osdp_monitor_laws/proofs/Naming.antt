@@ -17,11 +17,11 @@ use Rattle.osdp_monitor.specs.declared.said.Said.{Said}
 use Rattle.osdp_monitor.specs.declared.said.Said.TheVariants.{Busy, Damage, Refusal, Answer}
 use Rattle.osdp_monitor.specs.Known.{Known, is_number, same_check, same_packet}
 use Rattle.osdp_monitor.specs.Line.{Knowledge, after_items, after_packet, found_in}
-use Rattle.osdp_monitor.specs.Panel.{after_another, after_copy, after_sent, is_waiting, keeps_number, left_waiting, panel_accused, sent_after}
-use Rattle.osdp_monitor.specs.Reader.{after_answer, after_reply, after_reply_of, answer_accused, fit_accused, has_earlier_number, has_no_number, is_doubtful, is_event_at_zero, is_late, is_of_either, is_one_more, is_owed, is_plain, is_stray, is_unheard, reader_accused, reading_accused, repeat_reply, reply_accused, taken_accused, tells_number, turn_accused}
+use Rattle.osdp_monitor.specs.Panel.{after_another, after_copy, after_sent, before_row, is_in_row, is_waiting, keeps_number, left_waiting, panel_accused, sent_after}
+use Rattle.osdp_monitor.specs.Reader.{after_answer, after_reply, after_reply_of, answer_accused, fit_accused, has_earlier_number, has_no_number, is_doubtful, is_event_at_zero, is_late, is_one_more, is_owed, is_plain, is_stray, is_unheard, reader_accused, reading_accused, repeat_reply, reply_accused, taken_accused, turn_accused}
 use Rattle.osdp_monitor.specs.Saying.{asked, is_answer, is_damage, reply_told, said}
 use Rattle.osdp_monitor_laws.proofs.Agreeing.{none_some, same_some, sent_asked}
-use Rattle.osdp_monitor_laws.proofs.Late.{by_number, own_counts}
+use Rattle.osdp_monitor_laws.proofs.Late.{by_number, certain, none_owed, own_counts}
 use Rattle.osdp_monitor_laws.proofs.Missing.{IsLast, by_rules, device_of, first_last, last_step, no_doubt, sent_found}
 use Rattle.osdp_monitor_laws.proofs.Remembering.{after_append, after_one, at_remembered, forgotten_append, items_keep}
 use Rattle.osdp_monitor_laws.proofs.Same.{packet_is}
@@ -139,6 +139,7 @@ pub record IsFresh (n : ℕ) (q : Packet) (k : Known) : Type 0 where
   pub answered : k.answered ≡ false
   pub taken : (k.taken ≡ Some n) ⊎ ((q.sequence ≡ 0) × (k.taken ≡ None))
   pub earlier : k.earlier ≡ None
+  pub older : k.older ≡ None
   pub owing : k.owing ≡ false
   pub settled : k.settled ≡ true
   pub missed : k.missed ≡ false
@@ -172,8 +173,9 @@ fresh_sent k p q (Some old) last other done asks silent =
       answered = refl;
       taken = fresh_taken old k q p.sequence done.replied done.taken;
       earlier = left;
+      older = ap (λ o. cond (is_in_row o q) (before_row k) None) left;
       owing = ap (λ o. is_number o q.sequence) left;
-      settled = refl;
+      settled = ap (λ o. not (is_in_row o q) || k.settled) left;
       missed = not_from_true k.replied done.replied;
     })
 
@@ -248,9 +250,7 @@ module _ (line : Knowledge) (a : ℕ) (e : Exchange) (is : Happens a line e) whe
 
 module _ (n : ℕ) (q : Packet) (k : Known) (known : IsFresh n q k) (r : Packet) where
   pub none_earlier : has_earlier_number k r ≡ false
-  none_earlier =
-      and_right (tells_number (said r) r.sequence) (not k.settled || is_number k.earlier r.sequence)
-      (or_from (not k.settled) (is_number k.earlier r.sequence) (not_from_true k.settled known.settled) (ap (λ o. is_number o r.sequence) known.earlier))
+  none_earlier = none_owed k r known.settled known.earlier known.older
 
   pub in_time : is_late k q r ≡ false
   in_time = and_left (has_earlier_number k r) (not (eqb r.sequence q.sequence)) none_earlier
@@ -264,8 +264,8 @@ module _ (n : ℕ) (q : Packet) (k : Known) (known : IsFresh n q k) (r : Packet)
 
   pub in_no_doubt : is_doubtful k q r ≡ false
   in_no_doubt =
-      or_from (is_late k q r || is_of_either k q r) (is_unheard k q r)
-      (or_from (is_late k q r) (is_of_either k q r) in_time (and_left (has_earlier_number k r) (eqb q.sequence 0) none_earlier)) heard
+      certain k q r in_time (and_left (has_earlier_number k r) (eqb q.sequence 0) none_earlier) heard
+      (and_left (is_stray k r) (not (is_some (repeat_reply k q))) not_stray)
 
   pub judged_is : reader_accused k q r ≡ reply_accused (said r) k q r
   judged_is =

@@ -1,6 +1,6 @@
 -- Each notice by its name.
-use Rattle.std.proofs.Common.{◌≡◌, ◌≢◌, ℕ, Bool, true, false, cond, eqb, ◌&&◌, ◌||◌, not, [], ◌∷◌, ◌++◌, Option, Some, None, Result, Ok, refl, sym, subst, ap, ◌∙◌}
-use Rattle.std.proofs.lemmas.Bool.{and_from, and_left, and_parts, and_right, cond-false, cond-true, cond_both, eq-eqb, eqb-true, false≢true, ne_eqb, not-true, not_from_false, not_from_true, or_from, or_left, or_right}
+use Rattle.std.proofs.Common.{◌≡◌, ◌≢◌, ℕ, Bool, true, false, cond, eqb, ◌&&◌, not, [], ◌∷◌, ◌++◌, Option, Some, None, Result, Ok, refl, sym, subst, ap, ◌∙◌}
+use Rattle.std.proofs.lemmas.Bool.{and_from, and_left, and_parts, and_right, cond-false, cond-true, cond_both, eq-eqb, eqb-true, false≢true, ne_eqb, not-true, not_from_false, not_from_true, or_from, or_left}
 use Rattle.std.specs.Prelude.{is_some}
 use Rattle.osdp_frame.specs.Packet.{Packet, next_sequence}
 use Rattle.osdp_frame.specs.Reading.{PacketItem}
@@ -13,13 +13,14 @@ use Rattle.osdp_monitor.specs.declared.found.Notice.{Notice}
 use Rattle.osdp_monitor.specs.declared.found.Notice.TheVariants.{Opened, Late, Moved, Restarted, Unanswered, Unsure}
 use Rattle.osdp_monitor.specs.declared.said.Said.{Said}
 use Rattle.osdp_monitor.specs.declared.said.Said.TheVariants.{Busy, Damage, Refusal, Answer}
-use Rattle.osdp_monitor.specs.Known.{Known, is_number, same_packet}
+use Rattle.osdp_monitor.specs.Known.{Known, same_packet}
 use Rattle.osdp_monitor.specs.Line.{Knowledge, after_items, after_packet, found_in, late_notice, moves_to, notice_if, reply_notice}
 use Rattle.osdp_monitor.specs.Panel.{after_another, after_copy, after_sent, is_first_doubt, is_missed, keeps_number, left_waiting}
-use Rattle.osdp_monitor.specs.Reader.{has_earlier_number, is_doubtful, is_late, is_nak, is_of_either, is_one_more, is_opening, is_owed, is_unheard, reader_accused}
+use Rattle.osdp_monitor.specs.Reader.{has_earlier_number, is_doubtful, is_late, is_nak, is_one_more, is_opening, is_owed, is_unheard, reader_accused}
 use Rattle.osdp_monitor.specs.Saying.{is_answer, is_foreign, is_refusal, reply_told, said}
 use Rattle.osdp_monitor_laws.proofs.Accusing.{IsAnswered, now_answered}
 use Rattle.osdp_monitor_laws.proofs.Agreeing.{none_some, same_some, sent_asked}
+use Rattle.osdp_monitor_laws.proofs.Late.{none_owed, says_answer, unheard_doubtful}
 use Rattle.osdp_monitor_laws.proofs.Missing.{device_of, sent_told}
 use Rattle.osdp_monitor_laws.proofs.Naming.{IsFresh, heard, in_time, is_fresh, line7, quiet_items, whole}
 use Rattle.osdp_monitor_laws.proofs.Seconds.{nothing_more, replied}
@@ -46,12 +47,6 @@ says_refusal Busy is = absurd (false≢true is)
 says_refusal Damage is = absurd (false≢true is)
 says_refusal Refusal is = refl
 says_refusal Answer is = absurd (false≢true is)
-
-says_answer : (s : Said) → is_answer s ≡ true → s ≡ Answer
-says_answer Busy is = absurd (false≢true is)
-says_answer Damage is = absurd (false≢true is)
-says_answer Refusal is = absurd (false≢true is)
-says_answer Answer is = refl
 
 module _ (n : ℕ) (p : Packet) (k : Known) (known : IsFresh n p k) (r : Packet) where
   -- what is told of a reply that moves nothing, is in time, and whose packet was heard
@@ -215,7 +210,7 @@ tells_too_little line a p items r unknown to nothing quiet from plain says other
     let known : IsFirst p k = quiet_items a (IsFirst p) items line0 (first a line p to unknown nothing.0) nothing.1 quiet in
     let late : is_late k p r ≡ true =
     and_from (has_earlier_number k r) (not (eqb r.sequence p.sequence))
-    (and_from _ _ (tells r says) (or_left (not k.settled) _ (not_from_false k.settled known.1)))
+    (and_from _ _ (tells r says) (or_left _ _ (or_left (not k.settled) _ (not_from_false k.settled known.1))))
     (not_from_false (eqb r.sequence p.sequence) (ne_eqb r.sequence p.sequence other)) in
     subst (λ (l : Knowledge). ((found_in l r).accusation ≡ None) × ((found_in l r).notice ≡ Some Unsure)) (sym (after_one line (PacketItem p) items))
     (reply_found (λ (f : Found). (f.accusation ≡ None) × (f.notice ≡ Some Unsure)) now a p r from (device_of line a p to.1 nothing.0) plain known.0
@@ -223,7 +218,7 @@ tells_too_little line a p items r unknown to nothing quiet from plain says other
 
 unheard_accused : (k : Known) (p r : Packet) → is_unheard k p r ≡ true → reader_accused k p r ≡ None
 unheard_accused k p r unheard =
-    cond-true (is_doubtful k p r) None _ (or_right (is_late k p r || is_of_either k p r) (is_unheard k p r) unheard)
+    cond-true (is_doubtful k p r) None _ (unheard_doubtful k p r unheard)
 
 unheard_told : (k : Known) (p r : Packet) (o : Option ℕ) → o ≡ None → is_late k p r ≡ false → is_unheard k p r ≡ true → reply_notice o k p r ≡ Some Unsure
 unheard_told k p r (Some place) none prompt unheard = absurd cc
@@ -238,8 +233,7 @@ tells_unheard line a e r s is from answers own nothing second plain says number 
     let k = now.devices a in
     let known = replied a e.second.sequence e.last before r from (λ damage. absurd cc) fresh remembers in
     let taken : IsAnswered e.last k = now_answered a e.last before r fresh.last from.1 from.0 answers own remembers in
-    let none : has_earlier_number k s ≡ false =
-    and_right _ (not k.settled || _) (or_from (not k.settled) _ (not_from_true k.settled known.settled) (ap (λ o. is_number o s.sequence) known.earlier)) in
+    let none : has_earlier_number k s ≡ false = none_owed k s known.settled known.earlier known.older in
     let prompt : is_late k e.last s ≡ false = and_left (has_earlier_number k s) (not (eqb s.sequence e.last.sequence)) none in
     let unheard : is_unheard k e.last s ≡ true =
     and_from (is_answer (said s) && k.answered) (eqb s.sequence (next_sequence e.last.sequence))

@@ -36,15 +36,15 @@ again a n r line t above to number known is =
 
 module _ (e : Repeated) (k : Known) (above : e.first.sequence ≢ 0) (same : e.again.sequence ≡ e.first.sequence)
     (known : IsAgain e.again e.first.sequence e.reply k) (s : Packet) (says : SaysOther e.first.sequence s) where
+  stored : repeat_reply k e.again ≡ Some e.reply
+  stored = old_repeat k e.again e.first.sequence above same known.1.0 ∙ known.1.1
+
   judged : reader_accused k e.again s ≡ reply_accused (said s) k e.again s
   judged =
       cond-false (is_doubtful k e.again s) None (cond (is_one_more k s && not (is_owed k)) (Some SecondReply) (reply_accused (said s) k e.again s))
-      (none_doubtful k e.again s e.first.sequence above same says)
+      (none_doubtful k e.again e.reply s e.first.sequence above same stored says)
       ∙ cond-false (is_one_more k s && not (is_owed k)) (Some SecondReply) (reply_accused (said s) k e.again s)
       (and_left (is_one_more k s) (not (is_owed k)) (and_left k.replied (not (is_damage (said s))) known.2))
-
-  stored : repeat_reply k e.again ≡ Some e.reply
-  stored = old_repeat k e.again e.first.sequence above same known.1.0 ∙ known.1.1
 
   by_answer : said s ≡ Answer → reader_accused k e.again s ≡ cond (same_packet e.reply s) None (Some AnotherReply)
   by_answer answer = judged ∙ ap (λ t. reply_accused t k e.again s) answer ∙ ap (λ o. answer_accused o k e.again s) stored

@@ -31,7 +31,7 @@ module _ (k : Known) (p q : Packet) (asked : IsAsked k p) where
       (subst (λ t. Agrees (after_reply_of t k p q) last stored) (sym says) h)
 
 -- it is no known repeat
-no_repeat : (k : Known) (p : Packet) → (p.sequence ≡ 0) ⊎ (is_number k.taken p.sequence ≡ false) → repeat_reply k p ≡ None
+pub no_repeat : (k : Known) (p : Packet) → (p.sequence ≡ 0) ⊎ (is_number k.taken p.sequence ≡ false) → repeat_reply k p ≡ None
 no_repeat k p (inl zero) =
     cond-false (not (eqb p.sequence 0) && is_number k.taken p.sequence) k.stored None
     (and_left (not (eqb p.sequence 0)) (is_number k.taken p.sequence) (not_from_true (eqb p.sequence 0) (eq-eqb p.sequence 0 zero)))

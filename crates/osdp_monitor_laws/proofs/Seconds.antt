@@ -1,18 +1,18 @@
 -- A second reply to a packet: it is accused so.
-use Rattle.std.proofs.Common.{◌≡◌, ◌≢◌, ℕ, true, false, cond, eqb, ◌&&◌, ◌||◌, not, [], ◌∷◌, ◌++◌, Some, None, refl, sym, subst, ap, ◌∙◌}
-use Rattle.std.proofs.lemmas.Bool.{and_from, and_left, and_right, cond-false, cond-true, cond_both, false≢true, ne_eqb, not_from_false, not_from_true, or_from}
+use Rattle.std.proofs.Common.{◌≡◌, ◌≢◌, ℕ, true, false, cond, eqb, ◌&&◌, not, [], ◌∷◌, ◌++◌, Some, None, refl, sym, subst, ap, ◌∙◌}
+use Rattle.std.proofs.lemmas.Bool.{and_from, and_left, and_right, cond-false, cond-true, cond_both, false≢true, ne_eqb, not_from_false, or_from}
 use Rattle.std.specs.Prelude.{is_some}
 use Rattle.osdp_frame.specs.Packet.{Packet, next_sequence}
 use Rattle.osdp_frame.specs.Reading.{PacketItem}
 use Rattle.osdp_monitor.specs.declared.accusation.Accusation.TheVariants.{SecondReply}
 use Rattle.osdp_monitor.specs.declared.said.Said.{Said}
 use Rattle.osdp_monitor.specs.declared.said.Said.TheVariants.{Busy, Damage, Refusal, Answer}
-use Rattle.osdp_monitor.specs.Known.{Known, is_number}
+use Rattle.osdp_monitor.specs.Known.{Known}
 use Rattle.osdp_monitor.specs.Line.{Knowledge, after_items, after_packet, found_in}
-use Rattle.osdp_monitor.specs.Reader.{after_reply, after_reply_of, has_earlier_number, is_doubtful, is_late, is_of_either, is_one_more, is_owed, is_stray, is_unheard, reader_accused, repeat_reply, reply_accused, tells_number}
+use Rattle.osdp_monitor.specs.Reader.{after_reply, after_reply_of, has_earlier_number, has_no_number, is_doubtful, is_late, is_one_more, is_owed, is_stray, reader_accused, repeat_reply, reply_accused}
 use Rattle.osdp_monitor.specs.Saying.{is_answer, is_damage, said}
 use Rattle.osdp_monitor_laws.proofs.Agreeing.{none_some, same_some}
-use Rattle.osdp_monitor_laws.proofs.Late.{by_fate, by_number}
+use Rattle.osdp_monitor_laws.proofs.Late.{by_fate, by_number, certain, none_owed}
 use Rattle.osdp_monitor_laws.proofs.Missing.{device_of, reply_found}
 use Rattle.osdp_monitor_laws.proofs.Naming.{IsFresh, heard, in_time, is_fresh, line7, not_stray, whole}
 use Rattle.osdp_monitor_laws.proofs.Remembering.{after_append, after_one, at_remembered, forgotten_append}
@@ -23,23 +23,25 @@ pub record IsReplied (q : Packet) (k : Known) : Type 0 where
   pub last : k.last ≡ Some q
   pub replied : k.replied ≡ true
   pub earlier : k.earlier ≡ None
+  pub older : k.older ≡ None
   pub owing : k.owing ≡ false
   pub settled : k.settled ≡ true
 
 replied_by : (s : Said) (n : ℕ) (q : Packet) (k : Known) (r : Packet) → s ≢ Damage → IsFresh n q k → IsReplied q (after_reply_of s k q r)
-replied_by Busy n q k r some known = record { last = known.last; replied = refl; earlier = known.earlier; owing = known.owing; settled = known.settled }
+replied_by Busy n q k r some known = record { last = known.last; replied = refl; earlier = known.earlier; older = known.older; owing = known.owing; settled = known.settled }
 replied_by Damage n q k r some known = absurd (some refl)
-replied_by Refusal n q k r some known = record { last = known.last; replied = refl; earlier = known.earlier; owing = known.owing; settled = known.settled }
+replied_by Refusal n q k r some known = record { last = known.last; replied = refl; earlier = known.earlier; older = known.older; owing = known.owing; settled = known.settled }
 replied_by Answer n q k r some known =
     by_number (IsReplied q) (is_some (repeat_reply k q)) q.sequence k r
     (λ _. record {
       last = known.last;
       replied = refl;
       earlier = cond_both (eqb q.sequence 0) k.earlier None (λ o. o ≡ None) (λ _. known.earlier) (λ _. refl);
+      older = cond_both (eqb q.sequence 0) k.older None (λ o. o ≡ None) (λ _. known.older) (λ _. refl);
       owing = known.owing;
       settled = known.settled;
     })
-    (λ _. record { last = known.last; replied = refl; earlier = known.earlier; owing = known.owing; settled = known.settled })
+    (λ _. record { last = known.last; replied = refl; earlier = known.earlier; older = known.older; owing = known.owing; settled = known.settled })
 
 pub replied : (a n : ℕ) (q : Packet) (line : Knowledge) (r : Packet) → IsFrom a r → said r ≢ Damage → IsFresh n q (line.devices a)
     → IsRemembered a (PacketItem r) line → IsReplied q ((after_packet line r).devices a)
@@ -56,18 +58,16 @@ replied a n q line r from some known is =
 second_accused : (q : Packet) (k : Known) (s : Packet) → IsReplied q k → said s ≢ Damage → s.sequence ≢ next_sequence q.sequence
     → reader_accused k q s ≡ Some SecondReply
 second_accused q k s known some third =
-    let none : has_earlier_number k s ≡ false =
-    and_right (tells_number (said s) s.sequence) (not k.settled || is_number k.earlier s.sequence)
-    (or_from (not k.settled) (is_number k.earlier s.sequence) (not_from_true k.settled known.settled) (ap (λ o. is_number o s.sequence) known.earlier)) in
+    let none : has_earlier_number k s ≡ false = none_owed k s known.settled known.earlier known.older in
+    let not_owed : is_owed k ≡ false = or_from k.owing (is_some k.earlier) known.owing (ap is_some known.earlier) in
     cond-false (is_doubtful k q s) None (cond (is_one_more k s && not (is_owed k)) (Some SecondReply) (reply_accused (said s) k q s))
-    (or_from (is_late k q s || is_of_either k q s) (is_unheard k q s)
-    (or_from (is_late k q s) (is_of_either k q s) (and_left (has_earlier_number k s) (not (eqb s.sequence q.sequence)) none)
-    (and_left (has_earlier_number k s) (eqb q.sequence 0) none))
-    (and_right (is_answer (said s) && k.answered) (eqb s.sequence (next_sequence q.sequence)) (ne_eqb s.sequence (next_sequence q.sequence) third)))
+    (certain k q s (and_left (has_earlier_number k s) (not (eqb s.sequence q.sequence)) none) (and_left (has_earlier_number k s) (eqb q.sequence 0) none)
+    (and_right (is_answer (said s) && k.answered) (eqb s.sequence (next_sequence q.sequence)) (ne_eqb s.sequence (next_sequence q.sequence) third))
+    (and_left (is_stray k s) (not (is_some (repeat_reply k q))) (and_right (has_no_number (said s) s.sequence) (is_owed k) not_owed)))
     ∙ cond-true (is_one_more k s && not (is_owed k)) (Some SecondReply) (reply_accused (said s) k q s)
     (and_from (is_one_more k s) (not (is_owed k))
     (and_from k.replied (not (is_damage (said s))) known.replied (not_from_false (is_damage (said s)) (no_damage (said s) some)))
-    (not_from_false (is_owed k) (or_from k.owing (is_some k.earlier) known.owing (ap is_some known.earlier))))
+    (not_from_false (is_owed k) not_owed))
   where
     no_damage : (t : Said) → t ≢ Damage → is_damage t ≡ false
     no_damage Busy other = refl

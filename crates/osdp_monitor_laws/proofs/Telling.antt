@@ -11,11 +11,11 @@ use Rattle.osdp_monitor.specs.declared.said.Said.{Said}
 use Rattle.osdp_monitor.specs.declared.said.Said.TheVariants.{Busy, Damage, Refusal, Answer}
 use Rattle.osdp_monitor.specs.Known.{Known, is_number, same_packet}
 use Rattle.osdp_monitor.specs.Line.{Knowledge, after_items, after_packet, found_in, found_in_reply, found_in_sent, late_notice, moves_to, nothing_found, reply_notice}
-use Rattle.osdp_monitor.specs.Panel.{after_another, after_copy, after_sent, is_waiting, keeps_number, left_waiting}
-use Rattle.osdp_monitor.specs.Reader.{after_reply, after_reply_of, has_earlier_number, has_no_number, is_doubtful, is_late, is_of_either, is_one_more, is_owed, is_stray, is_unheard, reader_accused, repeat_reply, reply_accused, tells_number}
+use Rattle.osdp_monitor.specs.Panel.{after_another, after_copy, after_sent, is_in_row, is_waiting, keeps_number, left_waiting}
+use Rattle.osdp_monitor.specs.Reader.{after_reply, after_reply_of, has_earlier_number, has_no_number, is_doubtful, is_late, is_one_more, is_owed, is_owed_number, is_stray, reader_accused, repeat_reply, reply_accused, tells_number}
 use Rattle.osdp_monitor.specs.Saying.{is_foreign, said}
 use Rattle.osdp_monitor_laws.proofs.Agreeing.{none_some, same_some, sent_asked}
-use Rattle.osdp_monitor_laws.proofs.Late.{by_fate, by_number}
+use Rattle.osdp_monitor_laws.proofs.Late.{by_fate, by_number, late_doubtful, no_row}
 use Rattle.osdp_monitor_laws.proofs.PanelLines.{last_by}
 use Rattle.osdp_monitor_laws.proofs.Remembering.{after_append, after_one, at_remembered, forgotten_append, items_keep}
 use Rattle.osdp_monitor_laws.proofs.Same.{is_packet, packet_is}
@@ -111,7 +111,8 @@ left_sent k p q (Some old) last other owing =
     (λ copy. absurd (other (sym (ap (λ (x : Packet). x.sequence) (same ∙ packet_is old q copy)))))
     (λ _. (
       cond-true (is_waiting k) (Some old.sequence) None (or_left k.owing (not k.replied) owing) ∙ ap (λ (x : Packet). Some x.sequence) (sym same),
-      refl,
+      ap (λ o. not (is_in_row o q) || k.settled) (cond-true (is_waiting k) (Some old.sequence) None (or_left k.owing (not k.replied) owing))
+          ∙ ap (λ b. not b || k.settled) (no_row old.sequence q (subst (λ (x : Packet). q.sequence ≢ x.sequence) same other)),
     ))
 
 left_first : (a : ℕ) (p : Packet) (line : Knowledge) (q : Packet) → IsTo a q → q.sequence ≢ p.sequence → IsOwing p (line.devices a)
@@ -156,15 +157,15 @@ tells r (inr (inr busy)) =
 comes_late : (k : Known) (n : ℕ) (q r : Packet) → Owes n k → q.sequence ≢ n → HasItsNumber r → r.sequence ≡ n → is_late k q r ≡ true
 comes_late k n q r owes other says number =
     and_from (has_earlier_number k r) (not (eqb r.sequence q.sequence))
-    (and_from (tells_number (said r) r.sequence) (not k.settled || is_number k.earlier r.sequence) (tells r says)
-    (or_right (not k.settled) (is_number k.earlier r.sequence)
-    (subst (λ o. is_number o r.sequence ≡ true) (sym owes.0) (eq-eqb n r.sequence (sym number)))))
+    (and_from (tells_number (said r) r.sequence) (is_owed_number k r.sequence) (tells r says)
+    (or_left (not k.settled || is_number k.earlier r.sequence) (is_number k.older r.sequence) (or_right (not k.settled) (is_number k.earlier r.sequence)
+    (subst (λ o. is_number o r.sequence ≡ true) (sym owes.0) (eq-eqb n r.sequence (sym number))))))
     (not_from_false (eqb r.sequence q.sequence) (ne_eqb r.sequence q.sequence (λ same. other (sym same ∙ number))))
 
 pub late_accused : (k : Known) (q r : Packet) → is_late k q r ≡ true → reader_accused k q r ≡ None
 late_accused k q r late =
     cond-true (is_doubtful k q r) None (cond (is_one_more k r && not (is_owed k)) (Some SecondReply) (reply_accused (said r) k q r))
-    (or_left (is_late k q r || is_of_either k q r) (is_unheard k q r) (or_left (is_late k q r) (is_of_either k q r) late))
+    (late_doubtful k q r late)
 
 pub late_told : (k : Known) (q r : Packet) (o : Option ℕ) → o ≡ None → is_late k q r ≡ true → k.settled ≡ true → reply_notice o k q r ≡ Some Late
 late_told k q r (Some place) none late settled = cc
@@ -237,7 +238,7 @@ stray n q k r left busy zero =
     and_from (has_no_number (said r) r.sequence) (is_owed k) (ap (λ s. has_no_number s r.sequence) busy ∙ eq-eqb r.sequence 0 zero)
     (or_right k.owing (is_some k.earlier) (ap is_some left.1.0))
 
-left_alone : (k : Known) (q r : Packet) → is_stray k r ≡ true → after_reply k q r ≡ k
+pub left_alone : (k : Known) (q r : Packet) → is_stray k r ≡ true → after_reply k q r ≡ k
 left_alone k q r is = cond-true (is_late k q r || is_stray k r) k _ (or_right (is_late k q r) (is_stray k r) is)
 
 nothing_after : (l : Knowledge) → after_items l [] ≡ l

@@ -4,7 +4,6 @@ use Rattle.osdp_frame.specs.Packet.{Packet, next_sequence}
 use Rattle.osdp_frame.specs.Reading.{PacketItem, SkippedItem}
 use Rattle.osdp_monitor.specs.declared.accusation.Accusation.{Accusation}
 use Rattle.osdp_monitor.specs.declared.found.Notice.TheVariants.{Late}
-use Rattle.osdp_monitor.specs.declared.said.Said.TheVariants.{Busy}
 use Rattle.osdp_monitor.specs.Line.{Knowledge, after_item, found_in, moves_to, no_knowledge}
 use Rattle.osdp_monitor.specs.Saying.{is_answer, is_foreign, said}
 use Rattle.osdp_monitor_laws.specs.AnyReader.{AnyReader, Goes, Way}
@@ -17,7 +16,7 @@ pub record Owed : Type 0 where
   pub packet : Packet
   pub reply : Packet
 
--- The reader, the packet that its panel sent it last, and whether an answer to that has come. The answers that haven't come yet: those to the packet before,
+-- The reader, the packet that its panel sent it last, and whether an answer to that has come. The answers that haven't come yet: those to the packets before,
 -- which are late, and those to the last one. And what the listener knows.
 pub record LateLine : Type 0 where
   pub reader : AnyReader
@@ -72,7 +71,7 @@ after_answer (w ∷ ws) l = record (comes w.reply l) { older = ws }
 abbrev pub after_move : LateMove → LateLine → LateLine
 after_move (Restart s) l = record l { reader = s }
 after_move (Send p read way o s) l =
-    record { reader = s; last = Some p; answered = false; older = l.owed; owed = owed_of p o; known = known_if read p l.known }
+    record { reader = s; last = Some p; answered = false; older = l.older ++ l.owed; owed = owed_of p o; known = known_if read p l.known }
 after_move (Repeat p read way o s) l = record l { reader = s; owed = l.owed ++ owed_of p o; known = known_if read p l.known }
 after_move (Others p) l = record l { known = after_item l.known (PacketItem p) }
 after_move AnswerComes l = after_answer l.older l
@@ -93,24 +92,20 @@ pub record Hears (p : Packet) (way : Way) (o : Option Packet) (s : AnyReader) (l
   pub goes : Goes way l.reader p o s
   pub stays : s.address ≡ l.reader.address
 
--- An answer may come after copies of its packet, and after one other packet: none is owed to a packet before the last when the panel sends the next one.
+-- An answer may come after copies of its packet, and after one other packet, where several with number 0 in a row count as one: when the panel sends a packet after one
+-- with another number than 0, none is owed to a packet before that.
 pub record MaySend (p : Packet) (way : Way) (o : Option Packet) (s : AnyReader) (l : LateLine) : Type 0 where
   pub hears : Hears p way o s l
   pub next : IsNext l p
   pub another : l.last ≢ Some p
-  pub came : l.older ≡ []
-
--- nobody can tell which packet a BUSY with number 0 answers: none comes after the next packet
-abbrev pub MayCome : List Owed → Type 0
-MayCome [] = Unit {0}
-MayCome (w ∷ ws) = said w.reply ≡ Busy → w.reply.sequence ≢ 0
+  pub came : (last : Packet) → l.last ≡ Some last → last.sequence ≢ 0 → l.older ≡ []
 
 abbrev pub IsAllowed : LateMove → LateLine → Type 0
 IsAllowed (Restart s) l = (s.last ≡ None) × (s.address ≡ l.reader.address)
 IsAllowed (Send p read way o s) l = MaySend p way o s l
 IsAllowed (Repeat p read way o s) l = Hears p way o s l × (l.last ≡ Some p)
 IsAllowed (Others p) l = p.address ≢ l.reader.address
-IsAllowed AnswerComes l = MayCome l.older
+IsAllowed AnswerComes l = Unit {0}
 IsAllowed (Skip b) l = Unit {0}
 IsAllowed Forget l = Unit {0}
 
@@ -136,7 +131,7 @@ abbrev pub accusations : List LateMove → LateLine → List Accusation
 accusations [] l = []
 accusations (move ∷ moves) l = option_to_list (accused_by move l) ++ accusations moves (after_move move l)
 
--- However late its answers come, up to one packet later: it is accused of nothing.
+-- However late its answers come, so far: it is accused of nothing.
 abbrev pub AccusesNoLateReader : Type 0
 AccusesNoLateReader = (r : AnyReader) (moves : List LateMove) → r.last ≡ None → AreAllowed moves (new_line r) → accusations moves (new_line r) ≡ []
 

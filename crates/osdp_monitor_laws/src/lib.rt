@@ -20,8 +20,8 @@ pub fn accuses_no_reader_by_the_rules()
     ensures { AccusesNoReaderByTheRules }
 {}
 
-/// A reader of any maker that answers late is accused of nothing, where it and its panel keep the rules. Its answers may come after copies of their packet, and after one
-/// other packet. No BUSY with number 0 comes so late, since nobody can tell which packet it answers.
+/// A reader of any maker that answers late is accused of nothing, where it and its panel keep the rules. Its answers, a BUSY with number 0 too, may come after copies of
+/// their packet, and after one other packet, where several with number 0 in a row count as one.
 pub fn accuses_no_late_reader()
     ensures { AccusesNoLateReader }
 {}
