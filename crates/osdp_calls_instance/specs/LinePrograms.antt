@@ -11,7 +11,7 @@ use Rattle.osdp_frame.specs.Receiving.{IsAllRead, IsReceived, Received, after_si
 use Rattle.osdp_device.specs.Status.{new_status, status_after, status_answer}
 use Rattle.osdp_device.specs.Telling.{items_of, said_to_all}
 use Rattle.osdp_device.specs.declared.status.DeviceStatus.{DeviceStatus}
-use Rattle.osdp_line_calls.specs.Answers.{Speaks}
+use Rattle.osdp_line_answers.specs.Answers.{Speaks}
 use Rattle.osdp_line_calls.specs.PanelLines as panel_lines
 use Rattle.osdp_line_calls.specs.PanelSessions as panel
 use Rattle.osdp_line_calls.specs.ReaderAbsence.{lets_go}

@@ -9,6 +9,3 @@ mod Listening
 pub mod PassedOver
 pub mod Ranges
 pub mod Running
-pub mod Speaking
-pub mod Stopping
-pub mod AnsweringLines

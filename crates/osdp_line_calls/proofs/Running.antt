@@ -1,8 +1,8 @@
 -- How the commands end, by what their words are.
 use Rattle.std.proofs.Common.{ℕ, List, Option, Some, None, Err, inl, inr, refl}
 use Rattle.std.specs.Io.KnownBytes.{Keeps}
-use Rattle.osdp_line_calls.proofs.AnsweringLines.{some_none}
-use Rattle.osdp_line_calls.specs.Answers.{Answering}
+use Rattle.osdp_line_answers.proofs.AnsweringLines.{some_none}
+use Rattle.osdp_line_answers.specs.Answers.{Answering}
 use Rattle.osdp_tool_streams.specs.Watched.{inner_of}
 use Rattle.osdp_tool_streams.specs.declared.fault.ToolFault.{ToolFault}
 use Rattle.osdp_tool_streams.specs.declared.fault.ToolFault.TheVariants.{BadWords, NoMemory}

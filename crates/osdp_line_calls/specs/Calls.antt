@@ -2,7 +2,7 @@
 use Rattle.std.specs.Prelude.{ℕ, ◌≤◌, List, [], ◌∷◌, length, IsUtf8, Option, Some, None}
 use Rattle.hex.specs.Hex.{IsBytes}
 use Rattle.osdp_words.specs.Word.{AllStandFor, Word, words_in}
-use Rattle.osdp_line_calls.specs.Answers.{heard, longest}
+use Rattle.osdp_line_answers.specs.Answers.{heard, longest}
 
 -- the characters of a line are the words of a call
 pub record Says {C : Type 0} (words_of : C → List Word) (Fits : C → Type 0) (line : List ℕ) (call : C) : Type 0 where

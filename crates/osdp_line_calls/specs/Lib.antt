@@ -14,9 +14,6 @@ pub mod Values
 pub mod PanelSettings
 pub mod ReaderSettings
 pub mod Runs
-pub mod Answers
 pub mod Calls
-pub mod Steps
-pub mod Ending
 pub mod OrderedPanels
 pub mod OrderedLines

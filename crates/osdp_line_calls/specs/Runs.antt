@@ -1,8 +1,8 @@
 -- How the commands end.
 use Rattle.std.specs.Prelude.{◌≡◌, ◌⊎◌, ℕ, false, List, Option, Result, Err}
 use Rattle.std.specs.Io.KnownBytes.{Keeps}
-use Rattle.osdp_line_calls.specs.Answers.{Answering}
-use Rattle.osdp_line_calls.specs.Ending.{Ends}
+use Rattle.osdp_line_answers.specs.Answers.{Answering}
+use Rattle.osdp_line_answers.specs.Ending.{Ends}
 use Rattle.osdp_line_calls.specs.OrderedLines.{Answers as PanelAnswers}
 use Rattle.osdp_line_calls.specs.OrderedPanels.{Ordered as PanelSession, new_ordered as new_panel}
 use Rattle.osdp_line_calls.specs.ReaderLines.{Answers as ReaderAnswers}

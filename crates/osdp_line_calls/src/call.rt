@@ -5,15 +5,10 @@ ghost use Rattle.osdp_words.specs.Reading.{ReadsWords};
 ghost use Rattle.osdp_words.specs.Word.{Word, texts, words_in};
 ghost use Rattle.osdp_line_calls.specs.Calls.{Says, SaysNothing};
 
+use osdp_line_answers::LONGEST;
 use osdp_words::all_words_in;
 use std::alloc::{AllocError, Global};
 use std::str;
-
-/// How many characters a line may have.
-const LONGEST: usize = 8192;
-
-/// Of a line so many characters are kept at most: one more than it may have, so that a line that is too long is known as such.
-pub(crate) const HEARD: usize = LONGEST + 1;
 
 /// What a line may order: each call is words.
 pub trait LineCall: Sized {

@@ -18,8 +18,9 @@
 //!                                 due 600
 //! ```
 //!
-//! `LineDevice`, `LinePanel` and `OrderedPanel`, whose orders may wait for POLLs, are each a `LineMachine`: `answer_line` answers a line, and their `answer` a call. What they answer is the definitions
-//! in `specs/`, over those of `osdp_device` and `osdp_bus`. `answer_lines` reads to the end of an input, and answers each line at once.
+//! `LineDevice`, `LinePanel` and `OrderedPanel`, whose orders may wait for POLLs, are each a `LineMachine`: `answer_line` answers a line, and their
+//! `answer` a call. What they answer is the definitions in `specs/`, over those of `osdp_device` and `osdp_bus`. `answer_lines` of
+//! `osdp_line_answers` reads to the end of an input, and answers each line at once.
 //!
 //! The commands `panel` and `reader` have settings, as the words after their names: a name and its value, in any order, and each has a default; where
 //! a name stands twice, the later value holds:
@@ -30,10 +31,8 @@
 //! ```
 #![tactic(auto)]
 
-mod answering;
 mod call;
 pub mod laws;
-mod lines;
 mod listener;
 mod machine;
 mod ordered_panel;
@@ -53,10 +52,10 @@ mod run;
 mod values;
 mod words;
 
-pub use answering::answer_lines;
 pub use call::{LineCall, read_line};
 pub use machine::LineMachine;
 pub use ordered_panel::OrderedPanel;
+pub use osdp_line_answers::{LineAnswerer, answer_lines};
 pub use osdp_msg::{KeptCommand, KeptEvent};
 pub use osdp_settings::WrongSetting;
 pub use panel_call::PanelCall;

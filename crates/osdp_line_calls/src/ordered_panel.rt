@@ -18,6 +18,7 @@ use crate::panel_say::{push_refusal, push_sent, push_withdrawal};
 use crate::panel_session::LinePanel;
 use osdp_bus::{Bus, BusFault, EntryNumber};
 use osdp_frame::{Address, Burst};
+use osdp_line_answers::LineAnswerer;
 use osdp_orders::Orders;
 use std::alloc::{AllocError, Global};
 use std::marker::Model;
@@ -179,5 +180,20 @@ impl LineMachine for OrderedPanel {
 
     fn refuse_line(&mut self, text: &mut String) -> Result<(), AllocError> {
         self.refuse(text)
+    }
+}
+
+impl LineAnswerer for OrderedPanel {
+    ghost answers = { Answers };
+
+    ghost is_ready = { λ p. Unit {0} };
+
+    fn answer_line(
+        &mut self,
+        alloc: Global,
+        line: &[u8],
+        text: &mut String,
+    ) -> Result<(), AllocError> {
+        LineMachine::answer_line(self, alloc, line, text)
     }
 }

@@ -10,7 +10,8 @@ use crate::call::LineCall;
 use crate::machine::LineMachine;
 use crate::reader_call::{ReaderCall, parse_row};
 use crate::reader_session::LineDevice;
-use std::alloc::AllocError;
+use osdp_line_answers::LineAnswerer;
+use std::alloc::{AllocError, Global};
 
 impl LineCall for ReaderCall {
     ghost words_of = { call_words };
@@ -46,5 +47,20 @@ impl LineMachine for LineDevice {
 
     fn refuse_line(&mut self, text: &mut String) -> Result<(), AllocError> {
         self.refuse(text)
+    }
+}
+
+impl LineAnswerer for LineDevice {
+    ghost answers = { Answers };
+
+    ghost is_ready = { λ d. IsAllRead d.line };
+
+    fn answer_line(
+        &mut self,
+        alloc: Global,
+        line: &[u8],
+        text: &mut String,
+    ) -> Result<(), AllocError> {
+        LineMachine::answer_line(self, alloc, line, text)
     }
 }

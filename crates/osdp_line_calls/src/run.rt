@@ -4,10 +4,10 @@ ghost use Rattle.std.specs.Prelude.{◌≡◌, ℕ, List, IfErr, IfOk};
 ghost use Rattle.osdp_words.specs.Word.{texts};
 ghost use Rattle.osdp_line_calls.specs.Runs.{HasNotFailed, Runs, RunsPanel, RunsReader, SetsNone};
 
-use crate::answering::answer_lines;
 use crate::machine::LineMachine;
 use crate::ordered_panel::OrderedPanel;
 use crate::reader_session::LineDevice;
+use osdp_line_answers::{LineAnswerer, answer_lines};
 use osdp_tool_streams::{ToolFault, Watched};
 use std::alloc::Global;
 use std::io::{Read, Write};
@@ -26,7 +26,7 @@ pub struct LineRun<'a, R, W> {
 }
 
 /// A machine that is called by lines, and that the words after a command's name set.
-pub trait LineCommand: LineMachine + Drop + Sized {
+pub trait LineCommand: LineAnswerer + Drop + Sized {
     ghost is_set_by: { List (List ℕ) → Self → Type 0 };
 
     /// The machine that the words set.

@@ -8,7 +8,7 @@ use Rattle.osdp_bus.specs.declared.fault.BusFault.{BusFault}
 use Rattle.osdp_bus.specs.Machine.{after_next_report, after_submit_at, changed_unless, leads_nowhere, order_refusal_at}
 use Rattle.osdp_bus_laws.proofs.Ordering.{elsewhere_same, nowhere_stays, order_made}
 use Rattle.osdp_bus_laws.specs.Calls.{Call, NextReport, Submit, after_call, after_calls, orders}
-use Rattle.osdp_line_calls.specs.Answers.{Speaks}
+use Rattle.osdp_line_answers.specs.Answers.{Speaks}
 use Rattle.osdp_line_calls.specs.Calls.{Says, SaysNothing}
 use Rattle.osdp_line_calls.specs.declared.panel_call.PanelCall.{PanelCall}
 use Rattle.osdp_line_calls.specs.declared.panel_call.PanelCall.TheVariants as line

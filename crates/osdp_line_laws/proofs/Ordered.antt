@@ -11,7 +11,7 @@ use Rattle.osdp_orders.specs.Queues.{new_queue}
 use Rattle.osdp_orders_laws.specs.Calls.{after_call, after_calls}
 use Rattle.osdp_panel.proofs.Ordering.{its_bus}
 use Rattle.osdp_panel.specs.Ordering.{IsItsBus}
-use Rattle.osdp_line_calls.specs.Answers.{Speaks}
+use Rattle.osdp_line_answers.specs.Answers.{Speaks}
 use Rattle.osdp_line_calls.specs.Calls.{Says, SaysNothing}
 use Rattle.osdp_line_calls.specs.declared.panel_call.PanelCall.{PanelCall}
 use Rattle.osdp_line_calls.specs.declared.panel_call.PanelCall.TheVariants as line

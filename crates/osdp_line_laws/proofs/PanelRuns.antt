@@ -4,7 +4,7 @@ use Rattle.osdp_bus.specs.Buses.{BusState}
 use Rattle.osdp_bus.specs.Machine.{after_next_report}
 use Rattle.osdp_bus_laws.proofs.Ordering.{order_made}
 use Rattle.osdp_bus_laws.specs.Calls.{after_calls, orders}
-use Rattle.osdp_line_calls.specs.Answers.{heard}
+use Rattle.osdp_line_answers.specs.Answers.{heard}
 use Rattle.osdp_line_calls.specs.Calls.{IsSaid}
 use Rattle.osdp_line_calls.specs.declared.panel_call.PanelCall.{PanelCall}
 use Rattle.osdp_line_calls.specs.declared.panel_call.PanelCall.TheVariants.{At, Submit}

@@ -1,6 +1,6 @@
 -- A run of lines to a reader's device, line by line.
 use Rattle.std.proofs.Common.{◌≡◌, ◌∙◌, ap, refl, ℕ, List, [], ◌∷◌, ◌++◌, length, Option, Some, None, inl, inr}
-use Rattle.osdp_line_calls.specs.Answers.{heard}
+use Rattle.osdp_line_answers.specs.Answers.{heard}
 use Rattle.osdp_line_calls.specs.Calls.{IsSaid}
 use Rattle.osdp_reader.specs.State.{ReaderState}
 use Rattle.osdp_frame.specs.Receiving.{Received}

@@ -6,7 +6,7 @@ use Rattle.osdp_controller.specs.Hearing.{comset_of}
 use Rattle.osdp_bus.specs.Machine.{add_refusal, begin_refusal_at, leads_nowhere, order_refusal_at, retarget_refusal_at, submit_refusal_at, withdrawal_at}
 use Rattle.osdp_bus.specs.Ticking.{bus_ticks}
 use Rattle.osdp_bus_laws.specs.Calls.{Call, Add, Begin, Submit, Withdraw, Retarget, OnBytes, OnSilence, Tick, NextReport, after_call, after_calls, orders}
-use Rattle.osdp_line_calls.specs.Answers.{Speaks}
+use Rattle.osdp_line_answers.specs.Answers.{Speaks}
 use Rattle.osdp_line_calls.specs.Calls.{Says, SaysNothing}
 use Rattle.osdp_line_calls.specs.declared.panel_call.PanelCall.{PanelCall}
 use Rattle.osdp_line_calls.specs.declared.panel_call.PanelCall.TheVariants as line

@@ -7,7 +7,7 @@ use Rattle.osdp_bus.specs.Settings.{IsBusConfig}
 use Rattle.osdp_controller.specs.Hearing.{hears, ignores}
 use Rattle.osdp_controller.specs.Sessions.{seen}
 use Rattle.osdp_frame.specs.Packet.{Packet}
-use Rattle.osdp_line_calls.specs.Answers.{Speaks}
+use Rattle.osdp_line_answers.specs.Answers.{Speaks}
 use Rattle.osdp_line_calls.specs.PanelLines.{Answers}
 use Rattle.osdp_line_calls.specs.Passing.{is_open, passed_text}
 use Rattle.osdp_line_calls.specs.PassingLaws.{IsNotOpen}

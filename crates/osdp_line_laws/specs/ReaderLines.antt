@@ -13,7 +13,7 @@ use Rattle.osdp_device.specs.declared.status.DeviceStatus.{DeviceStatus}
 use Rattle.osdp_frame.specs.Items.{items}
 use Rattle.osdp_frame.specs.Packet.{Packet}
 use Rattle.osdp_frame.specs.Reading.{RunItem, PacketItem, SkippedItem, RefusedItem}
-use Rattle.osdp_line_calls.specs.Answers.{Speaks}
+use Rattle.osdp_line_answers.specs.Answers.{Speaks}
 use Rattle.osdp_line_calls.specs.Calls.{Says, SaysNothing}
 use Rattle.osdp_msg.specs.declared.event.Event.{Event}
 use Rattle.osdp_reader.specs.Queue.{in_doubt, never_offered}

@@ -7,7 +7,7 @@ use Rattle.osdp_line_calls.proofs.run.run_lines.Goals as goal
 pub returns-in_err-machine-clause-run : goal.returns-in_err-machine-clause-run
 returns-in_err-machine-clause-run g c =
     let is_set_by = g.P.LineCommand.is_set_by in
-    let answers = g.P.LineMachine.answers in
+    let answers = g.P.LineAnswerer.answers in
     let remaining = g.R.Read.remaining in
     let contents = g.W.Write.contents in
     let run = c.args.run.now in
