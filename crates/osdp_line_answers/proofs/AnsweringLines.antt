@@ -7,7 +7,7 @@ use Rattle.osdp_tool_streams.specs.declared.fault.ToolFault.{ToolFault}
 use Rattle.osdp_tool_streams.specs.declared.fault.ToolFault.TheVariants.{TooLong, ReadFailed, WriteFailed, NoMemory}
 use Rattle.osdp_line_answers.specs.Answers.{Answering, Speaks, heard}
 use Rattle.osdp_line_answers.specs.Ending.{AllAnswered, Ends, SomeAnswered}
-use Rattle.osdp_line_answers.specs.Steps.{EndsLine, Goes, HasAnswered, ReadAll, ReadSome, Reads, Step, StopsIn}
+use Rattle.osdp_line_answers.specs.Steps.{EndsLine, CarriesOn, HasAnswered, ReadAll, ReadSome, Reads, Step, StopsIn}
 use Rattle.osdp_tool_streams.proofs.Answered.{on_err}
 use Rattle.osdp_line_answers.proofs.Speaking.{spoke_more}
 use Rattle.osdp_line_answers.proofs.Stopping.{all_written, follows_none, goes_both, more_lines, part_written, stops_further, stops_kept}
@@ -16,7 +16,7 @@ use Rattle.osdp_line_answers.proofs.Stopping.{all_written, follows_none, goes_bo
 
 pub read_more : {M : Type 0} (answers : Answering M) (old mid new : M) (line middle next piece : List ℕ) (ib i1 i2 before between after : Option (List ℕ)) (count : ℕ)
     → (so_far : ReadAll answers old line mid middle ib i1 before between) → count ≤ length so_far.read
-    → Consumes i1 i2 piece → 1 ≤ length piece → Goes answers piece mid middle between new next after
+    → Consumes i1 i2 piece → 1 ≤ length piece → CarriesOn answers piece mid middle between new next after
     → (all : ReadAll answers old line new next ib i2 before after) × (count + 1 ≤ length all.read)
 read_more answers old mid new line middle next piece ib i1 i2 before between after count so_far counted taken some goes = (
   record {

@@ -10,7 +10,7 @@ use Rattle.osdp_tool_streams.proofs.FormLemmas.{ended_lines-feed, ended_lines-ho
 use Rattle.osdp_tool_streams.specs.declared.fault.ToolFault.{ToolFault}
 use Rattle.osdp_tool_streams.specs.declared.fault.ToolFault.TheVariants.{WriteFailed, NoMemory}
 use Rattle.osdp_line_answers.specs.Answers.{Answering, Speaks, heard}
-use Rattle.osdp_line_answers.specs.Steps.{EndsLine, FrontAnswered, Goes, HasAnswered, StopsIn, WroteAnswer, WrotePart}
+use Rattle.osdp_line_answers.specs.Steps.{EndsLine, FrontAnswered, CarriesOn, HasAnswered, StopsIn, WroteAnswer, WrotePart}
 use Rattle.osdp_line_answers.proofs.Speaking.{spoke_more}
 
 -- what is kept of what was kept
@@ -33,7 +33,7 @@ kept_length xs = omega (arith, length-take 8193 xs)
 
 -- a line goes on
 pub holds : {M : Type 0} (answers : Answering M) (b : ℕ) (machine : M) (line next : List ℕ) (now : Option (List ℕ)) → b ≢ line_feed
-    → (length line ≤ 8193 → next ≡ heard (line ++ b ∷ [])) → Goes answers (b ∷ []) machine line now machine next now
+    → (length line ≤ 8193 → next ≡ heard (line ++ b ∷ [])) → CarriesOn answers (b ∷ []) machine line now machine next now
 holds answers b machine line next now other is = λ first start read f. record {
   text = f.text;
   speaks = subst (λ l. Speaks answers first l f.text machine) (sym (ended_lines-hold read (b ∷ []) (other, tt))) f.speaks;
@@ -44,7 +44,7 @@ holds answers b machine line next now other is = λ first start read f. record {
 
 -- a line ended, and was answered
 pub ends : {M : Type 0} (answers : Answering M) (old new : M) (line : List ℕ) (before after : Option (List ℕ))
-    → WroteAnswer answers old line new before after → Goes answers (line_feed ∷ []) old line before new [] after
+    → WroteAnswer answers old line new before after → CarriesOn answers (line_feed ∷ []) old line before new [] after
 ends answers old new line before after w = λ first start read f. record {
   text = f.text ++ w.answer;
   speaks = subst (λ l. Speaks answers first l (f.text ++ w.answer) new) (sym (ended_lines-feed read))
@@ -137,13 +137,13 @@ stops_ending answers old new line before after was failed fault e = absurd e
 -- ---- one piece after the other
 
 pub goes_both : {M : Type 0} (answers : Answering M) (a b : List ℕ) (old mid new : M) (line middle next : List ℕ) (before between after : Option (List ℕ))
-    → Goes answers a old line before mid middle between → Goes answers b mid middle between new next after
-    → Goes answers (a ++ b) old line before new next after
+    → CarriesOn answers a old line before mid middle between → CarriesOn answers b mid middle between new next after
+    → CarriesOn answers (a ++ b) old line before new next after
 goes_both answers a b old mid new line middle next before between after one two = λ first start read f.
     subst (λ r. HasAnswered answers first start r new next after) (append_assoc read a b) (two first start (read ++ a) (one first start read f))
 
 pub stops_further : {M : Type 0} (answers : Answering M) (a b : List ℕ) (old mid : M) (line middle : List ℕ) (before between after : Option (List ℕ)) (fault : ToolFault)
-    → Goes answers a old line before mid middle between → StopsIn answers b mid middle between after fault → StopsIn answers (a ++ b) old line before after fault
+    → CarriesOn answers a old line before mid middle between → StopsIn answers b mid middle between after fault → StopsIn answers (a ++ b) old line before after fault
 stops_further answers a b old mid line middle before between after fault one two = λ first start read f.
     subst (λ r. FrontAnswered answers first (ended_lines r) start after fault) (append_assoc read a b) (two first start (read ++ a) (one first start read f))
 
@@ -155,13 +155,13 @@ stops_early answers a b old line before after fault one = λ first start read f.
 
 -- nothing was written after these bytes
 pub stops_kept : {M : Type 0} (answers : Answering M) (piece : List ℕ) (old mid : M) (line middle : List ℕ) (before between after : Option (List ℕ)) (fault : ToolFault)
-    → Goes answers piece old line before mid middle between → Keeps between after → StopsIn answers piece old line before after fault
+    → CarriesOn answers piece old line before mid middle between → Keeps between after → StopsIn answers piece old line before after fault
 stops_kept answers piece old mid line middle before between after fault goes kept = λ first start read f.
     let g = goes first start read f in
     all_written answers first mid (ended_lines (read ++ piece)) g.text start after fault g.speaks (Appends-kept start between after g.text g.written kept)
 
 -- no bytes bring nothing
-pub goes_nowhere : {M : Type 0} (answers : Answering M) (machine : M) (line : List ℕ) (now : Option (List ℕ)) → Goes answers [] machine line now machine line now
+pub goes_nowhere : {M : Type 0} (answers : Answering M) (machine : M) (line : List ℕ) (now : Option (List ℕ)) → CarriesOn answers [] machine line now machine line now
 goes_nowhere answers machine line now = λ first start read f.
     subst (λ r. HasAnswered answers first start r machine line now) (sym (append-nil read)) f
 

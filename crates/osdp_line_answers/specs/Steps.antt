@@ -60,8 +60,8 @@ pub record HasAnswered {M : Type 0} (answers : Answering M) (first : M) (start :
   pub written : Appends start now text
 
 -- these bytes bring what follows an input to what follows it with them
-abbrev pub Goes : {M : Type 0} → Answering M → List ℕ → M → List ℕ → Option (List ℕ) → M → List ℕ → Option (List ℕ) → Type 0
-Goes {M} answers piece old line before new next after =
+abbrev pub CarriesOn : {M : Type 0} → Answering M → List ℕ → M → List ℕ → Option (List ℕ) → M → List ℕ → Option (List ℕ) → Type 0
+CarriesOn {M} answers piece old line before new next after =
     (first : M) (start : Option (List ℕ)) (read : List ℕ) → HasAnswered answers first start read old line before
     → HasAnswered answers first start (read ++ piece) new next after
 
@@ -93,7 +93,7 @@ pub record ReadAll {M : Type 0} (answers : Answering M) (old : M) (line : List �
     (input_before input_after before after : Option (List ℕ)) : Type 0 where
   pub read : List ℕ
   pub taken : Consumes input_before input_after read
-  pub goes : Goes answers read old line before new next after
+  pub goes : CarriesOn answers read old line before new next after
 
 -- a fault stopped it
 pub record ReadSome {M : Type 0} (answers : Answering M) (old : M) (line : List ℕ) (input_before input_after before after : Option (List ℕ)) (fault : ToolFault) : Type 0 where

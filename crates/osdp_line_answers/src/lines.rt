@@ -2,7 +2,7 @@
 
 ghost use Rattle.std.specs.Prelude.{◌≡◌, ◌≤◌, ◌∷◌, ◌++◌, [], length, IfErr, OnOk};
 ghost use Rattle.osdp_tool_streams.specs.Watched.{inner_of, has_failed};
-ghost use Rattle.osdp_line_answers.specs.Steps.{EndsLine, Goes, Step, StopsIn};
+ghost use Rattle.osdp_line_answers.specs.Steps.{EndsLine, CarriesOn, Step, StopsIn};
 ghost use Rattle.osdp_line_answers.specs.Answers.{heard};
 
 use crate::answerer::{HEARD, LineAnswerer};
@@ -55,7 +55,7 @@ fn take_byte<M: LineAnswerer, W: Write>(
 ) -> Result<(), ToolFault>
     requires { M.is_ready machine.old }
     ensures step { Step (has_failed output.old) (has_failed output.new) result }
-    ensures goes { OnOk result (Goes M.answers (byte ∷ []) machine.old line.old.items (W.contents (inner_of output.old))
+    ensures goes { OnOk result (CarriesOn M.answers (byte ∷ []) machine.old line.old.items (W.contents (inner_of output.old))
         machine.new line.new.items (W.contents (inner_of output.new))) }
     ensures ready { OnOk result (M.is_ready machine.new) }
     ensures stops { IfErr result (λ fault. StopsIn M.answers (byte ∷ []) machine.old line.old.items (W.contents (inner_of output.old))
@@ -79,7 +79,7 @@ pub(crate) fn take_piece<M: LineAnswerer, W: Write>(
 ) -> Result<(), ToolFault>
     requires { M.is_ready machine.old }
     ensures step { Step (has_failed output.old) (has_failed output.new) result }
-    ensures goes { OnOk result (Goes M.answers piece.now machine.old line.old.items (W.contents (inner_of output.old))
+    ensures goes { OnOk result (CarriesOn M.answers piece.now machine.old line.old.items (W.contents (inner_of output.old))
         machine.new line.new.items (W.contents (inner_of output.new))) }
     ensures ready { OnOk result (M.is_ready machine.new) }
     ensures stops { IfErr result (λ fault. StopsIn M.answers piece.now machine.old line.old.items (W.contents (inner_of output.old))

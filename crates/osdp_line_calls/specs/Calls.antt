@@ -16,8 +16,8 @@ abbrev pub SaysNothing : {C : Type 0} → (C → List Word) → (C → Type 0) �
 SaysNothing {C} words_of Fits line = (call : C) → Says words_of Fits line call → ⊥
 
 -- as many bytes as a line has room for
-abbrev pub IsLong : List ℕ → Type 0
-IsLong list = (length list ≤ 4096) × IsBytes list
+abbrev pub FitsALine : List ℕ → Type 0
+FitsALine list = (length list ≤ 4096) × IsBytes list
 
 module _ {C : Type 0} (words_of : C → List Word) (Fits : C → Type 0) where
   -- a line says this call, or none

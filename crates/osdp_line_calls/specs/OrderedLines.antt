@@ -15,8 +15,8 @@ abbrev pub Ends : Called → Called → Type 0
 Ends done c = (due : Option ℕ) × IsDue done.session.session due × (c ≡ ended due done)
 
 -- what ends so, as the text of an answer, and the session after it
-abbrev pub Gives : Called → List ℕ → Ordered → Type 0
-Gives done text next = (c : Called) × Ends done c × (text ≡ c.text) × (next ≡ c.session)
+abbrev pub TellsAndLeaves : Called → List ℕ → Ordered → Type 0
+TellsAndLeaves done text next = (c : Called) × Ends done c × (text ≡ c.text) × (next ≡ c.session)
 
 abbrev pub Answers : Ordered → List ℕ → List ℕ → Ordered → Type 0
 Answers = AnswersBy call_words CallFits (λ call s. Ends (answered call s)) (λ s. Ends (refuses s))

@@ -3,7 +3,7 @@ use Rattle.std.specs.Prelude.{ℕ, ◌+◌, ◌<◌, ◌^◌, List, [], ◌∷�
 use Rattle.osdp_msg.specs.CommandTable.{CommandFits}
 use Rattle.osdp_msg.specs.CommandText.{command_words}
 use Rattle.osdp_words.specs.Word.{Word, plain, bytes, number}
-use Rattle.osdp_line_calls.specs.Calls.{IsLong}
+use Rattle.osdp_line_calls.specs.Calls.{FitsALine}
 use Rattle.osdp_line_calls.specs.declared.panel_call.PanelCall.{PanelCall}
 use Rattle.osdp_line_calls.specs.declared.panel_call.PanelCall.TheVariants.{At, Add, Begin, Submit, Withdraw, Retarget, Bytes, Silence, Tick}
 
@@ -51,6 +51,6 @@ CallFits (Begin entry) = IsEntry entry
 CallFits (Submit entry command) = IsEntry entry × CommandFits command
 CallFits (Withdraw entry) = IsEntry entry
 CallFits (Retarget entry address) = IsEntry entry × IsAddress address
-CallFits (Bytes list) = IsLong list.items
+CallFits (Bytes list) = FitsALine list.items
 CallFits Silence = Unit {0}
 CallFits Tick = Unit {0}

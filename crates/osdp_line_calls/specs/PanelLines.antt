@@ -14,8 +14,8 @@ abbrev pub Ends : Called → Called → Type 0
 Ends done c = (due : Option ℕ) × IsDue done.session due × (c ≡ ended due done)
 
 -- what ends so, as the text of an answer, and the session after it
-abbrev pub Gives : Called → List ℕ → Session → Type 0
-Gives done text next = (c : Called) × Ends done c × (text ≡ c.text) × (next ≡ c.session)
+abbrev pub TellsAndLeaves : Called → List ℕ → Session → Type 0
+TellsAndLeaves done text next = (c : Called) × Ends done c × (text ≡ c.text) × (next ≡ c.session)
 
 -- what a line comes to, and the same as what a machine answers it
 abbrev pub IsAnswered : List ℕ → Session → Called → Type 0

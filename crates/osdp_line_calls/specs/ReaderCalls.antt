@@ -5,7 +5,7 @@ use Rattle.osdp_msg.specs.Events.{EventFits, event_words}
 use Rattle.osdp_msg.specs.Limits.{most_data}
 use Rattle.osdp_settings.specs.Values.{switch_word}
 use Rattle.osdp_words.specs.Word.{Word, plain, bytes, number}
-use Rattle.osdp_line_calls.specs.Calls.{IsLong}
+use Rattle.osdp_line_calls.specs.Calls.{FitsALine}
 use Rattle.osdp_line_calls.specs.declared.reader_call.ReaderCall.{ReaderCall}
 use Rattle.osdp_line_calls.specs.declared.reader_call.ReaderCall.TheVariants.{At, Bytes, Silence, Tick, Event, Busy, Inputs, Outputs, Readers, Local}
 
@@ -43,7 +43,7 @@ AreStates list = (length list ≤ most_data) × IsBytes list
 
 abbrev pub CallFits : ReaderCall → Type 0
 CallFits (At now) = now < 2 ^ 64
-CallFits (Bytes list) = IsLong list.items
+CallFits (Bytes list) = FitsALine list.items
 CallFits Silence = Unit {0}
 CallFits Tick = Unit {0}
 CallFits (Event event) = EventFits event

@@ -10,8 +10,8 @@ abbrev pub refuses : Session → Called
 refuses s = ended (record { text = no_line; session = s })
 
 -- what ends so, as the text of an answer, and the session after it
-abbrev pub Gives : Called → List ℕ → Session → Type 0
-Gives c text next = (text ≡ c.text) × (next ≡ c.session)
+abbrev pub TellsAndLeaves : Called → List ℕ → Session → Type 0
+TellsAndLeaves c text next = (text ≡ c.text) × (next ≡ c.session)
 
 -- what a line comes to, and the same as what a machine answers it
 abbrev pub IsAnswered : List ℕ → Session → Called → Type 0

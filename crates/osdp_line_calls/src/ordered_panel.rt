@@ -6,7 +6,7 @@ ghost use Rattle.osdp_bus.specs.Machine.{NewEnds, add_refusal, changed_unless};
 ghost use Rattle.osdp_bus.specs.Settings.{IsBusConfig};
 ghost use Rattle.osdp_bus.specs.Ticking.{bus_ticks};
 ghost use Rattle.osdp_orders.specs.Orders.{after_add, after_tick, after_withdraw, both, withdrawal};
-ghost use Rattle.osdp_line_calls.specs.OrderedLines.{Answers, Ends, Gives, refuses};
+ghost use Rattle.osdp_line_calls.specs.OrderedLines.{Answers, Ends, TellsAndLeaves, refuses};
 ghost use Rattle.osdp_line_calls.specs.OrderedPanels.{Called, Comes, answered, does, new_ordered, with_orders};
 ghost use Rattle.osdp_line_calls.specs.PanelCalls.{CallFits, call_words};
 ghost use Rattle.osdp_line_calls.specs.PanelTexts.{refusal_line, send_line, withdrawal_line};
@@ -164,9 +164,9 @@ impl LineMachine for OrderedPanel {
 
     ghost answers = { Answers };
 
-    ghost answers_call = { λ s call. Gives (answered call s) };
+    ghost answers_call = { λ s call. TellsAndLeaves (answered call s) };
 
-    ghost refuses = { λ s. Gives (refuses s) };
+    ghost refuses = { λ s. TellsAndLeaves (refuses s) };
 
     ghost is_ready = { λ p. Unit {0} };
 

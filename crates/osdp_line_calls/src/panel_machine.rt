@@ -2,7 +2,7 @@
 
 ghost use Rattle.std.proofs.Common.{inl, inr};
 ghost use Rattle.osdp_line_calls.specs.PanelCalls.{CallFits, call_words};
-ghost use Rattle.osdp_line_calls.specs.PanelLines.{Answers, Gives, refuses};
+ghost use Rattle.osdp_line_calls.specs.PanelLines.{Answers, TellsAndLeaves, refuses};
 ghost use Rattle.osdp_line_calls.specs.PanelSessions.{answered};
 
 use crate::call::LineCall;
@@ -29,9 +29,9 @@ impl LineMachine for LinePanel {
 
     ghost answers = { Answers };
 
-    ghost answers_call = { λ s call. Gives (answered call s) };
+    ghost answers_call = { λ s call. TellsAndLeaves (answered call s) };
 
-    ghost refuses = { λ s. Gives (refuses s) };
+    ghost refuses = { λ s. TellsAndLeaves (refuses s) };
 
     ghost is_ready = { λ p. Unit {0} };
 

@@ -3,7 +3,7 @@
 ghost use Rattle.std.proofs.Common.{inl, inr, refl};
 ghost use Rattle.osdp_frame.specs.Receiving.{IsAllRead};
 ghost use Rattle.osdp_line_calls.specs.ReaderCalls.{CallFits, call_words};
-ghost use Rattle.osdp_line_calls.specs.ReaderLines.{Answers, Gives, refuses};
+ghost use Rattle.osdp_line_calls.specs.ReaderLines.{Answers, TellsAndLeaves, refuses};
 ghost use Rattle.osdp_line_calls.specs.ReaderSessions.{answered};
 
 use crate::call::LineCall;
@@ -31,9 +31,9 @@ impl LineMachine for LineDevice {
 
     ghost answers = { Answers };
 
-    ghost answers_call = { λ s call. Gives (answered call s) };
+    ghost answers_call = { λ s call. TellsAndLeaves (answered call s) };
 
-    ghost refuses = { λ s. Gives (refuses s) };
+    ghost refuses = { λ s. TellsAndLeaves (refuses s) };
 
     ghost is_ready = { λ d. IsAllRead d.line };
 

@@ -3,7 +3,7 @@
 ghost use Rattle.std.specs.Prelude.{◌≡◌, ◌<◌, ◌^◌, ◌∷◌, List, ℕ, [], MatchOption};
 ghost use Rattle.osdp_words.specs.Reading.{ReadsWords};
 ghost use Rattle.osdp_words.specs.Word.{bytes, number, texts};
-ghost use Rattle.osdp_line_calls.specs.Calls.{IsLong};
+ghost use Rattle.osdp_line_calls.specs.Calls.{FitsALine};
 
 use arrayvec::ArrayVec;
 use osdp_words::{byte_list, number_u64};
@@ -27,7 +27,7 @@ pub(crate) fn one_moment(words: &[&str]) -> Option<u64>
 
 /// One word, and no other: bytes of the line.
 pub(crate) fn one_list(words: &[&str]) -> Option<ArrayVec<u8, 4096>>
-    ensures { ReadsWords (λ list. bytes list.items ∷ []) (λ list. IsLong list.items) (texts words.now) result }
+    ensures { ReadsWords (λ list. bytes list.items ∷ []) (λ list. FitsALine list.items) (texts words.now) result }
 {
     byte_list(one_word(words)?)
 }

@@ -2,7 +2,7 @@ use Rattle.std.proofs.Common.{[], ◌∷◌, IfErr, sym, subst}
 use Rattle.std.proofs.KnownBytes.{Keeps-refl}
 use Rattle.osdp_tool_streams.specs.Cut.{line_feed}
 use Rattle.osdp_tool_streams.specs.Watched.{inner_of, has_failed}
-use Rattle.osdp_line_answers.specs.Steps.{Goes, StopsIn, WroteAnswer}
+use Rattle.osdp_line_answers.specs.Steps.{CarriesOn, StopsIn, WroteAnswer}
 use Rattle.osdp_tool_streams.proofs.Answered.{on_each_err, on_err, on_ok}
 use Rattle.osdp_line_answers.proofs.Stopping.{ends, holds, stops_before, stops_ending}
 use Rattle.osdp_line_answers.proofs.lines.take_byte.Goals as goal
@@ -33,7 +33,7 @@ pub returns-clause-goes : goal.returns-clause-goes
 returns-clause-goes g c =
     let before = g.W.Write.contents (inner_of c.args.output.now) in
     let after = g.W.Write.contents (inner_of c.end_line.new.output) in
-    subst (λ l. Goes g.M.LineAnswerer.answers (c.args.byte ∷ []) c.args.machine.now c.args.line.now.items before c.end_line.new.machine l after) (sym c.clear.ensures.items)
-    (subst (λ b. Goes g.M.LineAnswerer.answers (b ∷ []) c.args.machine.now c.args.line.now.items before c.end_line.new.machine [] after) (sym c.if-byte-ne10.false)
+    subst (λ l. CarriesOn g.M.LineAnswerer.answers (c.args.byte ∷ []) c.args.machine.now c.args.line.now.items before c.end_line.new.machine l after) (sym c.clear.ensures.items)
+    (subst (λ b. CarriesOn g.M.LineAnswerer.answers (b ∷ []) c.args.machine.now c.args.line.now.items before c.end_line.new.machine [] after) (sym c.if-byte-ne10.false)
     (ends g.M.LineAnswerer.answers c.args.machine.now c.end_line.new.machine c.args.line.now.items before after
     (subst (λ l. WroteAnswer g.M.LineAnswerer.answers c.args.machine.now l c.end_line.new.machine before after) c.deref.ensures.value c.in_ok-end_line.ensures.ends.0)))

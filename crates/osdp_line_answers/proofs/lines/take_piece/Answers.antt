@@ -1,7 +1,7 @@
 use Rattle.std.proofs.Common.{◌+◌, IfErr, take, drop, take-append-drop, sym, subst, ◌∙◌, arith}
 use Rattle.std.proofs.lemmas.List.{take_more}
 use Rattle.osdp_tool_streams.specs.Watched.{inner_of}
-use Rattle.osdp_line_answers.specs.Steps.{Goes, StopsIn}
+use Rattle.osdp_line_answers.specs.Steps.{CarriesOn, StopsIn}
 use Rattle.osdp_tool_streams.proofs.Answered.{on_err}
 use Rattle.osdp_line_answers.proofs.Stopping.{goes_both, stops_early, stops_further}
 use Rattle.osdp_line_answers.proofs.lines.take_piece.Goals as goal
@@ -31,7 +31,7 @@ bytes-preserved g c =
     record {
       ready = c.in_ok-take_byte.ensures.ready;
       unfailed = c.in_ok-take_byte.ensures.step ∙ c.bytes.invariant.unfailed;
-      goes = subst (λ l. Goes answers l c.args.machine.now c.args.line.now.items before c.take_byte.new.machine c.take_byte.new.line.items after)
+      goes = subst (λ l. CarriesOn answers l c.args.machine.now c.args.line.now.items before c.take_byte.new.machine c.take_byte.new.line.items after)
           (sym (take_more piece at 0 (omega arith)))
           (goes_both answers (take at piece) _ c.args.machine.now c.bytes.machine c.take_byte.new.machine c.args.line.now.items c.bytes.line.items c.take_byte.new.line.items
           before (g.W.Write.contents (inner_of c.bytes.output)) after c.bytes.invariant.goes c.in_ok-take_byte.ensures.goes);

@@ -1,6 +1,6 @@
 use Rattle.std.proofs.Common.{◌≡◌, take}
 use Rattle.osdp_tool_streams.specs.Watched.{inner_of, has_failed}
-use Rattle.osdp_line_answers.specs.Steps.{Goes}
+use Rattle.osdp_line_answers.specs.Steps.{CarriesOn}
 use Rattle.osdp_line_answers.proofs.lines.take_piece.Given as goal
 
 -- the bytes before this one
@@ -8,6 +8,6 @@ abbrev pub invariant-bytes : goal.invariant-bytes
 invariant-bytes g l = record {
   ready : g.M.LineAnswerer.is_ready l.machine;
   unfailed : has_failed l.output ≡ has_failed l.initial.output;
-  goes : Goes g.M.LineAnswerer.answers (take l.byte-index l.piece) l.initial.machine l.initial.line.items (g.W.Write.contents (inner_of l.initial.output))
+  goes : CarriesOn g.M.LineAnswerer.answers (take l.byte-index l.piece) l.initial.machine l.initial.line.items (g.W.Write.contents (inner_of l.initial.output))
       l.machine l.line.items (g.W.Write.contents (inner_of l.output));
 }
