@@ -1,0 +1,12 @@
+pub mod Idle
+pub mod Many
+pub mod Buses
+pub mod Ledgers
+pub mod Stations
+pub mod Premises
+pub mod Panels
+pub mod Steps
+pub mod Lists
+pub mod Holding
+pub mod Whole
+pub mod Day

@@ -1,0 +1,2 @@
+pub mod FewerEntries
+pub mod Day
