@@ -7,7 +7,7 @@
 - Each path that README names is there, and a law that stands in one row with a path is a law of that file.
 - docs/ARCHITECTURE.md has the picture and the table that tools/map makes of crates.txt. Each definition that it names is there.
   Each file of src/ and specs/, but for tests, says at its head what it holds.
-- docs/ACCOUNTS.md quotes the law `calls_hold_once` and definitions that it names, as they stand in the file named above them, and quotes no other, in at most 300 lines.
+- docs/PREMISES.md quotes the premises and definitions that they name, as they stand in the file named above them, and quotes no other, in at most 300 lines.
   What these name and it doesn't quote stands in its table of words, with the file that has it, and no other word does. The crates of its last table
   have the laws and definitions that the rows name. docs/HEADLINE.md does the same of law `ledger_holds_once` and of the ledger's steps, in at most 300 lines.
 - Each block of code of a page is text of the file that the line above it names. Each link of a page goes to a file, and to a heading of it.
@@ -431,7 +431,7 @@ def judge_lengths():
     readme = (TOP / "README.md").read_text().splitlines()
     if max(map(len, readme)) > 120:
         faults.append("README.md: a line of more than 120 characters")
-    for page, most in (("docs/DEVELOPING.md", 120), ("docs/ARCHITECTURE.md", 300), ("docs/GUIDE.md", 500), ("docs/PROOFS.md", 500), ("docs/HEADLINE.md", 300), ("docs/ACCOUNTS.md", 300)):
+    for page, most in (("docs/DEVELOPING.md", 120), ("docs/ARCHITECTURE.md", 300), ("docs/GUIDE.md", 500), ("docs/PROOFS.md", 500), ("docs/HEADLINE.md", 300), ("docs/PREMISES.md", 300)):
         if len((TOP / page).read_text().splitlines()) > most:
             faults.append(f"{page}: more than {most} lines")
 
@@ -445,8 +445,8 @@ if __name__ == "__main__":
     judge_heads(every)
     judge_exchanges()
     judge_manual()
-    judge_quotes("docs/ACCOUNTS.md", {"CallsHoldOnce"}, 20, "## From the statement")
-    judge_carriers("docs/ACCOUNTS.md")
+    judge_quotes("docs/PREMISES.md", {"AllKeep", "IsSetUp"}, 15, "## From the statement")
+    judge_carriers("docs/PREMISES.md")
     judge_quotes("docs/HEADLINE.md", {"LedgerHoldsOnce", "Ledger", "May"}, 5, None)
     judge_profile()
     every_word = words_of_sources()

@@ -1,49 +1,40 @@
 -- Every list of calls that keep the premises is a list of moves of a net, so what holds of each site holds of each entry.
-use Rattle.std.proofs.Common.{◌≡◌, ℕ, List, [], ◌∷◌, ◌++◌, Option, Some, None, refl, sym, subst, ap, ◌∙◌, inl, inr}
-use Rattle.std.specs.Prelude.{is_some}
+use Rattle.std.proofs.Common.{◌≡◌, ℕ, List, [], ◌∷◌, ◌++◌, Some, refl, sym, subst, ap, ◌∙◌, inl, inr}
 use Rattle.osdp_msg.specs.declared.command.Command.{Command}
-use Rattle.osdp_msg.specs.declared.event.Event.{Event}
-use Rattle.osdp_controller.specs.Machine.{Machine}
-use Rattle.osdp_controller.specs.declared.state.State.{State}
-use Rattle.osdp_controller.specs.declared.state.State.TheVariants.{Closed, Quiet, Idle, Waiting, Pausing}
 use Rattle.osdp_bus.specs.Buses.{device_of}
 use Rattle.osdp_bus.specs.declared.entry.Entry.{Entry}
 use Rattle.osdp_bus_laws.specs.Calls as bus
 use Rattle.osdp_device.specs.Deciding.{passed}
 use Rattle.osdp_frame.specs.Receiving.{after_silence, after_take, after_tick}
-use Rattle.osdp_link_laws.specs.Headline.{EachIsOnce, IsBeginning, IsWithout}
 use Rattle.osdp_link_laws.specs.Link as link
-use Rattle.osdp_link_laws.specs.Link.{Account, Link, Move}
-use Rattle.osdp_link_laws.specs.Withdrawn.{OfferAmong}
+use Rattle.osdp_link_laws.specs.Link.{Link, Move}
 use Rattle.osdp_link_laws.specs.Sessions as sessions
-use Rattle.osdp_link_laws.specs.Sessions.{AreInARow, HaveLeft, IsAmong, LastsOrLeaves, Leaves, all_submitted, all_taken, ended_commands, queued, submitted, unsettled_in, withdrawn_in}
+use Rattle.osdp_link_laws.specs.Sessions.{all_submitted, queued, submitted}
 use Rattle.osdp_link_laws.proofs.Lines.{each_append, each_map, each_of}
 use Rattle.osdp_link_laws.proofs.Stages.{Each}
 use Rattle.osdp_reader.specs.State.{ReaderState}
 use Rattle.osdp_reader.specs.declared.handler.Answer.{Answer}
-use Rattle.osdp_shared_line.specs.Addresses.{NetMovesFit, NoTwoAreTogether, NobodyElseHears}
+use Rattle.osdp_shared_line.specs.Addresses.{NetMovesFit, NoTwoAreTogether}
 use Rattle.osdp_shared_line.specs.Line.{Net, NetMove, RestartPanel, Site, after_net, run, site_at}
-use Rattle.osdp_shared_line.specs.Runs.{EachHasSessionsInARow, EachHoldsOnce, moves_of}
-use Rattle.osdp_shared_line.specs.Views.{EachMoveIsItsOwn, view}
 use Rattle.osdp_calls.specs.Accepted.{accepted_by, all_accepted, all_queued, queued_by}
 use Rattle.osdp_calls.specs.Calls.{Call, Next, NewDevice, NewPanel, OfPanel, Pending, SetBusy, SetHandler, Silence, Step, SubmitEvent, Take, TickDevice, after_call, after_calls, read_by, WithdrawEvent}
 use Rattle.osdp_calls.specs.Lines.{InUse, Station}
 use Rattle.osdp_calls.specs.Premises.{Addresses, AllKeep, InOrder, InRange, IsSetUp, QuietOpening}
-use Rattle.osdp_calls.specs.Promises.{CallsHoldOnce, CallsKeepApart, link_of_entry, state_until}
-use Rattle.osdp_calls.proofs.Counting.{LinkGivesNone, all_heard, counted, in_link, in_net, in_net_more, net_none}
+use Rattle.osdp_calls.specs.Promises.{CallsKeepApart}
+use Rattle.osdp_calls.proofs.Counting.{counted, in_net, in_net_more}
 use Rattle.osdp_calls.proofs.Devices.{handling, lines_change, next_still, nexting, queueing, withdrawing_event}
 use Rattle.osdp_calls.proofs.Lasting.{call_keeps}
 use Rattle.osdp_calls.proofs.Losing.{fit_then, run_then}
 use Rattle.osdp_calls.proofs.Matching.{IsOurs}
 use Rattle.osdp_calls.proofs.Orders.{beginning, retargeting, submitting, withdrawing}
 use Rattle.osdp_calls.proofs.Panel.{at_seen}
-use Rattle.osdp_calls.proofs.Powers.{device_anew, panel_anew, waiting_too}
+use Rattle.osdp_calls.proofs.Powers.{device_anew, panel_anew}
 use Rattle.osdp_calls.proofs.Runs.{NotPast, reads_bytes, reads_end}
 use Rattle.osdp_calls.proofs.Same.{Controls, IsNetOf}
-use Rattle.osdp_calls.proofs.Setting.{Starts, first_net, first_site, first_there, starts}
+use Rattle.osdp_calls.proofs.Setting.{Starts, first_net, starts}
 use Rattle.osdp_calls.proofs.Stations.{Makes, busying, make_none, of_station}
 use Rattle.osdp_calls.proofs.Strangers.{ordered}
-use Rattle.osdp_calls.proofs.Steps.{IsOf, IsOfOne, Made, StepsTo, by_plain, queues_none, submits_none}
+use Rattle.osdp_calls.proofs.Steps.{IsOf, IsOfOne, Made, StepsTo, by_plain}
 use Rattle.osdp_calls.proofs.Ticks.{ticking}
 
 module _ {H : Type 0} (answer_of : H → Command → Answer) (after : H → Command → H) where
@@ -185,52 +176,7 @@ module _ {H : Type 0} (answer_of : H → Command → Answer) (after : H → Comm
       let same = o.is in
       record { site = o.site; there = o.at; reader = same.reader; account = same.account; earlier = same.earlier; entry = o.device; is_entry = o.entry; controller = same.controller }
 
-  -- ---- a session that lasts, or what it leaves
-
-  lasts_same : (st : State) (a b : Link H) → a.account ≡ b.account → a.controller.waiting ≡ b.controller.waiting
-      → a.reader.queue.events ≡ b.reader.queue.events → LastsOrLeaves st a → LastsOrLeaves st b
-  lasts_same Closed a b account waiting events is = subst (λ (p : Account × List Command × List Event). Leaves p.0 p.1 p.2) (λ i. (account i, waiting i, events i)) is
-  lasts_same (Quiet until) a b account waiting events is =
-      subst (λ (t : Account). (t.unsettled ≡ []) × (t.forgotten ≡ []) × (t.removed ≡ [])) account is
-  lasts_same (Idle due) a b account waiting events is =
-      subst (λ (t : Account). (t.unsettled ≡ []) × (t.forgotten ≡ []) × (t.removed ≡ [])) account is
-  lasts_same (Waiting until sends o) a b account waiting events is =
-      subst (λ (t : Account). (t.unsettled ≡ []) × (t.forgotten ≡ []) × (t.removed ≡ [])) account is
-  lasts_same (Pausing until o) a b account waiting events is =
-      subst (λ (t : Account). (t.unsettled ≡ []) × (t.forgotten ≡ []) × (t.removed ≡ [])) account is
-
-  state_same : (o : Option ℕ) (top : ℕ) (m c : Machine) → Controls o top m c → c.session.state ≡ state_until o m.session.state
-  state_same None top m c is = ap (λ (x : Machine). x.session.state) is.same
-  state_same (Some began) top m c is = ap (λ (x : Machine). x.session.state) is.same
-
-  lasts_here : (t : Station H) (d : Entry) (top : ℕ) (s : Site H) (b : Link H) → Controls t.begun top d.controller s.controller
-      → s.controller.session.state ≡ b.controller.session.state → s.account ≡ t.account → s.reader ≡ t.reader
-      → b.account ≡ s.account → b.controller.waiting ≡ s.controller.waiting → b.reader ≡ s.reader
-      → LastsOrLeaves s.controller.session.state b → LastsOrLeaves (state_until t.begun d.controller.session.state) (link_of_entry d t)
-  lasts_here t d top s b control state account reader account_too waiting_same reader_too is =
-      lasts_same (state_until t.begun d.controller.session.state) b (link_of_entry d t) (account_too ∙ account)
-      (waiting_same ∙ waiting_too t.begun top d.controller s.controller control)
-      (ap (λ (r : ReaderState H). r.queue.events) (reader_too ∙ reader))
-      (subst (λ st. LastsOrLeaves st b) (state_same t.begun top d.controller s.controller control) is)
-
-  -- ---- the promises
-
-  given_in : (own : EachMoveIsItsOwn answer_of after) → (nobody : NobodyElseHears answer_of after) → {A : Type 0} (f : Move H → Link H → List A)
-      → ((m : Move H) (l : Link H) → LinkGivesNone m → f m l ≡ []) → (l : InUse H) (steps : List (Step H)) (c : Comes l steps) (k : ℕ) (t : Station H)
-      → site_at k l.stations ≡ Some t
-      → counted answer_of after f (moves_of answer_of after k (RestartPanel c.start.settings ∷ c.came.moves) (first_net c.start.config l.stations))
-      (view k (first_site c.start.config t) (first_net c.start.config l.stations))
-      ≡ in_net answer_of after f k c.came.moves (after_net answer_of after (RestartPanel c.start.settings) (first_net c.start.config l.stations))
-  given_in own nobody f none l steps c k t is =
-      let n0 = first_net c.start.config l.stations in
-      let restart = RestartPanel c.start.settings in
-      let moves = restart ∷ c.came.moves in
-      in_link answer_of after f own k moves n0 (first_site c.start.config t)
-      (all_heard answer_of after nobody n0 c.start.is_set_up [] moves (c.start.fits, c.came.fit)) (c.start.fits, c.came.fit)
-      (first_there c.start.config k t l.stations is)
-      ∙ in_net_more answer_of after f k (restart ∷ []) c.came.moves n0
-      ∙ ap (λ xs. xs ++ in_net answer_of after f k c.came.moves (after_net answer_of after restart n0))
-      (net_none answer_of after f none k (restart ∷ []) n0 (tt, tt))
+  -- ---- what is submitted and queued
 
   pub commands_counted : (ms : List (Move H)) (l : Link H) → all_submitted answer_of after ms l ≡ counted answer_of after submitted ms l
   commands_counted [] l = refl
@@ -240,48 +186,7 @@ module _ {H : Type 0} (answer_of : H → Command → Answer) (after : H → Comm
   events_counted [] l = refl
   events_counted (m ∷ ms) l = ap (λ xs. queued m l ++ xs) (events_counted ms (link.after_move answer_of after m l))
 
-  pub calls_hold : EachMoveIsItsOwn answer_of after → NobodyElseHears answer_of after → EachHoldsOnce answer_of after
-      → EachHasSessionsInARow answer_of after → CallsHoldOnce answer_of after
-  calls_hold own nobody once row l steps up keep k first last is there =
-      let c = comes l steps up keep in
-      let n0 = first_net c.start.config l.stations in
-      let restart = RestartPanel c.start.settings in
-      let moves = restart ∷ c.came.moves in
-      let fit : NetMovesFit answer_of after moves n0 = (c.start.fits, c.came.fit) in
-      let ls = after_calls answer_of after steps l in
-      let s = its_site k last ls c.came.net c.came.same there in
-      let f = first_site c.start.config first in
-      let from = first_there c.start.config k first l.stations is in
-      let at : site_at k (run answer_of after moves n0).sites ≡ Some s.site = ap (λ (m : Net H). site_at k m.sites) c.came.run ∙ s.there in
-      let held = once n0 moves c.start.is_set_up fit k f s.site from at in
-      let rows = row n0 moves c.start.is_set_up fit k f s.site from at in
-      let ms = moves_of answer_of after k moves n0 in
-      let commands : all_submitted answer_of after ms (view k f n0) ≡ all_accepted answer_of after k steps l =
-      commands_counted ms (view k f n0) ∙ given_in own nobody submitted submits_none l steps c k first is ∙ c.came.submitted k (ap is_some is) in
-      let events : first.reader.queue.events ++ sessions.all_queued answer_of after ms (view k f n0)
-      ≡ first.reader.queue.events ++ all_queued answer_of after k steps l =
-      ap (λ xs. first.reader.queue.events ++ xs)
-      (events_counted ms (view k f n0) ∙ given_in own nobody queued queues_none l steps c k first is ∙ c.came.queued k) in
-      record {
-        once = subst EachIsOnce (λ i. s.account i ∷ s.earlier i) held;
-        row = subst (λ (p : Account × List Account). AreInARow p.0 p.1) (λ i. (s.account i, s.earlier i)) rows.row;
-        commands = sym commands ∙ rows.commands ∙ (λ i. ended_commands (s.earlier i) ++ (s.account i).issued);
-        events = subst (λ (p : List Event × Account × List Account). (gone : List Event) × HaveLeft p.0 p.2 gone
-            × IsWithout (withdrawn_in (p.1 ∷ p.2)) p.0 (gone ++ p.1.stayed))
-            (λ i. (events i, s.account i, s.earlier i)) rows.events;
-        withdrawn = subst (λ (p : List Event × Account × List Account). (others : List Event)
-            × IsWithout (withdrawn_in (p.1 ∷ p.2)) p.0 others × OfferAmong others (p.1 ∷ p.2)) (λ i. (events i, s.account i, s.earlier i)) rows.withdrawn;
-        taken = subst (λ (p : List Command × Account × List Account). (left_out : List Command) × (others : List Command)
-            × IsAmong left_out (unsettled_in (p.1 ∷ p.2))
-            × IsWithout left_out p.0 others
-            × IsBeginning (all_taken (p.1 ∷ p.2)) others) (λ i. (commands i, s.account i, s.earlier i)) rows.taken;
-        lasts = (
-          s.entry,
-          s.is_entry,
-          lasts_here last s.entry ls.bus.greatest s.site (view k s.site (run answer_of after moves n0)) s.controller refl s.account s.reader
-              refl refl refl rows.lasts,
-        );
-      }
+  -- ---- no two devices are at one address
 
   pub calls_apart : NoTwoAreTogether answer_of after → CallsKeepApart answer_of after
   calls_apart apart l steps up keep j k s t other at there e =

@@ -20,15 +20,12 @@ pub mod Orders
 pub mod Powers
 pub mod Setting
 pub mod Holding
-pub mod Costing
 pub mod Sayings
 pub mod Handing
 pub mod Turning
 pub mod Places
 pub mod Ends
 pub mod Refusing
-pub mod OneDevice
-pub mod Undisturbed
 pub mod Along
 pub mod Noticing
 pub mod Agreeing

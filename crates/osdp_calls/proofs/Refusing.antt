@@ -29,10 +29,10 @@ use Rattle.osdp_shared_line.specs.Line.{Net, NetMove, RestartPanel, Site, addres
 use Rattle.osdp_shared_line.specs.Runs.{EachRefusesNoNumber}
 use Rattle.osdp_shared_line.specs.Views.{HeardByOwn, own}
 use Rattle.osdp_shared_line.proofs.Sites.{changed_from, some_same}
-use Rattle.osdp_calls.specs.Calls.{after_calls, all_hear, asked_at, change_at, changes_at, hears_of, read_by}
+use Rattle.osdp_calls.specs.Calls.{OfPanel, Step, after_calls, all_hear, asked_at, change_at, changes_at, hears_of, read_by}
 use Rattle.osdp_calls.specs.Handing.{heard, told_by_all}
 use Rattle.osdp_calls.specs.Lines.{Burst, InUse, Station, is_past_for_panel}
-use Rattle.osdp_calls.specs.Refusals.{CallsRefuseNoNumber}
+use Rattle.osdp_calls.specs.Premises.{AllKeep, IsSetUp as IsSetUpLine, Keeps}
 use Rattle.osdp_calls.proofs.Ahead.{panel_front}
 use Rattle.osdp_calls.proofs.Controllers.{hears_same, ignored_command, ignored_quiet}
 use Rattle.osdp_calls.proofs.Handing.{hands_over}
@@ -47,6 +47,16 @@ use Rattle.osdp_calls.proofs.Same.{Controls, IsNetOf, IsRightly, IsSame, IsToOpe
 use Rattle.osdp_calls.proofs.Setting.{first_net, first_site, first_there}
 use Rattle.osdp_calls.proofs.Stations.{Sites}
 use Rattle.osdp_calls.proofs.Strangers.{AreOfOthers, Ordered, hears_other, ordered, ordered_heard, others_hear}
+
+module _ {H : Type 0} (answer_of : H → Command → Answer) (after : H → Command → H) where
+  -- a session that counts no restart ends by no refused number, whatever the panel's program calls next
+  abbrev pub CallsRefuseNoNumber : Type 0
+  CallsRefuseNoNumber = (l : InUse H) (steps : List (Step H)) → IsSetUpLine l → AllKeep answer_of after steps l
+      → (k : ℕ) (first t : Station H) → site_at k l.stations ≡ Some first
+      → let line = after_calls answer_of after steps l in
+      site_at k line.stations ≡ Some t → t.account.restarts ≡ 0
+      → (call : bus.Call) (places : List ℕ) → Keeps answer_of after (record { call = OfPanel call; places = places }) line
+      → All (λ (said : ℕ × Report). said.0 ≡ k → IsNoRefusal said.1) (told_in call line.bus)
 
 -- ---- what a controller passes over tells nothing
 

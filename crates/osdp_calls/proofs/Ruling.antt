@@ -28,8 +28,7 @@ use Rattle.osdp_calls.specs.Calls.{Call, Next, NewDevice, NewPanel, OfPanel, Pen
 use Rattle.osdp_calls.specs.Lines.{InUse, Station}
 use Rattle.osdp_calls.specs.Premises as premises
 use Rattle.osdp_calls.specs.Premises.{InOrder, InRange, QuietOpening}
-use Rattle.osdp_calls.specs.Programs.{AllKeepRule, CallsRuleSuffices, KeepsRule, RuledCallsHoldOnce, first_note, first_notes, noted_of, notes_after}
-use Rattle.osdp_calls.specs.Promises.{CallsHoldOnce}
+use Rattle.osdp_calls.specs.Programs.{AllKeepRule, CallsRuleSuffices, KeepsRule, first_note, first_notes, noted_of, notes_after}
 use Rattle.osdp_calls.proofs.Accepting.{panel_rule}
 use Rattle.osdp_calls.proofs.Agreeing.{AllAgree, Ruled, begun_change, begun_changed}
 use Rattle.osdp_calls.proofs.Along.{IsFree, Path, free_rule, notes_along, still_free}
@@ -283,6 +282,3 @@ module _ {H : Type 0} where
             noted = refl;
           })
           (first_agree l up s) keep
-
-      pub ruled_calls_hold : CallsHoldOnce answer_of after → RuledCallsHoldOnce answer_of after
-      ruled_calls_hold hold l steps up keep k first last is there = hold l steps up (calls_rule_suffices l steps up keep) k first last is there

@@ -9,7 +9,6 @@ pub mod Restarts
 pub mod Handing
 pub mod Turning
 pub mod Ends
-pub mod Refusals
 pub mod OneDevice
 pub mod Undisturbed
 pub mod Programs

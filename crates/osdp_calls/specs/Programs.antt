@@ -2,7 +2,7 @@
 -- restart of the panel left nor the one that it set goes to another entry; and `retarget` and a restart of the panel set no other than these. A
 -- device is made anew where it is. Calls that are refused count for nothing. Programs that keep to the rule give no address where another device
 -- may come. They go by what they see: their calls and what these answer, reports, and restarts.
-use Rattle.std.specs.Prelude.{◌≡◌, ◌≢◌, ◌&&◌, ℕ, true, false, ◌==◌, if◌then◌else◌, List, [], ◌∷◌, ◌++◌, Option, Some, None}
+use Rattle.std.specs.Prelude.{◌≡◌, ◌≢◌, ◌&&◌, ℕ, true, false, ◌==◌, if◌then◌else◌, List, [], ◌∷◌, Option, Some, None}
 use Rattle.osdp_msg.specs.declared.command.Command.{Command}
 use Rattle.osdp_msg.specs.declared.command_fields.Communication.{Communication}
 use Rattle.osdp_controller.specs.Hearing.{comset_of}
@@ -17,11 +17,9 @@ use Rattle.osdp_reader.specs.declared.handler.Answer.{Answer}
 use Rattle.osdp_shared_line.specs.Addresses.{Somewhere}
 use Rattle.osdp_shared_line.specs.Line.{site_at}
 use Rattle.osdp_shared_line.specs.Programs.{Note, all_addresses, also_at, is_opened, two_addresses}
-use Rattle.osdp_calls.specs.Accepted.{all_accepted, all_queued}
-use Rattle.osdp_calls.specs.Calls.{Call, NewDevice, NewPanel, OfPanel, Step, after_call, after_calls}
+use Rattle.osdp_calls.specs.Calls.{Call, NewDevice, NewPanel, OfPanel, Step, after_call}
 use Rattle.osdp_calls.specs.Lines.{InUse, Station}
 use Rattle.osdp_calls.specs.Premises.{AllKeep, InOrder, InRange, IsSetUp, QuietOpening}
-use Rattle.osdp_calls.specs.Promises.{HoldsPromises}
 
 -- ---- what a program notes of an entry: whether a session was begun that has not opened yet, and the addresses at which its device may be
 
@@ -101,12 +99,3 @@ module _ {H : Type 0} where
     -- programs that keep to the rule keep the premise on addresses
     abbrev pub CallsRuleSuffices : Type 0
     CallsRuleSuffices = (l : InUse H) (steps : List (Step H)) → IsSetUp l → AllKeepRule steps l (first_notes l) → AllKeep answer_of after steps l
-
-    -- .. so the promises hold of them
-    abbrev pub RuledCallsHoldOnce : Type 0
-    RuledCallsHoldOnce = (l : InUse H) (steps : List (Step H)) → IsSetUp l → AllKeepRule steps l (first_notes l)
-        → (k : ℕ) (first last : Station H) → site_at k l.stations ≡ Some first
-        → let line = after_calls answer_of after steps l in
-        site_at k line.stations ≡ Some last
-        → HoldsPromises (all_accepted answer_of after k steps l) (first.reader.queue.events ++ all_queued answer_of after k steps l)
-        (device_of k line.bus) last

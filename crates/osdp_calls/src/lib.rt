@@ -7,68 +7,28 @@ ghost use Rattle.osdp_calls.specs.Ends.{BusIsReached, GoByTheirOwn, OneExchange}
 ghost use Rattle.osdp_calls.specs.Handing.{HandsOver};
 ghost use Rattle.osdp_calls.specs.Lines.{InUse};
 ghost use Rattle.osdp_calls.specs.Marks.{CallsMarkRepeats, MarksWhatIsToldAgain};
-ghost use Rattle.osdp_calls.specs.OneDevice.{OneDeviceHoldsOnce};
-ghost use Rattle.osdp_calls.specs.Programs.{CallsRuleSuffices, RuledCallsHoldOnce};
-ghost use Rattle.osdp_calls.specs.Promises.{CallsHoldOnce, CallsKeepApart};
-ghost use Rattle.osdp_calls.specs.Refusals.{CallsRefuseNoNumber};
-ghost use Rattle.osdp_calls.specs.Restarts.{NewDeviceCosts, NewDeviceReportsNoMore, NewPanelCosts};
+ghost use Rattle.osdp_calls.specs.Programs.{CallsRuleSuffices};
+ghost use Rattle.osdp_calls.specs.Promises.{CallsKeepApart};
 ghost use Rattle.osdp_calls.specs.Sayings.{AddsMakeTheBus, SaysWhatGoesOut};
 ghost use Rattle.osdp_calls.specs.Strangers.{OthersArePassedOver};
 ghost use Rattle.osdp_calls.specs.Turning.{PanelTurnsByCalls, TurnsByCalls};
-ghost use Rattle.osdp_calls.specs.Undisturbed.{OrdinaryCallsDisturbNone};
 ghost use Rattle.osdp_device.specs.declared.program.ProgramAnswers.{ProgramAnswers};
 
 use osdp_reader::Handler;
 
-/// Over any calls of a panel's program and of its devices' programs, restarts of either among them, that keep the premises, each entry's commands are
-/// taken once and in order, and its events are reported once and in order. In detail, of each entry:
-///
-/// - In each session commands are taken once and in order. A settled command has the answer that the device gave to it then.
-/// - Events are reported once and in order, but for those that a restart of the device threw away before they were offered.
-/// - A session begins with what the one before it has left.
-/// - Each command that `submit` accepted has one place: with the session in which it has ended, or among those of the last one. So has each event that
-///   `submit_event` accepted.
-/// - Over all sessions no command is taken twice. A command counts by its place, so equal ones are told apart.
-/// - While the last session lasts it has told no command unsettled, and none is forgotten or removed. Where it has ended it leaves what the next one
-///   begins with.
-///
-/// The premises:
-///
-/// - In order: what an end reads was said before, and nothing that it reads was said before what it has read already. Nothing is asked of packets of
-///   others: those to or from an address, other than 127, at which no entry is and no device of an entry is or may come.
-/// - Quiet opening: once the opening ID of a session has gone out, its reader and the panel read nothing more that was said before for or by this
-///   reader, or to or from its address.
-/// - Addresses: no accepted call and no restart gives an entry an address where another entry's device is or may come. A device that comes back
-///   elsewhere comes to no address of another entry, and to none at which it may still read what was said for another.
-/// - Set-up: entries stand at different addresses, each with its reader there and no reply stored. Further entries, after these, may have readers of
-///   others: nothing is promised or asked of them.
-/// - Values are in the ranges of their types, and no entry is added later.
-///
-/// Nothing is asked of moments, of how bytes are cut, of when reports are taken, of who is busy, or of what the handlers answer.
-pub fn calls_hold_once<H: Handler>()
-    ensures { CallsHoldOnce H.answer_of H.after }
-{
-    osdp_shared_line::each_move_is_its_own::<H>();
-    osdp_shared_line::nobody_else_hears::<H>();
-    osdp_shared_line::promises::each_holds_once::<H>();
-    osdp_shared_line::promises::each_has_sessions_in_a_row::<H>();
-}
-
 /// A rule for the programs of the panel and its devices stands for the premise on addresses: programs that keep to it give no address where another
-/// device may come, and so the promises hold. Until an entry's next session has opened, neither the address that a COMSET, a `retarget` or a
-/// restart of the panel left nor the one that it set goes to another entry; `retarget` and a restart of the panel set no other than these; and a
-/// device is made anew where it is. Programs go by what they see: their calls and what these answer, reports, and restarts.
+/// device may come, and so the promises of `osdp_calls_ledger` hold. Until an entry's next session has opened, neither the address that a COMSET, a
+/// `retarget` or a restart of the panel left nor the one that it set goes to another entry; `retarget` and a restart of the panel set no other than
+/// these; and a device is made anew where it is. Programs go by what they see: their calls and what these answer, reports, and restarts.
 pub fn calls_rule_suffices<H: Handler>()
     ensures suffices { CallsRuleSuffices H.answer_of H.after }
-    ensures holds { RuledCallsHoldOnce H.answer_of H.after }
 {
-    calls_hold_once::<H>();
     osdp_shared_line::nobody_else_hears::<H>();
     osdp_shared_line::programs::rule_suffices::<H>();
     osdp_link_laws::reads_what_is_asked();
 }
 
-/// Under the same premises no two devices are ever at one address.
+/// Over any calls that keep the premises no two devices are ever at one address.
 pub fn calls_keep_apart<H: Handler>()
     ensures { CallsKeepApart H.answer_of H.after }
 {
@@ -98,19 +58,6 @@ pub fn hands_over_what_is_read()
     ensures { (b : BusState) → HandsOver b }
 {}
 
-/// A restart of its device costs an entry the events in its queue, but the one in front where it has offered that in this session, and at most
-/// its session; and nothing else is reported in that session but what was offered before, and what is queued since and not withdrawn. Of the panel: the
-/// command that was outstanding, and those that waited.
-pub fn restarts_cost<H: Handler>()
-    ensures device { NewDeviceCosts H.answer_of H.after }
-    ensures since { NewDeviceReportsNoMore H.answer_of H.after }
-    ensures panel { NewPanelCosts H.answer_of H.after }
-{
-    osdp_shared_line::each_move_is_its_own::<H>();
-    osdp_shared_line::nobody_else_hears::<H>();
-    osdp_shared_line::restarts::each_restart_costs::<H>();
-}
-
 /// A turn of a device whose program sets the answers, and what it does after `take`, are lists of these calls.
 pub fn turns_are_calls()
     ensures { (l : InUse ProgramAnswers) → TurnsByCalls l }
@@ -133,29 +80,6 @@ pub fn ends_go_by_their_own_calls<H: Handler>()
 {
     osdp_bus_laws::one_exchange_is_outstanding();
 }
-
-/// Under the same premises no session of an entry in which its device has not restarted ends because the device refused a number, whatever the
-/// panel's program calls next.
-pub fn refuses_no_number<H: Handler>()
-    ensures { CallsRefuseNoNumber H.answer_of H.after }
-{
-    osdp_shared_line::nobody_else_hears::<H>();
-    osdp_shared_line::promises::each_refuses_no_number::<H>();
-}
-
-/// Of an entry whose device is never made anew, and whose program sets no handler, whatever the others do: its commands are settled with the
-/// answers of its settings and its one handler, in order, and its events are a beginning of all that were queued and not withdrawn.
-pub fn one_device_holds_once<H: Handler>()
-    ensures { OneDeviceHoldsOnce H.answer_of H.after }
-{
-    osdp_shared_line::restarts::each_of_one_handler_holds_once::<H>();
-}
-
-/// Of an entry neither of whose ends is made anew, and of which nothing is taken back, whatever the others do: no command is forgotten or
-/// removed, and every event is kept. This asks nothing of what the ends read.
-pub fn ordinary_is_undisturbed<H: Handler>()
-    ensures { OrdinaryCallsDisturbNone H.answer_of H.after }
-{}
 
 /// In one life of the panel an event that is told again from one session of an entry to the next is marked (`Bus::is_maybe_again`), and nothing else
 /// is marked but an event equal in bytes to the last one that was reported before, as the first of its session. A life is from where it is made, at

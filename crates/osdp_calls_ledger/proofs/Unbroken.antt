@@ -45,7 +45,6 @@ use Rattle.osdp_calls.specs.Calls.{Call, NewDevice, NewPanel, Next, OfPanel, Pen
 use Rattle.osdp_calls.specs.Handing.{heard, hears_all}
 use Rattle.osdp_calls.specs.Lines.{InUse, Station, bus_with}
 use Rattle.osdp_calls.specs.Premises.{AllKeep}
-use Rattle.osdp_calls.specs.Refusals as by_accounts
 use Rattle.osdp_calls.proofs.Agreeing.{begun_heard}
 use Rattle.osdp_calls.proofs.Ends.{next_stations}
 use Rattle.osdp_calls.proofs.Heeding.{new_at}
@@ -57,6 +56,7 @@ use Rattle.osdp_calls.proofs.Marking.{Agrees, Told, after_told, heard_marks, nex
 use Rattle.osdp_calls.proofs.Matching.{IsOurs}
 use Rattle.osdp_calls.proofs.Noticing.{HeardAt, Touched, Untouched, heard_at}
 use Rattle.osdp_calls.proofs.Places.{those}
+use Rattle.osdp_calls.proofs.Refusing as by_accounts
 use Rattle.osdp_calls.proofs.Same.{IsNetOf}
 use Rattle.osdp_calls.proofs.Setting.{first_net, starts}
 use Rattle.osdp_calls_ledger.specs.Refusals.{CallsRefuseNoNumber, has_restarted}

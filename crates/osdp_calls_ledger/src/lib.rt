@@ -28,7 +28,20 @@ pub fn each_keeps_ledger<H: Handler>()
 /// the device's queue once, or waits. Events are reported in their order, in each session once, and at most the last of a session is told again later.
 /// None is skipped but by its device's program, or by a loss of the device's power.
 ///
-/// The rule for programs of law `calls_rule_suffices` of `osdp_calls` may stand for the premise on addresses.
+/// The premises:
+///
+/// - In order: what an end reads was said before, and nothing that it reads was said before what it has read already. Nothing is asked of packets of
+///   others: those to or from an address, other than 127, at which no entry is and no device of an entry is or may come.
+/// - Quiet opening: once the opening ID of a session has gone out, its reader and the panel read nothing more that was said before for or by this
+///   reader, or to or from its address.
+/// - Addresses: no accepted call and no restart gives an entry an address where another entry's device is or may come. A device that comes back
+///   elsewhere comes to no address of another entry, and to none at which it may still read what was said for another.
+/// - Set-up: entries stand at different addresses, each with its reader there and no reply stored. Further entries, after these, may have readers of
+///   others: nothing is promised or asked of them.
+/// - Values are in the ranges of their types, and no entry is added later.
+///
+/// Nothing is asked of moments, of how bytes are cut, of when reports are taken, of who is busy, or of what the handlers answer. The rule for programs of
+/// law `calls_rule_suffices` of `osdp_calls` may stand for the premise on addresses.
 pub fn ledger_holds_once<H: Handler>()
     ensures calls { LedgerHoldsOnce H.answer_of H.after }
     ensures ruled { RuledLedgerHoldsOnce H.answer_of H.after }
@@ -75,5 +88,6 @@ pub fn ordinary_is_undisturbed<H: Handler>()
 pub fn refuses_no_number<H: Handler>()
     ensures { CallsRefuseNoNumber H.answer_of H.after }
 {
-    osdp_calls::refuses_no_number::<H>();
+    osdp_shared_line::nobody_else_hears::<H>();
+    osdp_shared_line::promises::each_refuses_no_number::<H>();
 }

@@ -1,15 +1,13 @@
 -- What any calls are promised holds where entries are left out.
-use Rattle.std.proofs.Common.{◌≡◌, ◌≤◌, ◌⊎◌, ◌+◌, ℕ, zero, suc, List, [], ◌∷◌, ◌++◌, append-nil, arith, drop, length, option_to_list, slice_get, Option, Some, None, refl, sym, subst, ap, ◌∙◌, inl, inr}
+use Rattle.std.proofs.Common.{◌≡◌, ◌≤◌, ◌⊎◌, ◌+◌, ℕ, zero, suc, List, [], ◌∷◌, ◌++◌, append-nil, arith, drop, length, option_to_list, slice_get, Some, None, refl, sym, subst, ap, ◌∙◌, inl, inr}
 use Rattle.osdp_msg.specs.declared.command.Command.{Command}
 use Rattle.osdp_msg.specs.declared.event.Event.{Event}
-use Rattle.osdp_controller.specs.declared.state.State.TheVariants.{Closed}
 use Rattle.osdp_bus.specs.Buses.{device_of}
 use Rattle.osdp_bus.specs.Remembering.{Remembered}
 use Rattle.osdp_bus.specs.declared.entry.Entry.{Entry}
 use Rattle.osdp_ledger.specs.History.{History, new_history, runs}
 use Rattle.osdp_ledger.specs.Ledger.{new_ledger}
 use Rattle.osdp_link_laws.specs.Link.{outstanding_command}
-use Rattle.osdp_link_laws.specs.Sessions.{LastsOrLeaves, Leaves}
 use Rattle.osdp_link_ledger.specs.Steps.{after_steps, queued_before}
 use Rattle.osdp_link_ledger.proofs.Ties.{runs_after}
 use Rattle.osdp_reader.specs.declared.handler.Answer.{Answer}
@@ -17,11 +15,11 @@ use Rattle.osdp_shared_line.specs.Line.{site_at}
 use Rattle.osdp_shared_line.proofs.Sites.{some_same}
 use Rattle.osdp_calls.specs.Calls.{after_calls}
 use Rattle.osdp_calls.specs.Lines.{InUse, Station}
-use Rattle.osdp_calls.specs.Promises.{CallsHoldOnce, CallsKeepApart, HoldsPromises, link_of_entry, state_until}
+use Rattle.osdp_calls.specs.Promises.{CallsKeepApart}
 use Rattle.osdp_calls_ledger.specs.Laws.{EachKeepsLedger}
 use Rattle.osdp_calls_ledger.specs.Promises.{HoldsOnce, LedgerHoldsOnce}
 use Rattle.osdp_calls_ledger.specs.Steps.{steps_along, steps_from}
-use Rattle.osdp_fewer_entries.specs.FewerEntries.{FewerHoldOnce, FewerKeepApart, FewerKeepLedger, IsIdle, IsOfPanel}
+use Rattle.osdp_fewer_entries.specs.FewerEntries.{FewerKeepApart, FewerKeepLedger, IsIdle, IsOfPanel}
 use Rattle.osdp_fewer_entries.proofs.Buses.{idle_bus}
 use Rattle.osdp_fewer_entries.proofs.Idle.{AreIdleAt, AtPlace, IsEntry, IsIdleOne, IsNobody, at_place, get_back, get_front}
 use Rattle.osdp_fewer_entries.proofs.Ledgers.{AreAlike, alike_after}
@@ -68,44 +66,7 @@ module _ {H : Type 0} where
       let found = idle_there k (length es) l.stations gs t (none_past k es none) left.idle there in
       (found.1.0, (get_back k found.0 es gs found.1.1.0 ∙ found.1.1.1, inr (is_idle gs ms l left found.0 found.1.0 found.1.1.1, idle)))
 
-  idle_lasts : (o : Option ℕ) (d e : Entry) (t : Station H) → IsIdle e → IsIdle d
-      → LastsOrLeaves (state_until o e.controller.session.state) (link_of_entry e t) → LastsOrLeaves (state_until o d.controller.session.state) (link_of_entry d t)
-  idle_lasts o d e t idle too lasts =
-      subst (λ st. LastsOrLeaves (state_until o st) (link_of_entry d t)) (sym too.closed)
-      (by_begun o (subst (λ st. LastsOrLeaves (state_until o st) (link_of_entry e t)) idle.closed lasts))
-    where
-      by_begun : (o : Option ℕ) → LastsOrLeaves (state_until o Closed) (link_of_entry e t) → LastsOrLeaves (state_until o Closed) (link_of_entry d t)
-      by_begun None is = subst (λ ws. Leaves t.account ws t.reader.queue.events) (idle.waiting ∙ sym too.waiting) is
-      by_begun (Some moment) is = subst (λ ws. Leaves t.account ws t.reader.queue.events) (idle.waiting ∙ sym too.waiting) is
-
   module _ (answer_of : H → Command → Answer) (after : H → Command → H) where
-    pub holds_once : CallsHoldOnce answer_of after → FewerHoldOnce answer_of after
-    holds_once holds l steps up keep k first last d is there panel =
-        let x = from_set_up answer_of after steps l up keep in
-        let at : site_at k (after_calls answer_of after x.whole l).stations ≡ Some last = ap (λ (m : InUse H). site_at k m.stations) x.same ∙ there in
-        let whole = holds l x.whole up x.keep k first last is at in
-        let h = subst (λ (q : List Command × List Event). HoldsPromises q.0 (first.reader.queue.events ++ q.1) (device_of k (after_calls answer_of after x.whole l).bus) last)
-        (λ i. (x.accepted k i, x.queued k i)) whole in
-        let e = h.lasts.0 in
-        let entry : device_of k (idle_bus x.idle x.memory (after_calls answer_of after steps l).bus) ≡ Some e =
-        sym (ap (λ (m : InUse H). device_of k m.bus) x.same) ∙ h.lasts.1 in
-        record {
-          once = h.once;
-          row = h.row;
-          commands = h.commands;
-          events = h.events;
-          withdrawn = h.withdrawn;
-          taken = h.taken;
-          lasts = (
-            d,
-            refl,
-            elim (entry_same k d e x.idle x.memory (after_calls answer_of after steps l) x.left panel entry) [
-              | inl same ↦ subst (λ (f : Entry). LastsOrLeaves (state_until last.begun f.controller.session.state) (link_of_entry f last)) same h.lasts.2
-              | inr both ↦ idle_lasts last.begun d e last both.0 both.1 h.lasts.2
-            ],
-          );
-        }
-
     pub keep_apart : CallsKeepApart answer_of after → FewerKeepApart answer_of after
     keep_apart apart l steps up keep j k s t other at there =
         let x = from_set_up answer_of after steps l up keep in

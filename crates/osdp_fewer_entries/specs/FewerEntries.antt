@@ -12,7 +12,6 @@ use Rattle.osdp_calls.specs.Accepted.{all_accepted, all_queued}
 use Rattle.osdp_calls.specs.Calls.{Call, NewPanel, Step, after_call, after_calls}
 use Rattle.osdp_calls.specs.Lines.{InUse, Station}
 use Rattle.osdp_calls.specs.Premises.{AllKeep, IsSetUp, Keeps}
-use Rattle.osdp_calls.specs.Promises.{HoldsPromises}
 use Rattle.osdp_calls_ledger.specs.Promises.{HoldsOnce}
 use Rattle.osdp_calls_ledger.specs.Steps.{steps_from}
 
@@ -52,12 +51,6 @@ module _ {H : Type 0} where
     AllKeepWithFewer (step ∷ steps) l = KeepsWithFewer step l × AllKeepWithFewer steps (after_call answer_of after step.call step.places l)
 
     -- for each of our devices, whether or not the panel has an entry for it in the end
-    abbrev pub FewerHoldOnce : Type 0
-    FewerHoldOnce = (l : InUse H) (steps : List (Step H)) → IsSetUp l → AllKeepWithFewer steps l
-        → (k : ℕ) (first last : Station H) (d : Entry) → site_at k l.stations ≡ Some first
-        → site_at k (after_calls answer_of after steps l).stations ≡ Some last → IsOfPanel k d (after_calls answer_of after steps l)
-        → HoldsPromises (all_accepted answer_of after k steps l) (first.reader.queue.events ++ all_queued answer_of after k steps l) (Some d) last
-
     abbrev pub FewerKeepLedger : Type 0
     FewerKeepLedger = (l : InUse H) (steps : List (Step H)) → IsSetUp l → AllKeepWithFewer steps l
         → (k : ℕ) (first last : Station H) (d : Entry) → site_at k l.stations ≡ Some first

