@@ -74,7 +74,7 @@ module _ {H : Type 0} where
   IsUsual link.Withdraw = ⊥
   IsUsual link.WithdrawEvent = ⊥
   IsUsual (link.Retarget address) = ⊥
-  IsUsual (link.RestartReader address handler room) = ⊥
+  IsUsual (link.RestartReader config handler room) = ⊥
   IsUsual (link.RestartController config room) = ⊥
   IsUsual (link.LoseToReader place) = ⊥
   IsUsual (link.LoseToController place) = ⊥
@@ -85,7 +85,7 @@ module _ {H : Type 0} where
   usual_steady link.Withdraw usual = absurd usual
   usual_steady link.WithdrawEvent usual = absurd usual
   usual_steady (link.Retarget address) usual = absurd usual
-  usual_steady (link.RestartReader address handler room) usual = absurd usual
+  usual_steady (link.RestartReader config handler room) usual = absurd usual
   usual_steady (link.RestartController config room) usual = absurd usual
   usual_steady (link.LoseToReader place) usual = absurd usual
   usual_steady (link.LoseToController place) usual = absurd usual

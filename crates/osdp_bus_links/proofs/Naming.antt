@@ -480,7 +480,7 @@ module _ {H : Type 0} (answer_of : H → Command → Answer) (after : H → Comm
   keeps_move asked answered WithdrawEvent r l device one usual fits told may h = absurd usual
   keeps_move asked answered Withdraw r l device one usual fits told may h = absurd usual
   keeps_move asked answered (Retarget address) r l device one usual fits told may h = absurd usual
-  keeps_move asked answered (RestartReader address handler room) r l device one usual fits told may h = absurd usual
+  keeps_move asked answered (RestartReader config handler room) r l device one usual fits told may h = absurd usual
   keeps_move asked answered (RestartController config room) r l device one usual fits told may h = absurd usual
   keeps_move asked answered (LoseToReader place) r l device one usual fits told may h = absurd usual
   keeps_move asked answered (LoseToController place) r l device one usual fits told may h = absurd usual

@@ -19,7 +19,7 @@ module _ {H : Type 0} where
   IsScheduled (Retarget k address) = ⊥
   IsScheduled (LoseToReader k place) = ⊥
   IsScheduled (LoseToPanel place) = ⊥
-  IsScheduled (RestartReader k address handler room) = ⊥
+  IsScheduled (RestartReader k config handler room) = ⊥
   IsScheduled (RestartPanel settings) = ⊥
   IsScheduled (Submit k command) = Unit {0}
   IsScheduled (Queue k event) = Unit {0}

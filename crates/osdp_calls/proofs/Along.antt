@@ -15,7 +15,7 @@ module _ {H : Type 0} where
   abbrev pub IsFree : NetMove H → Type 0
   IsFree (Submit k command) = ⊥
   IsFree (Retarget k address) = ⊥
-  IsFree (RestartReader k address handler room) = ⊥
+  IsFree (RestartReader k config handler room) = ⊥
   IsFree (RestartPanel settings) = ⊥
   IsFree _ = Unit {0}
 
@@ -33,7 +33,7 @@ module _ {H : Type 0} where
   still_free (LoseToReader k place) still = tt
   still_free (LoseToPanel place) still = tt
   still_free (Reopen k now) still = tt
-  still_free (RestartReader k address handler room) still = still
+  still_free (RestartReader k config handler room) still = still
   still_free (RestartPanel settings) still = still
 
   still_note : (j : ℕ) (s : Site H) (move : NetMove H) (n : Net H) (note : Note) → IsStill move → note_after j s move n note ≡ note
@@ -50,7 +50,7 @@ module _ {H : Type 0} where
   still_note j s (LoseToReader k place) n note still = refl
   still_note j s (LoseToPanel place) n note still = refl
   still_note j s (Reopen k now) n note still = absurd still
-  still_note j s (RestartReader k address handler room) n note still = absurd still
+  still_note j s (RestartReader k config handler room) n note still = absurd still
   still_note j s (RestartPanel settings) n note still = absurd still
 
   still_noted : (move : NetMove H) (n : Net H) (notes : ℕ → Note) → IsStill move → notes_after move n notes ≡ notes
@@ -63,7 +63,7 @@ module _ {H : Type 0} where
   rule_free : (move : NetMove H) (n : Net H) (notes : ℕ → Note) → IsFree move → KeepsRule move n notes
   rule_free (Submit k command) n notes free = absurd free
   rule_free (Retarget k address) n notes free = absurd free
-  rule_free (RestartReader k address handler room) n notes free = absurd free
+  rule_free (RestartReader k config handler room) n notes free = absurd free
   rule_free (RestartPanel settings) n notes free = absurd free
   rule_free _ n notes free = tt
 
@@ -71,7 +71,7 @@ module _ {H : Type 0} where
     rest_free : (move : NetMove H) (n : Net H) → IsFree move → NetMoveFits answer_of after move n → RestFits answer_of after move n
     rest_free (Submit k command) n free fits = absurd free
     rest_free (Retarget k address) n free fits = absurd free
-    rest_free (RestartReader k address handler room) n free fits = absurd free
+    rest_free (RestartReader k config handler room) n free fits = absurd free
     rest_free (RestartPanel settings) n free fits = absurd free
     rest_free _ n free fits = fits
 

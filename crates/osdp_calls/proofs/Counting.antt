@@ -77,7 +77,7 @@ module _ {H : Type 0} where
       (loss_none link.LoseToReader (own_place k place s.coming) (λ place. tt)) tt
   each_none k s (LoseToPanel place) n none = loss_none link.LoseToController (own_place k place n.to_panel) (λ place. tt)
   each_none k s (Reopen i now) n none = one_none i k (link.Reopen now) tt
-  each_none k s (RestartReader i address handler room) n none = one_none i k (link.RestartReader address handler room) tt
+  each_none k s (RestartReader i config handler room) n none = one_none i k (link.RestartReader config handler room) tt
   each_none k s (RestartPanel settings) n none = (tt, tt)
 
   pub quietly : (answer_of : H → Command → Answer) (after : H → Command → H) (move : NetMove H) (n : Net H) → NetMoveFits answer_of after move n

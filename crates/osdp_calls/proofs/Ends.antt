@@ -106,8 +106,8 @@ module _ {H : Type 0} where
     step_keeps k (Pending i) places d l is =
         device_keeps k i (λ t. record t { line = record t.line { held = passed t.reader t.line.held } }) (device_after answer_of after (Pending i)) d l.stations
         (λ t. refl) is
-    step_keeps k (NewDevice i address handler room gap) places d l is =
-        device_keeps k i (made_anew address handler room gap) (device_after answer_of after (NewDevice i address handler room gap)) d l.stations (λ t. refl) is
+    step_keeps k (NewDevice i config handler room gap) places d l is =
+        device_keeps k i (made_anew config handler room gap) (device_after answer_of after (NewDevice i config handler room gap)) d l.stations (λ t. refl) is
     step_keeps k (NewPanel config addresses) places d l is = forget_keeps k d l.bus.devices.entries l.stations is
 
     all_keep : (k : ℕ) (steps : List (Step H)) (d : Held H) (l : InUse H) → IsHeld k d l.stations

@@ -137,7 +137,7 @@ module _ {H : Type 0} where
 
       pub call_addresses : (call : Call H) → KeepsRule call l notes → InRange answer_of after call l → Addresses call l
       call_addresses (OfPanel call) rule range = panel_addresses call rule range
-      call_addresses (NewDevice k address handler room gap) rule range = λ t at. inl (rule t at)
+      call_addresses (NewDevice k config handler room gap) rule range = λ t at. inl (rule t at)
       call_addresses (NewPanel config xs) rule range = panel_premise answer_of after suffices n0 up l n notes noted h path agree config xs range rule
       call_addresses _ rule range = tt
 

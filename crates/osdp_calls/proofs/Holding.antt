@@ -107,8 +107,8 @@ module _ {H : Type 0} (answer_of : H → Command → Answer) (after : H → Comm
   one_call (Pending k) places l n h order quiet addresses range =
       device_reads (Pending k) (after_call answer_of after (Pending k) places l) l n (λ j. refl) (λ j. refl)
       (lines_change answer_of after k (λ t. record t.line { held = passed t.reader t.line.held }) l n h)
-  one_call (NewDevice k address handler room gap) places l n h order quiet addresses range =
-      device_anew answer_of after k address handler room gap l n h addresses range
+  one_call (NewDevice k config handler room gap) places l n h order quiet addresses range =
+      device_anew answer_of after k config handler room gap l n h addresses range
   one_call (NewPanel config xs) places l n h order quiet addresses range = panel_anew answer_of after config xs l n h addresses range
 
   -- ---- a list of calls

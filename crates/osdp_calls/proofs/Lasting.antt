@@ -82,7 +82,7 @@ module _ {H : Type 0} (k : ℕ) where
     call_keeps (Silence i now) places l = change_keeps i _ l.stations
     call_keeps (Next i) places l = next_keeps i places (site_at i l.stations) l
     call_keeps (Pending i) places l = change_keeps i _ l.stations
-    call_keeps (NewDevice i address handler room gap) places l = change_keeps i _ l.stations
+    call_keeps (NewDevice i config handler room gap) places l = change_keeps i _ l.stations
     call_keeps (NewPanel config addresses) places l = forget_keeps l.bus.devices.entries l.stations
 
     pub calls_keep : (steps : List (Step H)) (l : InUse H) → Same (after_calls answer_of after steps l).stations l.stations

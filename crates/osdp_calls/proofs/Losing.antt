@@ -51,7 +51,7 @@ IsPlain (Queue k event) = ⊥
 IsPlain (SetHandler k handler) = ⊥
 IsPlain (Withdraw k) = ⊥
 IsPlain (WithdrawEvent k) = ⊥
-IsPlain (RestartReader k address handler room) = ⊥
+IsPlain (RestartReader k config handler room) = ⊥
 IsPlain (RestartPanel settings) = ⊥
 IsPlain _ = Unit {0}
 
@@ -61,7 +61,7 @@ IsStill (Submit k command) = ⊥
 IsStill (Retarget k address) = ⊥
 IsStill (ToPanel how now) = ⊥
 IsStill (Reopen k now) = ⊥
-IsStill (RestartReader k address handler room) = ⊥
+IsStill (RestartReader k config handler room) = ⊥
 IsStill (RestartPanel settings) = ⊥
 IsStill _ = Unit {0}
 

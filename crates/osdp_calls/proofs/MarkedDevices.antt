@@ -109,6 +109,6 @@ module _ {H : Type 0} where
           (of_device i (nexts answer_of after places) l x (nexts_same places) is)
       step_tells (Pending i) places l x keeps is =
           of_device i (λ t. record t { line = record t.line { held = passed t.reader t.line.held } }) l x (λ t. (refl, refl)) is
-      step_tells (NewDevice i address handler room gap) places l x keeps is =
-          of_device i (made_anew address handler room gap) l x (λ t. (refl, refl)) is
+      step_tells (NewDevice i config handler room gap) places l x keeps is =
+          of_device i (made_anew config handler room gap) l x (λ t. (refl, refl)) is
       step_tells (NewPanel config addresses) places l x keeps is = absurd keeps

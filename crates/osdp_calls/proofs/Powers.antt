@@ -13,7 +13,8 @@ use Rattle.osdp_bus.specs.declared.config.BusConfig.{BusConfig}
 use Rattle.osdp_bus.specs.declared.entry.Entry.{Entry}
 use Rattle.osdp_link_laws.specs.Link as link
 use Rattle.osdp_link_laws.proofs.Lines.{each_of}
-use Rattle.osdp_reader.specs.State.{ReaderState, new_reader}
+use Rattle.osdp_reader.specs.State.{ReaderState}
+use Rattle.osdp_reader.specs.declared.config.ReaderConfig.{ReaderConfig}
 use Rattle.osdp_reader.specs.declared.handler.Answer.{Answer}
 use Rattle.osdp_shared_line.specs.Addresses as addresses
 use Rattle.osdp_shared_line.specs.Addresses.{IsNameOf, Somewhere}
@@ -84,21 +85,21 @@ module _ {H : Type 0} where
   module _ (answer_of : H → Command → Answer) (after : H → Command → H) where
     -- ---- a device
 
-    pub new_device_is : (k address : ℕ) (handler : H) (room : Room) (gap : ℕ) (l : InUse H) (n : Net H) → IsNetOf l n
-        → IsNetOf (on_station k (made_anew address handler room gap) l) (after_net answer_of after (RestartReader k address handler room) n)
-    new_device_is k address handler room gap l n h =
-        both_change k (made_anew address handler room gap) (line.calls answer_of after (link.RestartReader address handler room)) l n h (λ d t s is.
-        read_so is (ap (λ (r : ReaderState H). new_reader (record r.config { address = address }) handler room) is.reader)
+    pub new_device_is : (k : ℕ) (config : ReaderConfig) (handler : H) (room : Room) (gap : ℕ) (l : InUse H) (n : Net H) → IsNetOf l n
+        → IsNetOf (on_station k (made_anew config handler room gap) l) (after_net answer_of after (RestartReader k config handler room) n)
+    new_device_is k config handler room gap l n h =
+        both_change k (made_anew config handler room gap) (line.calls answer_of after (link.RestartReader config handler room)) l n h (λ d t s is.
+        read_so is refl
         (ap link.reader_restarted is.account) tt)
 
-    pub new_device_fits : (k address : ℕ) (handler : H) (room : Room) (l : InUse H) (n : Net H) → IsNetOf l n
-        → ((t : Station H) → site_at k l.stations ≡ Some t → (t.reader.config.address ≡ address) ⊎ IsFreeFor k address t l)
-        → (address < 127) × AreRoom room.messages room.bytes → addresses.NetMoveFits answer_of after (RestartReader k address handler room) n
-    new_device_fits k address handler room l n h free fits =
+    pub new_device_fits : (k : ℕ) (config : ReaderConfig) (handler : H) (room : Room) (l : InUse H) (n : Net H) → IsNetOf l n
+        → ((t : Station H) → site_at k l.stations ≡ Some t → (t.reader.config.address ≡ config.address) ⊎ IsFreeFor k config.address t l)
+        → (config.address < 127) × AreRoom room.messages room.bytes → addresses.NetMoveFits answer_of after (RestartReader k config handler room) n
+    new_device_fits k config handler room l n h free fits =
         λ s at. (fits, by_found s at (found (Sites l) k l.bus.devices.entries l.stations n.sites h.sites))
       where
         by_found : (s : Site H) → site_at k n.sites ≡ Some s → FoundAt (Sites l) k k l.bus.devices.entries l.stations n.sites
-            → (s.reader.config.address ≡ address) ⊎ addresses.IsFreeFor k address s n
+            → (s.reader.config.address ≡ config.address) ⊎ addresses.IsFreeFor k config.address s n
         by_found s at (Nobody o a b c) = absurd (let e = sym c ∙ at in cc)
         by_found s at (Somebody d t s1 a b c has) =
             let is : Sites l k d t s = subst (λ u. Sites l k d t u) (some_same s1 s (sym c ∙ at)) has in
@@ -106,24 +107,24 @@ module _ {H : Type 0} where
               | inl here ↦ inl (ap (λ (r : ReaderState H). r.config.address) is.reader ∙ here)
               | inr frees ↦ inr (record {
                 others = λ j u other there name. by_name frees j u other there (found (Sites l) j l.bus.devices.entries l.stations n.sites h.sites) name;
-                coming = subst (λ qs. All (λ (q : ℕ × Packet). q.0 ≢ k → q.1.address ≢ address) qs) (sym is.coming) frees.said;
+                coming = subst (λ qs. All (λ (q : ℕ × Packet). q.0 ≢ k → q.1.address ≢ config.address) qs) (sym is.coming) frees.said;
               })
             ]
           where
-            by_name : {t : Station H} → IsFreeFor k address t l → (j : ℕ) (u : Site H) → j ≢ k → site_at j n.sites ≡ Some u
-                → FoundAt (Sites l) j j l.bus.devices.entries l.stations n.sites → IsNameOf address j u → ⊥
+            by_name : {t : Station H} → IsFreeFor k config.address t l → (j : ℕ) (u : Site H) → j ≢ k → site_at j n.sites ≡ Some u
+                → FoundAt (Sites l) j j l.bus.devices.entries l.stations n.sites → IsNameOf config.address j u → ⊥
             by_name frees j u other there (Nobody o a b c) name = absurd (let e = sym c ∙ there in cc)
             by_name frees j u other there (Somebody d1 t1 s2 a b c has) (inl is) =
                 frees.entries j t1 d1 other b a (sym (ap (λ (x : _). x.address) (config_same t1.begun l.bus.greatest d1.controller s2.controller has.controller))
                 ∙ ap address_of (some_same s2 u (sym c ∙ there)) ∙ is)
-            by_name frees j u other there (Somebody d1 t1 s2 a b c has) (inr may) = no_other k address l n h frees.devices j u other there may
+            by_name frees j u other there (Somebody d1 t1 s2 a b c has) (inr may) = no_other k config.address l n h frees.devices j u other there may
 
-    pub device_anew : (k address : ℕ) (handler : H) (room : Room) (gap : ℕ) (l : InUse H) (n : Net H) → IsNetOf l n
-        → ((t : Station H) → site_at k l.stations ≡ Some t → (t.reader.config.address ≡ address) ⊎ IsFreeFor k address t l)
-        → (address < 127) × AreRoom room.messages room.bytes → StepsTo answer_of after (NewDevice k address handler room gap) l n (on_station k (made_anew address handler room gap) l)
-    device_anew k address handler room gap l n h free fits =
-        by_own answer_of after (NewDevice k address handler room gap) (RestartReader k address handler room) l n (on_station k (made_anew address handler room gap) l)
-        (λ j. refl) (λ j. refl) tt (gap, refl) refl (new_device_fits k address handler room l n h free fits) (new_device_is k address handler room gap l n h)
+    pub device_anew : (k : ℕ) (config : ReaderConfig) (handler : H) (room : Room) (gap : ℕ) (l : InUse H) (n : Net H) → IsNetOf l n
+        → ((t : Station H) → site_at k l.stations ≡ Some t → (t.reader.config.address ≡ config.address) ⊎ IsFreeFor k config.address t l)
+        → (config.address < 127) × AreRoom room.messages room.bytes → StepsTo answer_of after (NewDevice k config handler room gap) l n (on_station k (made_anew config handler room gap) l)
+    device_anew k config handler room gap l n h free fits =
+        by_own answer_of after (NewDevice k config handler room gap) (RestartReader k config handler room) l n (on_station k (made_anew config handler room gap) l)
+        (λ j. refl) (λ j. refl) tt (gap, refl) refl (new_device_fits k config handler room l n h free fits) (new_device_is k config handler room gap l n h)
 
     -- ---- the panel
 

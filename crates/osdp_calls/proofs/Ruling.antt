@@ -17,6 +17,7 @@ use Rattle.osdp_device.specs.Telling.{items_of}
 use Rattle.osdp_link_laws.specs.Peers.{ReadsWhatIsAsked}
 use Rattle.osdp_link_laws.proofs.Stages.{Each}
 use Rattle.osdp_reader.specs.State.{ReaderState, after_set_busy, after_set_handler}
+use Rattle.osdp_reader.specs.declared.config.ReaderConfig.{ReaderConfig}
 use Rattle.osdp_reader.specs.declared.handler.Answer.{Answer}
 use Rattle.osdp_reader.specs.Queue.{lacks_room}
 use Rattle.osdp_shared_line.specs.Addresses.{IsSetUp, NetMovesFit, NobodyElseHears}
@@ -150,14 +151,14 @@ module _ {H : Type 0} where
           rests (OfPanel panel.NextReport) (after_call answer_of after (OfPanel panel.NextReport) places l) s (subst (Each IsStill) (sym s.made) tt) refl (λ j. refl) (λ j d. refl)
           (λ j. refl)
 
-      device_ruled : (k address : ℕ) (handler : H) (room : Room) (gap : ℕ) (places : List ℕ)
-          → KeepsRule (NewDevice k address handler room gap) l notes
-          → StepsTo answer_of after (NewDevice k address handler room gap) l n (after_call answer_of after (NewDevice k address handler room gap) places l)
-          → Ruled answer_of after n0 (after_call answer_of after (NewDevice k address handler room gap) places l) (notes_after (NewDevice k address handler room gap) l notes)
-      device_ruled k address handler room gap places rule s =
-          let call : Call H = NewDevice k address handler room gap in
+      device_ruled : (k : ℕ) (config : ReaderConfig) (handler : H) (room : Room) (gap : ℕ) (places : List ℕ)
+          → KeepsRule (NewDevice k config handler room gap) l notes
+          → StepsTo answer_of after (NewDevice k config handler room gap) l n (after_call answer_of after (NewDevice k config handler room gap) places l)
+          → Ruled answer_of after n0 (after_call answer_of after (NewDevice k config handler room gap) places l) (notes_after (NewDevice k config handler room gap) l notes)
+      device_ruled k config handler room gap places rule s =
+          let call : Call H = NewDevice k config handler room gap in
           let next = after_call answer_of after call places l in
-          let made : s.moves ≡ RestartReader k address handler room ∷ [] = s.made in
+          let made : s.moves ≡ RestartReader k config handler room ∷ [] = s.made in
           let fit = subst (λ ms. NetMovesFit answer_of after ms n) made s.fit in
           by_steps answer_of after suffices nobody reads n0 up l n notes noted h path agree call next s
           (subst (λ ms. KeepRule answer_of after ms n noted) (sym made) (
@@ -168,12 +169,12 @@ module _ {H : Type 0} where
             tt,
           ))
           (subst (λ ms. AllAgree next (notes_after call l notes) (notes_along answer_of after ms n noted)) (sym made)
-          (all_carried call l next notes noted (notes_along answer_of after (RestartReader k address handler room ∷ []) n noted) agree
-          (λ j. change_keeps j k (made_anew address handler room gap) l.stations) (λ j e own at.
-          as_it_was call l next notes noted (notes_along answer_of after (RestartReader k address handler room ∷ []) n noted) j e e at refl
-          (begun_change j k (made_anew address handler room gap) l.stations (λ t. refl)) refl (unnoted j (site_at j n.sites)))))
+          (all_carried call l next notes noted (notes_along answer_of after (RestartReader k config handler room ∷ []) n noted) agree
+          (λ j. change_keeps j k (made_anew config handler room gap) l.stations) (λ j e own at.
+          as_it_was call l next notes noted (notes_along answer_of after (RestartReader k config handler room ∷ []) n noted) j e e at refl
+          (begun_change j k (made_anew config handler room gap) l.stations (λ t. refl)) refl (unnoted j (site_at j n.sites)))))
         where
-          unnoted : (j : ℕ) (o : Option (line.Site H)) → noted_at j o (RestartReader k address handler room) n (noted j) ≡ noted j
+          unnoted : (j : ℕ) (o : Option (line.Site H)) → noted_at j o (RestartReader k config handler room) n (noted j) ≡ noted j
           unnoted j None = refl
           unnoted j (Some u) = refl
 
@@ -222,8 +223,8 @@ module _ {H : Type 0} where
       call_ruled (Pending k) places order quiet rule range =
           station_ruled (Pending k) k (λ t. record t { line = record t.line { held = passed t.reader t.line.held } }) (λ t. refl) (λ j d. refl)
           (steps_to (Pending k) places order quiet rule range) (λ s. subst (Each IsStill) (sym s.made) tt)
-      call_ruled (NewDevice k address handler room gap) places order quiet rule range =
-          device_ruled k address handler room gap places rule (steps_to (NewDevice k address handler room gap) places order quiet rule range)
+      call_ruled (NewDevice k config handler room gap) places order quiet rule range =
+          device_ruled k config handler room gap places rule (steps_to (NewDevice k config handler room gap) places order quiet rule range)
       call_ruled (NewPanel config xs) places order quiet rule range =
           new_panel_ruled config xs places rule range (steps_to (NewPanel config xs) places order quiet rule range)
 

@@ -198,7 +198,7 @@ module _ {H : Type 0} (answer_of : H → Command → Answer) (after : H → Comm
   one_told (Silence i now) l = refl
   one_told (Next i) l = refl
   one_told (Pending i) l = refl
-  one_told (NewDevice i address handler room gap) l = refl
+  one_told (NewDevice i config handler room gap) l = refl
   one_told (NewPanel config addresses) l = refl
 
   steps_tell : (n : ℕ) (steps : List (Step H)) (l : InUse H) (x : Told) → Each (λ (step : Step H). KeepsPanel step.call) steps
@@ -244,7 +244,7 @@ module _ {H : Type 0} (answer_of : H → Command → Answer) (after : H → Comm
   one_taken (Silence i now) l x same = sym (append-nil x.marks)
   one_taken (Next i) l x same = sym (append-nil x.marks)
   one_taken (Pending i) l x same = sym (append-nil x.marks)
-  one_taken (NewDevice i address handler room gap) l x same = sym (append-nil x.marks)
+  one_taken (NewDevice i config handler room gap) l x same = sym (append-nil x.marks)
   one_taken (NewPanel config addresses) l x same = sym (append-nil x.marks)
 
   -- with what waits at the end

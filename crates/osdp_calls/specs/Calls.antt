@@ -26,13 +26,15 @@ use Rattle.osdp_link_laws.specs.Link.{Withdrawn, event_withdrawn, front_of, new_
 use Rattle.osdp_link_laws.specs.Link as link
 use Rattle.osdp_reader.specs.State.{ReaderState, after_set_busy, after_set_handler, after_submit, after_withdraw_event, new_reader}
 use Rattle.osdp_reader.specs.Table.{hears, kind_of}
+use Rattle.osdp_reader.specs.declared.config.ReaderConfig.{ReaderConfig}
 use Rattle.osdp_reader.specs.declared.handler.Answer.{Answer}
 use Rattle.osdp_reader.specs.Queue.{lacks_room}
 use Rattle.osdp_shared_line.specs.Line.{changed, site_at}
 use Rattle.osdp_calls.specs.Lines.{Burst, InUse, Station, bus_with}
 
 -- the calls of a panel's program; those of a device's program, each with the entry of the device; and power: a device made anew, with its
--- address, its handler, its room for events and its gap, and the panel made anew, with its settings and the addresses of its entries
+-- settings, its handler, its room for events and its gap, which is another device where it is another model, and the panel made anew, with its
+-- settings and the addresses of its entries
 pub data Call (H : Type 0) : Type 0 where
   OfPanel : bus.Call → Call H
   SubmitEvent : ℕ → Event → Call H
@@ -44,7 +46,7 @@ pub data Call (H : Type 0) : Type 0 where
   Silence : ℕ → ℕ → Call H
   Next : ℕ → Call H
   Pending : ℕ → Call H
-  NewDevice : ℕ → ℕ → H → Room → ℕ → Call H
+  NewDevice : ℕ → ReaderConfig → H → Room → ℕ → Call H
   NewPanel : BusConfig → List ℕ → Call H
 
 -- a call, and for each packet that it reads the place in what was said of the burst that it is a copy of
@@ -217,10 +219,10 @@ module _ {H : Type 0} where
   abbrev pub withdraws_event : Station H → Station H
   withdraws_event t = record t { reader = after_withdraw_event t.reader; account = event_withdrawn t.reader.queue t.account }
 
-  -- the same device, with nothing taken, nothing stored and no event
-  abbrev pub made_anew : ℕ → H → Room → ℕ → Station H → Station H
-  made_anew address handler room gap t = record t {
-    reader = new_reader (record t.reader.config { address = address }) handler room;
+  -- a device with nothing taken, nothing stored and no event, the same or another
+  abbrev pub made_anew : ReaderConfig → H → Room → ℕ → Station H → Station H
+  made_anew config handler room gap t = record t {
+    reader = new_reader config handler room;
     line = new_line gap;
     account = reader_restarted t.account;
   }
@@ -286,7 +288,7 @@ module _ {H : Type 0} where
     after_call (Silence k now) places l = on_station k (λ t. record t { line = after_silence now t.line }) l
     after_call (Next k) places l = after_next k places (site_at k l.stations) l
     after_call (Pending k) places l = on_station k (λ t. record t { line = record t.line { held = passed t.reader t.line.held } }) l
-    after_call (NewDevice k address handler room gap) places l = on_station k (made_anew address handler room gap) l
+    after_call (NewDevice k config handler room gap) places l = on_station k (made_anew config handler room gap) l
     after_call (NewPanel config addresses) places l = panel_made_anew config addresses l
 
     -- the line after a list of them

@@ -65,7 +65,7 @@ module _ {H : Type 0} where
   is_of_device k (Silence i now) = i == k
   is_of_device k (Next i) = i == k
   is_of_device k (Pending i) = i == k
-  is_of_device k (NewDevice i address handler room gap) = i == k
+  is_of_device k (NewDevice i config handler room gap) = i == k
   is_of_device k (NewPanel config addresses) = false
 
   abbrev pub takes_event : Bool → Event → Held H → Held H
@@ -86,8 +86,8 @@ module _ {H : Type 0} where
         let told = next_told answer_of after d.reader d.line.held in
         record { reader = told.reader; line = record d.line { held = told.held } }
     device_after (Pending i) d = record d { line = record d.line { held = passed d.reader d.line.held } }
-    device_after (NewDevice i address handler room gap) d = record {
-      reader = new_reader (record d.reader.config { address = address }) handler room;
+    device_after (NewDevice i config handler room gap) d = record {
+      reader = new_reader config handler room;
       line = new_line gap;
     }
     device_after (OfPanel call) d = d

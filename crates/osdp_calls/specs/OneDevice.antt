@@ -6,5 +6,5 @@ module _ {H : Type 0} where
   -- the device of this entry is not made anew, and its program sets no handler
   abbrev pub KeepsHandler : ℕ → Call H → Type 0
   KeepsHandler k (SetHandler i handler) = i ≢ k
-  KeepsHandler k (NewDevice i address handler room gap) = i ≢ k
+  KeepsHandler k (NewDevice i config handler room gap) = i ≢ k
   KeepsHandler k _ = Unit {0}

@@ -114,8 +114,8 @@ module _ {H : Type 0} where
   -- A device is made anew where it is, or at an address that is free for it. The panel is made anew with addresses that are no others'.
   abbrev pub Addresses : Call H → InUse H → Type 0
   Addresses (OfPanel call) l = PanelAddresses call l
-  Addresses (NewDevice k address handler room gap) l =
-      (t : Station H) → site_at k l.stations ≡ Some t → (t.reader.config.address ≡ address) ⊎ IsFreeFor k address t l
+  Addresses (NewDevice k config handler room gap) l =
+      (t : Station H) → site_at k l.stations ≡ Some t → (t.reader.config.address ≡ config.address) ⊎ IsFreeFor k config.address t l
   Addresses (NewPanel config addresses) l = PanelIsApart addresses l
   Addresses _ l = Unit {0}
 
@@ -153,7 +153,7 @@ module _ {H : Type 0} where
     abbrev pub InRange : Call H → InUse H → Type 0
     InRange (OfPanel call) l = PanelInRange call
     InRange (Next k) l = NextInRange (site_at k l.stations)
-    InRange (NewDevice k address handler room gap) l = (address < 127) × AreRoom room.messages room.bytes
+    InRange (NewDevice k config handler room gap) l = (config.address < 127) × AreRoom room.messages room.bytes
     InRange (NewPanel config addresses) l =
         IsBusConfig config × All (λ a. a < 127) addresses × (length l.stations ≤ length addresses)
     InRange _ l = Unit {0}

@@ -78,7 +78,7 @@ module _ {H : Type 0} where
   -- .. and a panel that is made anew gives each entry one of its own. A device is made anew where it is.
   abbrev pub KeepsRule : Call H → InUse H → (ℕ → Note) → Type 0
   KeepsRule (OfPanel call) l notes = PanelKeepsRule call l.bus notes
-  KeepsRule (NewDevice k address handler room gap) l notes = (t : Station H) → site_at k l.stations ≡ Some t → t.reader.config.address ≡ address
+  KeepsRule (NewDevice k config handler room gap) l notes = (t : Station H) → site_at k l.stations ≡ Some t → t.reader.config.address ≡ config.address
   KeepsRule (NewPanel config addresses) l notes =
       (k a : ℕ) (d : Entry) → site_at k addresses ≡ Some a → device_of k l.bus ≡ Some d → IsKnown a d (notes k)
   KeepsRule _ l notes = Unit {0}

@@ -12,7 +12,7 @@ use Rattle.osdp_calls.specs.Premises.{AllKeep, IsSetUp, Keeps}
 module _ {H : Type 0} where
   -- the device of this entry is not made anew
   abbrev pub KeepsDevice : ℕ → Call H → Type 0
-  KeepsDevice k (NewDevice i address handler room gap) = i ≢ k
+  KeepsDevice k (NewDevice i config handler room gap) = i ≢ k
   KeepsDevice k _ = Unit {0}
 
   module _ (answer_of : H → Command → Answer) (after : H → Command → H) where

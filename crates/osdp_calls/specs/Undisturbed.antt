@@ -11,7 +11,7 @@ module _ {H : Type 0} where
   -- neither the device of this entry nor the panel is made anew, and no command or event of the entry is taken back
   abbrev pub IsOrdinaryOf : ℕ → Call H → Type 0
   IsOrdinaryOf k (OfPanel call) = LeavesCommandsOf k call
-  IsOrdinaryOf k (NewDevice i address handler room gap) = i ≢ k
+  IsOrdinaryOf k (NewDevice i config handler room gap) = i ≢ k
   IsOrdinaryOf k (NewPanel config addresses) = ⊥
   IsOrdinaryOf k (WithdrawEvent i) = i ≢ k
   IsOrdinaryOf k _ = Unit {0}

@@ -48,7 +48,7 @@ use Rattle.osdp_calls.specs.Ends.{Held, takes_event}
 use Rattle.osdp_calls.specs.Sayings.{AddsMakeTheBus, NoneRefused}
 use Rattle.osdp_calls_instance.proofs.LinePrograms.{bus_same, own_device, panels_own}
 use Rattle.osdp_calls_instance.specs.CPrograms as c
-use Rattle.osdp_calls_instance.specs.CPrograms.{AddsEach, DeviceCall, DeviceCallFits, MakesAnew, MakesAnewBy, PanelCall, answer_calls, c_device, c_panel, device_call, device_calls, event_calls, event_read, if_read, orders_with, panel_call, panel_calls, settle_calls, settles_by, submitted, told_states}
+use Rattle.osdp_calls_instance.specs.CPrograms.{AddsEach, DeviceCall, MakesAnew, MakesAnewBy, PanelCall, answer_calls, c_device, c_panel, device_call, device_calls, event_calls, event_read, if_read, orders_with, panel_call, panel_calls, settle_calls, settles_by, submitted, told_states}
 use Rattle.osdp_calls_instance.specs.OwnCalls.{AreDeviceCalls, ArePanelCalls, IsOfDevice, IsOfPanel, bus_after_each, device_after_each}
 
 -- ---- a panel
@@ -283,41 +283,32 @@ seen_so : (ok : Bool) (now : ℕ) (call : ReaderMachine → Done ReaderMachine) 
 seen_so true now call calls m is = is
 seen_so false now call calls m is = refl
 
-same_model : (room : Room) (settings : ReaderSettings) (caps : ArrayVec Capability) (m : ReaderMachine) → DeviceCallFits (c.DeviceMade room settings caps) m
-    → held_in (reader.new_machine_in room settings caps) ≡ after_these (device_calls 0 (c.DeviceMade room settings caps) m) (held_in m)
-same_model room settings caps m fits =
-    (λ i. record {
-      reader = new_reader (record { address = settings.address; id = fits.0 i; caps = fits.1 i })
-          new_program room;
-      line = new_line settings.gap;
-    })
-
-device_is : (k : ℕ) (call : DeviceCall) (m : ReaderMachine) → DeviceCallFits call m
+device_is : (k : ℕ) (call : DeviceCall) (m : ReaderMachine)
     → held_in (device_call call m).machine ≡ after_these (device_calls k call m) (held_in m)
-device_is k (c.SetStates which states) m fits = states_so k which (reader.states_of states) m
-device_is k (c.SetLocal tamper power) m fits = refl
-device_is k (c.SetBusyTo busy) m fits = refl
-device_is k (c.Happens read) m fits = read_so k read m
-device_is k (c.HappensText read) m fits = text_so k read m
-device_is k (c.TakesBytes bytes now) m fits =
+device_is k (c.SetStates which states) m = states_so k which (reader.states_of states) m
+device_is k (c.SetLocal tamper power) m = refl
+device_is k (c.SetBusyTo busy) m = refl
+device_is k (c.Happens read) m = read_so k read m
+device_is k (c.HappensText read) m = text_so k read m
+device_is k (c.TakesBytes bytes now) m =
     seen_so (accepts now m.clock) now (reader.steps bytes now) (Take k bytes now ∷ settle_calls k m (after_take bytes now m.device.line)) m
     (settle_so k (record m { clock = sees now m.clock }) (after_take bytes now m.device.line))
-device_is k (c.DeviceTick now) m fits =
+device_is k (c.DeviceTick now) m =
     seen_so (accepts now m.clock) now (reader.ticks now) (TickDevice k now ∷ settle_calls k m (after_tick now m.device.line)) m
     (settle_so k (record m { clock = sees now m.clock }) (after_tick now m.device.line))
-device_is k (c.DeviceSilence now) m fits =
+device_is k (c.DeviceSilence now) m =
     seen_so (accepts now m.clock) now (reader.falls_silent now) (Silence k now ∷ settle_calls k m (after_silence now m.device.line)) m
     (settle_so k (record m { clock = sees now m.clock }) (after_silence now m.device.line))
-device_is k (c.SetDeviceMoment now) m fits = refl
-device_is k c.LooksAhead m fits = refl
-device_is k c.AnswerDone m fits = answer_so k (Some answer.Done) m
-device_is k (c.AnswerLocal tamper power) m fits = answer_so k (Some (answer.Local tamper power)) m
-device_is k (c.AnswerList states) m fits = answer_so k (reader.list_answer states) m
-device_is k (c.AnswerRefused reason) m fits =
+device_is k (c.SetDeviceMoment now) m = refl
+device_is k c.LooksAhead m = refl
+device_is k c.AnswerDone m = answer_so k (Some answer.Done) m
+device_is k (c.AnswerLocal tamper power) m = answer_so k (Some (answer.Local tamper power)) m
+device_is k (c.AnswerList states) m = answer_so k (reader.list_answer states) m
+device_is k (c.AnswerRefused reason) m =
     answer_so k (Some (answer.Refuse (reason_of reason))) m
-device_is k (c.AnswerMaker vendor bytes) m fits = answer_so k (reader.maker_answer vendor bytes) m
-device_is k c.LooksIn m fits = refl
-device_is k (c.DeviceMade room settings caps) m fits = same_model room settings caps m fits
+device_is k (c.AnswerMaker vendor bytes) m = answer_so k (reader.maker_answer vendor bytes) m
+device_is k c.LooksIn m = refl
+device_is k (c.DeviceMade room settings caps) m = refl
 
 -- whose calls these are
 one_own : (k : ℕ) (ok : Bool) (call : Call ProgramAnswers) → IsOfDevice k call → Each (IsOfDevice k) (cond ok (call ∷ []) [])
@@ -377,6 +368,6 @@ device_end k (c.DeviceMade room settings caps) m = (own_device k, tt)
 pub devices_are : AreDeviceCalls program_answer program_after c_device
 devices_are = record {
   end = λ k call m. each_all (IsOfDevice k) (device_calls k call m) (device_end k call m);
-  device = λ k call m fits sound. device_is k call m fits;
+  device = λ k call m fits sound. device_is k call m;
   sound = λ call m fits sound. tt;
 }

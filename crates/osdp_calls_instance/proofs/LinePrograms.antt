@@ -457,19 +457,19 @@ line_own k (line.Local tamper power) s = (own_device k, tt)
 device_own : (k : ℕ) (own : DeviceLine) (s : device.Session) → Each (IsOfDevice k) (device_line_calls k own s)
 device_own k (SaysToDevice None) s = tt
 device_own k (SaysToDevice (Some call)) s = line_own k call s
-device_own k (DeviceAnew address room gap) s = (own_device k, tt)
+device_own k (DeviceAnew config room gap) s = (own_device k, tt)
 
 of_device : (k : ℕ) (own : DeviceLine) (s : device.Session) → line_device.Fits own s → IsSound s
     → with_line (after_device_line own s) ≡ device_after_each status_answer status_after (device_line_calls k own s) (with_line s)
 of_device k (SaysToDevice None) s fits is = refl
 of_device k (SaysToDevice (Some call)) s fits is = done_is call s ∙ call_is k call s fits is
-of_device k (DeviceAnew address room gap) s fits is = refl
+of_device k (DeviceAnew config room gap) s fits is = refl
 
 stays_sound : (own : DeviceLine) (s : device.Session) → line_device.Fits own s → IsSound s → IsSound (after_device_line own s)
 stays_sound (SaysToDevice None) s fits is = is
 stays_sound (SaysToDevice (Some call)) s fits is =
     subst (λ (d : Held DeviceStatus). IsAllRead d.line × IsReceived d.line) (sym (done_is call s)) (call_sound call s fits.0 is)
-stays_sound (DeviceAnew address room gap) s fits is =
+stays_sound (DeviceAnew config room gap) s fits is =
     (record { goes_on = refl; undecided = decided_nothing false }, received_new gap fits)
 
 pub device_lines_are : AreDeviceCalls status_answer status_after line_device

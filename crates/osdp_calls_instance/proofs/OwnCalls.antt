@@ -81,7 +81,7 @@ module _ {H : Type 0} where
       bus_is (Silence i now) places l = keeps_bus (Silence i now) places l tt
       bus_is (Next i) places l = keeps_bus (Next i) places l tt
       bus_is (Pending i) places l = keeps_bus (Pending i) places l tt
-      bus_is (NewDevice i address handler room gap) places l = keeps_bus (NewDevice i address handler room gap) places l tt
+      bus_is (NewDevice i config handler room gap) places l = keeps_bus (NewDevice i config handler room gap) places l tt
 
       -- the bus after a list of steps
       each_bus : (steps : List (Step H)) (l : InUse H) → (after_calls answer_of after steps l).bus ≡ bus_after_each (map call_of steps) l.bus
@@ -103,7 +103,7 @@ module _ {H : Type 0} where
   other_device k j (Silence i now) differ is = is_other i k j is differ
   other_device k j (Next i) differ is = is_other i k j is differ
   other_device k j (Pending i) differ is = is_other i k j is differ
-  other_device k j (NewDevice i address handler room gap) differ is = is_other i k j is differ
+  other_device k j (NewDevice i config handler room gap) differ is = is_other i k j is differ
   other_device k j (NewPanel config addresses) differ is = refl
 
   no_device : (k : ℕ) (call : Call H) → IsOfPanel call → is_of_device k call ≡ false
@@ -118,7 +118,7 @@ module _ {H : Type 0} where
   no_device k (Silence i now) is = absurd is
   no_device k (Next i) is = absurd is
   no_device k (Pending i) is = absurd is
-  no_device k (NewDevice i address handler room gap) is = absurd is
+  no_device k (NewDevice i config handler room gap) is = absurd is
 
   no_panel : (k : ℕ) (call : Call H) (b : BusState) → IsOfDevice k call → bus_after call b ≡ b
   no_panel k (OfPanel call) b is = absurd (let e = is in cc)
@@ -132,7 +132,7 @@ module _ {H : Type 0} where
   no_panel k (Silence i now) b is = refl
   no_panel k (Next i) b is = refl
   no_panel k (Pending i) b is = refl
-  no_panel k (NewDevice i address handler room gap) b is = refl
+  no_panel k (NewDevice i config handler room gap) b is = refl
 
   no_panels : (k : ℕ) (calls : List (Call H)) (b : BusState) → Each (IsOfDevice k) calls → bus_after_each calls b ≡ b
   no_panels k [] b are = refl

@@ -40,14 +40,14 @@ both_each P (x ∷ xs) ys a b = (a.0, both_each P xs ys a.1 b)
 module _ {H : Type 0} where
   abbrev GivesNone : Call H → Type 0
   GivesNone (OfPanel call) = PanelGivesNone call
-  GivesNone (NewDevice k address handler room gap) = ⊥
+  GivesNone (NewDevice k config handler room gap) = ⊥
   GivesNone (NewPanel config addresses) = ⊥
   GivesNone _ = Unit {0}
 
   none_given : (call : Call H) (l : InUse H) → GivesNone call → Addresses call l
   none_given (OfPanel (bus.Submit k command)) l none = λ t here fine asked is. absurd (let e = sym none ∙ is in cc)
   none_given (OfPanel (bus.Retarget k address)) l none = absurd none
-  none_given (NewDevice k address handler room gap) l none = absurd none
+  none_given (NewDevice k config handler room gap) l none = absurd none
   none_given (NewPanel config addresses) l none = absurd none
   none_given _ l none = tt
 

@@ -77,7 +77,7 @@ module _ {H : Type 0} (answer_of : H → Command → Answer) (after : H → Comm
   device_range : (k : ℕ) (call : Call H) (t : Station H) (d : Held H) (l : InUse H) → IsOfDevice k call → site_at k l.stations ≡ Some t → held_by t ≡ d
       → CallFits answer_of after call d → InRange answer_of after call l
   device_range k (OfPanel call) t d l own at is fits = absurd fits
-  device_range k (NewDevice i address handler room gap) t d l own at is fits = absurd fits
+  device_range k (NewDevice i config handler room gap) t d l own at is fits = absurd fits
   device_range k (NewPanel config addresses) t d l own at is fits = absurd fits
   device_range k (SubmitEvent i event) t d l own at is fits = tt
   device_range k (SetBusy i busy) t d l own at is fits = tt

@@ -250,7 +250,7 @@ module _ {H : Type 0} where
         → CallGood answer_of after Good call (held_by t) → site_at k l.stations ≡ Some t
         → SpokeBy k i (replies_by answer_of after call (held_by t)) l (after_placed i call l)
     one_spoke k i (OfPanel call) l t Good own good at = absurd good
-    one_spoke k i (NewDevice j address handler room gap) l t Good own good at = absurd good
+    one_spoke k i (NewDevice j config handler room gap) l t Good own good at = absurd good
     one_spoke k i (NewPanel config addresses) l t Good own good at = absurd good
     one_spoke k i (SubmitEvent j event) l t Good own good at =
         let full = lacks_room event t.reader.queue in
@@ -281,7 +281,7 @@ module _ {H : Type 0} where
         → CallGood answer_of after (λ r q. IsOneOf packets q) call (held_by t) → site_at k l.stations ≡ Some t → Source packets i l
         → Since packets t.place i → IsOrdered (placed i call l) l
     one_ordered packets k i (OfPanel call) l t own good at source since = absurd good
-    one_ordered packets k i (NewDevice j address handler room gap) l t own good at source since = absurd good
+    one_ordered packets k i (NewDevice j config handler room gap) l t own good at source since = absurd good
     one_ordered packets k i (NewPanel config addresses) l t own good at source since = absurd good
     one_ordered packets k i (SubmitEvent j event) l t own good at source since = nothing_read (SubmitEvent j event) l (tt, tt)
     one_ordered packets k i (SetBusy j busy) l t own good at source since = nothing_read (SetBusy j busy) l (tt, tt)

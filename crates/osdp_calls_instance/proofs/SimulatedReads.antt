@@ -98,7 +98,7 @@ module _ {H : Type 0} (answer_of : H → Command → Answer) (after : H → Comm
   -- what the call reads is good
   abbrev pub CallGood : Call H → Held H → Type 0
   CallGood (Next i) d = PartsGood (items_of d.line.held) d.reader
-  CallGood (NewDevice i address handler room gap) d = ⊥
+  CallGood (NewDevice i config handler room gap) d = ⊥
   CallGood (NewPanel config addresses) d = ⊥
   CallGood (OfPanel call) d = ⊥
   CallGood _ d = Unit {0}

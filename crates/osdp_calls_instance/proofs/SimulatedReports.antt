@@ -154,7 +154,7 @@ module _ {H : Type 0} where
     step_told k (Silence i now) places y l keeps is = keep_told k i _ y l.stations (λ t. refl) is
     step_told k (Next i) places y l keeps is = next_told_to k i places y (site_at i l.stations) l refl is
     step_told k (Pending i) places y l keeps is = keep_told k i _ y l.stations (λ t. refl) is
-    step_told k (NewDevice i address handler room gap) places y l keeps is = keep_told k i _ y l.stations (λ t. refl) is
+    step_told k (NewDevice i config handler room gap) places y l keeps is = keep_told k i _ y l.stations (λ t. refl) is
     step_told k (NewPanel config addresses) places y l keeps is = absurd keeps
 
     pub all_told : ((call : Call H) (places : List ℕ) (l : InUse H) → KeepsPanel call

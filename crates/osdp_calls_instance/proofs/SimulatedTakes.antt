@@ -119,8 +119,8 @@ module _ {H : Type 0} where
       step_takes k (Pending i) places d y l keeps is =
           change_one k i (λ t. record t { line = record t.line { held = passed t.reader t.line.held } }) (device_after answer_of after (Pending i)) (λ x. []) d y
           l.stations (λ t. refl) (λ t at. silent t _ refl) is
-      step_takes k (NewDevice i address handler room gap) places d y l keeps is =
-          change_one k i (made_anew address handler room gap) (device_after answer_of after (NewDevice i address handler room gap)) (λ x. []) d y l.stations
+      step_takes k (NewDevice i config handler room gap) places d y l keeps is =
+          change_one k i (made_anew config handler room gap) (device_after answer_of after (NewDevice i config handler room gap)) (λ x. []) d y l.stations
           (λ t. refl) (λ t at. silent t _ refl) is
       step_takes k (NewPanel config addresses) places d y l keeps is = absurd keeps
 

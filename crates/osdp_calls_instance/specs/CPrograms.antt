@@ -150,7 +150,7 @@ pub record MakesAnew : Type 0 where
 -- ---- a device
 
 -- the calls of a device's handle: of a text, or of a code and data, what was read of it, and `LooksIn` for each call that only tells something. Made
--- anew: freed, and made with this room for events and these settings, and with what it could do before.
+-- anew: freed, and made with this room for events, these settings and what it can do, which may be those of another model.
 pub data DeviceCall : Type 0 where
   SetStates : StateList → List ℕ → DeviceCall
   SetLocal : ℕ → ℕ → DeviceCall
@@ -242,12 +242,8 @@ device_calls k (AnswerList states) m = answer_calls k (reader.list_answer states
 device_calls k (AnswerRefused reason) m = answer_calls k (Some (answer.Refuse (reason_of reason))) m
 device_calls k (AnswerMaker vendor bytes) m = answer_calls k (reader.maker_answer vendor bytes) m
 device_calls k LooksIn m = []
-device_calls k (DeviceMade room settings caps) m = NewDevice k settings.address new_program room settings.gap ∷ []
-
--- a device that is made anew is the same model, and can do the same
-abbrev pub DeviceCallFits : DeviceCall → ReaderMachine → Type 0
-DeviceCallFits (DeviceMade room settings caps) m = (id_of settings ≡ m.device.reader.config.id) × (caps ≡ m.device.reader.config.caps)
-DeviceCallFits _ m = Unit {0}
+device_calls k (DeviceMade room settings caps) m =
+    NewDevice k (record { address = settings.address; id = id_of settings; caps = caps }) new_program room settings.gap ∷ []
 
 abbrev pub c_device : DeviceKind ProgramAnswers
 c_device = record {
@@ -256,7 +252,7 @@ c_device = record {
   Sound = λ m. Unit {0};
   Own = DeviceCall;
   after = λ call m. (device_call call m).machine;
-  Fits = DeviceCallFits;
+  Fits = λ call d. Unit {0};
   calls = device_calls;
 }
 

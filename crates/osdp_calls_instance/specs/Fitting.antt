@@ -1,55 +1,28 @@
--- Which calls of programs the laws of programs speak of: nearly all. Left out are a device that is made anew as another model, entries that can't be
--- added as they stand, and lines by which a device lets an event go that is in doubt.
-use Rattle.std.specs.Prelude.{◌≡◌, ◌↔◌, ℕ, ◌≤◌, Bool, true, false, List, [], ◌∷◌, Option, Some, None}
+-- Which calls of programs the laws of programs speak of: nearly all. Left out are entries that can't be added as they stand, and lines by which a device
+-- lets an event go that is in doubt.
+use Rattle.std.specs.Prelude.{◌↔◌, ℕ, ◌≤◌, List, [], ◌∷◌, Option, Some, None}
 use Rattle.std.specs.List.{AllByRecursion}
-use Rattle.arrayvec.specs.ArrayVec.{ArrayVec}
-use Rattle.osdp_msg.specs.declared.capability.Capability.{Capability}
 use Rattle.osdp_msg.specs.declared.limits.Room.{Room}
 use Rattle.osdp_frame.specs.declared.check_kind.CheckKind.TheVariants.{Crc}
 use Rattle.osdp_bus.specs.Buses.{new_bus}
 use Rattle.osdp_bus.specs.Settings.{default_config}
 use Rattle.osdp_bus.specs.declared.config.BusConfig.{BusConfig}
-use Rattle.osdp_c_values.specs.Settings.{id_of}
 use Rattle.osdp_c_values.specs.declared.machine.PanelMachine.{PanelMachine}
 use Rattle.osdp_c_values.specs.declared.machine.ReaderMachine.{ReaderMachine}
-use Rattle.osdp_c_values.specs.declared.settings.ReaderSettings.{ReaderSettings}
 use Rattle.osdp_line_calls.specs.PanelSessions as panel_sessions
 use Rattle.osdp_line_calls.specs.ReaderCalls.{CallFits}
 use Rattle.osdp_line_calls.specs.ReaderSessions as device_sessions
 use Rattle.osdp_line_calls.specs.declared.panel_call.PanelCall.{PanelCall}
 use Rattle.osdp_line_calls.specs.declared.reader_call.ReaderCall.{ReaderCall}
+use Rattle.osdp_reader.specs.declared.config.ReaderConfig.{ReaderConfig}
 use Rattle.osdp_calls.specs.Sayings.{NoneRefused}
 use Rattle.osdp_calls_instance.specs.CPrograms as c
 use Rattle.osdp_calls_instance.specs.LinePrograms as lines
 
--- whether a call of a device's handle in C makes it anew
-abbrev pub makes_device : c.DeviceCall → Bool
-makes_device (c.SetStates which states) = false
-makes_device (c.SetLocal tamper power) = false
-makes_device (c.SetBusyTo busy) = false
-makes_device (c.Happens read) = false
-makes_device (c.HappensText read) = false
-makes_device (c.TakesBytes bytes now) = false
-makes_device (c.DeviceTick now) = false
-makes_device (c.DeviceSilence now) = false
-makes_device (c.SetDeviceMoment now) = false
-makes_device c.LooksAhead = false
-makes_device c.AnswerDone = false
-makes_device (c.AnswerLocal tamper power) = false
-makes_device (c.AnswerList states) = false
-makes_device (c.AnswerRefused reason) = false
-makes_device (c.AnswerMaker vendor bytes) = false
-makes_device c.LooksIn = false
-makes_device (c.DeviceMade room settings caps) = true
-
--- Each call of a panel's handle is one. Each call of a device's handle is one that doesn't make it anew, and one that does is one exactly where the
--- device is the same model, and can do the same.
+-- each call of a panel's handle is one, and so is each of a device's handle
 pub record CallsForCFit (H : Type 0) : Type 0 where
   pub panel : (call : c.PanelCall) (m : PanelMachine) → (c.c_panel {H = H}).Fits call m
-  pub device : (call : c.DeviceCall) (m : ReaderMachine) → makes_device call ≡ false → c.c_device.Fits call m
-  pub made : (room : Room) (settings : ReaderSettings) (caps : ArrayVec Capability) (m : ReaderMachine)
-      → c.c_device.Fits (c.DeviceMade room settings caps) m
-      ↔ ((id_of settings ≡ m.device.reader.config.id) × (caps ≡ m.device.reader.config.caps))
+  pub device : (call : c.DeviceCall) (m : ReaderMachine) → c.c_device.Fits call m
 
 -- two entries at different addresses, with the settings that a panel by lines has unless it is told others
 abbrev pub two_addresses : List ℕ
@@ -66,4 +39,5 @@ pub record LinesFit (H : Type 0) : Type 0 where
   pub nothing : (s : device_sessions.Session) → lines.line_device.Fits (lines.SaysToDevice None) s
   pub device : (call : ReaderCall) (s : device_sessions.Session) → lines.line_device.Fits (lines.SaysToDevice (Some call)) s
       ↔ (CallFits call × AllByRecursion lines.IsWithdrawn (lines.leaving_by call s))
-  pub device_anew : (address room gap : ℕ) (s : device_sessions.Session) → lines.line_device.Fits (lines.DeviceAnew address room gap) s ↔ (1 ≤ gap)
+  pub device_anew : (config : ReaderConfig) (room gap : ℕ) (s : device_sessions.Session)
+      → lines.line_device.Fits (lines.DeviceAnew config room gap) s ↔ (1 ≤ gap)

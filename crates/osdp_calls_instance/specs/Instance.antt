@@ -77,7 +77,7 @@ module _ {H : Type 0} where
       ∷ calls (OfPanel bus.NextReport) []
       ∷ calls (OfPanel (bus.Submit 0 away)) []
       ∷ calls (OfPanel (bus.Tick 407)) []
-      ∷ calls (NewDevice 0 0 handler four 20) []
+      ∷ calls (NewDevice 0 device handler four 20) []
       ∷ calls (NewPanel settings (0 ∷ [])) []
       ∷ []
 

@@ -29,6 +29,7 @@ use Rattle.osdp_line_calls.specs.ReaderCalls as to_device
 use Rattle.osdp_line_laws.specs.PanelRuns as panel_runs
 use Rattle.osdp_line_laws.specs.ReaderRuns as device_runs
 use Rattle.osdp_reader.specs.State.{ReaderState}
+use Rattle.osdp_reader.specs.declared.config.ReaderConfig.{ReaderConfig}
 use Rattle.osdp_reader.specs.declared.handler.Answer.{Answer}
 use Rattle.osdp_calls.specs.Calls.{Call, NewDevice, NewPanel, Next, OfPanel, SetBusy, SetHandler, Silence, SubmitEvent, Take, TickDevice, WithdrawEvent}
 use Rattle.osdp_calls.specs.Sayings.{NoneRefused}
@@ -74,14 +75,15 @@ line_panel = record {
 
 -- ---- a device
 
--- a line, as the call that it says, or none; or the device is run anew at this address, with this room for events and this gap
+-- a line, as the call that it says, or none; or the device is run anew with these settings, with this room for events and this gap, be it the same or
+-- another model in its place
 pub data DeviceLine : Type 0 where
   SaysToDevice : Option ReaderCall → DeviceLine
-  DeviceAnew : ℕ → ℕ → ℕ → DeviceLine
+  DeviceAnew : ReaderConfig → ℕ → ℕ → DeviceLine
 
 abbrev pub after_device_line : DeviceLine → device.Session → device.Session
 after_device_line (SaysToDevice said) s = device_runs.after_said said s
-after_device_line (DeviceAnew address room gap) s = device.new_session (record s.reader.config { address = address }) room gap s.absence
+after_device_line (DeviceAnew config room gap) s = device.new_session config room gap s.absence
 
 -- the events that leave by a line since they are too old at its moment
 abbrev pub leaving : device.Session → List Expired
@@ -100,7 +102,7 @@ IsWithdrawn (InDoubt event) = ⊥
 abbrev pub DeviceLineFits : DeviceLine → device.Session → Type 0
 DeviceLineFits (SaysToDevice None) s = Unit {0}
 DeviceLineFits (SaysToDevice (Some call)) s = CallFits call × AllByRecursion IsWithdrawn (leaving_by call s)
-DeviceLineFits (DeviceAnew address room gap) s = 1 ≤ gap
+DeviceLineFits (DeviceAnew config room gap) s = 1 ≤ gap
 
 module _ {H : Type 0} where
   -- `next` is called until nothing is said
@@ -146,7 +148,7 @@ calls_of_line k (line.Local tamper power) s = SetHandler k (record s.reader.hand
 abbrev pub device_line_calls : ℕ → DeviceLine → device.Session → List (Call DeviceStatus)
 device_line_calls k (SaysToDevice None) s = []
 device_line_calls k (SaysToDevice (Some call)) s = calls_of_line k call s
-device_line_calls k (DeviceAnew address room gap) s = NewDevice k address new_status (room_for room) gap ∷ []
+device_line_calls k (DeviceAnew config room gap) s = NewDevice k config new_status (room_for room) gap ∷ []
 
 abbrev pub line_device : DeviceKind DeviceStatus
 line_device = record {

@@ -72,7 +72,7 @@ pub fn lines_are_calls()
     osdp_line_laws::a_devices_run_is_its_calls();
 }
 
-/// The laws of programs leave out nearly none of the calls for C and of the lines. Of calls for C they speak of each, but of one that makes a device anew
+/// The laws of programs leave out nearly none of the calls for C and of the lines. Of calls for C they speak of each, also of one that makes a device anew
 /// as another model. Of lines to a panel they speak of each, but of a run anew with entries that can't be added; two at different addresses can. Of lines
 /// to a device they leave out those by which an event leaves that is in doubt. And some schedule is taken.
 pub fn laws_speak_of_programs<H: Handler>()

@@ -216,8 +216,8 @@ module _ {H : Type 0} (answer_of : H → Command → Answer) (after : H → Comm
   call_commands k (Silence i now) l g = at_commands (Silence i now) k (i == k) (site_at k l.stations) g (λ t. refl)
   call_commands k (Next i) l g = at_commands (Next i) k (i == k) (site_at k l.stations) g (λ t. device_accepts (Next i) t g)
   call_commands k (Pending i) l g = at_commands (Pending i) k (i == k) (site_at k l.stations) g (λ t. refl)
-  call_commands k (NewDevice i address handler room gap) l g =
-      at_commands (NewDevice i address handler room gap) k (i == k) (site_at k l.stations) g (λ t. refl)
+  call_commands k (NewDevice i config handler room gap) l g =
+      at_commands (NewDevice i config handler room gap) k (i == k) (site_at k l.stations) g (λ t. refl)
 
   pub call_events : (k : ℕ) (call : Call H) (l : InUse H) (g : Ledger) → events_in (steps_of answer_of after k call l g) ≡ queued_by k call l
   call_events k (OfPanel call) l g = panel_events k call l.bus g
@@ -245,8 +245,8 @@ module _ {H : Type 0} (answer_of : H → Command → Answer) (after : H → Comm
       let o = first_answered t.reader (read_up_to t.reader (items_of t.line.held)) in
       no_events (answered answer_of after o t.reader g) (gets_accept o t.reader g))
   call_events k (Pending i) l g = at_events (Pending i) k (i == k) (site_at k l.stations) g (λ t. refl)
-  call_events k (NewDevice i address handler room gap) l g =
-      at_events (NewDevice i address handler room gap) k (i == k) (site_at k l.stations) g (λ t. refl)
+  call_events k (NewDevice i config handler room gap) l g =
+      at_events (NewDevice i config handler room gap) k (i == k) (site_at k l.stations) g (λ t. refl)
 
   -- ---- lists of calls
 

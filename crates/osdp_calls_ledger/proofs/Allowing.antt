@@ -111,7 +111,7 @@ module _ (P : ledger.Step → Type 0) (plain : (step : ledger.Step) → IsPlain 
     abbrev pub Allows : Call H → Type 0
     Allows (OfPanel call) = AllowsPanel call
     Allows (WithdrawEvent i) = i ≡ k → (card : Card) → P (ledger.WithdrawEvent card)
-    Allows (NewDevice i address handler room gap) = i ≡ k → P RestartDevice
+    Allows (NewDevice i config handler room gap) = i ≡ k → P RestartDevice
     Allows (NewPanel config addresses) = (on_wire : Bool) → P (RestartPanel on_wire)
     Allows _ = Unit {0}
 
@@ -131,8 +131,8 @@ module _ (P : ledger.Step → Type 0) (plain : (step : ledger.Step) → IsPlain 
     call_holds (Next i) l g allows =
         at_holds i (Next i) (λ t g same. let o = first_answered t.reader (read_up_to t.reader (items_of t.line.held)) in
         done (answered answer_of after o t.reader g) (answered_done answer_of after o t.reader g)) (site_at k l.stations) g
-    call_holds (NewDevice i address handler room gap) l g allows =
-        at_holds i (NewDevice i address handler room gap) (λ t g same. (allows same, tt)) (site_at k l.stations) g
+    call_holds (NewDevice i config handler room gap) l g allows =
+        at_holds i (NewDevice i config handler room gap) (λ t g same. (allows same, tt)) (site_at k l.stations) g
     call_holds (calls.SetBusy i busy) l g allows = at_holds i (calls.SetBusy i busy) (λ t g same. tt) (site_at k l.stations) g
     call_holds (SetHandler i handler) l g allows = at_holds i (SetHandler i handler) (λ t g same. tt) (site_at k l.stations) g
     call_holds (Take i bytes now) l g allows = at_holds i (Take i bytes now) (λ t g same. tt) (site_at k l.stations) g

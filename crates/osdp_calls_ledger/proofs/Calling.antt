@@ -215,9 +215,9 @@ module _ {H : Type 0} (answer_of : H → Command → Answer) (after : H → Comm
     call_shows (Pending i) places order quiet addresses range =
         by_moves (Pending i) places order quiet addresses range (λ moves are. are)
         (λ k g. sym (quiet_at (Pending i) (λ t q. refl) (i == k) (site_at k l.stations) g))
-    call_shows (NewDevice i address handler room gap) places order quiet addresses range =
-        by_moves (NewDevice i address handler room gap) places order quiet addresses range (λ moves are. are)
-        (of_device answer_of after i (NewDevice i address handler room gap) (RestartReader i address handler room) (link.RestartReader address handler room) l n h
+    call_shows (NewDevice i config handler room gap) places order quiet addresses range =
+        by_moves (NewDevice i config handler room gap) places order quiet addresses range (λ moves are. are)
+        (of_device answer_of after i (NewDevice i config handler room gap) (RestartReader i config handler room) (link.RestartReader config handler room) l n h
         (λ k s. refl) (λ k s t g is. refl))
     call_shows (NewPanel config xs) places order quiet addresses range =
         let s = one_call answer_of after (NewPanel config xs) places l n h order quiet addresses range in

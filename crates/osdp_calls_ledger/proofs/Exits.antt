@@ -57,7 +57,7 @@ module _ {H : Type 0} (answer_of : H → Command → Answer) (after : H → Comm
       by_call : (call : Call H) → Allows NoLapse plain_so k answer_of after call
       by_call (OfPanel call) = lapse_panel call
       by_call (WithdrawEvent i) = λ same card. tt
-      by_call (NewDevice i address handler room gap) = λ same. tt
+      by_call (NewDevice i config handler room gap) = λ same. tt
       by_call (NewPanel config addresses) = λ on_wire. tt
       by_call _ = tt
 
@@ -78,7 +78,7 @@ module _ {H : Type 0} (answer_of : H → Command → Answer) (after : H → Comm
   ordinary_allows : (call : Call H) → IsOrdinaryOf k call → AllowsPlain call
   ordinary_allows (OfPanel call) ordinary = ordinary_panel call ordinary
   ordinary_allows (WithdrawEvent i) ordinary = λ same card. ordinary same
-  ordinary_allows (NewDevice i address handler room gap) ordinary = λ same. ordinary same
+  ordinary_allows (NewDevice i config handler room gap) ordinary = λ same. ordinary same
   ordinary_allows (NewPanel config addresses) ordinary = absurd ordinary
   ordinary_allows _ ordinary = tt
 
@@ -95,7 +95,7 @@ module _ {H : Type 0} (answer_of : H → Command → Answer) (after : H → Comm
   power_allows : (call : Call H) → KeepsHandler k call → Allows KeepsPower power_so k answer_of after call
   power_allows (OfPanel call) keeps = power_panel call
   power_allows (WithdrawEvent i) keeps = λ same card. tt
-  power_allows (NewDevice i address handler room gap) keeps = λ same. keeps same
+  power_allows (NewDevice i config handler room gap) keeps = λ same. keeps same
   power_allows (NewPanel config addresses) keeps = λ on_wire. tt
   power_allows _ keeps = tt
 

@@ -68,8 +68,8 @@ module _ {H : Type 0} (answer_of : H → Command → Answer) (after : H → Comm
   anew_shows k call l t g there = ap (λ b. cond b (steps_at answer_of after call (site_at k l.stations) g) []) (is_true k k refl) ∙ ap (λ o. steps_at answer_of after call o g) there
 
   pub new_device_costs : RestartsCost → NewDeviceCosts answer_of after
-  new_device_costs costs l steps places k address handler room gap first t there =
-      let step : Step H = record { call = NewDevice k address handler room gap; places = places } in
+  new_device_costs costs l steps places k config handler room gap first t there =
+      let step : Step H = record { call = NewDevice k config handler room gap; places = places } in
       let ls = after_calls answer_of after steps l in
       let h = history_of answer_of after k first steps l in
       let g = after_them answer_of after k first steps l in
@@ -77,8 +77,8 @@ module _ {H : Type 0} (answer_of : H → Command → Answer) (after : H → Comm
       (sym (history_more answer_of after k first steps (step ∷ []) l ∙ ap (λ xs. runs (xs ++ []) h) (anew_shows k step.call ls t g there))) (costs h).1
 
   pub new_device_reports_no_more : EachKeepsLedger answer_of after → RestartReportsNoMore → NewDeviceReportsNoMore answer_of after
-  new_device_reports_no_more keeps no_more l steps more places k address handler room gap first t last e up keep was there lasts entry =
-      let step : Step H = record { call = NewDevice k address handler room gap; places = places } in
+  new_device_reports_no_more keeps no_more l steps more places k config handler room gap first t last e up keep was there lasts entry =
+      let step : Step H = record { call = NewDevice k config handler room gap; places = places } in
       let ls = after_calls answer_of after steps l in
       let next = after_call answer_of after step.call places ls in
       let shown = steps_from answer_of after k first steps l in

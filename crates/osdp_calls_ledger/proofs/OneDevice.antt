@@ -30,7 +30,7 @@ module _ {H : Type 0} where
       → KeepsDeviceOf k move
   keeps_device k [] move keep is = absurd is
   keeps_device k (step ∷ steps) move keep (inr is) = keeps_device k steps move keep.1 is
-  keeps_device k (step ∷ steps) (RestartReader i address handler room) keep (inl is) = subst (KeepsHandler k) is.1 keep.0
+  keeps_device k (step ∷ steps) (RestartReader i config handler room) keep (inl is) = subst (KeepsHandler k) is.1 keep.0
   keeps_device k (step ∷ steps) (line.SetHandler i handler) keep (inl is) = subst (KeepsHandler k) is keep.0
   keeps_device k (step ∷ steps) _ keep (inl is) = tt
 

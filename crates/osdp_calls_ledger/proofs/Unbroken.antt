@@ -353,26 +353,26 @@ module _ {H : Type 0} (answer_of : H → Command → Answer) (after : H → Comm
   call_whole (NewPanel config xs) places l g broken agreed is =
       calmly broken (panel_restarts (device_of k l.bus)) (all_forget l.bus.devices.entries l.stations) (restarts_calm (device_of k l.bus))
       (forget_whole broken k l.bus.devices.entries l.stations is)
-  call_whole (NewDevice i address handler room gap) places l g broken agreed is = elim (eqb_tells i k) [
+  call_whole (NewDevice i config handler room gap) places l g broken agreed is = elim (eqb_tells i k) [
     | inl equal ↦ subst (λ b. AreWhole k (has_restarted broken (cond b steps [])) next) (sym equal.0) (by_station (site_at k l.stations) refl equal.1)
     | inr differs ↦
         subst (λ b. AreWhole k (has_restarted broken (cond b steps [])) next) (sym differs.0)
-        (change_whole k broken i (made_anew address handler room gap) (site_at i l.stations) l.stations refl (λ same. absurd (differs.1 same)) is)
+        (change_whole k broken i (made_anew config handler room gap) (site_at i l.stations) l.stations refl (λ same. absurd (differs.1 same)) is)
   ]
     where
       steps : List ledger.Step
-      steps = steps_at answer_of after (NewDevice i address handler room gap) (site_at k l.stations) g
+      steps = steps_at answer_of after (NewDevice i config handler room gap) (site_at k l.stations) g
 
       next : List (Station H)
-      next = change_at i (made_anew address handler room gap) l.stations
+      next = change_at i (made_anew config handler room gap) l.stations
 
       by_station : (o : Option (Station H)) → site_at k l.stations ≡ o → i ≡ k
           → AreWhole k (has_restarted broken steps) next
       by_station None at same =
-          subst (λ q. AreWhole k (has_restarted broken (steps_at answer_of after (NewDevice i address handler room gap) q g)) next) (sym at)
-          (subst (λ q. AreWhole k broken (changes_at i (made_anew address handler room gap) q l.stations)) (sym (ap (λ j. site_at j l.stations) same ∙ at)) is)
+          subst (λ q. AreWhole k (has_restarted broken (steps_at answer_of after (NewDevice i config handler room gap) q g)) next) (sym at)
+          (subst (λ q. AreWhole k broken (changes_at i (made_anew config handler room gap) q l.stations)) (sym (ap (λ j. site_at j l.stations) same ∙ at)) is)
       by_station (Some t) at same =
-          subst (λ q. AreWhole k (has_restarted broken (steps_at answer_of after (NewDevice i address handler room gap) q g)) next) (sym at)
+          subst (λ q. AreWhole k (has_restarted broken (steps_at answer_of after (NewDevice i config handler room gap) q g)) next) (sym at)
           (λ u there whole. absurd (let e = whole in cc))
   call_whole (SubmitEvent i event) places l g broken agreed is =
       let change : Station H → Station H = λ t. calls.queues (lacks_room event t.reader.queue) event t in

@@ -5,6 +5,7 @@ use Rattle.osdp_msg.specs.declared.limits.Room.{Room}
 use Rattle.osdp_bus.specs.Buses.{device_of}
 use Rattle.osdp_bus.specs.declared.config.BusConfig.{BusConfig}
 use Rattle.osdp_bus.specs.declared.entry.Entry.{Entry}
+use Rattle.osdp_reader.specs.declared.config.ReaderConfig.{ReaderConfig}
 use Rattle.osdp_reader.specs.declared.handler.Answer.{Answer}
 use Rattle.osdp_ledger.specs.History.{History, new_history, runs}
 use Rattle.osdp_ledger.specs.Restarts.{DeviceCosts, PanelCosts, ReportsNoMore}
@@ -22,14 +23,14 @@ module _ {H : Type 0} (answer_of : H → Command → Answer) (after : H → Comm
 
   -- the device is made anew
   abbrev pub NewDeviceCosts : Type 0
-  NewDeviceCosts = (l : InUse H) (steps : List (Step H)) (places : List ℕ) (k address : ℕ) (handler : H) (room : Room) (gap : ℕ) (first t : Station H)
+  NewDeviceCosts = (l : InUse H) (steps : List (Step H)) (places : List ℕ) (k : ℕ) (config : ReaderConfig) (handler : H) (room : Room) (gap : ℕ) (first t : Station H)
       → site_at k (after_calls answer_of after steps l).stations ≡ Some t
-      → DeviceCosts (history_of k first steps l) (history_of k first (steps ++ record { call = NewDevice k address handler room gap; places = places } ∷ []) l)
+      → DeviceCosts (history_of k first steps l) (history_of k first (steps ++ record { call = NewDevice k config handler room gap; places = places } ∷ []) l)
 
   -- .. whatever is called then
   abbrev pub NewDeviceReportsNoMore : Type 0
-  NewDeviceReportsNoMore = (l : InUse H) (steps more : List (Step H)) (places : List ℕ) (k address : ℕ) (handler : H) (room : Room) (gap : ℕ) (first t last : Station H) (e : Entry)
-      → let all = steps ++ record { call = NewDevice k address handler room gap; places = places } ∷ more in
+  NewDeviceReportsNoMore = (l : InUse H) (steps more : List (Step H)) (places : List ℕ) (k : ℕ) (config : ReaderConfig) (handler : H) (room : Room) (gap : ℕ) (first t last : Station H) (e : Entry)
+      → let all = steps ++ record { call = NewDevice k config handler room gap; places = places } ∷ more in
       IsSetUp l → AllKeep answer_of after all l → site_at k l.stations ≡ Some first → site_at k (after_calls answer_of after steps l).stations ≡ Some t
       → site_at k (after_calls answer_of after all l).stations ≡ Some last → device_of k (after_calls answer_of after all l).bus ≡ Some e
       → ReportsNoMore (history_of k first steps l) (history_of k first all l)

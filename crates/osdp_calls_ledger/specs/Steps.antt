@@ -69,7 +69,7 @@ module _ {H : Type 0} (answer_of : H → Command → Answer) (after : H → Comm
   device_steps (SubmitEvent i event) t g = queues (lacks_room event t.reader.queue) event g
   device_steps (WithdrawEvent i) t g = withdraws_event (never_offered t.reader.queue) t.reader.queue.ever_offered g
   device_steps (Next i) t g = answered (first_answered t.reader (read_up_to t.reader (items_of t.line.held))) t.reader g
-  device_steps (NewDevice i address handler room gap) t g = RestartDevice ∷ []
+  device_steps (NewDevice i config handler room gap) t g = RestartDevice ∷ []
   device_steps _ t g = []
 
   abbrev pub steps_at : Call H → Option (Station H) → Ledger → List ledger.Step

@@ -46,7 +46,7 @@ module _ {H : Type 0} where
   clock_decides w (Silence k now) t c l = Decides-eqb t.start c.start
   clock_decides w (Next k) t c l = Decides-eqb t.start c.start
   clock_decides w (Pending k) t c l = Decides-eqb t.start c.start
-  clock_decides w (NewDevice k address handler room gap) t c l = Decides-eqb t.start c.start
+  clock_decides w (NewDevice k config handler room gap) t c l = Decides-eqb t.start c.start
 
   pub timely_exact : TimelyIsExact H
   timely_exact w t c l =

@@ -105,8 +105,8 @@ module _ {H : Type 0} where
           (rests l clock refl refl refl (λ j. refl))
       runs_call (Pending k) places order quiet range clock read m same =
           station_changes k (λ u. record u { line = record u.line { held = passed u.reader u.line.held } }) clock (λ u. refl)
-      runs_call (NewDevice k address handler room gap) places order quiet range clock read m same =
-          station_changes k (made_anew address handler room gap) clock (λ u. refl)
+      runs_call (NewDevice k config handler room gap) places order quiet range clock read m same =
+          station_changes k (made_anew config handler room gap) clock (λ u. refl)
       runs_call (NewPanel config addresses) places order quiet range clock read m same =
           let next = after_call answer_of after (NewPanel config addresses) places l in
           runs_silent w t c l next r later (new_kept w t.start t.at config addresses range.0 clock.1 clock.0) refl refl

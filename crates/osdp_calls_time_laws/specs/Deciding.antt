@@ -31,7 +31,7 @@ module _ {H : Type 0} where
   keeps_clock w (Silence k now) t c l = t.start == c.start
   keeps_clock w (Next k) t c l = t.start == c.start
   keeps_clock w (Pending k) t c l = t.start == c.start
-  keeps_clock w (NewDevice k address handler room gap) t c l = t.start == c.start
+  keeps_clock w (NewDevice k config handler room gap) t c l = t.start == c.start
 
   abbrev pub is_timely : ℕ → Timed H → Clock → InUse H → Bool
   is_timely w t c l = nat_le c.now t.at && (keeps_clock w t.step.call t c l && are_read_within w t.at c.said t.step.places)

@@ -9,7 +9,7 @@ use Rattle.osdp_reader.specs.declared.handler.Answer.{Answer}
 use Rattle.osdp_calls.specs.Calls.{Call, NewDevice, Next, OfPanel, Silence, Step, Take, TickDevice}
 use Rattle.osdp_calls.specs.Lines.{InUse, bus_with}
 use Rattle.osdp_calls.specs.Premises.{AllKeep, IsSetUp}
-use Rattle.osdp_premises.specs.LongDay.{answers, asks, calls, first_line, four, long_day, station_at}
+use Rattle.osdp_premises.specs.LongDay.{answers, asks, calls, device_at, first_line, four, long_day, station_at}
 use Rattle.osdp_calls_time_laws.specs.Laws.{steps_of}
 use Rattle.osdp_calls_time_laws.specs.Moments.{AllKeepElse, AllTimely, Timed, WaitsTwice, clock_at}
 
@@ -56,7 +56,7 @@ module _ {H : Type 0} where
       ∷ calls (OfPanel (bus.OnBytes (answers 3 0 (69 ∷ 1 ∷ 2 ∷ 3 ∷ 4 ∷ 5 ∷ 6 ∷ 0 ∷ 0 ∷ 0 ∷ 7 ∷ 8 ∷ 9 ∷ [])) 4)) (1 ∷ [])
       ∷ calls (OfPanel bus.NextReport) []
       ∷ calls (OfPanel (bus.Tick 5)) []
-      ∷ calls (NewDevice 0 3 handler four 20) []
+      ∷ calls (NewDevice 0 (device_at 3) handler four 20) []
       ∷ calls (Take 0 (asks 3 1 (96 ∷ [])) 5) []
       ∷ calls (Next 0) (2 ∷ [])
       ∷ calls (OfPanel (bus.OnBytes (answers 3 1 (65 ∷ 4 ∷ [])) 5)) (3 ∷ [])

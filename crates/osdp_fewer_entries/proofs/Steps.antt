@@ -326,13 +326,13 @@ module _ {H : Type 0} (answer_of : H → Command → Answer) (after : H → Comm
     call_step (Pending i) ps k =
         plain (record { call = Pending i; places = ps }) (record { in_order = tt; quiet_opening = tt; addresses = tt; in_range = tt }) refl
         (changed_left i _ (λ t u. k.stays i t u) (λ t rests. rests)) (λ j. refl) (λ j. refl) (λ j g. refl)
-    call_step (NewDevice i address handler room gap) ps k =
-        plain (record { call = NewDevice i address handler room gap; places = ps }) (record {
+    call_step (NewDevice i config handler room gap) ps k =
+        plain (record { call = NewDevice i config handler room gap; places = ps }) (record {
           in_order = tt;
           quiet_opening = tt;
-          addresses = λ t there. elim (k.keeps.addresses t there) [ inl here ↦ inl here | inr free ↦ inr (free_for gs ms l left i address t free) ];
+          addresses = λ t there. elim (k.keeps.addresses t there) [ inl here ↦ inl here | inr free ↦ inr (free_for gs ms l left i config.address t free) ];
           in_range = k.keeps.in_range;
-        }) refl (changed_left i (made_anew address handler room gap) (λ t u. k.stays i t u) (λ t rests. rests)) (λ j. refl) (λ j. refl) (λ j g. refl)
+        }) refl (changed_left i (made_anew config handler room gap) (λ t u. k.stays i t u) (λ t rests. rests)) (λ j. refl) (λ j. refl) (λ j g. refl)
     call_step (NewPanel config xs) ps k = new_panel config xs ps k.keeps
 
     pub one_step : (step : Step H) → KeepsWithFewer answer_of after step l → OneStep step gs ms l

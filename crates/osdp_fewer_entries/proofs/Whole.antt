@@ -87,9 +87,9 @@ module _ {H : Type 0} where
         have_from l (after_next answer_of after i ps (site_at i l.stations) l)
         (λ k none. sym (ap (device_of k) (next_bus i ps (site_at i l.stations) l)) ∙ none) (λ k. call_keeps k answer_of after (Next i) ps l) have
     call_has (Pending i) ps l keeps have = have_from l (after_call answer_of after (Pending i) ps l) (λ k none. none) (λ k. call_keeps k answer_of after (Pending i) ps l) have
-    call_has (NewDevice i address handler room gap) ps l keeps have =
-        have_from l (after_call answer_of after (NewDevice i address handler room gap) ps l) (λ k none. none)
-        (λ k. call_keeps k answer_of after (NewDevice i address handler room gap) ps l) have
+    call_has (NewDevice i config handler room gap) ps l keeps have =
+        have_from l (after_call answer_of after (NewDevice i config handler room gap) ps l) (λ k none. none)
+        (λ k. call_keeps k answer_of after (NewDevice i config handler room gap) ps l) have
     call_has (NewPanel config xs) ps l keeps have = λ k t none is.
         let before = is_there (site_at k l.stations) (sym (call_keeps k answer_of after (NewPanel config xs) ps l) ∙ ap is_some is) in
         let many = map_many (λ a. new_device a config) xs in
@@ -108,7 +108,7 @@ module _ {H : Type 0} where
     whole_keeps (Silence i now) ps l keeps = keeps
     whole_keeps (Next i) ps l keeps = keeps
     whole_keeps (Pending i) ps l keeps = keeps
-    whole_keeps (NewDevice i address handler room gap) ps l keeps = keeps
+    whole_keeps (NewDevice i config handler room gap) ps l keeps = keeps
     whole_keeps (NewPanel config xs) ps l keeps =
         subst (λ ys. Keeps answer_of after (record { call = NewPanel config ys; places = ps }) l) (sym (none_left_out xs l.stations keeps.in_range.2)) keeps
 

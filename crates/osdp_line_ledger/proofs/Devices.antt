@@ -21,7 +21,7 @@ use Rattle.osdp_line_ledger.proofs.Each.{viewed}
 module _ {H : Type 0} (k : ℕ) where
   device_kept : (move : NetMove H) → KeepsDeviceOf k move → HoldsOf KeepsDevice k move
   device_kept (SetHandler i handler) keeps = λ e. absurd (keeps e)
-  device_kept (RestartReader i address handler room) keeps = λ e. absurd (keeps e)
+  device_kept (RestartReader i config handler room) keeps = λ e. absurd (keeps e)
   device_kept (ToPanel how now) keeps = (λ by. tt, tt)
   device_kept (LoseToReader i place) keeps = λ q. tt
   device_kept (LoseToPanel place) keeps = λ q. tt
@@ -31,7 +31,7 @@ module _ {H : Type 0} (k : ℕ) where
   all_ordinary : (move : NetMove H) → IsOrdinaryOf k move → HoldsOf IsOrdinary k move
   all_ordinary (Withdraw i) is = λ e. absurd (is e)
   all_ordinary (WithdrawEvent i) is = λ e. absurd (is e)
-  all_ordinary (RestartReader i address handler room) is = λ e. absurd (is e)
+  all_ordinary (RestartReader i config handler room) is = λ e. absurd (is e)
   all_ordinary (RestartPanel settings) is = absurd is
   all_ordinary (ToPanel how now) is = (λ by. tt, tt)
   all_ordinary (LoseToReader i place) is = λ q. tt

@@ -304,7 +304,7 @@ module _ {H : Type 0} (answer_of : H → Command → Answer) (after : H → Comm
       reader = h.reader;
     }
     move_keeps (Retarget address) l fits none same h = retargets_keep (controllers.retarget_refusal address l.controller) address l same h
-    move_keeps (RestartReader address handler room) l fits none same h =
+    move_keeps (RestartReader config handler room) l fits none same h =
         record { waiting = h.waiting; controller = h.controller; line = h.line; reader = same }
     move_keeps (RestartController config room) l fits none same h = record { waiting = tt; controller = (tt, same); line = h.line; reader = h.reader }
 

@@ -14,7 +14,6 @@ use Rattle.osdp_controller.specs.declared.config.ControllerConfig.{ControllerCon
 use Rattle.osdp_controller.specs.declared.exchange.Exchange.{Exchange}
 use Rattle.osdp_controller.specs.declared.exchange.Exchange.TheVariants.{Opening, Polling, Asking}
 use Rattle.osdp_controller.specs.Exchanges.{exchange_command}
-use Rattle.osdp_reader.specs.declared.config.ReaderConfig.{ReaderConfig}
 use Rattle.osdp_reader.specs.declared.handler.Answer.{Answer}
 use Rattle.osdp_reader.specs.declared.kind.Kind.{Kind}
 use Rattle.osdp_reader.specs.declared.kind.Kind.TheVariants.{Zero, Taken, Busy}
@@ -31,7 +30,7 @@ use Rattle.osdp_link_laws.specs.Link.{Account, Link, taken_command}
 use Rattle.osdp_link_laws.proofs.Acting.{kind_next, kind_unknown, kind_zero, moved_acted, moved_keeps, no_event, polled, polled_front, released_past, taken_is}
 use Rattle.osdp_link_laws.proofs.Lines.{both, each_append, runs_first}
 use Rattle.osdp_link_laws.proofs.Numbers.{next_above_zero}
-use Rattle.osdp_link_laws.proofs.Stages.{Accounts, After, Answering, Before, Behind, Each, EventsAre, HasActed, IsFrame, Knows, Level, Never, Now, Restarted, Says, SaysOld, Stage, Start, ToControllerAt, answer, frame, given_up, heard_zero, shown}
+use Rattle.osdp_link_laws.proofs.Stages.{Accounts, After, Before, Behind, Each, EventsAre, HasActed, IsFrame, Knows, Level, Never, Now, Restarted, Says, SaysOld, Stage, Start, ToControllerAt, answer, frame, given_up, heard_zero, shown}
 use Rattle.osdp_link_laws.proofs.Since.{Hears, events_of, events_same, has_acted, knows, past_heard}
 use Rattle.osdp_link_laws.proofs.Parts.{At, HoldsAtSomeStage}
 use Rattle.osdp_link_laws.proofs.Taking.{account_revived, away, gets_by, says}
@@ -43,20 +42,20 @@ module _ {H : Type 0} (answer_of : H → Command → Answer) (after : H → Comm
       IfSome (outcome answer_of after kind r p).said ReplyFits
       × ((kind ≡ Zero) ⊎ (kind ≡ Taken) → IfSome (outcome answer_of after kind r p).said IsPlain)
 
-module _ (fixed : ControllerConfig) {H : Type 0} (answer_of : H → Command → Answer) (after : H → Command → H) (settings : ReaderConfig) (since : Restarted) where
+module _ (fixed : ControllerConfig) {H : Type 0} (answer_of : H → Command → Answer) (after : H → Command → H) (since : Restarted) where
   abbrev Holding : Link H → Type 0
-  Holding l = HoldsAtSomeStage fixed answer_of after settings l
+  Holding l = HoldsAtSomeStage fixed answer_of after l
 
   abbrev AtStage : Stage → Link H → Type 0
-  AtStage at l = At fixed answer_of after settings since at l
+  AtStage at l = At fixed answer_of after since at l
 
   -- nothing is offered yet: number 0 has come
   opened_account : (since : Restarted) (lost : List Command) (waiting : List Command) (events : List Event) (t : Account)
-      → Accounts fixed answer_of after settings since [] [] lost [] [] waiting events t
-      → Accounts fixed answer_of after settings (heard_zero since) [] [] lost [] [] waiting events t
+      → Accounts fixed answer_of after since [] [] lost [] [] waiting events t
+      → Accounts fixed answer_of after (heard_zero since) [] [] lost [] [] waiting events t
   opened_account Never lost waiting events t a = a
   opened_account Before lost waiting events t a = a
-  opened_account Now lost waiting events t a = account_revived fixed answer_of after settings [] [] lost [] [] waiting events t refl refl a
+  opened_account Now lost waiting events t a = account_revived fixed answer_of after [] [] lost [] [] waiting events t refl refl a
 
   opened_knows : (since : Restarted) (a : Reply) (r : ReaderState H) → HasActed fixed 0 Opening a r → Knows fixed (heard_zero since) 0 Opening a r
   opened_knows Never a r acted = acted
@@ -67,7 +66,7 @@ module _ (fixed : ControllerConfig) {H : Type 0} (answer_of : H → Command → 
   opened : (l : Link H) → command_in (frame fixed Opening 0) ≡ Ok (command.Id 0)
       → AtStage (Behind Start Opening) l → Each (IsFrame fixed Opening 0) l.to_reader
       → SaysWell answer_of after (frame fixed Opening 0) l.reader Zero
-      → Holding (gets_by fixed answer_of after settings since Zero (frame fixed Opening 0) l)
+      → Holding (gets_by fixed answer_of after since Zero (frame fixed Opening 0) l)
   opened l reads h frames well =
       let p = frame fixed Opening 0 in
       subst (λ c. IfSome (begun answer_of after c l.reader p).said ReplyFits → Holding (record l {
@@ -79,11 +78,10 @@ module _ (fixed : ControllerConfig) {H : Type 0} (answer_of : H → Command → 
         heard_zero since,
         Level Start Opening (reply.PdId l.reader.config.id),
         record {
-          stage = (tt, tt, (record { plain = tt; fits = fits }, ap reply.PdId h.answering.id));
+          stage = (tt, tt, (record { plain = tt; fits = fits }, (l.reader.config.id, refl)));
           controller = h.controller;
           waiting = h.waiting;
           reader = opened_knows since (reply.PdId l.reader.config.id) _ (record { here = λ e. (refl, tt); offer = refl });
-          answering = record { id = h.answering.id; caps = h.answering.caps };
           to_reader = frames;
           to_controller = runs_first (SaysOld fixed (heard_zero since) Start) (Says fixed (heard_zero since) 0 (reply.PdId l.reader.config.id)) l.to_controller
               (answer fixed 0 (reply.PdId l.reader.config.id) ∷ []) h.to_controller (inr (inl refl), tt);
@@ -94,21 +92,21 @@ module _ (fixed : ControllerConfig) {H : Type 0} (answer_of : H → Command → 
   pub opens : (l : Link H) → fixed.address < 127 → command_in (frame fixed Opening 0) ≡ Ok (command.Id 0)
       → AtStage (Behind Start Opening) l → Each (IsFrame fixed Opening 0) l.to_reader
       → SaysWell answer_of after (frame fixed Opening 0) l.reader (kind_of l.reader (frame fixed Opening 0))
-      → Holding (gets_by fixed answer_of after settings since (kind_of l.reader (frame fixed Opening 0)) (frame fixed Opening 0) l)
+      → Holding (gets_by fixed answer_of after since (kind_of l.reader (frame fixed Opening 0)) (frame fixed Opening 0) l)
   opens l device reads h frames well =
       elim (eqb_tells l.reader.config.address fixed.address) [
-        | inl same ↦ subst (λ k. SaysWell answer_of after (frame fixed Opening 0) l.reader k → Holding (gets_by fixed answer_of after settings since k (frame fixed Opening 0) l))
+        | inl same ↦ subst (λ k. SaysWell answer_of after (frame fixed Opening 0) l.reader k → Holding (gets_by fixed answer_of after since k (frame fixed Opening 0) l))
             (sym (kind_zero fixed l.reader Opening same.1))
-            (both (λ k. SaysWell answer_of after (frame fixed Opening 0) l.reader k → Holding (gets_by fixed answer_of after settings since k (frame fixed Opening 0) l))
+            (both (λ k. SaysWell answer_of after (frame fixed Opening 0) l.reader k → Holding (gets_by fixed answer_of after since k (frame fixed Opening 0) l))
             l.reader.busy Busy Zero
             (λ w. (
               since,
               Behind Start Opening,
-              says fixed answer_of after settings since (Behind Start Opening) l (answer fixed 0 reply.Busy) h
+              says fixed answer_of after since (Behind Start Opening) l (answer fixed 0 reply.Busy) h
                   (each_append (SaysOld fixed since Start) l.to_controller (answer fixed 0 reply.Busy ∷ []) h.to_controller (refl, tt)),
             ))
             (λ w. opened l reads h frames w)) well
-        | inr other ↦ (since, Behind Start Opening, away fixed answer_of after settings since (Behind Start Opening) Opening 0 l device other.1 h)
+        | inr other ↦ (since, Behind Start Opening, away fixed answer_of after since (Behind Start Opening) Opening 0 l device other.1 h)
       ]
 
   -- the taken command of an exchange after another, by what is read of it
@@ -140,7 +138,7 @@ module _ (fixed : ControllerConfig) {H : Type 0} (answer_of : H → Command → 
   polls_on : (n : ℕ) (y : Exchange) (b : Reply) (l : Link H) → Hears since → command_in (frame fixed Polling (next_sequence n)) ≡ Ok command.Poll
       → AtStage (Behind (After n y b) Polling) l → Each (IsFrame fixed Polling (next_sequence n)) l.to_reader
       → SaysWell answer_of after (frame fixed Polling (next_sequence n)) l.reader Taken
-      → Holding (gets_by fixed answer_of after settings since Taken (frame fixed Polling (next_sequence n)) l)
+      → Holding (gets_by fixed answer_of after since Taken (frame fixed Polling (next_sequence n)) l)
   polls_on n y b l hears reads h frames well =
       let p = frame fixed Polling (next_sequence n) in
       let events = (released l.reader.queue).events in
@@ -157,7 +155,6 @@ module _ (fixed : ControllerConfig) {H : Type 0} (answer_of : H → Command → 
           controller = h.controller;
           waiting = h.waiting;
           reader = knows fixed since (next_sequence n) Polling a.reply _ hears (record { here = λ e. (refl, refl); offer = poll.0 });
-          answering = record { id = h.answering.id; caps = h.answering.caps };
           to_reader = frames;
           to_controller = line_after n y b a.reply l.to_controller h.to_controller;
           account = record {
@@ -190,7 +187,7 @@ module _ (fixed : ControllerConfig) {H : Type 0} (answer_of : H → Command → 
   asked_account : (n : ℕ) (y : Exchange) (b : Reply) (c : Command) (l : Link H) → Hears since
       → AtStage (Behind (After n y b) (Asking c)) l
       → let a = answer_to answer_of after l.reader.config l.reader.handler c in
-      Accounts fixed answer_of after settings since [] ((c, a.reply) ∷ []) (given_up l.controller.session.state (Asking c)) [] [] l.controller.waiting
+      Accounts fixed answer_of after since [] ((c, a.reply) ∷ []) (given_up l.controller.session.state (Asking c)) [] [] l.controller.waiting
       (released l.reader.queue).events
       (record l.account { taken = l.account.taken ++ c ∷ []; given = l.account.given ++ (c, a.reply) ∷ [] })
   asked_account n y b c l hears h =
@@ -220,25 +217,11 @@ module _ (fixed : ControllerConfig) {H : Type 0} (answer_of : H → Command → 
         handler = a.handler;
       }) here (record { here = λ e. (refl, refl); offer = refl })
 
-  asked_answering : (m : ℕ) (c : Command) (l : Link H) → Answering settings l.reader.config
-      → Answering settings (asked_link None c (frame fixed (Asking c) m) l).reader.config
-  asked_answering m c l answers =
-      let a = answer_to answer_of after l.reader.config l.reader.handler c in
-      let r = record l.reader {
-        last = Some m;
-        stored = Some (answer fixed m a.reply);
-        queue = offering None (released l.reader.queue);
-        handler = a.handler;
-      } in
-      let kept = moved_keeps fixed (λ config queue handler. (config.id ≡ settings.id) × (config.caps ≡ settings.caps))
-      (new_address c) r (λ address. (answers.id, answers.caps)) (answers.id, answers.caps) in
-      record { id = kept.0; caps = kept.1 }
-
   asked_on : (n : ℕ) (y : Exchange) (b : Reply) (c : Command) (l : Link H) → Hears since → MaySubmit c
       → command_in (frame fixed (Asking c) (next_sequence n)) ≡ Ok c → l.reader.config.address ≡ fixed.address
       → AtStage (Behind (After n y b) (Asking c)) l → Each (IsFrame fixed (Asking c) (next_sequence n)) l.to_reader
       → SaysWell answer_of after (frame fixed (Asking c) (next_sequence n)) l.reader Taken
-      → Holding (gets_by fixed answer_of after settings since Taken (frame fixed (Asking c) (next_sequence n)) l)
+      → Holding (gets_by fixed answer_of after since Taken (frame fixed (Asking c) (next_sequence n)) l)
   asked_on n y b c l hears may reads here h frames well =
       let m = next_sequence n in
       let p = frame fixed (Asking c) m in
@@ -258,10 +241,9 @@ module _ (fixed : ControllerConfig) {H : Type 0} (answer_of : H → Command → 
               controller = h.controller;
               waiting = h.waiting;
               reader = knows fixed since m (Asking c) a.reply (asked_link None c p l).reader hears (asked_reader m c l here);
-              answering = asked_answering m c l h.answering;
               to_reader = frames;
               to_controller = runs_first (SaysOld fixed since (After n y b)) (Says fixed since m a.reply) l.to_controller (answer fixed m a.reply ∷ []) h.to_controller (inr (inl refl), tt);
-              account = subst (λ events. Accounts fixed answer_of after settings since [] ((c, a.reply) ∷ []) (given_up l.controller.session.state (Asking c)) [] [] l.controller.waiting events t)
+              account = subst (λ events. Accounts fixed answer_of after since [] ((c, a.reply) ∷ []) (given_up l.controller.session.state (Asking c)) [] [] l.controller.waiting events t)
                   (sym (moved_keeps fixed (λ config queue handler. queue.events ≡ (released l.reader.queue).events) (new_address c)
                   (record l.reader { last = Some m; stored = Some (answer fixed m a.reply); queue = offering None (released l.reader.queue); handler = a.handler })
                   (λ address. refl) refl))
@@ -274,51 +256,51 @@ module _ (fixed : ControllerConfig) {H : Type 0} (answer_of : H → Command → 
       → command_in (frame fixed x (next_sequence n)) ≡ Ok (exchange_command x)
       → AtStage (Behind (After n y b) x) l → Each (IsFrame fixed x (next_sequence n)) l.to_reader
       → SaysWell answer_of after (frame fixed x (next_sequence n)) l.reader (kind_of l.reader (frame fixed x (next_sequence n)))
-      → Holding (gets_by fixed answer_of after settings since (kind_of l.reader (frame fixed x (next_sequence n))) (frame fixed x (next_sequence n)) l)
+      → Holding (gets_by fixed answer_of after since (kind_of l.reader (frame fixed x (next_sequence n))) (frame fixed x (next_sequence n)) l)
   advances n y b x l hears device reads h frames well =
       let p = frame fixed x (next_sequence n) in
       elim (eqb_tells l.reader.config.address fixed.address) [
-        | inl same ↦ subst (λ k. SaysWell answer_of after p l.reader k → Holding (gets_by fixed answer_of after settings since k p l))
+        | inl same ↦ subst (λ k. SaysWell answer_of after p l.reader k → Holding (gets_by fixed answer_of after since k p l))
             (sym (kind_next fixed l.reader x n same.1 ((has_acted fixed since n y b l.reader hears h.reader).here same.1).0))
-            (both (λ k. SaysWell answer_of after p l.reader k → Holding (gets_by fixed answer_of after settings since k p l)) l.reader.busy Busy Taken
+            (both (λ k. SaysWell answer_of after p l.reader k → Holding (gets_by fixed answer_of after since k p l)) l.reader.busy Busy Taken
             (λ w. (
               since,
               Behind (After n y b) x,
-              says fixed answer_of after settings since (Behind (After n y b) x) l (answer fixed 0 reply.Busy) h
+              says fixed answer_of after since (Behind (After n y b) x) l (answer fixed 0 reply.Busy) h
                   (each_append (SaysOld fixed since (After n y b)) l.to_controller (answer fixed 0 reply.Busy ∷ []) h.to_controller (inl refl, tt)),
             ))
             (λ w. acts x reads h frames w same.1)) well
-        | inr other ↦ (since, Behind (After n y b) x, away fixed answer_of after settings since (Behind (After n y b) x) x (next_sequence n) l device other.1 h)
+        | inr other ↦ (since, Behind (After n y b) x, away fixed answer_of after since (Behind (After n y b) x) x (next_sequence n) l device other.1 h)
       ]
     where
       acts : (x : Exchange) → command_in (frame fixed x (next_sequence n)) ≡ Ok (exchange_command x)
           → AtStage (Behind (After n y b) x) l → Each (IsFrame fixed x (next_sequence n)) l.to_reader
           → SaysWell answer_of after (frame fixed x (next_sequence n)) l.reader Taken → l.reader.config.address ≡ fixed.address
-          → Holding (gets_by fixed answer_of after settings since Taken (frame fixed x (next_sequence n)) l)
+          → Holding (gets_by fixed answer_of after since Taken (frame fixed x (next_sequence n)) l)
       acts Opening reads h frames well here = absurd h.stage.1
       acts Polling reads h frames well here = polls_on n y b l hears reads h frames well
       acts (Asking c) reads h frames well here = asked_on n y b c l hears h.stage.1 reads here h frames well
 
 -- .. unless the reader has restarted: it refuses the number
-module _ (fixed : ControllerConfig) {H : Type 0} (answer_of : H → Command → Answer) (after : H → Command → H) (settings : ReaderConfig) where
+module _ (fixed : ControllerConfig) {H : Type 0} (answer_of : H → Command → Answer) (after : H → Command → H) where
   pub goes_on : (since : Restarted) (n : ℕ) (y : Exchange) (b : Reply) (x : Exchange) (l : Link H) → fixed.address < 127
       → command_in (frame fixed x (next_sequence n)) ≡ Ok (exchange_command x)
-      → At fixed answer_of after settings since (Behind (After n y b) x) l → Each (IsFrame fixed x (next_sequence n)) l.to_reader
+      → At fixed answer_of after since (Behind (After n y b) x) l → Each (IsFrame fixed x (next_sequence n)) l.to_reader
       → SaysWell answer_of after (frame fixed x (next_sequence n)) l.reader (kind_of l.reader (frame fixed x (next_sequence n)))
-      → HoldsAtSomeStage fixed answer_of after settings
-      (gets_by fixed answer_of after settings since (kind_of l.reader (frame fixed x (next_sequence n))) (frame fixed x (next_sequence n)) l)
-  goes_on Never n y b x l device reads h frames well = advances fixed answer_of after settings Never n y b x l tt device reads h frames well
-  goes_on Before n y b x l device reads h frames well = advances fixed answer_of after settings Before n y b x l tt device reads h frames well
+      → HoldsAtSomeStage fixed answer_of after
+      (gets_by fixed answer_of after since (kind_of l.reader (frame fixed x (next_sequence n))) (frame fixed x (next_sequence n)) l)
+  goes_on Never n y b x l device reads h frames well = advances fixed answer_of after Never n y b x l tt device reads h frames well
+  goes_on Before n y b x l device reads h frames well = advances fixed answer_of after Before n y b x l tt device reads h frames well
   goes_on Now n y b x l device reads h frames well =
       let m = next_sequence n in
       elim (eqb_tells l.reader.config.address fixed.address) [
         | inl same ↦ (
           Now,
           Behind (After n y b) x,
-          subst (λ k. At fixed answer_of after settings Now (Behind (After n y b) x) (gets_by fixed answer_of after settings Now k (frame fixed x m) l))
+          subst (λ k. At fixed answer_of after Now (Behind (After n y b) x) (gets_by fixed answer_of after Now k (frame fixed x m) l))
               (sym (kind_unknown fixed l.reader x m same.1 (next_above_zero n) h.reader))
-              (says fixed answer_of after settings Now (Behind (After n y b) x) l (answer fixed m (refused UnexpectedSequence)) h
-              (each_append (SaysOld fixed Now (After n y b)) l.to_controller (answer fixed m (refused UnexpectedSequence) ∷ []) h.to_controller (inr (inr (tt, (m, refl))), tt))),
+              (says fixed answer_of after Now (Behind (After n y b) x) l (answer fixed m (refused UnexpectedSequence)) h
+              (each_append (SaysOld fixed Now (After n y b)) l.to_controller (answer fixed m (refused UnexpectedSequence) ∷ []) h.to_controller (inr (inr (inl (tt, (m, refl)))), tt))),
         )
-        | inr other ↦ (Now, Behind (After n y b) x, away fixed answer_of after settings Now (Behind (After n y b) x) x m l device other.1 h)
+        | inr other ↦ (Now, Behind (After n y b) x, away fixed answer_of after Now (Behind (After n y b) x) x m l device other.1 h)
       ]

@@ -11,7 +11,6 @@ use Rattle.osdp_controller.specs.Exchanges.{exchange_command}
 use Rattle.osdp_controller.specs.declared.config.ControllerConfig.{ControllerConfig}
 use Rattle.osdp_controller.specs.declared.exchange.Exchange.{Exchange}
 use Rattle.osdp_controller.specs.declared.exchange.Exchange.TheVariants.{Opening, Polling, Asking}
-use Rattle.osdp_reader.specs.declared.config.ReaderConfig.{ReaderConfig}
 use Rattle.osdp_reader.specs.declared.handler.Answer.{Answer}
 use Rattle.osdp_reader.specs.declared.kind.Kind.TheVariants.{Zero, Repeat, Taken, Busy}
 use Rattle.osdp_reader.specs.Queue.{event_for, offering, released}
@@ -37,9 +36,9 @@ no_address Opening none = refl
 no_address Polling none = refl
 no_address (Asking c) none = none
 
-module _ (fixed : ControllerConfig) {H : Type 0} (answer_of : H → Command → Answer) (after : H → Command → H) (settings : ReaderConfig) where
+module _ (fixed : ControllerConfig) {H : Type 0} (answer_of : H → Command → Answer) (after : H → Command → H) where
   abbrev Given : Type 0
-  Given = Premises fixed answer_of after settings
+  Given = Premises fixed answer_of after
 
   -- it is at the controller's address, and not busy
   pub record IsReady (r : ReaderState H) : Type 0 where
@@ -53,7 +52,7 @@ module _ (fixed : ControllerConfig) {H : Type 0} (answer_of : H → Command → 
   -- its answer to this exchange with this number
   pub record Replies (x : Exchange) (n : ℕ) (r : ReaderState H) (a : Reply) : Type 0 where
     pub sent : (hears answer_of after r (frame fixed x n)).reply ≡ Some (answer fixed n a)
-    pub acted : Acted settings.id n x a
+    pub acted : Acted n x a
     pub stays : MovesNone x → IsReady (hears answer_of after r (frame fixed x n)).reader
     pub known : MovesNone x → (hears answer_of after r (frame fixed x n)).reader.last ≡ Some n
 
@@ -62,16 +61,16 @@ module _ (fixed : ControllerConfig) {H : Type 0} (answer_of : H → Command → 
   Refused x n r = (hears answer_of after r (frame fixed x n)).reply ≡ Some (answer fixed n (refused UnexpectedSequence))
 
   -- .. to the opening ID
-  pub opening : Given → (r : ReaderState H) → IsReady r → r.config.id ≡ settings.id → SaysFit (frame fixed Opening 0) r
+  pub opening : Given → (r : ReaderState H) → IsReady r → SaysFit (frame fixed Opening 0) r
       → Replies Opening 0 r (reply.PdId r.config.id)
-  opening given r ready id fits =
+  opening given r ready fits =
       let p = frame fixed Opening 0 in
       let kind : kind_of r p ≡ Zero = kind_zero fixed r Opening ready.here ∙ ap (λ b. cond b Busy Zero) ready.ready in
       let e : hears answer_of after r p ≡ begun answer_of after (Ok (command.Id 0)) r p =
       ap (λ k. outcome answer_of after k r p) kind ∙ ap (λ c. begun answer_of after c r p) (given.reads Opening 0 (omega arith)) in
       record {
         sent = ap (λ o. o.reply) e;
-        acted = (record { plain = tt; fits = subst (λ o. IfSome o.said ReplyFits) e fits }, ap reply.PdId id);
+        acted = (record { plain = tt; fits = subst (λ o. IfSome o.said ReplyFits) e fits }, (r.config.id, refl));
         stays = λ none. subst (λ o. IsReady o.reader) (sym e) (record { here = ready.here; ready = ready.ready });
         known = λ none. ap (λ o. o.reader.last) e;
       }
@@ -88,7 +87,7 @@ module _ (fixed : ControllerConfig) {H : Type 0} (answer_of : H → Command → 
       ap (λ k. outcome answer_of after k r p) kind
       ∙ ap (λ c. taken answer_of after c r p) (given.reads x (next_sequence n) (asked_fits (After n y b) x asked))
 
-  numbered : (x : Exchange) (n : ℕ) (y : Exchange) (b : Reply) (a : Reply) → IsAsked (After n y b) x → IsAnswerTo settings.id x (next_sequence n) a
+  numbered : (x : Exchange) (n : ℕ) (y : Exchange) (b : Reply) (a : Reply) → IsAsked (After n y b) x → IsAnswerTo x (next_sequence n) a
   numbered Opening n y b a asked = absurd asked
   numbered Polling n y b a asked = next_above_zero n
   numbered (Asking c) n y b a asked = next_above_zero n
@@ -122,7 +121,7 @@ module _ (fixed : ControllerConfig) {H : Type 0} (answer_of : H → Command → 
 
   -- .. again
   repeating : (n : ℕ) (x : Exchange) (a : Reply) (r : ReaderState H) → IsReady r → n ≢ 0 → r.last ≡ Some n → r.stored ≡ Some (answer fixed n a)
-      → Acted settings.id n x a → Replies x n r a
+      → Acted n x a → Replies x n r a
   repeating n x a r ready above last stored acted =
       let p = frame fixed x n in
       let e : hears answer_of after r p ≡ outcome answer_of after Repeat r p =
@@ -145,26 +144,26 @@ module _ (fixed : ControllerConfig) {H : Type 0} (answer_of : H → Command → 
       inl ((taken_answer (exchange_command x) r).reply, taking given n y b x r ready (knows.here ready.here).0 asked fits)
   goes_next given Now n y b x r ready knows asked fits = inr (refusing (next_sequence n) x r ready (next_above_zero n) knows)
 
-  again_polled : (since : Restarted) (n : ℕ) (b : Reply) (r : ReaderState H) → IsReady r → n ≢ 0 → Knows fixed since n Polling b r → Acted settings.id n Polling b
+  again_polled : (since : Restarted) (n : ℕ) (b : Reply) (r : ReaderState H) → IsReady r → n ≢ 0 → Knows fixed since n Polling b r → Acted n Polling b
       → RepliesOrRefuses Polling n r
   again_polled Never n b r ready above knows acted = let kept = knows.here ready.here in inl (b, repeating n Polling b r ready above kept.0 kept.1 acted)
   again_polled Before n b r ready above knows acted = let kept = knows.here ready.here in inl (b, repeating n Polling b r ready above kept.0 kept.1 acted)
   again_polled Now n b r ready above knows acted = inr (refusing n Polling r ready above knows)
 
   again_asked : (since : Restarted) (n : ℕ) (c : Command) (b : Reply) (r : ReaderState H) → IsReady r → n ≢ 0 → Knows fixed since n (Asking c) b r
-      → Acted settings.id n (Asking c) b → RepliesOrRefuses (Asking c) n r
+      → Acted n (Asking c) b → RepliesOrRefuses (Asking c) n r
   again_asked Never n c b r ready above knows acted = let kept = knows.here ready.here in inl (b, repeating n (Asking c) b r ready above kept.0 kept.1 acted)
   again_asked Before n c b r ready above knows acted = let kept = knows.here ready.here in inl (b, repeating n (Asking c) b r ready above kept.0 kept.1 acted)
   again_asked Now n c b r ready above knows acted = inr (refusing n (Asking c) r ready above knows)
 
-  pub replies_at : Given → (since : Restarted) (at : Stage) (l : Link H) → At fixed answer_of after settings since at l → IsOut at → IsReady l.reader
+  pub replies_at : Given → (since : Restarted) (at : Stage) (l : Link H) → At fixed answer_of after since at l → IsOut at → IsReady l.reader
       → SaysFit (frame fixed (exchange_at at) (number_at at)) l.reader → RepliesOrRefuses (exchange_at at) (number_at at) l.reader
   replies_at given since Fresh l h out ready fits = absurd out
-  replies_at given since (Behind Start Opening) l h out ready fits = inl (reply.PdId l.reader.config.id, opening given l.reader ready h.answering.id fits)
+  replies_at given since (Behind Start Opening) l h out ready fits = inl (reply.PdId l.reader.config.id, opening given l.reader ready fits)
   replies_at given since (Behind Start Polling) l h out ready fits = absurd h.stage.1
   replies_at given since (Behind Start (Asking c)) l h out ready fits = absurd h.stage.1
   replies_at given since (Behind (After n y b) x) l h out ready fits = goes_next given since n y b x l.reader ready h.reader h.stage.1 fits
-  replies_at given since (Level Start Opening b) l h out ready fits = inl (reply.PdId l.reader.config.id, opening given l.reader ready h.answering.id fits)
+  replies_at given since (Level Start Opening b) l h out ready fits = inl (reply.PdId l.reader.config.id, opening given l.reader ready fits)
   replies_at given since (Level Start Polling b) l h out ready fits = absurd h.stage.1
   replies_at given since (Level Start (Asking c) b) l h out ready fits = absurd h.stage.1
   replies_at given since (Level (After n y d) Opening b) l h out ready fits = absurd h.stage.1

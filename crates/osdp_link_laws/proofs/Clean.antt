@@ -32,7 +32,7 @@ use Rattle.osdp_link_laws.proofs.Acting.{no_event}
 use Rattle.osdp_link_laws.proofs.Due.{Acts, next_exchange}
 use Rattle.osdp_link_laws.proofs.Exchanges.{accounted, opening_exchange}
 use Rattle.osdp_link_laws.proofs.Growing.{GoesOn, goes_on}
-use Rattle.osdp_link_laws.proofs.InARow.{assumed_of}
+use Rattle.osdp_link_laws.proofs.InARow.{assumed}
 use Rattle.osdp_link_laws.proofs.Lines.{each_append, each_map, each_of}
 use Rattle.osdp_link_laws.proofs.Moves.{Premises, not_poll}
 use Rattle.osdp_link_laws.proofs.Once.{bare, fresh}
@@ -65,13 +65,13 @@ spaced_acts wait now s waiting rests short late =
 
 module _ (fixed : ControllerConfig) {H : Type 0} (answer_of : H → Command → Answer) (after : H → Command → H) (settings : ReaderConfig) where
   abbrev Given : Type 0
-  Given = Premises fixed answer_of after settings
+  Given = Premises fixed answer_of after
 
   abbrev Holds : Link H → Type 0
-  Holds l = HoldsAtSomeStage fixed answer_of after settings l
+  Holds l = HoldsAtSomeStage fixed answer_of after l
 
   abbrev Idles : Link H → Type 0
-  Idles l = IsIdle fixed answer_of after settings l
+  Idles l = IsIdle fixed answer_of after l
 
   -- a link between two rounds: the controller waits for nothing, its next POLL is due after the interval, and no command was lost
   record IsBetween (interval : ℕ) (l : Link H) : Type 0 where
@@ -153,11 +153,11 @@ module _ (fixed : ControllerConfig) {H : Type 0} (answer_of : H → Command → 
   rounds_make given wait interval short (now ∷ later) l b spaced fits =
       let w = l.controller.waiting in
       let does = spaced_acts wait now l.controller.session w b.rests (omega (arith, short, b.keeps)) spaced.0 in
-      let is = idle_exchange fixed answer_of after settings given now l b.holds b.idle does fits.1.0 in
+      let is = idle_exchange fixed answer_of after given now l b.holds b.idle does fits.1.0 in
       let m = goes answer_of after now l in
       let next : IsBetween interval m = record {
-        holds = held_after fixed answer_of after settings given now l fits.1.0 b.holds;
-        idle = subst Idles (sym is) (rested_idle fixed answer_of after settings now l b.idle);
+        holds = held_after fixed answer_of after given now l fits.1.0 b.holds;
+        idle = subst Idles (sym is) (rested_idle fixed answer_of after now l b.idle);
         rests = subst (λ k. RestsFor k.controller.session) (sym is) refl;
         keeps = ap (λ k. k.controller.session.config.poll_interval) is ∙ b.keeps;
       } in
@@ -171,7 +171,7 @@ module _ (fixed : ControllerConfig) {H : Type 0} (answer_of : H → Command → 
       )
 
   -- at rest each command that was taken is settled, and none is told unsettled
-  settled_all : (since : Restarted) (at : Stage) (l : Link H) → At fixed answer_of after settings since at l → (due : ℕ) → l.controller.session.state ≡ Idle due
+  settled_all : (since : Restarted) (at : Stage) (l : Link H) → At fixed answer_of after since at l → (due : ℕ) → l.controller.session.state ≡ Idle due
       → (l.account.settled ≡ l.account.given) × (l.account.unsettled ≡ [])
   settled_all since Fresh l h due idle = absurd (subst (λ st. Waits fixed st l.controller.session) idle h.controller)
   settled_all since (Behind past x) l h due idle =
@@ -270,7 +270,7 @@ module _ (fixed : ControllerConfig) {H : Type 0} (answer_of : H → Command → 
   orders_ready s (SetHandler handler ∷ orders) l all fits h = absurd all.0
   orders_ready s (Withdraw ∷ orders) l all fits h = absurd all.0
   orders_ready s (Retarget address ∷ orders) l all fits h = absurd all.0
-  orders_ready s (RestartReader address handler room ∷ orders) l all fits h = absurd all.0
+  orders_ready s (RestartReader config handler room ∷ orders) l all fits h = absurd all.0
   orders_ready s (RestartController config room ∷ orders) l all fits h = absurd all.0
 
   -- ---- from the opening on
@@ -286,27 +286,26 @@ module _ (fixed : ControllerConfig) {H : Type 0} (answer_of : H → Command → 
       let events = l.reader.queue.events in
       let state : l.controller.session.state ≡ Quiet until = ap (λ (t : Session). t.state) h.session ∙ quiet in
       let config : l.controller.session.config ≡ fixed = ap (λ (t : Session). t.config) h.session ∙ same in
-      let new = fresh fixed answer_of after settings l (record {
+      let new = fresh fixed answer_of after l (record {
         controller = subst (λ st. Waits fixed st l.controller.session) (sym state) config;
         waiting = h.waiting;
-        answering = record { id = ap (λ c. c.id) h.reader.config; caps = ap (λ c. c.caps) h.reader.config };
         to_reader = h.line.0;
         to_controller = h.line.1;
         account = h.account;
       }) in
       let held : Holds l =
-      bare fixed answer_of after settings l (ap (λ (t : Account). t.removed) h.account) (ap (λ (t : Account). t.forgotten) h.account) new.holds in
-      let still : IsStill fixed answer_of after settings l = record {
+      bare fixed answer_of after l (ap (λ (t : Account). t.removed) h.account) (ap (λ (t : Account). t.forgotten) h.account) new.holds in
+      let still : IsStill fixed answer_of after l = record {
         to_reader = h.line.0;
         to_controller = h.line.1;
         ready = record { here = ap (λ c. c.address) h.reader.config ∙ here; ready = h.reader.ready };
         issued = none;
       } in
-      let is = opening_exchange fixed answer_of after settings given until opening l still config (ap (λ c. c.id) h.reader.config) state (omega (arith, reached)) fits.1.0 in
+      let is = opening_exchange fixed answer_of after given until opening l still config state (omega (arith, reached)) fits.1.0 in
       let m = goes answer_of after opening l in
       let interval = s.config.poll_interval in
       let between : IsBetween interval m = record {
-        holds = held_after fixed answer_of after settings given opening l fits.1.0 held;
+        holds = held_after fixed answer_of after given opening l fits.1.0 held;
         idle = subst Idles (sym is) (record {
           idle = (later_by l.controller.session.config.poll_interval (seen opening (record (seen opening l.controller.session) { number = 0 })), refl);
           still = record {
@@ -387,5 +386,5 @@ module _ {H : Type 0} (answer_of : H → Command → Answer) (after : H → Comm
       let plain = each_append Plain orders after_all (each_map IsOrder Plain order_plain orders (each_of IsOrder orders are)) (rounds_plain (opening ∷ moments)) in
       let answered = subst (λ m. m.account.given ≡ with_answers answer_of after config l.reader.handler m.account.taken) (run_both orders after_all l)
       (answers_plain peers l (orders ++ after_all) b (fit_both orders after_all l fits more) plain) in
-      opens_and_goes s.config answer_of after config (assumed_of answer_of after peers l s.config b.address) l.reader.handler until opening wait moments s before readied
+      opens_and_goes s.config answer_of after config (assumed answer_of after peers s.config b.address) l.reader.handler until opening wait moments s before readied
       refl b.quiet.1 here due short (each_of SetsNoAddress before.account.issued none) spaced more answered

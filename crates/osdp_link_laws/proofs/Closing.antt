@@ -68,7 +68,7 @@ module _ {H : Type 0} (answer_of : H → Command → Answer) (after : H → Comm
   inside_over (LoseToReader place) l on closed = (refl, closed)
   inside_over (LoseToController place) l on closed = (refl, closed)
   inside_over (SetHandler handler) l on closed = (refl, closed)
-  inside_over (RestartReader address handler room) l on closed = (refl, closed)
+  inside_over (RestartReader config handler room) l on closed = (refl, closed)
   inside_over (Reopen now) l on closed = absurd on
   inside_over Withdraw l on closed = absurd on
   inside_over (Retarget address) l on closed = absurd on

@@ -77,7 +77,7 @@ module _ {H : Type 0} (answer_of : H → Command → Answer) (after : H → Comm
   inside_keeps kept (LoseToReader place) l on is = is
   inside_keeps kept (LoseToController place) l on is = is
   inside_keeps kept (SetHandler handler) l on is = is
-  inside_keeps kept (RestartReader address handler room) l on is = is
+  inside_keeps kept (RestartReader config handler room) l on is = is
   inside_keeps kept (Reopen now) l on is = absurd on
   inside_keeps kept Withdraw l on is = absurd on
   inside_keeps kept (Retarget address) l on is = absurd on
@@ -95,7 +95,7 @@ module _ {H : Type 0} (answer_of : H → Command → Answer) (after : H → Comm
   move_keeps kept out (LoseToReader place) l fits is = is
   move_keeps kept out (LoseToController place) l fits is = is
   move_keeps kept out (SetHandler handler) l fits is = is
-  move_keeps kept out (RestartReader address handler room) l fits is = is
+  move_keeps kept out (RestartReader config handler room) l fits is = is
   move_keeps kept out Withdraw l fits is = is
   move_keeps kept out (Reopen now) l fits is = reopens_keep out (begin_refusal l.controller) l.to_reader l.to_controller now l refl is
   move_keeps kept out (Retarget address) l fits is = retargets_keep out (retarget_refusal address l.controller) address l refl is

@@ -26,7 +26,7 @@ use Rattle.osdp_link_laws.specs.Sessions.{all_queued, queued}
 use Rattle.osdp_link_laws.proofs.Counting.{first_inside, others_inside}
 use Rattle.osdp_link_laws.proofs.Doing.{restarts_controller}
 use Rattle.osdp_link_laws.proofs.Growing.{GoesOn}
-use Rattle.osdp_link_laws.proofs.InARow.{assumed_of, is_once_now, running, standing, stands}
+use Rattle.osdp_link_laws.proofs.InARow.{assumed, is_once_now, running, standing, stands}
 use Rattle.osdp_link_laws.proofs.Lines.{each_of}
 use Rattle.osdp_link_laws.proofs.Once.{Goes}
 use Rattle.osdp_link_laws.proofs.Removed.{as_waiting}
@@ -70,7 +70,7 @@ parted past front new rest events t one is kept reported offered =
       kept = kept ∙ ap (λ es. past ++ es) is ∙ sym (append_assoc past (front ++ new) rest) ∙ ap (λ es. es ++ rest) (sym all);
     }
 
-module _ (fixed : ControllerConfig) {H : Type 0} (answer_of : H → Command → Answer) (after : H → Command → H) (settings : ReaderConfig) where
+module _ (fixed : ControllerConfig) {H : Type 0} (answer_of : H → Command → Answer) (after : H → Command → H) where
   parts : (since : Restarted) (at : Stage) (r : ReaderState H) (t : Account) → ReaderAt fixed since at r → t.offered ≡ t.reported ++ unreported_at at
       → EventsAre since (shown_at at) r.queue.events t → IsParted r.queue.events t
   parts Never at r t is offered are =
@@ -89,9 +89,9 @@ module _ (fixed : ControllerConfig) {H : Type 0} (answer_of : H → Command → 
     kept = are.kept ∙ ap (λ es. es ++ r.queue.events) (sym are.reported);
   }
 
-  costs : (address : ℕ) (handler : H) (room : Room) (l : Link H) → Goes fixed answer_of after settings l
-      → ReaderCosts l (after_move answer_of after (RestartReader address handler room) l)
-  costs address handler room l h =
+  costs : (config : ReaderConfig) (handler : H) (room : Room) (l : Link H) → Goes fixed answer_of after l
+      → ReaderCosts l (after_move answer_of after (RestartReader config handler room) l)
+  costs config handler room l h =
       let at = h.holds.1 in
       let held = h.holds.2 in
       let p = parts h.holds.0 at l.reader (as_waiting l).account held.reader held.account.offered held.account.told in
@@ -170,24 +170,24 @@ module _ {H : Type 0} (answer_of : H → Command → Answer) (after : H → Comm
 
 module _ {H : Type 0} (answer_of : H → Command → Answer) (after : H → Command → H) where
   pub reader_restart_costs : ReadEachOther answer_of after → ReaderRestartCosts answer_of after
-  reader_restart_costs peers l moves address handler room b fits =
+  reader_restart_costs peers l moves config handler room b fits =
       let s = stands answer_of after peers l moves b fits in
-      costs s.fixed answer_of after l.reader.config address handler room (run answer_of after moves l) s.goes
+      costs s.fixed answer_of after config handler room (run answer_of after moves l) s.goes
 
   pub reports_no_more : ReadEachOther answer_of after → ReportsNoMore answer_of after
-  reports_no_more peers l moves address handler room more b fits on keep same =
+  reports_no_more peers l moves config handler room more b fits on keep same =
       let before = run answer_of after moves l in
-      let restart = RestartReader address handler room in
+      let restart = RestartReader config handler room in
       let next = after_move answer_of after restart before in
       let last = run answer_of after more next in
-      let s = running answer_of after l.reader.config (assumed_of answer_of after peers l) (restart ∷ more) before on (stands answer_of after peers l moves b fits) in
+      let s = running answer_of after (assumed answer_of after peers) (restart ∷ more) before on (stands answer_of after peers l moves b fits) in
       let later = all_since answer_of after before.account.offered next.account.withdrawn [] more next (each_of KeepsReader more keep) same
       (record { took = []; others = []; withdrawn = sym (append-nil next.account.withdrawn); kept = sym (append-nil before.account.offered); apart = none_apart }) in (
         later.took,
         later.others,
         later.withdrawn,
         apart_whole later.took [] (all_queued answer_of after more next) later.others (unoffered_in last.reader.queue) later.apart,
-        subst (IsBeginning last.account.reported) later.kept (is_once_now answer_of after l.reader.config last s).reported,
+        subst (IsBeginning last.account.reported) later.kept (is_once_now answer_of after last s).reported,
       )
 
   -- ---- of a controller
@@ -197,10 +197,10 @@ module _ {H : Type 0} (answer_of : H → Command → Answer) (after : H → Comm
       let before = run answer_of after moves l in
       let next = after_move answer_of after (RestartController config room) before in
       let new = restarts_controller answer_of after before config room in
-      let s = standing answer_of after l.reader.config (assumed_of answer_of after peers l) (RestartController config room) before settings
+      let s = standing answer_of after (assumed answer_of after peers) (RestartController config room) before settings
       (stands answer_of after peers l moves b fits) in
       record {
         others = new.others;
         account = new.account;
-        ended = (leaves s.fixed answer_of after l.reader.config next s.goes refl).of_commands;
+        ended = (leaves s.fixed answer_of after next s.goes refl).of_commands;
       }

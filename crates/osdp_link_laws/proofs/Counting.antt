@@ -35,7 +35,7 @@ taken_keeps k c said front t =
     ap (λ u. u.restarts) more.1
 
 none_in : {H : Type 0} (move : Move H) (moves : List (Move H)) → KeepsReader move → restarts_in (move ∷ moves) ≡ restarts_in moves
-none_in (RestartReader address handler room) moves keeps = absurd keeps
+none_in (RestartReader config handler room) moves keeps = absurd keeps
 none_in move moves keeps = refl
 
 module _ {H : Type 0} (answer_of : H → Command → Answer) (after : H → Command → H) where
@@ -114,7 +114,7 @@ module _ {H : Type 0} (answer_of : H → Command → Answer) (after : H → Comm
   keeps (SetHandler handler) l reads same = refl
   keeps Withdraw l reads same = refl
   keeps (Retarget address) l reads same = retargets_keeps (controllers.retarget_refusal address l.controller) address l
-  keeps (RestartReader address handler room) l reads same = absurd reads
+  keeps (RestartReader config handler room) l reads same = absurd reads
   keeps (RestartController config room) l reads same = refl
 
   -- ---- a list of moves inside a session
@@ -132,7 +132,7 @@ module _ {H : Type 0} (answer_of : H → Command → Answer) (after : H → Comm
 
   counts_one : (move : Move H) (moves : List (Move H)) (l : Link H) → length (after_move answer_of after move l).earlier ≡ length l.earlier
       → (after_move answer_of after move l).account.restarts + restarts_in moves ≡ l.account.restarts + restarts_in (move ∷ moves)
-  counts_one (RestartReader address handler room) moves l same = omega arith
+  counts_one (RestartReader config handler room) moves l same = omega arith
   counts_one move moves l same =
       let first = keeps move l tt same in
       let none = none_in move moves tt in

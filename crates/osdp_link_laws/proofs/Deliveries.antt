@@ -8,6 +8,7 @@ use Rattle.osdp_msg.specs.declared.command.Command.{Command}
 use Rattle.osdp_msg.specs.declared.event.Event.{Event}
 use Rattle.osdp_msg.specs.declared.reply.Reply.{Reply}
 use Rattle.osdp_msg.specs.declared.reply.Reply.TheVariants as reply
+use Rattle.osdp_msg.specs.declared.reply_fields.PdId.{PdId}
 use Rattle.osdp_controller.specs.Answers as packets
 use Rattle.osdp_controller.specs.Hearing as controller
 use Rattle.osdp_msg.specs.Events.{event_in}
@@ -16,7 +17,6 @@ use Rattle.osdp_controller.specs.declared.config.ControllerConfig.{ControllerCon
 use Rattle.osdp_controller.specs.declared.session.Session.{Session}
 use Rattle.osdp_controller.specs.declared.exchange.Exchange.{Exchange}
 use Rattle.osdp_controller.specs.declared.exchange.Exchange.TheVariants.{Opening, Polling, Asking}
-use Rattle.osdp_reader.specs.declared.config.ReaderConfig.{ReaderConfig}
 use Rattle.osdp_reader.specs.declared.handler.Answer.{Answer}
 use Rattle.osdp_reader.specs.Replies.{refused}
 use Rattle.osdp_msg.specs.declared.nak.NakReason.TheVariants.{UnexpectedSequence}
@@ -30,8 +30,8 @@ use Rattle.osdp_link_laws.proofs.Advancing.{SaysWell, goes_on, opens}
 use Rattle.osdp_link_laws.proofs.Hearing.{Ignored, Settles, hears_answer, hears_other, hears_refused, hears_resting, settled_by}
 use Rattle.osdp_link_laws.proofs.Lines.{each_append, each_map, runs_append, runs_each, each_lost, runs_lost}
 use Rattle.osdp_link_laws.proofs.Moves.{Premises, asked_fits, runs_last}
-use Rattle.osdp_link_laws.proofs.Numbers.{next_differs}
-use Rattle.osdp_link_laws.proofs.Stages.{Accounts, Acted, After, Asks, Before, Behind, ControllerAt, Each, EventsAre, Fresh, IsFrame, IsOldFrame, IsPast, Level, MayRefuse, Never, Now, Past, PastIs, Refuses, Rest, Restarted, Says, SaysOld, Stage, Start, ToControllerAt, ToReaderAt, answer, frame, given_up, given_up_at, number_after, owed, shown}
+use Rattle.osdp_link_laws.proofs.Numbers.{next_above_zero, next_differs}
+use Rattle.osdp_link_laws.proofs.Stages.{Accounts, Acted, After, Asks, Before, Behind, ControllerAt, Each, EventsAre, Fresh, Introduces, IsFrame, IsOldFrame, IsPast, Level, MayRefuse, Never, Now, Past, PastIs, Refuses, Rest, Restarted, Says, SaysOld, Stage, Start, ToControllerAt, ToReaderAt, answer, frame, given_up, given_up_at, number_after, owed, shown}
 use Rattle.osdp_link_laws.proofs.Parts.{At, HoldsAtSomeStage, with_session, with_to_controller, with_to_reader}
 use Rattle.osdp_link_laws.proofs.Since.{events_moved, events_same, past_same}
 use Rattle.osdp_link_laws.proofs.Taking.{heard_again, shows_none}
@@ -48,15 +48,15 @@ refusal_fits = record { reason = tt; room = omega arith; detail = λ k. omega ar
 said_plainly : (said : Option Reply) → ((r : Reply) × (said ≡ Some r) × IsPlain r) → IfSome said IsPlain
 said_plainly said (r, is, plain) = subst (λ o. IfSome o IsPlain) (sym is) plain
 
-module _ (fixed : ControllerConfig) {H : Type 0} (answer_of : H → Command → Answer) (after : H → Command → H) (settings : ReaderConfig) (since : Restarted) where
+module _ (fixed : ControllerConfig) {H : Type 0} (answer_of : H → Command → Answer) (after : H → Command → H) (since : Restarted) where
   abbrev AtStage : Stage → Link H → Type 0
-  AtStage at l = At fixed answer_of after settings since at l
+  AtStage at l = At fixed answer_of after since at l
 
   abbrev AtSomeStage : Link H → Type 0
-  AtSomeStage l = HoldsAtSomeStage fixed answer_of after settings l
+  AtSomeStage l = HoldsAtSomeStage fixed answer_of after l
 
   abbrev Assumed : Type 0
-  Assumed = Premises fixed answer_of after settings
+  Assumed = Premises fixed answer_of after
 
   -- a packet in front of the line to the reader
   abbrev FrontToReader : Stage → Packet → Link H → Type 0
@@ -77,7 +77,7 @@ module _ (fixed : ControllerConfig) {H : Type 0} (answer_of : H → Command → 
   )
 
   -- the frame of an exchange that the reader has acted on
-  heard_at : {at : Stage} {m : Link H} → (s : Restarted) × At fixed answer_of after settings s at m → AtSomeStage m
+  heard_at : {at : Stage} {m : Link H} → (s : Restarted) × At fixed answer_of after s at m → AtSomeStage m
   heard_at {at} {m} (s, h) = (s, at, h)
 
   reader_gets : Assumed → (at : Stage) (p : Packet) (l : Link H) → AtStage at l → FrontToReader at p l
@@ -87,29 +87,29 @@ module _ (fixed : ControllerConfig) {H : Type 0} (answer_of : H → Command → 
   reader_gets given (Behind Start x) p l h (inl old) fits = absurd old
   reader_gets given (Behind Start Opening) p l h (inr (is, frames)) fits =
       subst (λ q. IfSome (reader.hears answer_of after l.reader q).said ReplyFits → AtSomeStage (link.reader_gets answer_of after q l)) (sym is)
-      (λ f. opens fixed answer_of after settings since l given.device (given.reads Opening 0 (omega arith)) h frames
+      (λ f. opens fixed answer_of after since l given.device (given.reads Opening 0 (omega arith)) h frames
       (says_well given (frame fixed Opening 0) l f)) fits
   reader_gets given (Behind Start Polling) p l h (inr (is, frames)) fits = absurd h.stage.1
   reader_gets given (Behind Start (Asking c)) p l h (inr (is, frames)) fits = absurd h.stage.1
   reader_gets given (Behind (After n y b) x) p l h (inl old) fits =
-      subst (λ q. AtSomeStage (link.reader_gets answer_of after q l)) (sym old)
-      (heard_at (heard_again fixed answer_of after settings since (Behind (After n y b) x) n y b l given.device (given.reads Opening 0 (omega arith)) h h.reader h.stage.0
-      (λ is. (shows_none fixed answer_of after settings y b is, refl))
-      (λ q says. each_append (SaysOld fixed since (After n y b)) l.to_controller (q ∷ []) h.to_controller (says, tt)) (λ s r knows. knows)))
+      subst (λ q. IfSome (reader.hears answer_of after l.reader q).said ReplyFits → AtSomeStage (link.reader_gets answer_of after q l)) (sym old)
+      (λ f. heard_at (heard_again fixed answer_of after since (Behind (After n y b) x) n y b l given.device (given.reads Opening 0 (omega arith)) h h.reader h.stage.0
+      (λ is. (shows_none fixed answer_of after y b is, refl))
+      (λ q says. each_append (SaysOld fixed since (After n y b)) l.to_controller (q ∷ []) h.to_controller (says, tt)) (λ s r knows. knows) f)) fits
   reader_gets given (Behind (After n y b) x) p l h (inr (is, frames)) fits =
       subst (λ q. IfSome (reader.hears answer_of after l.reader q).said ReplyFits → AtSomeStage (link.reader_gets answer_of after q l)) (sym is)
-      (λ f. goes_on fixed answer_of after settings since n y b x l given.device (given.reads x (next_sequence n) (asked_fits (After n y b) x h.stage.1)) h frames
+      (λ f. goes_on fixed answer_of after since n y b x l given.device (given.reads x (next_sequence n) (asked_fits (After n y b) x h.stage.1)) h frames
       (says_well given (frame fixed x (next_sequence n)) l f)) fits
   reader_gets given (Level past x a) p l h is fits =
-      subst (λ q. AtSomeStage (link.reader_gets answer_of after q l)) (sym is)
-      (heard_at (heard_again fixed answer_of after settings since (Level past x a) (number_after past) x a l given.device (given.reads Opening 0 (omega arith)) h h.reader h.stage.2
-      (λ is. (refl, shows_none fixed answer_of after settings x a is))
-      (λ q says. runs_append (SaysOld fixed since past) (Says fixed since (number_after past) a) l.to_controller (q ∷ []) h.to_controller (says, tt)) (λ s r knows. knows)))
+      subst (λ q. IfSome (reader.hears answer_of after l.reader q).said ReplyFits → AtSomeStage (link.reader_gets answer_of after q l)) (sym is)
+      (λ f. heard_at (heard_again fixed answer_of after since (Level past x a) (number_after past) x a l given.device (given.reads Opening 0 (omega arith)) h h.reader h.stage.2
+      (λ is. (refl, shows_none fixed answer_of after x a is))
+      (λ q says. runs_append (SaysOld fixed since past) (Says fixed since (number_after past) a) l.to_controller (q ∷ []) h.to_controller (says, tt)) (λ s r knows. knows) f)) fits
   reader_gets given (Rest n x a) p l h is fits =
-      subst (λ q. AtSomeStage (link.reader_gets answer_of after q l)) (sym is)
-      (heard_at (heard_again fixed answer_of after settings since (Rest n x a) n x a l given.device (given.reads Opening 0 (omega arith)) h h.reader h.stage
-      (λ is. (shows_none fixed answer_of after settings x a is, refl))
-      (λ q says. each_append (Says fixed since n a) l.to_controller (q ∷ []) h.to_controller (says, tt)) (λ s r knows. knows)))
+      subst (λ q. IfSome (reader.hears answer_of after l.reader q).said ReplyFits → AtSomeStage (link.reader_gets answer_of after q l)) (sym is)
+      (λ f. heard_at (heard_again fixed answer_of after since (Rest n x a) n x a l given.device (given.reads Opening 0 (omega arith)) h h.reader h.stage
+      (λ is. (shows_none fixed answer_of after x a is, refl))
+      (λ q says. each_append (Says fixed since n a) l.to_controller (q ∷ []) h.to_controller (says, tt)) (λ s r knows. knows) f)) fits
 
   -- the line without its front
   rest_to_reader : (at : Stage) (p : Packet) (ps : List Packet) → ToReaderAt fixed at (p ∷ ps) → ToReaderAt fixed at ps
@@ -133,7 +133,7 @@ module _ (fixed : ControllerConfig) {H : Type 0} (answer_of : H → Command → 
 
   losing_to_reader : (at : Stage) (p : Packet) (ps : List Packet) (l : Link H) → l.to_reader ≡ p ∷ ps → AtStage at l → AtStage at (record l { to_reader = ps })
   losing_to_reader at p ps l is h =
-      with_to_reader fixed answer_of after settings since at l ps h (rest_to_reader at p ps (subst (ToReaderAt fixed at) is h.to_reader))
+      with_to_reader fixed answer_of after since at l ps h (rest_to_reader at p ps (subst (ToReaderAt fixed at) is h.to_reader))
 
   -- .. out of the middle too
   less_to_reader : (place : ℕ) (at : Stage) (ps : List Packet) → ToReaderAt fixed at ps → ToReaderAt fixed at (lost_at place ps)
@@ -144,7 +144,7 @@ module _ (fixed : ControllerConfig) {H : Type 0} (answer_of : H → Command → 
 
   pub missing_to_reader : (place : ℕ) (at : Stage) (l : Link H) → AtStage at l → AtStage at (record l { to_reader = lost_at place l.to_reader })
   missing_to_reader place at l h =
-      with_to_reader fixed answer_of after settings since at l (lost_at place l.to_reader) h (less_to_reader place at l.to_reader h.to_reader)
+      with_to_reader fixed answer_of after since at l (lost_at place l.to_reader) h (less_to_reader place at l.to_reader h.to_reader)
 
   pub coming_to_reader : Assumed → (how : Delivery) (ps : List Packet) (l : Link H) → l.to_reader ≡ ps → (at : Stage) → AtStage at l
       → SaysWhatFitsIf answer_of after how ps l.reader → AtSomeStage (link.to_reader answer_of after ps how l)
@@ -168,9 +168,13 @@ module _ (fixed : ControllerConfig) {H : Type 0} (answer_of : H → Command → 
   busy_is : Assumed → (p : Packet) → p ≡ answer fixed 0 reply.Busy → packets.meaning_of p ≡ NotTaken
   busy_is given p is = ap packets.meaning_of is ∙ given.hears 0 reply.Busy tt
 
-  plain_is : Assumed → (n : ℕ) (x : Exchange) (a : Reply) (p : Packet) → Acted settings.id n x a → p ≡ answer fixed n a
+  plain_is : Assumed → (n : ℕ) (x : Exchange) (a : Reply) (p : Packet) → Acted n x a → p ≡ answer fixed n a
       → packets.meaning_of p ≡ Plain a
   plain_is given n x a p acted is = ap packets.meaning_of is ∙ given.hears n a acted.0.fits ∙ given.plain a acted.0.plain
+
+  identity_is : Assumed → (pd : PdId) (p : Packet) → ReplyFits (reply.PdId pd) → p ≡ answer fixed 0 (reply.PdId pd)
+      → packets.meaning_of p ≡ Plain (reply.PdId pd)
+  identity_is given pd p fits is = ap packets.meaning_of is ∙ given.hears 0 (reply.PdId pd) fits ∙ given.plain (reply.PdId pd) tt
 
   refused_is : Assumed → (p : Packet) → Refuses fixed since p → packets.meaning_of p ≡ NumberRefused
   refused_is given p (may, (n, is)) = ap packets.meaning_of is ∙ given.hears n (refused UnexpectedSequence) refusal_fits
@@ -179,24 +183,28 @@ module _ (fixed : ControllerConfig) {H : Type 0} (answer_of : H → Command → 
   abbrev IsIgnored : ℕ → Exchange → ℕ → Packet → Session → Type 0
   IsIgnored n x now p s = Ignored fixed n x (given_up s.state x) (controller.hears p now s)
 
-  old_is : Assumed → (past : Past) (p : Packet) (now : ℕ) (x : Exchange) (s : Session) → IsPast settings.id past → SaysOld fixed since past p
+  old_is : Assumed → (past : Past) (p : Packet) (now : ℕ) (x : Exchange) (s : Session) → IsPast past → SaysOld fixed since past p
       → Asks fixed s.state (number_after past) x s → IsIgnored (number_after past) x now p s
   old_is given Start p now x s acted is asks = hears_other fixed p now 0 x s (inl (busy_is given p is)) asks
   old_is given (After n y b) p now x s acted (inl busy) asks = hears_other fixed p now (next_sequence n) x s (inl (busy_is given p busy)) asks
   old_is given (After n y b) p now x s acted (inr (inl is)) asks =
       hears_other fixed p now (next_sequence n) x s
       (inr ((λ same. next_differs n (sym same ∙ ap (λ q. q.sequence) is)), (b, plain_is given n y b p acted is))) asks
-  old_is given (After n y b) p now x s acted (inr (inr refused)) asks =
+  old_is given (After n y b) p now x s acted (inr (inr (inl refused))) asks =
       hears_refused fixed p now (next_sequence n) x s (refused_is given p refused) asks
+  old_is given (After n y b) p now x s acted (inr (inr (inr (first, (pd, fits, is))))) asks =
+      hears_other fixed p now (next_sequence n) x s
+      (inr ((λ same. next_above_zero n (sym same ∙ ap (λ q. q.sequence) is)), (reply.PdId pd, identity_is given pd p fits is))) asks
 
   -- .. and what stands anywhere on the line
   module _ (P : Packet → Type 0) (plainly : (p : Packet) → IsPlainlySaid p → P p) (refusing : (p : Packet) → MayRefuse since → packets.meaning_of p ≡ NumberRefused → P p) where
-    said : Assumed → (n : ℕ) (x : Exchange) (a : Reply) → Acted settings.id n x a → (p : Packet) → Says fixed since n a p → P p
+    said : Assumed → (n : ℕ) (x : Exchange) (a : Reply) → Acted n x a → (p : Packet) → Says fixed since n a p → P p
     said given n x a acted p (inl busy) = plainly p (inl (busy_is given p busy))
     said given n x a acted p (inr (inl is)) = plainly p (inr (a, plain_is given n x a p acted is))
-    said given n x a acted p (inr (inr refuses)) = refusing p refuses.0 (refused_is given p refuses)
+    said given n x a acted p (inr (inr (inl refuses))) = refusing p refuses.0 (refused_is given p refuses)
+    said given n x a acted p (inr (inr (inr (first, (pd, fits, is))))) = plainly p (inr (reply.PdId pd, identity_is given pd p fits is))
 
-    said_before : Assumed → (past : Past) → IsPast settings.id past → (p : Packet) → SaysOld fixed since past p → P p
+    said_before : Assumed → (past : Past) → IsPast past → (p : Packet) → SaysOld fixed since past p → P p
     said_before given Start acted p is = plainly p (inl (busy_is given p is))
     said_before given (After n y b) acted p is = said given n y b acted p is
 
@@ -222,7 +230,7 @@ module _ (fixed : ControllerConfig) {H : Type 0} (answer_of : H → Command → 
   passed_over at now p l says stands h =
       let s = (controller.hears p now l.controller.session).session in
       subst (λ a. AtStage at (record l { controller = record l.controller { session = s }; account = a })) (sym says)
-      (with_session fixed answer_of after settings since at l s h stands)
+      (with_session fixed answer_of after since at l s h stands)
 
   -- the answer comes
   settled_told : (x : Exchange) (a : Reply) (events : List Event) (t : Account) → EventsAre since [] events t → t.offered ≡ t.reported ++ shown x a
@@ -242,8 +250,8 @@ module _ (fixed : ControllerConfig) {H : Type 0} (answer_of : H → Command → 
       events_same since [] events t u refl refl refl (λ past. past_same since [] past t u refl refl) told
 
   settled_account : (x : Exchange) (a : Reply) (waiting : List Command) (events : List Event) (t : Account)
-      → Accounts fixed answer_of after settings since [] (owed x a) [] [] (shown x a) waiting events t
-      → Accounts fixed answer_of after settings since [] [] [] (shown x a) [] waiting events (settled_by fixed x a t)
+      → Accounts fixed answer_of after since [] (owed x a) [] [] (shown x a) waiting events t
+      → Accounts fixed answer_of after since [] [] [] (shown x a) [] waiting events (settled_by fixed x a t)
   settled_account Opening a waiting events t is = is
   settled_account Polling a waiting events t is = record {
     issued = is.issued;
@@ -277,15 +285,27 @@ module _ (fixed : ControllerConfig) {H : Type 0} (answer_of : H → Command → 
         controller = rests;
         waiting = h.waiting;
         reader = h.reader;
-        answering = h.answering;
         to_reader = h.to_reader;
         to_controller = line;
         account = settled_account x a l.controller.waiting l.reader.queue.events l.account
-            (subst (λ lost. Accounts fixed answer_of after settings since [] (owed x a) lost [] (shown x a) l.controller.waiting l.reader.queue.events l.account) none h.account);
+            (subst (λ lost. Accounts fixed answer_of after since [] (owed x a) lost [] (shown x a) l.controller.waiting l.reader.queue.events l.account) none h.account);
       })
 
   abbrev Stays : Link H → Type 0
   Stays l = (at : Stage) × AtStage at l
+
+  -- the answer to the opening, from the device that is there by then
+  identity_comes : Assumed → (past : Past) (x : Exchange) (a : Reply) (now : ℕ) (p : Packet) (l : Link H) → AtStage (Level past x a) l
+      → Introduces fixed (number_after past) p → Each (Says fixed since (number_after past) a) l.to_controller
+      → Stays (link.controller_gets p now l)
+  identity_comes given (After n y b) x a now p l h (first, identity) line = absurd (next_above_zero n first)
+  identity_comes given Start Polling a now p l h identity line = absurd h.stage.1
+  identity_comes given Start (Asking c) a now p l h identity line = absurd h.stage.1
+  identity_comes given Start Opening a now p l h (first, (pd, fits, is)) line =
+      elim (hears_answer fixed p now 0 Opening (reply.PdId pd) l.controller.session (identity_is given pd p fits is) (pd, refl) h.controller) [
+        | inl i ↦ (Level Start Opening a, passed_over (Level Start Opening a) now p l (i.0 l.account h.account.unsettled) i.1 h)
+        | inr (none, settled) ↦ (Rest 0 Opening a, settles Start Opening a now p l none h settled line)
+      ]
 
   controller_gets : Assumed → (at : Stage) (now : ℕ) (p : Packet) (l : Link H) → AtStage at l → FrontToController at p l
       → Stays (link.controller_gets p now l)
@@ -300,12 +320,13 @@ module _ (fixed : ControllerConfig) {H : Type 0} (answer_of : H → Command → 
       let i = hears_other fixed p now (number_after past) x l.controller.session (inl (busy_is given p busy)) h.controller in
       (Level past x a, passed_over (Level past x a) now p l (i.0 l.account h.account.unsettled) i.1 h)
   controller_gets given (Level past x a) now p l h (inr (inr (inl is), line)) =
-      elim (hears_answer fixed settings.id p now (number_after past) x a l.controller.session
+      elim (hears_answer fixed p now (number_after past) x a l.controller.session
       (plain_is given (number_after past) x a p h.stage.2 is) h.stage.2.1 h.controller) [
         | inl i ↦ (Level past x a, passed_over (Level past x a) now p l (i.0 l.account h.account.unsettled) i.1 h)
         | inr (none, settled) ↦ (Rest (number_after past) x a, settles past x a now p l none h settled line)
       ]
-  controller_gets given (Level past x a) now p l h (inr (inr (inr refused), line)) =
+  controller_gets given (Level past x a) now p l h (inr (inr (inr (inr identity)), line)) = identity_comes given past x a now p l h identity line
+  controller_gets given (Level past x a) now p l h (inr (inr (inr (inl refused)), line)) =
       let i = hears_refused fixed p now (number_after past) x l.controller.session (refused_is given p refused) h.controller in
       (Level past x a, passed_over (Level past x a) now p l (i.0 l.account h.account.unsettled) i.1 h)
   controller_gets given (Rest n x a) now p l h front =
@@ -334,7 +355,7 @@ module _ (fixed : ControllerConfig) {H : Type 0} (answer_of : H → Command → 
   losing_to_controller : (at : Stage) (p : Packet) (ps : List Packet) (l : Link H) → l.to_controller ≡ p ∷ ps → AtStage at l
       → AtStage at (record l { to_controller = ps })
   losing_to_controller at p ps l is h =
-      with_to_controller fixed answer_of after settings since at l ps h
+      with_to_controller fixed answer_of after since at l ps h
       (rest_to_controller at p ps (subst (ToControllerAt fixed since at) is h.to_controller))
 
   -- .. out of the middle too
@@ -346,7 +367,7 @@ module _ (fixed : ControllerConfig) {H : Type 0} (answer_of : H → Command → 
 
   pub missing_to_controller : (place : ℕ) (at : Stage) (l : Link H) → AtStage at l → AtStage at (record l { to_controller = lost_at place l.to_controller })
   missing_to_controller place at l h =
-      with_to_controller fixed answer_of after settings since at l (lost_at place l.to_controller) h (less_to_controller place at l.to_controller h.to_controller)
+      with_to_controller fixed answer_of after since at l (lost_at place l.to_controller) h (less_to_controller place at l.to_controller h.to_controller)
 
   pub coming_to_controller : Assumed → (how : Delivery) (now : ℕ) (ps : List Packet) (l : Link H) → l.to_controller ≡ ps → (at : Stage) → AtStage at l
       → Stays (link.to_controller ps how now l)

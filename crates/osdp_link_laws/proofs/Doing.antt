@@ -19,6 +19,7 @@ use Rattle.osdp_reader.specs.Replies.{refused}
 use Rattle.osdp_reader.specs.State.{ReaderState, after_set_handler, new_reader}
 use Rattle.osdp_reader.specs.Table as reader
 use Rattle.osdp_reader.specs.Table.{event_or_answer, is_for_another, kind_by_number, kind_of}
+use Rattle.osdp_reader.specs.declared.config.ReaderConfig.{ReaderConfig}
 use Rattle.osdp_reader.specs.declared.handler.Answer.{Answer}
 use Rattle.osdp_reader.specs.declared.kind.Kind.TheVariants.{Silent, Secured, Zero, Busy, Wrong}
 use Rattle.osdp_reader_laws.specs.Laws.{ComesTo}
@@ -87,12 +88,12 @@ module _ {H : Type 0} where
         ap (λ es. record t { kept = t.offered; thrown_away = t.thrown_away ++ es; restarts = t.restarts + 1 })
         (ap (drop (length t.offered)) is ∙ drop_front t.offered gone)
 
-    restarts_reader : (l : Link H) (address : ℕ) (handler : H) (room : Room)
-        → HasNewReader answer_of after address handler room l (after_move answer_of after (RestartReader address handler room) l)
-    restarts_reader l address handler room = record {
+    restarts_reader : (l : Link H) (config : ReaderConfig) (handler : H) (room : Room)
+        → HasNewReader answer_of after config handler room l (after_move answer_of after (RestartReader config handler room) l)
+    restarts_reader l config handler room = record {
       others = refl;
       reader = record { config = refl; last = refl; stored = refl; queue = refl; busy = refl; handler = refl };
-      refuses = refuses_numbers (new_reader (record l.reader.config { address = address }) handler room) refl;
+      refuses = refuses_numbers (new_reader config handler room) refl;
       account = λ gone is. throws_away gone l.account is;
     }
 

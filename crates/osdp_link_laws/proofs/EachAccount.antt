@@ -95,5 +95,5 @@ module _ {H : Type 0} (answer_of : H → Command → Answer) (after : H → Comm
   each_kept (Retarget address) l ordinary all = retargets (controllers.retarget_refusal address l.controller) address l all
   each_kept Withdraw l ordinary all = absurd ordinary
   each_kept WithdrawEvent l ordinary all = absurd ordinary
-  each_kept (RestartReader address handler room) l ordinary all = absurd ordinary
+  each_kept (RestartReader config handler room) l ordinary all = absurd ordinary
   each_kept (RestartController config room) l ordinary all = absurd ordinary

@@ -106,7 +106,7 @@ module _ {H : Type 0} (answer_of : H → Command → HandlerAnswer) (after : H �
     counts (SetHandler handler) l = omega arith
     counts Withdraw l = omega arith
     counts (Retarget address) l = retargeting (controllers.retarget_refusal address l.controller) address l
-    counts (RestartReader address handler room) l = omega arith
+    counts (RestartReader config handler room) l = omega arith
     counts (RestartController config room) l = omega (arith, restarting (is_closed l.controller.session.state))
 
     counts_all : (moves : List (Move H)) (l : Link H) → Counts (ends_in (reports answer_of after moves l) + untold answer_of after moves l) l (run answer_of after moves l)

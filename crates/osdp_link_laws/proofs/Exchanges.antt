@@ -24,7 +24,6 @@ use Rattle.osdp_controller.specs.declared.state.State.TheVariants.{Idle, Quiet}
 use Rattle.osdp_reader.specs.Queue.{event_for, offering, released, unoffered}
 use Rattle.osdp_reader.specs.State.{ReaderState}
 use Rattle.osdp_reader.specs.Table.{Outcome, answer_to, begun, event_or_answer, hears, kind_of, moved, outcome}
-use Rattle.osdp_reader.specs.declared.config.ReaderConfig.{ReaderConfig}
 use Rattle.osdp_reader.specs.declared.handler.Answer.{Answer}
 use Rattle.osdp_reader.specs.declared.kind.Kind.{Kind}
 use Rattle.osdp_reader.specs.declared.kind.Kind.TheVariants.{Busy, Taken, Zero}
@@ -70,12 +69,12 @@ module _ {H : Type 0} (answer_of : H → Command → Answer) (after : H → Comm
   accounted [] (e ∷ events) r t = record t { offered = t.offered ++ e ∷ []; reported = t.reported ++ e ∷ [] }
   accounted [] [] r t = t
 
-module _ (fixed : ControllerConfig) {H : Type 0} (answer_of : H → Command → Answer) (after : H → Command → H) (settings : ReaderConfig) where
+module _ (fixed : ControllerConfig) {H : Type 0} (answer_of : H → Command → Answer) (after : H → Command → H) where
   abbrev Given : Type 0
-  Given = Premises fixed answer_of after settings
+  Given = Premises fixed answer_of after
 
   abbrev Still : Link H → Type 0
-  Still l = IsStill fixed answer_of after settings l
+  Still l = IsStill fixed answer_of after l
 
   -- ---- the exchange begins, and both packets come through
 
@@ -84,7 +83,7 @@ module _ (fixed : ControllerConfig) {H : Type 0} (answer_of : H → Command → 
   begun_link now x n rest l = link.ticked (begins x n (seen now l.controller.session) rest) l
 
   abbrev ended_link : ℕ → Exchange → ℕ → Reply → List Command → Link H → Link H
-  ended_link now x n a rest l = answered_link fixed answer_of after settings now (frame fixed x n) x a (begun_link now x n rest l)
+  ended_link now x n a rest l = answered_link fixed answer_of after now (frame fixed x n) x a (begun_link now x n rest l)
 
   begun_line : (now : ℕ) (x : Exchange) (n : ℕ) (rest : List Command) (l : Link H) → Still l → l.controller.session.config ≡ fixed
       → (begun_link now x n rest l).to_reader ≡ frame fixed x n ∷ []
@@ -94,20 +93,20 @@ module _ (fixed : ControllerConfig) {H : Type 0} (answer_of : H → Command → 
 
   whole : Given → (now : ℕ) (x : Exchange) (n : ℕ) (a : Reply) (rest : List Command) (l : Link H) → Still l → l.controller.session.config ≡ fixed
       → MovesNone x → ticks now l.controller.session l.controller.waiting ≡ begins x n (seen now l.controller.session) rest
-      → Replies fixed answer_of after settings x n l.reader a → goes answer_of after now l ≡ ended_link now x n a rest l
+      → Replies fixed answer_of after x n l.reader a → goes answer_of after now l ≡ ended_link now x n a rest l
   whole given now x n a rest l still config none starts replies =
       let m = begun_link now x n rest l in
       let s = record (seen now l.controller.session) { number = n } in
       let says = given.hears n a replies.acted.0.fits ∙ given.plain a replies.acted.0.plain in
-      let settles = settles_now fixed settings.id x n a now m.controller.session (later s.config.reply_wait s, 1, record { exchange = x; busies = 0; sent = 1 }, refl, refl)
+      let settles = settles_now fixed x n a now m.controller.session (later s.config.reply_wait s, 1, record { exchange = x; busies = 0; sent = 1 }, refl, refl)
       (config, refl) none replies.acted.1 says in
       ap (λ t. delivered answer_of after now (link.ticked t l)) starts
-      ∙ come_through fixed answer_of after settings now x n a m (begun_line now x n rest l still config) still.to_controller replies.sent settles
+      ∙ come_through fixed answer_of after now x n a m (begun_line now x n rest l still config) still.to_controller replies.sent settles
 
   -- what the reader says fits, where what it says to the frame on the line does
   fits_there : (now : ℕ) (x : Exchange) (n : ℕ) (rest : List Command) (l : Link H) → Still l → l.controller.session.config ≡ fixed
       → ticks now l.controller.session l.controller.waiting ≡ begins x n (seen now l.controller.session) rest
-      → SaysWhatFits answer_of after (at_tick now l).to_reader l.reader → SaysFit fixed answer_of after settings (frame fixed x n) l.reader
+      → SaysWhatFits answer_of after (at_tick now l).to_reader l.reader → SaysFit fixed answer_of after (frame fixed x n) l.reader
   fits_there now x n rest l still config starts fits =
       subst (λ ps. SaysWhatFits answer_of after ps l.reader)
       (ap (λ t. (link.ticked t l).to_reader) starts ∙ begun_line now x n rest l still config) fits
@@ -139,10 +138,10 @@ module _ (fixed : ControllerConfig) {H : Type 0} (answer_of : H → Command → 
       ap (λ st. ticks_in st (seen now s) waiting) is
       ∙ ap (λ b. cond b (begins Opening 0 (seen now s) waiting) (stays (seen now s) waiting)) (le-leb until (max s.greatest now) reached)
 
-  pub opening_exchange : Given → (until now : ℕ) (l : Link H) → Still l → l.controller.session.config ≡ fixed → l.reader.config.id ≡ settings.id
+  pub opening_exchange : Given → (until now : ℕ) (l : Link H) → Still l → l.controller.session.config ≡ fixed
       → l.controller.session.state ≡ Quiet until → until ≤ max l.controller.session.greatest now
       → SaysWhatFits answer_of after (at_tick now l).to_reader l.reader → goes answer_of after now l ≡ opened_link now l
-  opening_exchange given until now l still config id is reached fits =
+  opening_exchange given until now l still config is reached fits =
       let w = l.controller.waiting in
       let p = frame fixed Opening 0 in
       let r = l.reader in
@@ -150,7 +149,7 @@ module _ (fixed : ControllerConfig) {H : Type 0} (answer_of : H → Command → 
       let starts = opens_at until now l.controller.session w is reached in
       let said = fits_there now Opening 0 w l still config starts fits in
       let kind : kind_of r p ≡ Zero = kind_zero fixed r Opening still.ready.here ∙ ap (λ b. cond b Busy Zero) still.ready.ready in
-      let replies = opening fixed answer_of after settings given r still.ready id said in
+      let replies = opening fixed answer_of after given r still.ready said in
       whole given now Opening 0 a w l still config tt starts replies
       ∙ ap (λ k. ended_by now Opening 0 a w k (outcome answer_of after k r p) l) kind
       ∙ ap (λ c. ended_by now Opening 0 a w Zero (begun answer_of after c r p) l) (given.reads Opening 0 (omega arith))
@@ -203,7 +202,7 @@ module _ (fixed : ControllerConfig) {H : Type 0} (answer_of : H → Command → 
   next_moves (c ∷ waiting) none = none.0
 
   pub exchange_from_rest : Given → (now due : ℕ) (since : Restarted) (n : ℕ) (y : Exchange) (b : Reply) (l : Link H) → Hears since
-      → At fixed answer_of after settings since (Rest n y b) l
+      → At fixed answer_of after since (Rest n y b) l
       → l.controller.session.state ≡ Idle due → IsOpen fixed n l.controller.session → Still l
       → Acts (ticks now l.controller.session l.controller.waiting) → SaysWhatFits answer_of after (at_tick now l).to_reader l.reader
       → goes answer_of after now l ≡ rested_link now l
@@ -214,15 +213,15 @@ module _ (fixed : ControllerConfig) {H : Type 0} (answer_of : H → Command → 
       let x = next_exchange w in
       let k = next_sequence s.number in
       let p = frame fixed x k in
-      let a = taken_answer fixed answer_of after settings (exchange_command x) r in
+      let a = taken_answer fixed answer_of after (exchange_command x) r in
       let last : r.last ≡ Some s.number = ((has_acted fixed since n y b l.reader hears_it h.reader).here still.ready.here).0 ∙ ap (λ m. Some m) (sym opened.1) in
       let starts = begins_next_at s.state due (seen now s) w is does in
       let asked = next_asked s.number y b w h.waiting in
       let none = next_moves w (each_rest SetsNoAddress l.account.taken w (subst (Each SetsNoAddress) h.account.issued still.issued)) in
       let said = fits_there now x k (drop 1 w) l still opened.0 starts fits in
-      let replies = taking fixed answer_of after settings given s.number y b x r still.ready last asked said in
+      let replies = taking fixed answer_of after given s.number y b x r still.ready last asked said in
       let kind : kind_of r p ≡ Taken = kind_next fixed r x s.number still.ready.here last ∙ ap (λ u. cond u Busy Taken) still.ready.ready in
-      let heard = taken_hears fixed answer_of after settings given s.number y b x r still.ready last asked in
+      let heard = taken_hears fixed answer_of after given s.number y b x r still.ready last asked in
       whole given now x k a.reply (drop 1 w) l still opened.0 none starts replies
       ∙ ap (λ kd. ended_by now x k a.reply (drop 1 w) kd (hears answer_of after r p) l) kind
       ∙ ap (λ o. ended_by now x k a.reply (drop 1 w) Taken o l) heard

@@ -116,7 +116,7 @@ module _ {H : Type 0} (answer_of : H → Command → Answer) (after : H → Comm
   move_given (LoseToController place) l are = are
   move_given Withdraw l are = are
   move_given (Retarget address) l are = retargets_given (controllers.retarget_refusal address l.controller) address l are
-  move_given (RestartReader address handler room) l are = are
+  move_given (RestartReader config handler room) l are = are
   move_given (RestartController config room) l are = are
 
   pub first_given : (l : Link H) → Begins l → AreAnswers l.account

@@ -114,7 +114,7 @@ module _ {H : Type 0} (answer_of : H → Command → Answer) (after : H → Comm
   inside_on (LoseToReader place) l on = (all_before l.account l.account refl refl refl refl, refl)
   inside_on (LoseToController place) l on = (all_before l.account l.account refl refl refl refl, refl)
   inside_on (SetHandler handler) l on = (all_before l.account l.account refl refl refl refl, refl)
-  inside_on (RestartReader address handler room) l on = (all_before l.account (link.reader_restarted l.account) refl refl refl refl, refl)
+  inside_on (RestartReader config handler room) l on = (all_before l.account (link.reader_restarted l.account) refl refl refl refl, refl)
   inside_on (Reopen now) l on = absurd on
   inside_on Withdraw l on = absurd on
   inside_on (Retarget address) l on = absurd on
@@ -146,4 +146,4 @@ module _ {H : Type 0} (answer_of : H → Command → Answer) (after : H → Comm
   goes_on (ToReader how) l on = inside (ToReader how) l tt
   goes_on (ToController how now) l on = inside (ToController how now) l tt
   goes_on (SetHandler handler) l on = inside (SetHandler handler) l tt
-  goes_on (RestartReader address handler room) l on = inside (RestartReader address handler room) l tt
+  goes_on (RestartReader config handler room) l on = inside (RestartReader config handler room) l tt

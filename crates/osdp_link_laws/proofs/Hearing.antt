@@ -184,12 +184,12 @@ module _ (fixed : ControllerConfig) where
   opening_settles pd n r s is at =
       subst (λ q. Settles fixed n Opening q (answered Opening q s)) (sym is) ((λ a. refl), at)
 
-  answer_settles : (pd : PdId) (x : Exchange) (n : ℕ) (r : Reply) (s : Session) → IsAnswerTo pd x n r → IsOpen fixed n s
+  answer_settles : (x : Exchange) (n : ℕ) (r : Reply) (s : Session) → IsAnswerTo x n r → IsOpen fixed n s
       → Settles fixed n x r (answered x r s)
-  answer_settles pd Opening zero r s is at = opening_settles pd 0 r s is at
-  answer_settles pd Opening (suc n) r s is at = absurd is
-  answer_settles pd Polling n r s is at = ((λ a. poll_tells (event_in r) r a), at)
-  answer_settles pd (Asking c) n r s is at =
+  answer_settles Opening zero r s (pd, is) at = opening_settles pd 0 r s is at
+  answer_settles Opening (suc n) r s is at = absurd is
+  answer_settles Polling n r s is at = ((λ a. poll_tells (event_in r) r a), at)
+  answer_settles (Asking c) n r s is at =
       command_settles (moved_by (comset_of c) (com_of r)) n c r s
       (λ to e. com_is r to (moved_is (comset_of c) (com_of r) to e)) at
 
@@ -197,26 +197,26 @@ module _ (fixed : ControllerConfig) where
   abbrev pub MaySettle : ℕ → Exchange → List Command → Reply → Heard → Type 0
   MaySettle n x before r h = Ignored fixed n x before h ⊎ ((before ≡ []) × Settles fixed n x r h)
 
-  answer_in : (pd : PdId) (state : State) (number n : ℕ) (x : Exchange) (r : Reply) (s : Session) → IsAnswerTo pd x n r → s.state ≡ state
+  answer_in : (state : State) (number n : ℕ) (x : Exchange) (r : Reply) (s : Session) → IsAnswerTo x n r → s.state ≡ state
       → Asks fixed state n x s → MaySettle n x (given_up state x) r (hears_in state number (Plain r) s)
-  answer_in pd Closed number n x r s is e asks = inl (ignored fixed Closed n x s e asks)
-  answer_in pd (Quiet until) number n x r s is e asks = absurd asks
-  answer_in pd (Idle due) number n x r s is e asks = absurd asks
-  answer_in pd (Waiting until k o) number n x r s is e asks =
+  answer_in Closed number n x r s is e asks = inl (ignored fixed Closed n x s e asks)
+  answer_in (Quiet until) number n x r s is e asks = absurd asks
+  answer_in (Idle due) number n x r s is e asks = absurd asks
+  answer_in (Waiting until k o) number n x r s is e asks =
       both (MaySettle n x [] r) (is_numbered number (Plain r) s) (waiting_hears (Plain r) k o s) (ignores s)
-      (inr (refl, subst (λ y. Settles fixed n x r (answered y r s)) (sym asks.1) (answer_settles pd x n r s is asks.0)))
+      (inr (refl, subst (λ y. Settles fixed n x r (answered y r s)) (sym asks.1) (answer_settles x n r s is asks.0)))
       (inl (ignored fixed (Waiting until k o) n x s e asks))
-  answer_in pd (Pausing until o) number n x r s is e asks =
+  answer_in (Pausing until o) number n x r s is e asks =
       both (MaySettle n x [] r) (is_numbered number (Plain r) s) (pausing_hears (Plain r) o s) (ignores s)
-      (inr (refl, subst (λ y. Settles fixed n x r (answered y r s)) (sym asks.1) (answer_settles pd x n r s is asks.0)))
+      (inr (refl, subst (λ y. Settles fixed n x r (answered y r s)) (sym asks.1) (answer_settles x n r s is asks.0)))
       (inl (ignored fixed (Pausing until o) n x s e asks))
 
   -- a packet that says the answer
-  pub hears_answer : (pd : PdId) (p : Packet) (now n : ℕ) (x : Exchange) (r : Reply) (s : Session) → meaning_of p ≡ Plain r
-      → IsAnswerTo pd x n r → Asks fixed s.state n x s → MaySettle n x (given_up s.state x) r (hears p now s)
-  hears_answer pd p now n x r s says is asks =
+  pub hears_answer : (p : Packet) (now n : ℕ) (x : Exchange) (r : Reply) (s : Session) → meaning_of p ≡ Plain r
+      → IsAnswerTo x n r → Asks fixed s.state n x s → MaySettle n x (given_up s.state x) r (hears p now s)
+  hears_answer p now n x r s says is asks =
       let there = asks_seen fixed s.state n x s now asks in
       both (MaySettle n x (given_up s.state x) r) (is_from_reader p s) (hears_in s.state p.sequence (meaning_of p) (seen now s)) (ignores (seen now s))
       (subst (λ a. MaySettle n x (given_up s.state x) r (hears_in s.state p.sequence a (seen now s))) (sym says)
-      (answer_in pd s.state p.sequence n x r (seen now s) is refl there))
+      (answer_in s.state p.sequence n x r (seen now s) is refl there))
       (inl (ignored fixed s.state n x (seen now s) refl there))

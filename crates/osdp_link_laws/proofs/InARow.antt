@@ -11,7 +11,6 @@ use Rattle.osdp_controller.specs.declared.fault.ControllerFault.{ControllerFault
 use Rattle.osdp_controller.specs.declared.state.State.TheVariants.{Closed}
 use Rattle.osdp_controller_laws.proofs.Closed.{was_closed}
 use Rattle.osdp_reader.specs.Queue.{Queue}
-use Rattle.osdp_reader.specs.declared.config.ReaderConfig.{ReaderConfig}
 use Rattle.osdp_reader.specs.declared.handler.Answer.{Answer}
 use Rattle.osdp_link_laws.specs.Headline.{EachIsOnce, HoldsOnce, IsOnce, IsWithout, MovesFit, Begins, MoveFits, MaySubmit, IsBeginning}
 use Rattle.osdp_link_laws.specs.Link as link
@@ -146,23 +145,23 @@ module _ {H : Type 0} where
     pub commands : cs ≡ ended_commands l.earlier ++ l.account.issued
     pub events : AreQueuedOrLeft es l.earlier l.account (unoffered_in l.reader.queue)
 
-module _ {H : Type 0} (answer_of : H → Command → Answer) (after : H → Command → H) (settings : ReaderConfig) where
+module _ {H : Type 0} (answer_of : H → Command → Answer) (after : H → Command → H) where
   -- a session that holds, after sessions that were once and in a row
   pub record Stands (l : Link H) : Type 0 where
     pub fixed : ControllerConfig
     pub device : fixed.address < 127
     pub current : IsDevice answer_of after l
-    pub goes : Goes fixed answer_of after settings l
+    pub goes : Goes fixed answer_of after l
     pub apart : StaysApart l
     pub once : EachIsOnce l.earlier
     pub row : AreInARow l.account l.earlier
 
   pub is_once_now : (l : Link H) → Stands l → IsOnce l.account
-  is_once_now l h = is_once h.fixed answer_of after settings l (stays_whole l h.apart) h.goes
+  is_once_now l h = is_once h.fixed answer_of after l (stays_whole l h.apart) h.goes
 
   -- what the ends read of each other's packets, at each device's address
   abbrev pub Assumed : Type 0
-  Assumed = (fixed : ControllerConfig) → fixed.address < 127 → Premises fixed answer_of after settings
+  Assumed = (fixed : ControllerConfig) → fixed.address < 127 → Premises fixed answer_of after
 
   pub assumed : ReadEachOther answer_of after → Assumed
   assumed peers fixed device = record {
@@ -192,20 +191,19 @@ module _ {H : Type 0} (answer_of : H → Command → Answer) (after : H → Comm
         fixed = h.fixed;
         device = h.device;
         current = move_there answer_of after move l fits h.current;
-        goes = moving h.fixed answer_of after settings (given h.fixed h.device) move l on fits h.goes;
+        goes = moving h.fixed answer_of after (given h.fixed h.device) move l on fits h.goes;
         apart = apart_on move l on h.apart;
         once = subst EachIsOnce (sym grows.1) h.once;
         row = subst (AreInARow new.account) (sym grows.1) (row_goes_on l.account new.account (submitted move l) (queued move l) l.earlier grows.0 h.row);
       }
 
   -- a session begins again
-  pub begun_again : (fixed : ControllerConfig) (now : ℕ) (l : Link H) → Goes fixed answer_of after settings l → l.to_reader ≡ [] → l.to_controller ≡ []
-      → Goes l.controller.session.config answer_of after settings (link.reopens None [] [] now l)
+  pub begun_again : (fixed : ControllerConfig) (now : ℕ) (l : Link H) → Goes fixed answer_of after l → l.to_reader ≡ [] → l.to_controller ≡ []
+      → Goes l.controller.session.config answer_of after (link.reopens None [] [] now l)
   begun_again fixed now l h here there =
-      fresh l.controller.session.config answer_of after settings (link.reopens None [] [] now l) (record {
+      fresh l.controller.session.config answer_of after (link.reopens None [] [] now l) (record {
         controller = refl;
         waiting = each_rest MaySubmit (gone l.account) l.controller.waiting h.holds.2.waiting;
-        answering = record { id = h.holds.2.answering.id; caps = h.holds.2.answering.caps };
         to_reader = here;
         to_controller = there;
         account = refl;
@@ -222,12 +220,12 @@ module _ {H : Type 0} (answer_of : H → Command → Answer) (after : H → Comm
     current = h.current;
     goes = begun_again h.fixed now l h.goes here there;
     apart = begins_apart l.reader.queue;
-    once = (is_once h.fixed answer_of after settings l (stays_whole l h.apart) h.goes, h.once);
+    once = (is_once h.fixed answer_of after l (stays_whole l h.apart) h.goes, h.once);
     row = (
       (
         l.controller.waiting,
         l.reader.queue.events,
-        leaves h.fixed answer_of after settings l h.goes (was_closed l.controller.session.state may),
+        leaves h.fixed answer_of after l h.goes (was_closed l.controller.session.state may),
         ([], sym (append-nil l.controller.waiting)),
         ([], sym (append-nil l.reader.queue.events)),
       ),
@@ -265,13 +263,13 @@ module _ {H : Type 0} (answer_of : H → Command → Answer) (after : H → Comm
       again None (p ∷ ps) qs now may = placed
       again None [] (q ∷ qs) now may = placed
       again None [] [] now may =
-          let left = leaves h.fixed answer_of after settings l h.goes (was_closed l.controller.session.state may) in
+          let left = leaves h.fixed answer_of after l h.goes (was_closed l.controller.session.state may) in
           record {
             commands = placed.commands
                 ∙ ap (λ all. ended_commands l.earlier ++ all) left.of_commands.commands
                 ∙ sym (append_assoc (ended_commands l.earlier) (ended_in l.account) l.controller.waiting);
             events = queued_again es l.earlier l.account l.controller.waiting l.reader.queue left
-                (λ others is. offered_among h.fixed answer_of after settings l others h.goes is) placed.events;
+                (λ others is. offered_among h.fixed answer_of after l others h.goes is) placed.events;
           }
 
       by_move : (move : Move H) → Placed (cs ++ submitted move l) (es ++ queued move l) (after_move answer_of after move l)
@@ -303,17 +301,16 @@ module _ {H : Type 0} (answer_of : H → Command → Answer) (after : H → Comm
 
 -- all of it, from a first session that has begun
 module _ {H : Type 0} (answer_of : H → Command → Answer) (after : H → Command → H) where
-  pub begins : (l : Link H) → Begins l → Stands answer_of after l.reader.config l
+  pub begins : (l : Link H) → Begins l → Stands answer_of after l
   begins l b =
       let fixed = l.controller.session.config in
       record {
         fixed = fixed;
         device = b.address;
         current = b.address;
-        goes = fresh fixed answer_of after l.reader.config l (record {
+        goes = fresh fixed answer_of after l (record {
           controller = subst (λ state. Waits fixed state l.controller.session) (sym b.quiet.1) refl;
           waiting = each_of MaySubmit l.controller.waiting b.waiting;
-          answering = record { id = refl; caps = refl };
           to_reader = b.to_reader;
           to_controller = b.to_controller;
           account = b.account;
@@ -323,18 +320,14 @@ module _ {H : Type 0} (answer_of : H → Command → Answer) (after : H → Comm
         row = subst (AreInARow l.account) (sym b.earlier) tt;
       }
 
-  -- of the reader of a link
-  pub assumed_of : ReadEachOther answer_of after → (l : Link H) → Assumed answer_of after l.reader.config
-  assumed_of peers l = assumed answer_of after l.reader.config peers
-
   pub stands : ReadEachOther answer_of after → (l : Link H) (moves : List (Move H)) → Begins l → MovesFit answer_of after moves l
-      → Stands answer_of after l.reader.config (run answer_of after moves l)
-  stands peers l moves b fits = running answer_of after l.reader.config (assumed_of peers l) moves l fits (begins l b)
+      → Stands answer_of after (run answer_of after moves l)
+  stands peers l moves b fits = running answer_of after (assumed answer_of after peers) moves l fits (begins l b)
 
   pub all_once : ReadEachOther answer_of after → HoldsOnce answer_of after
   all_once peers l moves b fits =
       let s = stands peers l moves b fits in
-      (is_once_now answer_of after l.reader.config (run answer_of after moves l) s, s.once)
+      (is_once_now answer_of after (run answer_of after moves l) s, s.once)
 
   all_in_a_row : ReadEachOther answer_of after → StayInARow answer_of after
   all_in_a_row peers l moves b fits = (stands peers l moves b fits).row
@@ -343,7 +336,7 @@ module _ {H : Type 0} (answer_of : H → Command → Answer) (after : H → Comm
       → Placed (l.controller.waiting ++ all_submitted answer_of after moves l) (l.reader.queue.events ++ all_queued answer_of after moves l)
       (run answer_of after moves l)
   have_places peers l moves b fits =
-      all_placed answer_of after l.reader.config (assumed_of peers l) moves l l.controller.waiting l.reader.queue.events fits (begins l b) (record {
+      all_placed answer_of after (assumed answer_of after peers) moves l l.controller.waiting l.reader.queue.events fits (begins l b) (record {
         commands = sym (ap (λ t. t.issued) b.account) ∙ sym (ap (λ earlier. ended_commands earlier ++ l.account.issued) b.earlier);
         events = subst (λ t. AreQueuedOrLeft l.reader.queue.events l.earlier t (unoffered_in l.reader.queue)) (sym b.account)
             (subst (λ earlier. AreQueuedOrLeft l.reader.queue.events earlier (new_account l.controller.waiting l.reader.queue.events) (unoffered_in l.reader.queue))
@@ -376,7 +369,7 @@ module _ {H : Type 0} (answer_of : H → Command → Answer) (after : H → Comm
             (append_assoc gone apart.others tail ∙ ap (λ l. gone ++ l) (sym apart.stayed_are))
             (among_longer (gone ++ apart.others) tail (later.account ∷ later.earlier) (
               among_after later.account.offered gone apart.others
-                  (offered_among s.fixed answer_of after l.reader.config later apart.others s.goes apart.stayed_are),
+                  (offered_among s.fixed answer_of after later apart.others s.goes apart.stayed_are),
               offered,
             )),
       )
@@ -385,7 +378,7 @@ module _ {H : Type 0} (answer_of : H → Command → Answer) (after : H → Comm
   last_one_lasts peers l moves b fits =
       let later = run answer_of after moves l in
       let s = stands peers l moves b fits in
-      lasts_or_leaves s.fixed answer_of after l.reader.config later.controller.session.state later refl s.goes
+      lasts_or_leaves s.fixed answer_of after later.controller.session.state later refl s.goes
 
   takes_none_twice : ReadEachOther answer_of after → TakesNoneTwice answer_of after
   takes_none_twice peers l moves b fits =
@@ -393,7 +386,7 @@ module _ {H : Type 0} (answer_of : H → Command → Answer) (after : H → Comm
       let s = stands peers l moves b fits in
       let places = commands_have_places peers l moves b fits in
       taken_once later.account later.earlier (l.controller.waiting ++ all_submitted answer_of after moves l)
-      (is_once_now answer_of after l.reader.config later s).taken s.row places
+      (is_once_now answer_of after later s).taken s.row places
 
   pub sessions_in_a_row : ReadEachOther answer_of after → SessionsInARow answer_of after
   sessions_in_a_row peers = record {

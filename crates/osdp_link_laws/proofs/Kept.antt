@@ -24,7 +24,7 @@ events_kept = record {
 
 module _ {H : Type 0} (answer_of : H → Command → Answer) (after : H → Command → H) where
   pub move_kept : (move : Move H) (l : Link H) → KeepsReader move → AllKept l → AllKept (after_move answer_of after move l)
-  move_kept (RestartReader address handler room) l keeps is = absurd keeps
+  move_kept (RestartReader config handler room) l keeps is = absurd keeps
   move_kept WithdrawEvent l keeps (is, before) = (record { kept = ap (but_oldest l.reader.queue) is.kept; restarts = is.restarts }, before)
   move_kept Withdraw l keeps (is, before) = (record { kept = is.kept; restarts = is.restarts }, before)
   move_kept (RestartController config room) l keeps (is, before) = (record { kept = is.kept; restarts = is.restarts }, before)

@@ -181,7 +181,7 @@ module _ {H : Type 0} where
       moves_so (Retarget address) rest room l stays = retargets_so (controllers.retarget_refusal address l.controller) address rest room l
       moves_so WithdrawEvent rest room l stays =
           yet (Rattle.std.specs.Prelude.drop 1 rest) room (record l { account = link.event_withdrawn (offered_queue event rest room) l.account })
-      moves_so (RestartReader address handler room_for) rest room l stays = inl refl
+      moves_so (RestartReader config handler room_for) rest room l stays = inl refl
       moves_so (RestartController config room_for) rest room l stays = yet rest room (link.restarts_controller config room_for l)
       moves_so (LoseToReader place) rest room l stays = yet rest room (after_move answer_of after (LoseToReader place) l)
       moves_so (LoseToController place) rest room l stays = yet rest room (after_move answer_of after (LoseToController place) l)
@@ -289,7 +289,7 @@ module _ {H : Type 0} where
     keeps_so Withdraw l past keeps = (tt, tt)
     keeps_so (Retarget address) l past keeps = (tt, tt)
     keeps_so WithdrawEvent l past keeps = (tt, tt)
-    keeps_so (RestartReader address handler room) l past keeps = (tt, tt)
+    keeps_so (RestartReader config handler room) l past keeps = (tt, tt)
     keeps_so (RestartController config room) l past keeps = (tt, tt)
     keeps_so (LoseToReader place) l past keeps = (tt, tt)
     keeps_so (LoseToController place) l past keeps = (tt, tt)

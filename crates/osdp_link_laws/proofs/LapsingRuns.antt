@@ -14,7 +14,6 @@ use Rattle.osdp_controller_laws.proofs.Closed.{was_closed}
 use Rattle.osdp_reader.specs.Queue.{in_doubt}
 use Rattle.osdp_reader.specs.Table as table
 use Rattle.osdp_reader.specs.Table.{command_in, kind_of, outcome}
-use Rattle.osdp_reader.specs.declared.config.ReaderConfig.{ReaderConfig}
 use Rattle.osdp_reader.specs.declared.handler.Answer.{Answer}
 use Rattle.osdp_reader.specs.declared.kind.Kind.{Kind}
 use Rattle.osdp_reader.specs.declared.kind.Kind.TheVariants.{Silent, Secured, Zero, Repeat, Taken, Busy, Wrong}
@@ -27,7 +26,7 @@ use Rattle.osdp_link_laws.specs.Peers.{ReadEachOther}
 use Rattle.osdp_link_laws.specs.Sessions.{Leaves, queued, submitted}
 use Rattle.osdp_link_laws.proofs.Devices.{IsDevice, move_there}
 use Rattle.osdp_link_laws.proofs.Growing.{GoesOn, Grows, goes_on}
-use Rattle.osdp_link_laws.proofs.InARow.{Assumed, StaysApart, apart_on, assumed_of, begins as begins_so, begins_apart, begins_more, begins_on, begun_again, stays_whole}
+use Rattle.osdp_link_laws.proofs.InARow.{Assumed, StaysApart, apart_on, assumed, begins as begins_so, begins_apart, begins_more, begins_on, begun_again, stays_whole}
 use Rattle.osdp_link_laws.proofs.Lapsing.{DifferFor, is_off, move_for, not_zero_if, off, room_of}
 use Rattle.osdp_link_laws.proofs.Lines.{each_rest}
 use Rattle.osdp_link_laws.proofs.Once.{Goes, fresh, is_once, moving}
@@ -98,7 +97,7 @@ module _ {H : Type 0} (answer_of : H → Command → Answer) (after : H → Comm
   asked_off Withdraw event rest room l all on lapsed told tells fits leaves_room = (tt, tt, tt)
   asked_off (Retarget address) event rest room l all on lapsed told tells fits leaves_room = (tt, tt, tt)
   asked_off WithdrawEvent event rest room l all on lapsed told tells fits leaves_room = (tt, tt, tt)
-  asked_off (RestartReader address handler many) event rest room l all on lapsed told tells fits leaves_room = (fits, tt, tt)
+  asked_off (RestartReader config handler many) event rest room l all on lapsed told tells fits leaves_room = (fits, tt, tt)
   asked_off (RestartController config many) event rest room l all on lapsed told tells fits leaves_room = (fits, tt, tt)
   asked_off (LoseToReader place) event rest room l all on lapsed told tells fits leaves_room = (tt, tt, tt)
   asked_off (LoseToController place) event rest room l all on lapsed told tells fits leaves_room = (tt, tt, tt)
@@ -113,14 +112,14 @@ module _ {H : Type 0} (answer_of : H → Command → Answer) (after : H → Comm
       (subst (λ (m : Link H). MoveFits answer_of after move (lapses m)) (sym same) fits)
       (subst (λ (m : Link H). LeavesRoom answer_of after lapsed move (lapses m)) (sym same) leaves_room))
 
-  module _ (settings : ReaderConfig) where
+  module _ where
     -- ---- the session of a link in which nothing has lapsed yet
 
     record Lasts (v : Link H) (lapsed : List (List Event)) : Type 0 where
       fixed : ControllerConfig
       device : fixed.address < 127
       current : IsDevice answer_of after v
-      goes : Goes fixed answer_of after settings v
+      goes : Goes fixed answer_of after v
       apart : StaysApart v
       past : NoneOfferedOrPast v
       once : EachIsOnce v.earlier
@@ -141,7 +140,7 @@ module _ {H : Type 0} (answer_of : H → Command → Answer) (after : H → Comm
     abbrev Held : Doubtful H → Type 0
     Held d = HeldWith d.link d.lapsed d.lapsed_before
 
-    lasts_on : Assumed answer_of after settings → (move : Move H) (v : Link H) (lapsed : List (List Event)) → GoesOn move → MoveFits answer_of after move v → Lasts v lapsed
+    lasts_on : Assumed answer_of after → (move : Move H) (v : Link H) (lapsed : List (List Event)) → GoesOn move → MoveFits answer_of after move v → Lasts v lapsed
         → Lasts (after_move answer_of after move v) lapsed
     lasts_on given move v lapsed on fits h =
         let new = after_move answer_of after move v in
@@ -150,9 +149,9 @@ module _ {H : Type 0} (answer_of : H → Command → Answer) (after : H → Comm
           fixed = h.fixed;
           device = h.device;
           current = move_there answer_of after move v fits h.current;
-          goes = moving h.fixed answer_of after settings (given h.fixed h.device) move v on fits h.goes;
-          apart = apart_on answer_of after settings move v on h.apart;
-          past = one_past answer_of after settings move v (h.fixed, h.goes) h.past;
+          goes = moving h.fixed answer_of after (given h.fixed h.device) move v on fits h.goes;
+          apart = apart_on answer_of after move v on h.apart;
+          past = one_past answer_of after move v (h.fixed, h.goes) h.past;
           once = subst EachIsOnce (sym grows.1) h.once;
           row = subst (λ earlier. AreInARowButLapsed new.account earlier lapsed) (sym grows.1)
               (row_on v.account new.account (submitted move v) (queued move v) v.earlier lapsed grows.0 h.row);
@@ -171,15 +170,15 @@ module _ {H : Type 0} (answer_of : H → Command → Answer) (after : H → Comm
         fixed = v.controller.session.config;
         device = h.current;
         current = h.current;
-        goes = begun_again answer_of after settings h.fixed now v h.goes here there;
+        goes = begun_again answer_of after h.fixed now v h.goes here there;
         apart = begins_apart v.reader.queue;
         past = inl refl;
-        once = (is_once h.fixed answer_of after settings v (stays_whole v h.apart) h.goes, h.once);
+        once = (is_once h.fixed answer_of after v (stays_whole v h.apart) h.goes, h.once);
         row = (
           inl (
             v.controller.waiting,
             v.reader.queue.events,
-            leaves h.fixed answer_of after settings v h.goes (was_closed v.controller.session.state may),
+            leaves h.fixed answer_of after v h.goes (was_closed v.controller.session.state may),
             ([], sym (append-nil v.controller.waiting)),
             ([], sym (append-nil v.reader.queue.events)),
           ),
@@ -218,23 +217,22 @@ module _ {H : Type 0} (answer_of : H → Command → Answer) (after : H → Comm
             fixed = v.controller.session.config;
             device = h.current;
             current = h.current;
-            goes = fresh v.controller.session.config answer_of after settings next (record {
+            goes = fresh v.controller.session.config answer_of after next (record {
               controller = refl;
               waiting = each_rest MaySubmit (gone v.account) v.controller.waiting h.goes.holds.2.waiting;
-              answering = record { id = h.goes.holds.2.answering.id; caps = h.goes.holds.2.answering.caps };
               to_reader = here;
               to_controller = there;
               account = refl;
             });
             apart = begins_apart next.reader.queue;
             past = inl refl;
-            once = (is_once h.fixed answer_of after settings u (stays_whole u h.apart) h.goes, h.once);
+            once = (is_once h.fixed answer_of after u (stays_whole u h.apart) h.goes, h.once);
             row = (
               inr (
                 v.controller.waiting,
                 event,
                 rest,
-                leaves h.fixed answer_of after settings u h.goes (was_closed v.controller.session.state may),
+                leaves h.fixed answer_of after u h.goes (was_closed v.controller.session.state may),
                 ([], sym (append-nil v.controller.waiting)),
                 ([], sym (append-nil rest)),
                 told,
@@ -266,7 +264,7 @@ module _ {H : Type 0} (answer_of : H → Command → Answer) (after : H → Comm
 
     -- ---- a move within the session
 
-    moves_held : Assumed answer_of after settings → (move : Move H) (l : Link H) (lapsed : List Event) (before : List (List Event)) → GoesOn move → IsNoReopen move
+    moves_held : Assumed answer_of after → (move : Move H) (l : Link H) (lapsed : List Event) (before : List (List Event)) → GoesOn move → IsNoReopen move
         → MoveFits answer_of after move l → LeavesRoom answer_of after lapsed move l → HeldWith l lapsed before
         → HeldWith (after_move answer_of after move l) lapsed before
     moves_held given move l lapsed before on same_session fits leaves_room h = by_rel h.stands_for
@@ -360,13 +358,13 @@ module _ {H : Type 0} (answer_of : H → Command → Answer) (after : H → Comm
 
     -- ---- all moves
 
-    one_held : Assumed answer_of after settings → (move : LapsingMove H) (d : Doubtful H) → LapsingFits answer_of after move d.lapsed d.link → Held d
+    one_held : Assumed answer_of after → (move : LapsingMove H) (d : Doubtful H) → LapsingFits answer_of after move d.lapsed d.link → Held d
         → Held (after_lapsing answer_of after move d)
     one_held given Lapse d fits h = lapse_held d fits h
     one_held given (Moves (Reopen now)) d fits h = reopens_held now d h
     one_held given (Moves move) d fits h = moves_held given move d.link d.lapsed d.lapsed_before tt tt fits.0 fits.1 h
 
-    all_held : Assumed answer_of after settings → (moves : List (LapsingMove H)) (d : Doubtful H) → AllFit answer_of after moves d → Held d
+    all_held : Assumed answer_of after → (moves : List (LapsingMove H)) (d : Doubtful H) → AllFit answer_of after moves d → Held d
         → Held (run_lapsing answer_of after moves d)
     all_held given [] d fits h = h
     all_held given (move ∷ moves) d fits h =
@@ -377,7 +375,7 @@ module _ {H : Type 0} (answer_of : H → Command → Answer) (after : H → Comm
       where
         holds : EachIsOnce (h.without.account ∷ h.without.earlier) × AreInARowButLapsed h.without.account h.without.earlier d.lapsed_before
         holds = (
-          (is_once h.lasts.fixed answer_of after settings h.without (stays_whole h.without h.lasts.apart) h.lasts.goes, h.lasts.once),
+          (is_once h.lasts.fixed answer_of after h.without (stays_whole h.without h.lasts.apart) h.lasts.goes, h.lasts.once),
           h.lasts.row,
         )
 
@@ -391,9 +389,8 @@ module _ {H : Type 0} (answer_of : H → Command → Answer) (after : H → Comm
   pub lapsing_holds_once : ReadEachOther answer_of after → LapsingHoldsOnce answer_of after
   lapsing_holds_once peers first moves begin fits =
       let s = begins_so answer_of after first begin in
-      let settings = first.reader.config in
       let start : Doubtful H = record { link = first; lapsed = []; lapsed_before = [] } in
-      is_held settings (run_lapsing answer_of after moves start) (all_held settings (assumed_of answer_of after peers first) moves start fits (record {
+      is_held (run_lapsing answer_of after moves start) (all_held (assumed answer_of after peers) moves start fits (record {
         without = first;
         lasts = record {
           fixed = s.fixed;

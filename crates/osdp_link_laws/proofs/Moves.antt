@@ -20,7 +20,6 @@ use Rattle.osdp_controller.specs.declared.config.ControllerConfig.{ControllerCon
 use Rattle.osdp_controller.specs.declared.exchange.Exchange.{Exchange}
 use Rattle.osdp_controller.specs.declared.exchange.Exchange.TheVariants.{Opening, Polling, Asking}
 use Rattle.osdp_controller.specs.declared.fault.ControllerFault.{ControllerFault}
-use Rattle.osdp_reader.specs.declared.config.ReaderConfig.{ReaderConfig}
 use Rattle.osdp_reader.specs.declared.handler.Answer.{Answer}
 use Rattle.osdp_reader.specs.Queue.{Queue, queued, withdrawn}
 use Rattle.osdp_reader.specs.State.{ReaderState, after_submit, after_withdraw_event}
@@ -126,7 +125,7 @@ module _ (fixed : ControllerConfig) {H : Type 0} where
   reader_changes since r s change (Level past x a) is = change (number_after past) x a is
   reader_changes since r s change (Rest n x a) is = change n x a is
 
-module _ (fixed : ControllerConfig) {H : Type 0} (answer_of : H → Command → Answer) (after : H → Command → H) (settings : ReaderConfig) where
+module _ (fixed : ControllerConfig) {H : Type 0} (answer_of : H → Command → Answer) (after : H → Command → H) where
   -- what the ends read of each other's packets, and that a reader's answers are plain
   pub record Premises : Type 0 where
     pub device : fixed.address < 127
@@ -136,9 +135,9 @@ module _ (fixed : ControllerConfig) {H : Type 0} (answer_of : H → Command → 
     pub tells : TellsItsEvent
     pub plainly : AnswersPlainly answer_of after
 
-module _ (fixed : ControllerConfig) {H : Type 0} (answer_of : H → Command → Answer) (after : H → Command → H) (settings : ReaderConfig) (since : Restarted) where
+module _ (fixed : ControllerConfig) {H : Type 0} (answer_of : H → Command → Answer) (after : H → Command → H) (since : Restarted) where
   abbrev AtStage : Stage → Link H → Type 0
-  AtStage at l = At fixed answer_of after settings since at l
+  AtStage at l = At fixed answer_of after since at l
 
   abbrev Stays : Link H → Type 0
   Stays l = (at : Stage) × AtStage at l
@@ -156,7 +155,6 @@ module _ (fixed : ControllerConfig) {H : Type 0} (answer_of : H → Command → 
         controller = h.controller;
         waiting = each_append MaySubmit l.controller.waiting (c ∷ []) h.waiting (may refl, tt);
         reader = h.reader;
-        answering = h.answering;
         to_reader = h.to_reader;
         to_controller = h.to_controller;
         account = record {
@@ -182,9 +180,8 @@ module _ (fixed : ControllerConfig) {H : Type 0} (answer_of : H → Command → 
         kept = l.account.kept ++ e ∷ [];
       } in
       let told = h.account.told in
-      with_reader fixed answer_of after settings since at l (after_submit e l.reader) t.queued t.withdrawn t.stayed t.kept h
+      with_reader fixed answer_of after since at l (after_submit e l.reader) t.queued t.withdrawn t.stayed t.kept h
       (reader_changes fixed since l.reader (after_submit e l.reader) (λ n x a. knows_queues fixed since n x a e l.reader) at h.reader)
-      (record { id = h.answering.id; caps = h.answering.caps })
       (record {
         left = told.left;
         past = told.past;
@@ -200,9 +197,8 @@ module _ (fixed : ControllerConfig) {H : Type 0} (answer_of : H → Command → 
       let t = event_withdrawn l.reader.queue l.account in
       let told = h.account.told in
       let split = splits l.reader.queue in
-      with_reader fixed answer_of after settings since at l (after_withdraw_event l.reader) t.queued t.withdrawn t.stayed t.kept h
+      with_reader fixed answer_of after since at l (after_withdraw_event l.reader) t.queued t.withdrawn t.stayed t.kept h
       (reader_changes fixed since l.reader (after_withdraw_event l.reader) (λ n x a. knows_withdraws fixed since n x a l.reader) at h.reader)
-      (record { id = h.answering.id; caps = h.answering.caps })
       (record {
         left = told.left;
         past = told.past;
@@ -216,9 +212,9 @@ module _ (fixed : ControllerConfig) {H : Type 0} (answer_of : H → Command → 
   pub being_otherwise : (busy : Bool) (handler : H) (at : Stage) (l : Link H) → AtStage at l
       → AtStage at (record l { reader = record l.reader { busy = busy; handler = handler } })
   being_otherwise busy handler at l h =
-      with_reader fixed answer_of after settings since at l (otherwise fixed busy handler l.reader) l.account.queued l.account.withdrawn l.account.stayed l.account.kept h
+      with_reader fixed answer_of after since at l (otherwise fixed busy handler l.reader) l.account.queued l.account.withdrawn l.account.stayed l.account.kept h
       (reader_changes fixed since l.reader (otherwise fixed busy handler l.reader) (λ n x a. knows_otherwise fixed since n x a busy handler l.reader) at h.reader)
-      (record { id = h.answering.id; caps = h.answering.caps }) h.account.told
+      h.account.told
 
   -- a tick that begins no exchange
   ticked_at : (at : Stage) (t : Ticked) (l : Link H) → t.waiting ≡ l.controller.waiting
@@ -232,8 +228,8 @@ module _ (fixed : ControllerConfig) {H : Type 0} (answer_of : H → Command → 
         account = after_report t.step.report l.account;
       })) (sym waits)
       (subst (λ a. AtStage at (record l { controller = record l.controller { session = t.session }; to_reader = ps; account = a })) (sym says)
-      (with_session fixed answer_of after settings since at (record l { to_reader = ps }) t.session
-      (with_to_reader fixed answer_of after settings since at l ps h line) stands))
+      (with_session fixed answer_of after since at (record l { to_reader = ps }) t.session
+      (with_to_reader fixed answer_of after since at l ps h line) stands))
 
   -- an exchange begins after another
   begins : (past : Past) (n : ℕ) (t : Ticked) (l : Link H) → n ≡ number_after past → Begun fixed past n l.controller.waiting t
@@ -269,8 +265,8 @@ module _ (fixed : ControllerConfig) {H : Type 0} (answer_of : H → Command → 
 
   -- an exchange that begins: the account has its command as pending
   begun_account : (x : Exchange) (ws : List Command) (lost : List Command) (front : List Event) (l : Link H) → l.controller.waiting ≡ pending x ++ ws
-      → lost ≡ [] → Accounts fixed answer_of after settings since [] [] [] front [] l.controller.waiting l.reader.queue.events l.account
-      → Accounts fixed answer_of after settings since (pending x) [] lost front [] ws l.reader.queue.events l.account
+      → lost ≡ [] → Accounts fixed answer_of after since [] [] [] front [] l.controller.waiting l.reader.queue.events l.account
+      → Accounts fixed answer_of after since (pending x) [] lost front [] ws l.reader.queue.events l.account
   begun_account x ws lost front l waits none a = record {
     issued = a.issued ∙ ap (λ w. l.account.taken ++ w) waits;
     answered = a.answered;
@@ -293,7 +289,6 @@ module _ (fixed : ControllerConfig) {H : Type 0} (answer_of : H → Command → 
           controller = asks;
           waiting = each_rest MaySubmit (pending y) ws (subst (Each MaySubmit) waits h.waiting);
           reader = h.reader;
-          answering = h.answering;
           to_reader = runs_first (IsOldFrame fixed (After n x a)) (IsFrame fixed y (next_sequence n)) l.to_reader (frame fixed y (next_sequence n) ∷ [])
               h.to_reader (refl, tt);
           to_controller = h.to_controller;
@@ -311,7 +306,6 @@ module _ (fixed : ControllerConfig) {H : Type 0} (answer_of : H → Command → 
           controller = asks;
           waiting = each_rest MaySubmit (pending x) ws (subst (Each MaySubmit) waits h.waiting);
           reader = tt;
-          answering = h.answering;
           to_reader = runs_first (IsOldFrame fixed Start) (IsFrame fixed x 0) l.to_reader (frame fixed x 0 ∷ [])
               (subst (Each (IsOldFrame fixed Start)) (sym h.to_reader) tt) (refl, tt);
           to_controller = subst (Each (SaysOld fixed since Start)) (sym h.to_controller) tt;

@@ -10,7 +10,6 @@ use Rattle.osdp_controller.specs.declared.exchange.Exchange.{Exchange}
 use Rattle.osdp_controller.specs.declared.exchange.Exchange.TheVariants.{Opening, Polling, Asking}
 use Rattle.osdp_reader.specs.Queue.{Queue}
 use Rattle.osdp_reader.specs.State.{ReaderState}
-use Rattle.osdp_reader.specs.declared.config.ReaderConfig.{ReaderConfig}
 use Rattle.osdp_reader.specs.declared.handler.Answer.{Answer}
 use Rattle.osdp_msg.specs.declared.command.Command.{Command}
 use Rattle.osdp_link_laws.specs.Headline.{IsWithout}
@@ -98,16 +97,16 @@ module _ (fixed : ControllerConfig) {H : Type 0} where
             (without_keeps t.thrown_away are.left are.past (ever_in_front q) are.without);
       }
 
-module _ (fixed : ControllerConfig) {H : Type 0} (answer_of : H → Command → Answer) (after : H → Command → H) (settings : ReaderConfig) where
+module _ (fixed : ControllerConfig) {H : Type 0} (answer_of : H → Command → Answer) (after : H → Command → H) where
   -- what was offered stands before those in the queue that never were
-  pub stands_apart : (l : Link H) → Goes fixed answer_of after settings l → StandApart fixed l.reader l.account
+  pub stands_apart : (l : Link H) → Goes fixed answer_of after l → StandApart fixed l.reader l.account
   stands_apart l h =
       let held = h.holds.2 in
       let s = offered_apart fixed h.holds.0 h.holds.1 l.reader (as_waiting l).account held.reader held.account.offered held.account.told in
       record { more = s.more; older = s.older; kept = s.kept; stayed = s.stayed; without = s.without }
 
   -- of those that stay, what was offered is among those before them
-  pub offered_among : (l : Link H) (others : List Event) → Goes fixed answer_of after settings l → l.account.stayed ≡ others ++ unoffered_in l.reader.queue
+  pub offered_among : (l : Link H) (others : List Event) → Goes fixed answer_of after l → l.account.stayed ≡ others ++ unoffered_in l.reader.queue
       → IsAmong l.account.offered others
   offered_among l others h is =
       let s = stands_apart l h in

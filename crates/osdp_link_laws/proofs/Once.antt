@@ -17,7 +17,6 @@ use Rattle.osdp_controller.specs.declared.fault.ControllerFault.{ControllerFault
 use Rattle.osdp_controller.specs.declared.session.Session.{Session}
 use Rattle.osdp_controller.specs.declared.state.State.{State}
 use Rattle.osdp_controller.specs.declared.state.State.TheVariants.{Closed, Quiet, Idle, Waiting, Pausing}
-use Rattle.osdp_reader.specs.declared.config.ReaderConfig.{ReaderConfig}
 use Rattle.osdp_reader.specs.declared.handler.Answer.{Answer}
 use Rattle.osdp_link_laws.specs.Headline.{IsBeginning, IsOnce, IsWithout, MoveFits, MaySubmit}
 use Rattle.osdp_link_laws.specs.Link as link
@@ -31,7 +30,7 @@ use Rattle.osdp_link_laws.proofs.Restarts.{front_at}
 use Rattle.osdp_link_laws.proofs.Since.{events_same, past_same}
 use Rattle.osdp_reader.specs.State.{ReaderState}
 use Rattle.osdp_link_laws.proofs.Closing.{closed_same, stays_closed}
-use Rattle.osdp_link_laws.proofs.Stages.{Answering, Asks, Behind, Before, ControllerAt, Each, EventsAre, Fresh, Level, Never, Now, ReaderAt, Rest, Restarted, Rests, Stage, Waits, given_up, given_up_at, number_after, owed, owed_at, pending, pending_at, shown_at, unreported_at}
+use Rattle.osdp_link_laws.proofs.Stages.{Asks, Behind, Before, ControllerAt, Each, EventsAre, Fresh, Level, Never, Now, ReaderAt, Rest, Restarted, Rests, Stage, Waits, given_up, given_up_at, number_after, owed, owed_at, pending, pending_at, shown_at, unreported_at}
 use Rattle.osdp_link_laws.proofs.Without.{without_keeps}
 
 one_owed : (x : Exchange) (a : Reply) → length (owed x a) ≤ 1
@@ -127,9 +126,9 @@ module _ (fixed : ControllerConfig) where
     are.kept ∙ ap (λ es. es ++ r.queue.events) (sym are.reported ∙ offered) ∙ append_assoc t.reported (unreported_at at) r.queue.events,
   )
 
-module _ (fixed : ControllerConfig) {H : Type 0} (answer_of : H → Command → Answer) (after : H → Command → H) (settings : ReaderConfig) where
+module _ (fixed : ControllerConfig) {H : Type 0} (answer_of : H → Command → Answer) (after : H → Command → H) where
   abbrev HoldsAt : Link H → Type 0
-  HoldsAt l = HoldsAtSomeStage fixed answer_of after settings l
+  HoldsAt l = HoldsAtSomeStage fixed answer_of after l
 
   -- what holds of a link, whatever was removed since its session ended
   pub record Goes (l : Link H) : Type 0 where
@@ -157,7 +156,7 @@ module _ (fixed : ControllerConfig) {H : Type 0} (answer_of : H → Command → 
       by_quiet (inl (removed, forgotten)) = bare l removed forgotten h.holds
       by_quiet (inr closed) = absurd (lasts closed)
 
-  going_inside : Premises fixed answer_of after settings → (move : Move H) (l : Link H) → IsInside move → MoveFits answer_of after move l → Goes l
+  going_inside : Premises fixed answer_of after → (move : Move H) (l : Link H) → IsInside move → MoveFits answer_of after move l → Goes l
       → Goes (after_move answer_of after move l)
   going_inside given move l on fits h =
       let m = after_move answer_of after move l in
@@ -169,7 +168,7 @@ module _ (fixed : ControllerConfig) {H : Type 0} (answer_of : H → Command → 
       by_quiet m removed forgotten (inl (none, nothing)) =
           let n = after_move answer_of after move l in
           record {
-            holds = clothed n (removed ∙ none) (forgotten ∙ nothing) (moving_inside fixed answer_of after settings given move l on fits (bare l none nothing h.holds));
+            holds = clothed n (removed ∙ none) (forgotten ∙ nothing) (moving_inside fixed answer_of after given move l on fits (bare l none nothing h.holds));
             quiet = inl (removed ∙ none, forgotten ∙ nothing);
           }
       by_quiet m removed forgotten (inr closed) =
@@ -179,7 +178,7 @@ module _ (fixed : ControllerConfig) {H : Type 0} (answer_of : H → Command → 
             holds = subst (λ u. HoldsAt (as_if (gone n.account) u n))
                 (ap (λ cs. cs ++ l.account.forgotten) (sym unsettled) ∙ ap (λ cs. n.account.unsettled ++ cs) (sym forgotten))
                 (subst (λ r. HoldsAt (as_if (map removed_command r) (given_up_in l.account) n)) (sym removed)
-                (closed_inside fixed answer_of after settings given (gone l.account) (given_up_in l.account) move l on fits closed h.holds));
+                (closed_inside fixed answer_of after given (gone l.account) (given_up_in l.account) move l on fits closed h.holds));
             quiet = inr (stays_closed answer_of after move l on closed);
           }
 
@@ -187,8 +186,8 @@ module _ (fixed : ControllerConfig) {H : Type 0} (answer_of : H → Command → 
 
   -- another controller, with the same commands counted as waiting
   with_machine : (since : Restarted) (at : Stage) (l : Link H) (m : Machine) (removed : List Removal) (forgotten : List Command)
-      → At fixed answer_of after settings since at l → m.waiting ≡ l.controller.waiting → ControllerAt fixed at m.session
-      → At fixed answer_of after settings since at (record l {
+      → At fixed answer_of after since at l → m.waiting ≡ l.controller.waiting → ControllerAt fixed at m.session
+      → At fixed answer_of after since at (record l {
         controller = m;
         account = record l.account { unsettled = given_up_at at m.session.state; removed = removed; forgotten = forgotten };
       })
@@ -200,7 +199,6 @@ module _ (fixed : ControllerConfig) {H : Type 0} (answer_of : H → Command → 
         controller = is;
         waiting = subst (Each MaySubmit) (sym waits) h.waiting;
         reader = h.reader;
-        answering = h.answering;
         to_reader = h.to_reader;
         to_controller = h.to_controller;
         account = record {
@@ -235,7 +233,7 @@ module _ (fixed : ControllerConfig) {H : Type 0} (answer_of : H → Command → 
   changing l m removed forgotten waits stands told (since, at, h) = (
     since,
     at,
-    subst (λ u. At fixed answer_of after settings since at (as_if (map removed_command removed) u (with_controller l m removed forgotten)))
+    subst (λ u. At fixed answer_of after since at (as_if (map removed_command removed) u (with_controller l m removed forgotten)))
         (sym (told at h.controller h.account.unsettled))
         (with_machine since at (as_waiting l) (record m { waiting = map removed_command removed ++ m.waiting }) removed forgotten h waits (stands at h.controller)),
   )
@@ -302,7 +300,7 @@ module _ (fixed : ControllerConfig) {H : Type 0} (answer_of : H → Command → 
 
   -- ---- each move
 
-  pub moving : Premises fixed answer_of after settings → (move : Move H) (l : Link H) → GoesOn move → MoveFits answer_of after move l → Goes l
+  pub moving : Premises fixed answer_of after → (move : Move H) (l : Link H) → GoesOn move → MoveFits answer_of after move l → Goes l
       → Goes (after_move answer_of after move l)
   moving given Withdraw l on fits h = going_withdraws l h
   moving given (Retarget address) l on fits h = going_retargets (controllers.retarget_refusal address l.controller) address l refl h
@@ -318,20 +316,20 @@ module _ (fixed : ControllerConfig) {H : Type 0} (answer_of : H → Command → 
   moving given (ToReader how) l on fits h = going_inside given (ToReader how) l tt fits h
   moving given (ToController how now) l on fits h = going_inside given (ToController how now) l tt fits h
   moving given (SetHandler handler) l on fits h = going_inside given (SetHandler handler) l tt fits h
-  moving given (RestartReader address handler room) l on fits h = going_inside given (RestartReader address handler room) l tt fits h
+  moving given (RestartReader config handler room) l on fits h = going_inside given (RestartReader config handler room) l tt fits h
 
   -- what holds of a session says that all is once and in order
   pub is_once : (l : Link H) → IsWithout l.account.withdrawn l.account.queued l.account.stayed → Goes l → IsOnce l.account
   is_once l stayed h = once_at h.holds.0 h.holds.1 h.holds.2
     where
-      events_now : (since : Restarted) (at : Stage) → At fixed answer_of after settings since at (as_waiting l)
+      events_now : (since : Restarted) (at : Stage) → At fixed answer_of after since at (as_waiting l)
           → EventsAre since (shown_at at) l.reader.queue.events l.account
       events_now since at held =
           let t = l.account in
           let u = record t { unsettled = given_up_in t } in
           events_same since (shown_at at) l.reader.queue.events u t refl refl refl (λ past. past_same since (shown_at at) past u t refl refl) held.account.told
 
-      once_at : (since : Restarted) (at : Stage) → At fixed answer_of after settings since at (as_waiting l) → IsOnce l.account
+      once_at : (since : Restarted) (at : Stage) → At fixed answer_of after since at (as_waiting l) → IsOnce l.account
       once_at since at held = record {
         taken = (pending_at at ++ (gone l.account ++ l.controller.waiting), held.account.issued);
         answered = held.account.answered;
@@ -347,7 +345,6 @@ module _ (fixed : ControllerConfig) {H : Type 0} (answer_of : H → Command → 
   pub record IsNew (l : Link H) : Type 0 where
     pub controller : Waits fixed l.controller.session.state l.controller.session
     pub waiting : Each MaySubmit l.controller.waiting
-    pub answering : Answering settings l.reader.config
     pub to_reader : l.to_reader ≡ []
     pub to_controller : l.to_controller ≡ []
     pub account : l.account ≡ new_account l.controller.waiting l.reader.queue.events
@@ -363,12 +360,11 @@ module _ (fixed : ControllerConfig) {H : Type 0} (answer_of : H → Command → 
         without = (refl, refl);
         reported = refl;
       } in
-      let held : At fixed answer_of after settings Never Fresh (record l { account = t }) = record {
+      let held : At fixed answer_of after Never Fresh (record l { account = t }) = record {
         stage = tt;
         controller = new.controller;
         waiting = new.waiting;
         reader = tt;
-        answering = new.answering;
         to_reader = new.to_reader;
         to_controller = new.to_controller;
         account = record { issued = refl; answered = refl; settled = refl; unsettled = refl; told = told; offered = refl; restarts = refl };

@@ -5,7 +5,6 @@ use Rattle.osdp_msg.specs.declared.command.Command.{Command}
 use Rattle.osdp_msg.specs.declared.reply.Reply.{Reply}
 use Rattle.osdp_controller.specs.declared.config.ControllerConfig.{ControllerConfig}
 use Rattle.osdp_controller.specs.declared.exchange.Exchange.{Exchange}
-use Rattle.osdp_reader.specs.declared.config.ReaderConfig.{ReaderConfig}
 use Rattle.osdp_reader.specs.declared.handler.Answer.{Answer}
 use Rattle.osdp_link_laws.specs.Link.{Link, run}
 use Rattle.osdp_link_laws.specs.Names.{IsCommandTo, IsReplyFrom, NameOneDevice, NamesOne}
@@ -35,7 +34,8 @@ module _ (fixed : ControllerConfig) (since : Restarted) where
   reply_from : (n : ℕ) (r : Reply) (p : Packet) → Says fixed since n r p → IsReplyFrom fixed.address p
   reply_from n r p (inl is) = (ap (λ q. q.reply) is, ap (λ q. q.address) is)
   reply_from n r p (inr (inl is)) = (ap (λ q. q.reply) is, ap (λ q. q.address) is)
-  reply_from n r p (inr (inr (may, (m, is)))) = (ap (λ q. q.reply) is, ap (λ q. q.address) is)
+  reply_from n r p (inr (inr (inl (may, (m, is))))) = (ap (λ q. q.reply) is, ap (λ q. q.address) is)
+  reply_from n r p (inr (inr (inr (first, (pd, fits, is))))) = (ap (λ q. q.reply) is, ap (λ q. q.address) is)
 
   old_reply_from : (past : Past) (p : Packet) → SaysOld fixed since past p → IsReplyFrom fixed.address p
   old_reply_from Start p is = (ap (λ q. q.reply) is, ap (λ q. q.address) is)
@@ -49,8 +49,8 @@ module _ (fixed : ControllerConfig) (since : Restarted) where
       (old_reply_from past) (reply_from (number_after past) r) ps is
   replies_at (Rest n x r) ps is = each_map (Says fixed since n r) (IsReplyFrom fixed.address) (reply_from n r) ps is
 
-module _ {H : Type 0} (answer_of : H → Command → Answer) (after : H → Command → H) (settings : ReaderConfig) where
-  pub standing_names : (l : Link H) → Stands answer_of after settings l → (device : ℕ) × NamesOne device l.to_reader l.to_controller
+module _ {H : Type 0} (answer_of : H → Command → Answer) (after : H → Command → H) where
+  pub standing_names : (l : Link H) → Stands answer_of after l → (device : ℕ) × NamesOne device l.to_reader l.to_controller
   standing_names l s =
       let held = s.goes.holds in (
         s.fixed.address,
@@ -64,4 +64,4 @@ module _ {H : Type 0} (answer_of : H → Command → Answer) (after : H → Comm
 module _ {H : Type 0} (answer_of : H → Command → Answer) (after : H → Command → H) where
   pub name_one : ReadEachOther answer_of after → NameOneDevice answer_of after
   name_one peers l moves b fits =
-      standing_names answer_of after l.reader.config (run answer_of after moves l) (stands answer_of after peers l moves b fits)
+      standing_names answer_of after (run answer_of after moves l) (stands answer_of after peers l moves b fits)

@@ -17,7 +17,7 @@ use Rattle.osdp_controller.specs.declared.exchange.Exchange.TheVariants.{Opening
 use Rattle.osdp_controller.specs.declared.fault.ControllerFault.{ControllerFault}
 use Rattle.osdp_controller.specs.declared.report.Report.{Report}
 use Rattle.osdp_controller.specs.declared.report.Report.TheVariants as report
-use Rattle.osdp_reader.specs.Queue.{event_for, offering, released, lacks_room}
+use Rattle.osdp_reader.specs.Queue.{event_for, offering, released, lacks_room, unoffered}
 use Rattle.osdp_reader.specs.Replies.{reply_packet}
 use Rattle.osdp_reader.specs.State.{ReaderState}
 use Rattle.osdp_reader.specs.Table.{answer_to, begun, command_in, event_or_answer, kind_by_number, kind_of, moved, new_address, outcome, taken}
@@ -29,19 +29,107 @@ use Rattle.osdp_reader_laws.specs.Answering.{handler_after_commands}
 use Rattle.osdp_link_laws.specs.Headline.{EachIsOnce, IsBeginning, MovesFit}
 use Rattle.osdp_link_laws.specs.Link as link
 use Rattle.osdp_link_laws.specs.Link.{Account, Delivered, Delivery, Link, Lost, Move, Queue as QueueEvent, Reopen, Repeated, RestartController, RestartReader, Retarget, SetBusy, SetHandler, Submit, Tick, ToController, ToReader, Withdraw, WithdrawEvent, after_move, run, taken_command, after_report, LoseToReader, LoseToController}
-use Rattle.osdp_link_laws.specs.OneHandler.{AreItsAnswers, AreOnce, GivesItsAnswers, KeepHandler, KeepsDevice, KeepsHandler, OneHandlerHoldsOnce, handler_after, with_answers}
+use Rattle.osdp_link_laws.specs.OneHandler.{AreItsAnswers, AreOnce, GivesItsAnswers, IsSameModel, KeepHandler, KeepsDevice, KeepsHandler, OneHandlerHoldsOnce, handler_after, with_answers}
 use Rattle.osdp_link_laws.specs.Peers.{ReadEachOther}
 use Rattle.osdp_link_laws.specs.Refusals.{KeepsReader}
 use Rattle.osdp_link_laws.proofs.Acting.{no_event, polled, same_answer, taken_is}
 use Rattle.osdp_link_laws.proofs.GivenAnswers.{poll_or_not}
-use Rattle.osdp_link_laws.proofs.InARow.{Assumed, Stands, all_once, assumed_of, begins, standing}
+use Rattle.osdp_link_laws.proofs.InARow.{Assumed, Stands, all_once, assumed, begins, standing}
 use Rattle.osdp_link_laws.proofs.Kept.{KeepsEvents, all_kept}
 use Rattle.osdp_link_laws.proofs.Removed.{as_waiting}
 use Rattle.osdp_link_laws.proofs.Lines.{both, each_map, each_of}
 use Rattle.osdp_link_laws.proofs.Moves.{Premises}
 use Rattle.osdp_link_laws.proofs.Numbers.{next_above_zero}
 use Rattle.osdp_link_laws.proofs.Parts.{At}
-use Rattle.osdp_link_laws.proofs.Stages.{Acted, After, Answering, Behind, Each, Fresh, IsAsked, Level, Past, Rest, Restarted, Stage, Start, ToReaderAt, frame, number_after}
+use Rattle.osdp_link_laws.proofs.Stages.{Acted, After, Behind, Each, Fresh, IsAsked, Level, Past, Rest, Restarted, Stage, Start, ToReaderAt, frame, number_after}
+
+-- ---- the device stays the same model
+
+module _ {H : Type 0} (answer_of : H → Command → Answer) (after : H → Command → H) where
+  abbrev StaysModel : ReaderState H → ReaderState H → Type 0
+  StaysModel r s = IsSameModel s.config r.config
+
+  moved_model : (to : Option ℕ) (r : ReaderState H) → StaysModel r (moved to r)
+  moved_model None r = (refl, refl)
+  moved_model (Some address) r =
+      both (StaysModel r) (eqb address r.config.address) r (record r { config = record r.config { address = address }; last = None; stored = None })
+      (refl, refl) (refl, refl)
+
+  begun_model : (read : Result Command MsgFault) (r : ReaderState H) (p : Packet) → StaysModel r (begun answer_of after read r p).reader
+  begun_model (Err fault) r p = (refl, refl)
+  begun_model (Ok c) r p =
+      moved_model (new_address c) (record r { last = Some 0; queue = unoffered r.queue; handler = (answer_to answer_of after r.config r.handler c).handler })
+
+  taken_model : (read : Result Command MsgFault) (r : ReaderState H) (p : Packet) → StaysModel r (taken answer_of after read r p).reader
+  taken_model (Err fault) r p = (refl, refl)
+  taken_model (Ok c) r p =
+      let event = event_for c (released r.queue).events in
+      let a = event_or_answer answer_of after event r.config r.handler c in
+      moved_model (new_address c) (record r {
+        last = Some p.sequence;
+        stored = Some (reply_packet p p.sequence a.reply);
+        queue = offering event (released r.queue);
+        handler = a.handler;
+      })
+
+  outcome_model : (k : Kind) (r : ReaderState H) (p : Packet) → StaysModel r (outcome answer_of after k r p).reader
+  outcome_model kind.Silent r p = (refl, refl)
+  outcome_model kind.Secured r p = (refl, refl)
+  outcome_model kind.Zero r p = begun_model (command_in p) r p
+  outcome_model kind.Repeat r p = (refl, refl)
+  outcome_model kind.Taken r p = taken_model (command_in p) r p
+  outcome_model kind.Busy r p = (refl, refl)
+  outcome_model kind.Wrong r p = (refl, refl)
+
+  abbrev KeepsModel : Link H → Link H → Type 0
+  KeepsModel l m = StaysModel l.reader m.reader
+
+  submits_model : (refusal : Option ControllerFault) (c : Command) (l : Link H) → KeepsModel l (link.submits refusal c l)
+  submits_model (Some fault) c l = (refl, refl)
+  submits_model None c l = (refl, refl)
+
+  queues_model : (full : Bool) (e : Event) (l : Link H) → KeepsModel l (link.queues full e l)
+  queues_model true e l = (refl, refl)
+  queues_model false e l = (refl, refl)
+
+  to_reader_model : (how : Delivery) (ps : List Packet) (l : Link H) → KeepsModel l (link.to_reader answer_of after ps how l)
+  to_reader_model how [] l = (refl, refl)
+  to_reader_model Delivered (p ∷ ps) l = outcome_model (kind_of l.reader p) l.reader p
+  to_reader_model Lost (p ∷ ps) l = (refl, refl)
+  to_reader_model Repeated (p ∷ ps) l = outcome_model (kind_of l.reader p) l.reader p
+
+  to_controller_model : (how : Delivery) (now : ℕ) (qs : List Packet) (l : Link H) → KeepsModel l (link.to_controller qs how now l)
+  to_controller_model how now [] l = (refl, refl)
+  to_controller_model Delivered now (q ∷ qs) l = (refl, refl)
+  to_controller_model Lost now (q ∷ qs) l = (refl, refl)
+  to_controller_model Repeated now (q ∷ qs) l = (refl, refl)
+
+  reopens_model : (refusal : Option ControllerFault) (ps qs : List Packet) (now : ℕ) (l : Link H) → KeepsModel l (link.reopens refusal ps qs now l)
+  reopens_model (Some fault) ps qs now l = (refl, refl)
+  reopens_model None (p ∷ ps) qs now l = (refl, refl)
+  reopens_model None [] (q ∷ qs) now l = (refl, refl)
+  reopens_model None [] [] now l = (refl, refl)
+
+  retargets_model : (refusal : Option ControllerFault) (address : ℕ) (l : Link H) → KeepsModel l (link.retargets refusal address l)
+  retargets_model (Some fault) address l = (refl, refl)
+  retargets_model None address l = (refl, refl)
+
+  model_kept : (move : Move H) (l : Link H) → KeepsHandler move l → KeepsModel l (after_move answer_of after move l)
+  model_kept (Submit c) l keeps = submits_model (controllers.submit_refusal c l.controller) c l
+  model_kept (QueueEvent e) l keeps = queues_model (lacks_room e l.reader.queue) e l
+  model_kept (SetBusy busy) l keeps = (refl, refl)
+  model_kept WithdrawEvent l keeps = (refl, refl)
+  model_kept (LoseToReader place) l keeps = (refl, refl)
+  model_kept (LoseToController place) l keeps = (refl, refl)
+  model_kept (Tick now) l keeps = (refl, refl)
+  model_kept (ToReader how) l keeps = to_reader_model how l.to_reader l
+  model_kept (ToController how now) l keeps = to_controller_model how now l.to_controller l
+  model_kept (Reopen now) l keeps = reopens_model (controllers.begin_refusal l.controller) l.to_reader l.to_controller now l
+  model_kept (SetHandler handler) l keeps = (refl, refl)
+  model_kept Withdraw l keeps = (refl, refl)
+  model_kept (Retarget address) l keeps = retargets_model (controllers.retarget_refusal address l.controller) address l
+  model_kept (RestartReader config handler room) l keeps = keeps.1
+  model_kept (RestartController config room) l keeps = (refl, refl)
 
 module _ {H : Type 0} (answer_of : H → Command → Answer) (after : H → Command → H) (settings : ReaderConfig) where
   one_more_answer : (h : H) (cs : List Command) (c : Command)
@@ -90,7 +178,7 @@ module _ {H : Type 0} (answer_of : H → Command → Answer) (after : H → Comm
       (record r { config = record r.config { address = address }; last = None; stored = None }) refl refl
 
   -- the answer to a command that is taken
-  command_answered : (fixed : ControllerConfig) (first : H) (r : ReaderState H) (front : List Event) (t : Account) (c : Command) → Answering settings r.config
+  command_answered : (fixed : ControllerConfig) (first : H) (r : ReaderState H) (front : List Event) (t : Account) (c : Command) → IsSameModel r.config settings
       → IsAnswered first t r.handler
       → let a = event_or_answer answer_of after (event_for c (released r.queue).events) r.config r.handler c in
       IsAnswered first (taken_command c (Some a.reply) front t) a.handler
@@ -106,7 +194,7 @@ module _ {H : Type 0} (answer_of : H → Command → Answer) (after : H → Comm
             let a = answer_to answer_of after r.config r.handler c in
             let later = handler_after_commands answer_of after settings first t.taken in
             let same : a ≡ answer_to answer_of after settings later c =
-            same_answer fixed answer_of after r.config settings r.handler c facts.id facts.caps ∙ ap (λ h. answer_to answer_of after settings h c) is.handler in
+            same_answer fixed answer_of after r.config settings r.handler c facts.0 facts.1 ∙ ap (λ h. answer_to answer_of after settings h c) is.handler in
             let u = record t { taken = t.taken ++ c ∷ []; given = t.given ++ (c, a.reply) ∷ [] } in
             let whole : IsAnswered first u a.handler = record {
               given = ap (λ l. l ++ (c, a.reply) ∷ []) is.given
@@ -120,7 +208,7 @@ module _ {H : Type 0} (answer_of : H → Command → Answer) (after : H → Comm
       ]
 
   taken_answered : (fixed : ControllerConfig) (read : Result Command MsgFault) (first : H) (r : ReaderState H) (p : Packet) (front : List Event) (t : Account)
-      → Answering settings r.config → IsAnswered first t r.handler
+      → IsSameModel r.config settings → IsAnswered first t r.handler
       → let o = taken answer_of after read r p in IsAnswered first (link.taken kind.Taken o.command o.said front t) o.reader.handler
   taken_answered fixed (Err fault) first r p front t facts is = is
   taken_answered fixed (Ok c) first r p front t facts is =
@@ -141,15 +229,15 @@ module _ {H : Type 0} (answer_of : H → Command → Answer) (after : H → Comm
       let o = outcome answer_of after k r p in IsAnswered first (link.taken k o.command o.said front t) o.reader.handler
 
   numbered : (fixed : ControllerConfig) (first : H) (r : ReaderState H) (front : List Event) (t : Account) (p : Packet) (last : Option ℕ) (n : ℕ) (busy : Bool)
-      → Answering settings r.config → IsAnswered first t r.handler → AnsweredBy fixed first r front t p (kind_by_number last n busy)
+      → IsSameModel r.config settings → IsAnswered first t r.handler → AnsweredBy fixed first r front t p (kind_by_number last n busy)
   numbered fixed first r front t p None n busy facts is = is
   numbered fixed first r front t p (Some last) n busy facts is =
       both (AnsweredBy fixed first r front t p) (eqb n last) kind.Repeat (cond (eqb n (next_sequence last)) (cond busy kind.Busy kind.Taken) kind.Wrong) is
       (both (AnsweredBy fixed first r front t p) (eqb n (next_sequence last)) (cond busy kind.Busy kind.Taken) kind.Wrong
       (both (AnsweredBy fixed first r front t p) busy kind.Busy kind.Taken is (taken_answered fixed (command_in p) first r p front t facts is)) is)
 
-  hears_frame : (fixed : ControllerConfig) → Premises fixed answer_of after settings → (x : Exchange) (n : ℕ) (first : H) (r : ReaderState H) (front : List Event) (t : Account)
-      → (n ≡ 0 → x ≡ Opening) → Answering settings r.config → IsAnswered first t r.handler
+  hears_frame : (fixed : ControllerConfig) → Premises fixed answer_of after → (x : Exchange) (n : ℕ) (first : H) (r : ReaderState H) (front : List Event) (t : Account)
+      → (n ≡ 0 → x ≡ Opening) → IsSameModel r.config settings → IsAnswered first t r.handler
       → AnsweredBy fixed first r front t (frame fixed x n) (kind_of r (frame fixed x n))
   hears_frame fixed given x n first r front t opening facts is =
       let p = frame fixed x n in
@@ -165,13 +253,13 @@ module _ {H : Type 0} (answer_of : H → Command → Answer) (after : H → Comm
             (numbered fixed first r front t p r.last n r.busy facts is)
       ])
 
-  hears_exchange : (fixed : ControllerConfig) → Premises fixed answer_of after settings → (p : Packet) (first : H) (r : ReaderState H) (front : List Event) (t : Account)
-      → IsExchange fixed p → Answering settings r.config → IsAnswered first t r.handler → AnsweredBy fixed first r front t p (kind_of r p)
+  hears_exchange : (fixed : ControllerConfig) → Premises fixed answer_of after → (p : Packet) (first : H) (r : ReaderState H) (front : List Event) (t : Account)
+      → IsExchange fixed p → IsSameModel r.config settings → IsAnswered first t r.handler → AnsweredBy fixed first r front t p (kind_of r p)
   hears_exchange fixed given p first r front t (x, n, is, opening) facts answers =
       subst (λ q. AnsweredBy fixed first r front t q (kind_of r q)) (sym is) (hears_frame fixed given x n first r front t opening facts answers)
 
   -- the packet in front of the line is one of an exchange
-  acted_opening : (n : ℕ) (x : Exchange) (a : Reply) → Acted settings.id n x a → n ≡ 0 → x ≡ Opening
+  acted_opening : (n : ℕ) (x : Exchange) (a : Reply) → Acted n x a → n ≡ 0 → x ≡ Opening
   acted_opening n Opening a acted none = refl
   acted_opening n Polling a acted none = absurd (acted.1 none)
   acted_opening n (Asking c) a acted none = absurd (acted.1 none)
@@ -182,7 +270,7 @@ module _ {H : Type 0} (answer_of : H → Command → Answer) (after : H → Comm
   asked_opening Start (Asking c) asked none = absurd asked
   asked_opening (After n y b) x asked none = absurd (next_above_zero n none)
 
-  front_exchange : (fixed : ControllerConfig) (since : Restarted) (at : Stage) (l : Link H) (p : Packet) (ps : List Packet) → At fixed answer_of after settings since at l
+  front_exchange : (fixed : ControllerConfig) (since : Restarted) (at : Stage) (l : Link H) (p : Packet) (ps : List Packet) → At fixed answer_of after since at l
       → ToReaderAt fixed at (p ∷ ps) → IsExchange fixed p
   front_exchange fixed since Fresh l p ps h line = absurd cc
   front_exchange fixed since (Behind Start x) l p ps h (inl old) = absurd old.0
@@ -213,8 +301,8 @@ module _ {H : Type 0} (answer_of : H → Command → Answer) (after : H → Comm
         before,
       )
 
-  front_answered : (fixed : ControllerConfig) → Premises fixed answer_of after settings → (start : H) (how : Delivery) (ps : List Packet) (l : Link H)
-      → ((p : Packet) (rest : List Packet) → ps ≡ p ∷ rest → IsExchange fixed p) → Answering settings l.reader.config → AllAnswered start l
+  front_answered : (fixed : ControllerConfig) → Premises fixed answer_of after → (start : H) (how : Delivery) (ps : List Packet) (l : Link H)
+      → ((p : Packet) (rest : List Packet) → ps ≡ p ∷ rest → IsExchange fixed p) → IsSameModel l.reader.config settings → AllAnswered start l
       → AllAnswered start (link.to_reader answer_of after ps how l)
   front_answered fixed given start how [] l front facts is = is
   front_answered fixed given start Delivered (p ∷ rest) l front facts (is, before) =
@@ -250,37 +338,39 @@ module _ {H : Type 0} (answer_of : H → Command → Answer) (after : H → Comm
   others_answered start l u other taken given same (is, before) =
       (same_answered (handler_after answer_of after settings start l.earlier) l.account u l.reader.handler other taken given same is, before)
 
-  move_answered : Assumed answer_of after settings → (start : H) (move : Move H) (l : Link H) → KeepsHandler move l → Stands answer_of after settings l
+  move_answered : Assumed answer_of after → (start : H) (move : Move H) (l : Link H) → KeepsHandler move l → Stands answer_of after l → IsSameModel l.reader.config settings
       → AllAnswered start l → AllAnswered start (after_move answer_of after move l)
-  move_answered given start (Submit c) l keeps s is = submits_answered start (controllers.submit_refusal c l.controller) c l is
-  move_answered given start (QueueEvent e) l keeps s is = queues_answered start (lacks_room e l.reader.queue) e l is
-  move_answered given start (SetBusy busy) l keeps s is = is
-  move_answered given start WithdrawEvent l keeps s is = others_answered start l (link.withdraws_event l).account l.reader.handler refl refl refl is
-  move_answered given start (LoseToReader place) l keeps s is = is
-  move_answered given start (LoseToController place) l keeps s is = is
-  move_answered given start (Tick now) l keeps s (is, before) =
+  move_answered given start (Submit c) l keeps s facts is = submits_answered start (controllers.submit_refusal c l.controller) c l is
+  move_answered given start (QueueEvent e) l keeps s facts is = queues_answered start (lacks_room e l.reader.queue) e l is
+  move_answered given start (SetBusy busy) l keeps s facts is = is
+  move_answered given start WithdrawEvent l keeps s facts is = others_answered start l (link.withdraws_event l).account l.reader.handler refl refl refl is
+  move_answered given start (LoseToReader place) l keeps s facts is = is
+  move_answered given start (LoseToController place) l keeps s facts is = is
+  move_answered given start (Tick now) l keeps s facts (is, before) =
       (told_answered (handler_after answer_of after settings start l.earlier) (ticks now l.controller.session l.controller.waiting).step.report l.account l.reader.handler is, before)
-  move_answered given start (ToReader how) l keeps s is =
+  move_answered given start (ToReader how) l keeps s facts is =
       let held = s.goes.holds in
       front_answered s.fixed (given s.fixed s.device) start how l.to_reader l
-      (λ p rest line. front_exchange s.fixed held.0 held.1 (as_waiting l) p rest held.2 (subst (ToReaderAt s.fixed held.1) line held.2.to_reader)) held.2.answering is
-  move_answered given start (ToController how now) l keeps s is = to_controller_answered start how now l.to_controller l is
-  move_answered given start (Reopen now) l keeps s is =
+      (λ p rest line. front_exchange s.fixed held.0 held.1 (as_waiting l) p rest held.2 (subst (ToReaderAt s.fixed held.1) line held.2.to_reader)) facts is
+  move_answered given start (ToController how now) l keeps s facts is = to_controller_answered start how now l.to_controller l is
+  move_answered given start (Reopen now) l keeps s facts is =
       reopens_answered start (controllers.begin_refusal l.controller) l.to_reader l.to_controller now l is
-  move_answered given start (SetHandler handler) l keeps s is = others_answered start l l.account handler refl refl keeps is
-  move_answered given start Withdraw l keeps s is = others_answered start l (link.withdraws l).account l.reader.handler refl refl refl is
-  move_answered given start (Retarget address) l keeps s is = retargets_answered start (controllers.retarget_refusal address l.controller) address l is
-  move_answered given start (RestartReader address handler room) l keeps s is =
-      others_answered start l (link.reader_restarted l.account) handler refl refl keeps is
-  move_answered given start (RestartController config room) l keeps s is =
+  move_answered given start (SetHandler handler) l keeps s facts is = others_answered start l l.account handler refl refl keeps is
+  move_answered given start Withdraw l keeps s facts is = others_answered start l (link.withdraws l).account l.reader.handler refl refl refl is
+  move_answered given start (Retarget address) l keeps s facts is = retargets_answered start (controllers.retarget_refusal address l.controller) address l is
+  move_answered given start (RestartReader config handler room) l keeps s facts is =
+      others_answered start l (link.reader_restarted l.account) handler refl refl keeps.0 is
+  move_answered given start (RestartController config room) l keeps s facts is =
       others_answered start l (link.controller_restarted l.controller l.account) l.reader.handler refl refl refl is
 
-  moves_answered : Assumed answer_of after settings → (start : H) (moves : List (Move H)) (l : Link H) → MovesFit answer_of after moves l
-      → KeepHandler answer_of after moves l → Stands answer_of after settings l → AllAnswered start l → AllAnswered start (run answer_of after moves l)
-  moves_answered given start [] l fits keep s is = is
-  moves_answered given start (move ∷ moves) l fits keep s is =
-      moves_answered given start moves (after_move answer_of after move l) fits.1 keep.1 (standing answer_of after settings given move l fits.0 s)
-      (move_answered given start move l keep.0 s is)
+  moves_answered : Assumed answer_of after → (start : H) (moves : List (Move H)) (l : Link H) → MovesFit answer_of after moves l
+      → KeepHandler answer_of after moves l → Stands answer_of after l → IsSameModel l.reader.config settings → AllAnswered start l
+      → AllAnswered start (run answer_of after moves l)
+  moves_answered given start [] l fits keep s facts is = is
+  moves_answered given start (move ∷ moves) l fits keep s facts is =
+      let same = model_kept answer_of after move l keep.0 in
+      moves_answered given start moves (after_move answer_of after move l) fits.1 keep.1 (standing answer_of after given move l fits.0 s)
+      (same.0 ∙ facts.0, same.1 ∙ facts.1) (move_answered given start move l keep.0 s facts is)
 
 module _ {H : Type 0} (answer_of : H → Command → Answer) (after : H → Command → H) (peers : ReadEachOther answer_of after) where
   pub gives_its_answers : GivesItsAnswers answer_of after
@@ -293,14 +383,14 @@ module _ {H : Type 0} (answer_of : H → Command → Answer) (after : H → Comm
             (sym b.earlier) (record { given = refl; handler = refl })),
         subst (AreItsAnswers answer_of after settings start) (sym b.earlier) tt,
       ) in
-      let all = moves_answered answer_of after settings (assumed_of answer_of after peers l) start moves l fits keep (begins answer_of after l b) first in
+      let all = moves_answered answer_of after settings (assumed answer_of after peers) start moves l fits keep (begins answer_of after l b) (refl, refl) first in
       (all.0.given, all.1)
 
   -- ---- where the reader doesn't restart either, no event is thrown away
 
   keeps_handler : (move : Move H) (l : Link H) → KeepsDevice move → KeepsHandler move l
   keeps_handler (SetHandler handler) l keeps = absurd keeps
-  keeps_handler (RestartReader address handler room) l keeps = absurd keeps
+  keeps_handler (RestartReader config handler room) l keeps = absurd keeps
   keeps_handler move l keeps = tt
 
   keep_handler : (moves : List (Move H)) (l : Link H) → Each KeepsDevice moves → KeepHandler answer_of after moves l
@@ -322,7 +412,7 @@ module _ {H : Type 0} (answer_of : H → Command → Answer) (after : H → Comm
 
   keeps_reader : (move : Move H) → KeepsDevice move → KeepsReader move
   keeps_reader (SetHandler handler) keeps = tt
-  keeps_reader (RestartReader address handler room) keeps = absurd keeps
+  keeps_reader (RestartReader config handler room) keeps = absurd keeps
   keeps_reader move keeps = tt
 
   pub one_handler_once : OneHandlerHoldsOnce answer_of after

@@ -23,22 +23,22 @@ use Rattle.osdp_link_laws.proofs.Stages.{Each}
 is_ordinary : {H : Type 0} (m : Move H) → IsSteady m → IsOrdinary m
 is_ordinary link.Withdraw steady = absurd steady
 is_ordinary link.WithdrawEvent steady = absurd steady
-is_ordinary (link.RestartReader address handler room) steady = absurd steady
+is_ordinary (link.RestartReader config handler room) steady = absurd steady
 is_ordinary (link.RestartController config room) steady = absurd steady
 is_ordinary m steady = tt
 
 keeps_device : {H : Type 0} (m : Move H) → IsSteady m → KeepsDevice m
 keeps_device (link.SetHandler handler) steady = absurd steady
-keeps_device (link.RestartReader address handler room) steady = absurd steady
+keeps_device (link.RestartReader config handler room) steady = absurd steady
 keeps_device m steady = tt
 
 keeps_reader : {H : Type 0} (m : Move H) → IsSteady m → KeepsReader m
-keeps_reader (link.RestartReader address handler room) steady = absurd steady
+keeps_reader (link.RestartReader config handler room) steady = absurd steady
 keeps_reader m steady = tt
 
 sets_no_other : {H : Type 0} (reader controller : ℕ) (m : Move H) → IsSteady m → SetsNoOther reader controller m
 sets_no_other reader controller (link.Retarget address) steady = absurd steady
-sets_no_other reader controller (link.RestartReader address handler room) steady = absurd steady
+sets_no_other reader controller (link.RestartReader config handler room) steady = absurd steady
 sets_no_other reader controller (link.RestartController config room) steady = absurd steady
 sets_no_other reader controller m steady = tt
 

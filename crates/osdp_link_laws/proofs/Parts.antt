@@ -5,21 +5,20 @@ use Rattle.osdp_msg.specs.declared.command.Command.{Command}
 use Rattle.osdp_msg.specs.declared.event.Event.{Event}
 use Rattle.osdp_controller.specs.declared.config.ControllerConfig.{ControllerConfig}
 use Rattle.osdp_controller.specs.declared.session.Session.{Session}
-use Rattle.osdp_reader.specs.declared.config.ReaderConfig.{ReaderConfig}
 use Rattle.osdp_reader.specs.declared.handler.Answer.{Answer}
 use Rattle.osdp_reader.specs.State.{ReaderState}
 use Rattle.osdp_link_laws.specs.Link.{Link}
 use Rattle.osdp_link_laws.proofs.Since.{events_same, past_same}
-use Rattle.osdp_link_laws.proofs.Stages.{Answering, ControllerAt, EventsAre, Holds, ReaderAt, Restarted, Stage, ToControllerAt, ToReaderAt, given_up_at, shown_at}
+use Rattle.osdp_link_laws.proofs.Stages.{ControllerAt, EventsAre, Holds, ReaderAt, Restarted, Stage, ToControllerAt, ToReaderAt, given_up_at, shown_at}
 
-module _ (fixed : ControllerConfig) {H : Type 0} (answer_of : H → Command → Answer) (after : H → Command → H) (settings : ReaderConfig) where
+module _ (fixed : ControllerConfig) {H : Type 0} (answer_of : H → Command → Answer) (after : H → Command → H) where
   -- how far the session has come, and whether the reader has restarted in it
   abbrev pub HoldsAtSomeStage : Link H → Type 0
-  HoldsAtSomeStage l = (since : Restarted) × (at : Stage) × Holds fixed answer_of after settings since at l
+  HoldsAtSomeStage l = (since : Restarted) × (at : Stage) × Holds fixed answer_of after since at l
 
-module _ (fixed : ControllerConfig) {H : Type 0} (answer_of : H → Command → Answer) (after : H → Command → H) (settings : ReaderConfig) (since : Restarted) where
+module _ (fixed : ControllerConfig) {H : Type 0} (answer_of : H → Command → Answer) (after : H → Command → H) (since : Restarted) where
   abbrev pub At : Stage → Link H → Type 0
-  At at l = Holds fixed answer_of after settings since at l
+  At at l = Holds fixed answer_of after since at l
 
   -- a session that ends leaves its outstanding command unsettled
   with_parts : (at : Stage) (l : Link H) (s : Session) (ps qs : List Packet) → At at l → ControllerAt fixed at s → ToReaderAt fixed at ps
@@ -35,7 +34,6 @@ module _ (fixed : ControllerConfig) {H : Type 0} (answer_of : H → Command → 
     controller = is;
     waiting = h.waiting;
     reader = h.reader;
-    answering = h.answering;
     to_reader = there;
     to_controller = here;
     account = record {
@@ -70,15 +68,14 @@ module _ (fixed : ControllerConfig) {H : Type 0} (answer_of : H → Command → 
   with_to_controller at l qs h line = with_lines at l l.to_reader qs h h.to_reader line
 
   -- another reader of the same kind, where it keeps the same of its last command
-  pub with_reader : (at : Stage) (l : Link H) (r : ReaderState H) (queued withdrawn stayed kept : List Event) → At at l → ReaderAt fixed since at r → Answering settings r.config
+  pub with_reader : (at : Stage) (l : Link H) (r : ReaderState H) (queued withdrawn stayed kept : List Event) → At at l → ReaderAt fixed since at r
       → EventsAre since (shown_at at) r.queue.events (record l.account { queued = queued; withdrawn = withdrawn; stayed = stayed; kept = kept })
       → At at (record l { reader = r; account = record l.account { queued = queued; withdrawn = withdrawn; stayed = stayed; kept = kept } })
-  with_reader at l r queued withdrawn stayed kept h is answers told = record {
+  with_reader at l r queued withdrawn stayed kept h is told = record {
     stage = h.stage;
     controller = h.controller;
     waiting = h.waiting;
     reader = is;
-    answering = answers;
     to_reader = h.to_reader;
     to_controller = h.to_controller;
     account = record {

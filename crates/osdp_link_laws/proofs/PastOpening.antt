@@ -27,7 +27,6 @@ use Rattle.osdp_controller.specs.declared.state.State.{State}
 use Rattle.osdp_controller.specs.declared.state.State.TheVariants.{Closed, Quiet, Idle, Waiting, Pausing}
 use Rattle.osdp_reader.specs.State.{ReaderState}
 use Rattle.osdp_reader.specs.Table.{is_for_another, kind_by_number, kind_of, outcome}
-use Rattle.osdp_reader.specs.declared.config.ReaderConfig.{ReaderConfig}
 use Rattle.osdp_reader.specs.declared.handler.Answer.{Answer}
 use Rattle.osdp_reader.specs.declared.kind.Kind.{Kind}
 use Rattle.osdp_reader.specs.declared.kind.Kind.TheVariants.{Silent, Secured, Zero, Repeat, Taken, Busy, Wrong}
@@ -36,7 +35,7 @@ use Rattle.osdp_link_laws.specs.Headline.{Begins, MovesFit}
 use Rattle.osdp_link_laws.specs.Link as link
 use Rattle.osdp_link_laws.specs.Link.{Account, Delivered, Delivery, Link, LoseToController, LoseToReader, Lost, Move, Queue as QueueEvent, Reopen, Repeated, RestartController, RestartReader, Retarget, SetBusy, SetHandler, Submit, Tick, ToController, ToReader, Withdraw, WithdrawEvent, after_move, after_report, run}
 use Rattle.osdp_link_laws.specs.Peers.{ReadEachOther}
-use Rattle.osdp_link_laws.proofs.InARow.{Assumed, Stands, assumed_of, begins as begins_so, standing}
+use Rattle.osdp_link_laws.proofs.InARow.{Assumed, Stands, assumed, begins as begins_so, standing}
 use Rattle.osdp_link_laws.proofs.Lines.{both, each_append, each_lost, each_map, runs_each}
 use Rattle.osdp_link_laws.proofs.Numbers.{next_above_zero}
 use Rattle.osdp_link_laws.proofs.Once.{Goes as SessionGoes}
@@ -229,7 +228,7 @@ module _ {H : Type 0} where
     past_on Withdraw l on is = record { frames = is.frames; controller = is.controller }
     past_on (Retarget address) l on is = retargets_past (controllers.retarget_refusal address l.controller) address l is
     past_on WithdrawEvent l on is = record { frames = is.frames; controller = is.controller }
-    past_on (RestartReader address handler room) l on is = record { frames = is.frames; controller = is.controller }
+    past_on (RestartReader config handler room) l on is = record { frames = is.frames; controller = is.controller }
     past_on (RestartController config room) l on is = record { frames = is.frames; controller = tt }
     past_on (LoseToReader place) l on is = record { frames = each_lost IsNumbered place l.to_reader is.frames; controller = is.controller }
     past_on (LoseToController place) l on is = record { frames = is.frames; controller = is.controller }
@@ -269,10 +268,10 @@ module _ (fixed : ControllerConfig) where
   is_later (After n y b) Polling above asked = tt
   is_later (After n y b) (Asking c) above asked = tt
 
-  module _ {H : Type 0} (answer_of : H → Command → Answer) (after : H → Command → H) (settings : ReaderConfig) (since : Restarted) where
+  module _ {H : Type 0} (answer_of : H → Command → Answer) (after : H → Command → H) (since : Restarted) where
     -- where the frame in front has a number above 0, all that stand on the line have one
     past_by : (at : Stage) (l : Link H) (p : Packet) (ps : List Packet) → l.to_reader ≡ p ∷ ps → IsNumbered p
-        → At fixed answer_of after settings since at l → OpeningIsPast l
+        → At fixed answer_of after since at l → OpeningIsPast l
     past_by Fresh l p ps is above h = absurd (let e = sym is ∙ h.to_reader in cc)
     past_by (Behind Start x) l p ps is above h = by_front (subst (λ qs. Runs (IsOldFrame fixed Start) (IsFrame fixed x 0) qs) is h.to_reader)
       where
@@ -381,14 +380,14 @@ module _ {H : Type 0} where
         by_kind Busy is = IsNot (λ same. let e = sym is ∙ same in absurd cc)
         by_kind Wrong is = IsNot (λ same. let e = sym is ∙ same in absurd cc)
 
-    module _ (settings : ReaderConfig) where
+    module _ where
       -- the session as it stands, at an address
       abbrev pub IsHeld : Link H → Type 0
-      IsHeld l = (fixed : ControllerConfig) × SessionGoes fixed answer_of after settings l
+      IsHeld l = (fixed : ControllerConfig) × SessionGoes fixed answer_of after l
 
       past_now : (l : Link H) (p : Packet) (ps : List Packet) → IsHeld l → l.to_reader ≡ p ∷ ps → IsNumbered p → OpeningIsPast l
       past_now l p ps h is above =
-          let past = past_by h.0 answer_of after settings h.1.holds.0 h.1.holds.1 (as_waiting l) p ps is above h.1.holds.2 in
+          let past = past_by h.0 answer_of after h.1.holds.0 h.1.holds.1 (as_waiting l) p ps is above h.1.holds.2 in
           record { frames = past.frames; controller = past.controller }
 
       gets_past : (p : Packet) (ps : List Packet) (l m : Link H) → IsHeld l → l.to_reader ≡ p ∷ ps
@@ -431,23 +430,23 @@ module _ {H : Type 0} where
           as_none l (after_move answer_of after (Retarget address) l) (retargets_offers (controllers.retarget_refusal address l.controller) address l)
           (past_on answer_of after (Retarget address) l tt) is
       one_past WithdrawEvent l h is = as_none l (after_move answer_of after WithdrawEvent l) refl (past_on answer_of after WithdrawEvent l tt) is
-      one_past (RestartReader address handler room) l h is =
-          as_none l (after_move answer_of after (RestartReader address handler room) l) refl (past_on answer_of after (RestartReader address handler room) l tt) is
+      one_past (RestartReader config handler room) l h is =
+          as_none l (after_move answer_of after (RestartReader config handler room) l) refl (past_on answer_of after (RestartReader config handler room) l tt) is
       one_past (RestartController config room) l h is =
           as_none l (after_move answer_of after (RestartController config room) l) refl (past_on answer_of after (RestartController config room) l tt) is
       one_past (LoseToReader place) l h is = as_none l (after_move answer_of after (LoseToReader place) l) refl (past_on answer_of after (LoseToReader place) l tt) is
       one_past (LoseToController place) l h is =
           as_none l (after_move answer_of after (LoseToController place) l) refl (past_on answer_of after (LoseToController place) l tt) is
 
-      all_past : Assumed answer_of after settings → (moves : List (Move H)) (l : Link H) → MovesFit answer_of after moves l → Stands answer_of after settings l
+      all_past : Assumed answer_of after → (moves : List (Move H)) (l : Link H) → MovesFit answer_of after moves l → Stands answer_of after l
           → NoneOfferedOrPast l → NoneOfferedOrPast (run answer_of after moves l)
       all_past given [] l fits h is = is
       all_past given (move ∷ moves) l fits h is =
-          all_past given moves (after_move answer_of after move l) fits.1 (standing answer_of after settings given move l fits.0 h) (one_past move l (h.fixed, h.goes) is)
+          all_past given moves (after_move answer_of after move l) fits.1 (standing answer_of after given move l fits.0 h) (one_past move l (h.fixed, h.goes) is)
 
     -- so it is from a first session on
     pub opening_is_past : ReadEachOther answer_of after → (first : Link H) (moves : List (Move H)) → Begins first → MovesFit answer_of after moves first
         → NoneOfferedOrPast (run answer_of after moves first)
     opening_is_past peers first moves begin fits =
-        all_past first.reader.config (assumed_of answer_of after peers first) moves first fits (begins_so answer_of after first begin)
+        all_past (assumed answer_of after peers) moves first fits (begins_so answer_of after first begin)
         (inl (ap (λ (t : Account). t.offered) begin.account))

@@ -5,14 +5,13 @@ use Rattle.osdp_msg.specs.declared.command.Command.{Command}
 use Rattle.osdp_controller.specs.Sessions.{seen}
 use Rattle.osdp_controller.specs.declared.report.Report.{Report}
 use Rattle.osdp_controller.specs.declared.report.Report.TheVariants as report
-use Rattle.osdp_reader.specs.declared.config.ReaderConfig.{ReaderConfig}
 use Rattle.osdp_reader.specs.declared.handler.Answer.{Answer}
 use Rattle.osdp_link_laws.specs.Headline.{MovesFit}
 use Rattle.osdp_link_laws.specs.Link.{Link, Move, Queue as QueueEvent, Reopen, RestartController, RestartReader, Retarget, SetBusy, SetHandler, Submit, Tick, ToController, ToReader, Withdraw, WithdrawEvent, after_move, run, LoseToReader, LoseToController}
 use Rattle.osdp_link_laws.specs.Peers.{IsPlainlySaid, ReadEachOther}
 use Rattle.osdp_link_laws.specs.Refusals.{IsNoRefusal, IsOtherCause, KeepsReader, RefusesNoNumber, RefusesNoNumberWithoutRestart, SaysAllPlainly, reports, told_by, told_by_front}
 use Rattle.osdp_link_laws.proofs.Deliveries.{all_said}
-use Rattle.osdp_link_laws.proofs.InARow.{Assumed, Stands, assumed_of, begins, standing, stands}
+use Rattle.osdp_link_laws.proofs.InARow.{Assumed, Stands, assumed, begins, standing, stands}
 use Rattle.osdp_link_laws.proofs.Kept.{AllKept, first_kept, move_kept}
 use Rattle.osdp_link_laws.proofs.Lines.{each_all, each_append, each_of}
 use Rattle.osdp_link_laws.proofs.Removed.{as_waiting}
@@ -35,14 +34,14 @@ pub one_report : (P : Report → Type 0) (r : Option Report) → IfSome r P → 
 one_report P None so = tt
 one_report P (Some r) so = (so, tt)
 
-module _ {H : Type 0} (answer_of : H → Command → Answer) (after : H → Command → H) (settings : ReaderConfig) where
-  pub says_plainly : Assumed answer_of after settings → (l : Link H) → Stands answer_of after settings l → l.account.restarts ≡ 0 → Each IsPlainlySaid l.to_controller
+module _ {H : Type 0} (answer_of : H → Command → Answer) (after : H → Command → H) where
+  pub says_plainly : Assumed answer_of after → (l : Link H) → Stands answer_of after l → l.account.restarts ≡ 0 → Each IsPlainlySaid l.to_controller
   says_plainly given l s never =
       let held = s.goes.holds in
-      all_said s.fixed answer_of after settings held.0 (given s.fixed s.device) (never_refuses held.0 l.account.restarts held.2.account.restarts never) held.1
+      all_said s.fixed answer_of after held.0 (given s.fixed s.device) (never_refuses held.0 l.account.restarts held.2.account.restarts never) held.1
       (as_waiting l) held.2
 
-  told_so : Assumed answer_of after settings → (move : Move H) (l : Link H) → Stands answer_of after settings l → l.account.restarts ≡ 0 → NoRefusal (told_by move l)
+  told_so : Assumed answer_of after → (move : Move H) (l : Link H) → Stands answer_of after l → l.account.restarts ≡ 0 → NoRefusal (told_by move l)
   told_so given (Tick now) l s never = tick_so NoRefusal tt (λ o. tt) l.controller.session.state (seen now l.controller.session) l.controller.waiting
   told_so given (ToController how now) l s never =
       refuses_none (told_by_front how l.to_controller now l.controller.session)
@@ -58,31 +57,31 @@ module _ {H : Type 0} (answer_of : H → Command → Answer) (after : H → Comm
   told_so given (SetHandler handler) l s never = tt
   told_so given Withdraw l s never = tt
   told_so given (Retarget address) l s never = tt
-  told_so given (RestartReader address handler room) l s never = tt
+  told_so given (RestartReader config handler room) l s never = tt
   told_so given (RestartController config room) l s never = tt
 
-  each_so : Assumed answer_of after settings → (moves : List (Move H)) (l : Link H) → MovesFit answer_of after moves l → Each KeepsReader moves
-      → Stands answer_of after settings l → AllKept l → Each IsNoRefusal (reports answer_of after moves l)
+  each_so : Assumed answer_of after → (moves : List (Move H)) (l : Link H) → MovesFit answer_of after moves l → Each KeepsReader moves
+      → Stands answer_of after l → AllKept l → Each IsNoRefusal (reports answer_of after moves l)
   each_so given [] l fits keep s kept = tt
   each_so given (move ∷ moves) l fits keep s kept =
       let new = after_move answer_of after move l in
       each_append IsNoRefusal (option_to_list (told_by move l)) (reports answer_of after moves new)
       (one_report IsNoRefusal (told_by move l) (told_so given move l s kept.0.restarts))
-      (each_so given moves new fits.1 keep.1 (standing answer_of after settings given move l fits.0 s) (move_kept answer_of after move l keep.0 kept))
+      (each_so given moves new fits.1 keep.1 (standing answer_of after given move l fits.0 s) (move_kept answer_of after move l keep.0 kept))
 
 module _ {H : Type 0} (answer_of : H → Command → Answer) (after : H → Command → H) (peers : ReadEachOther answer_of after) where
   pub all_plainly : SaysAllPlainly answer_of after
   all_plainly l moves b fits never =
       let later = run answer_of after moves l in
       each_all IsPlainlySaid later.to_controller
-      (says_plainly answer_of after l.reader.config (assumed_of answer_of after peers l) later (stands answer_of after peers l moves b fits) never)
+      (says_plainly answer_of after (assumed answer_of after peers) later (stands answer_of after peers l moves b fits) never)
 
   pub no_refusal : RefusesNoNumber answer_of after
   no_refusal l moves move b fits never =
-      told_so answer_of after l.reader.config (assumed_of answer_of after peers l) move (run answer_of after moves l) (stands answer_of after peers l moves b fits) never
+      told_so answer_of after (assumed answer_of after peers) move (run answer_of after moves l) (stands answer_of after peers l moves b fits) never
 
   pub none_without_restart : RefusesNoNumberWithoutRestart answer_of after
   none_without_restart l moves b fits keep =
       each_all IsNoRefusal (reports answer_of after moves l)
-      (each_so answer_of after l.reader.config (assumed_of answer_of after peers l) moves l fits (each_of KeepsReader moves keep) (begins answer_of after l b)
+      (each_so answer_of after (assumed answer_of after peers) moves l fits (each_of KeepsReader moves keep) (begins answer_of after l b)
       (first_kept answer_of after l b))

@@ -16,7 +16,6 @@ use Rattle.osdp_controller.specs.declared.config.ControllerConfig.{ControllerCon
 use Rattle.osdp_controller.specs.declared.fault.ControllerFault.{ControllerFault}
 use Rattle.osdp_controller.specs.declared.session.Session.{Session}
 use Rattle.osdp_controller.specs.declared.state.State.TheVariants.{Closed}
-use Rattle.osdp_reader.specs.declared.config.ReaderConfig.{ReaderConfig}
 use Rattle.osdp_reader.specs.declared.handler.Answer.{Answer}
 use Rattle.osdp_reader.specs.declared.kind.Kind.{Kind}
 use Rattle.osdp_reader.specs.declared.kind.Kind.TheVariants as kind
@@ -83,37 +82,37 @@ IsInside (Retarget address) = ⊥
 IsInside (RestartController config room) = ⊥
 IsInside _ = Unit {0}
 
-module _ (fixed : ControllerConfig) {H : Type 0} (answer_of : H → Command → Answer) (after : H → Command → H) (settings : ReaderConfig) where
+module _ (fixed : ControllerConfig) {H : Type 0} (answer_of : H → Command → Answer) (after : H → Command → H) where
   abbrev HoldsAt : Link H → Type 0
-  HoldsAt l = HoldsAtSomeStage fixed answer_of after settings l
+  HoldsAt l = HoldsAtSomeStage fixed answer_of after l
 
   -- some stage of the same restart
-  staying : {s : Restarted} {m : Link H} → (at : Stage) × At fixed answer_of after settings s at m → HoldsAt m
+  staying : {s : Restarted} {m : Link H} → (at : Stage) × At fixed answer_of after s at m → HoldsAt m
   staying {s} {m} (at, h) = (s, at, h)
 
   -- ---- a move inside a session
 
-  pub moving_inside : Premises fixed answer_of after settings → (move : Move H) (l : Link H) → IsInside move → MoveFits answer_of after move l → HoldsAt l
+  pub moving_inside : Premises fixed answer_of after → (move : Move H) (l : Link H) → IsInside move → MoveFits answer_of after move l → HoldsAt l
       → HoldsAt (after_move answer_of after move l)
   moving_inside given (Submit c) l on fits (s, at, h) = (
     s,
     at,
-    submitting fixed answer_of after settings s (submit_refusal c l.controller) c at l
+    submitting fixed answer_of after s (submit_refusal c l.controller) c at l
         (λ e. record { no_poll = not_poll c l.controller e; fits = fits }) h,
   )
   moving_inside given (QueueEvent e) l on fits (s, at, h) =
-      (s, at, queueing fixed answer_of after settings s (lacks_room e l.reader.queue) e at l h)
-  moving_inside given WithdrawEvent l on fits (s, at, h) = (s, at, withdrawing fixed answer_of after settings s at l h)
-  moving_inside given (SetBusy busy) l on fits (s, at, h) = (s, at, being_otherwise fixed answer_of after settings s busy l.reader.handler at l h)
-  moving_inside given (Tick now) l on fits (s, at, h) = staying (ticking fixed answer_of after settings s at now l h)
-  moving_inside given (ToReader how) l on fits (s, at, h) = coming_to_reader fixed answer_of after settings s given how l.to_reader l refl at h fits
+      (s, at, queueing fixed answer_of after s (lacks_room e l.reader.queue) e at l h)
+  moving_inside given WithdrawEvent l on fits (s, at, h) = (s, at, withdrawing fixed answer_of after s at l h)
+  moving_inside given (SetBusy busy) l on fits (s, at, h) = (s, at, being_otherwise fixed answer_of after s busy l.reader.handler at l h)
+  moving_inside given (Tick now) l on fits (s, at, h) = staying (ticking fixed answer_of after s at now l h)
+  moving_inside given (ToReader how) l on fits (s, at, h) = coming_to_reader fixed answer_of after s given how l.to_reader l refl at h fits
   moving_inside given (ToController how now) l on fits (s, at, h) =
-      staying (coming_to_controller fixed answer_of after settings s given how now l.to_controller l refl at h)
-  moving_inside given (LoseToReader place) l on fits (s, at, h) = (s, at, missing_to_reader fixed answer_of after settings s place at l h)
-  moving_inside given (LoseToController place) l on fits (s, at, h) = (s, at, missing_to_controller fixed answer_of after settings s place at l h)
-  moving_inside given (SetHandler handler) l on fits (s, at, h) = (s, at, being_otherwise fixed answer_of after settings s l.reader.busy handler at l h)
-  moving_inside given (RestartReader address handler room) l on fits (s, at, h) =
-      (Now, at, restarting_reader fixed answer_of after settings address handler room s at l h)
+      staying (coming_to_controller fixed answer_of after s given how now l.to_controller l refl at h)
+  moving_inside given (LoseToReader place) l on fits (s, at, h) = (s, at, missing_to_reader fixed answer_of after s place at l h)
+  moving_inside given (LoseToController place) l on fits (s, at, h) = (s, at, missing_to_controller fixed answer_of after s place at l h)
+  moving_inside given (SetHandler handler) l on fits (s, at, h) = (s, at, being_otherwise fixed answer_of after s l.reader.busy handler at l h)
+  moving_inside given (RestartReader config handler room) l on fits (s, at, h) =
+      (Now, at, restarting_reader fixed answer_of after config handler room s at l h)
   moving_inside given (Reopen now) l on fits h = absurd on
   moving_inside given Withdraw l on fits h = absurd on
   moving_inside given (Retarget address) l on fits h = absurd on
@@ -179,13 +178,13 @@ module _ (fixed : ControllerConfig) {H : Type 0} (answer_of : H → Command → 
       subst (λ t. HoldsAt (as_if w u (link.ticked t l))) (sym (closed_tick now s ws closed))
       (subst (λ t. HoldsAt (link.ticked t (as_if w u l))) (closed_tick now s (w ++ ws) closed) h)
 
-  pub closed_inside : Premises fixed answer_of after settings → (w u : List Command) (move : Move H) (l : Link H) → IsInside move
+  pub closed_inside : Premises fixed answer_of after → (w u : List Command) (move : Move H) (l : Link H) → IsInside move
       → MoveFits answer_of after move l → l.controller.session.state ≡ Closed → HoldsAt (as_if w u l) → HoldsAt (as_if w u (after_move answer_of after move l))
   closed_inside given w u (Submit c) l on fits closed (s, at, h) =
       submits_as w u (submit_refusal c l.controller) c l (
         s,
         at,
-        submitting fixed answer_of after settings s (submit_refusal c l.controller) c at (as_if w u l)
+        submitting fixed answer_of after s (submit_refusal c l.controller) c at (as_if w u l)
             (λ e. record { no_poll = not_poll c l.controller e; fits = fits }) h,
       )
   closed_inside given w u (QueueEvent e) l on fits closed h =
@@ -200,8 +199,8 @@ module _ (fixed : ControllerConfig) {H : Type 0} (answer_of : H → Command → 
   closed_inside given w u (LoseToReader place) l on fits closed h = moving_inside given (LoseToReader place) (as_if w u l) tt tt h
   closed_inside given w u (LoseToController place) l on fits closed h = moving_inside given (LoseToController place) (as_if w u l) tt tt h
   closed_inside given w u (SetHandler handler) l on fits closed h = moving_inside given (SetHandler handler) (as_if w u l) tt tt h
-  closed_inside given w u (RestartReader address handler room) l on fits closed h =
-      moving_inside given (RestartReader address handler room) (as_if w u l) tt fits h
+  closed_inside given w u (RestartReader config handler room) l on fits closed h =
+      moving_inside given (RestartReader config handler room) (as_if w u l) tt fits h
   closed_inside given w u (Reopen now) l on fits closed h = absurd on
   closed_inside given w u Withdraw l on fits closed h = absurd on
   closed_inside given w u (Retarget address) l on fits closed h = absurd on

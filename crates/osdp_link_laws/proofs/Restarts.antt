@@ -110,26 +110,25 @@ module _ (fixed : ControllerConfig) {H : Type 0} where
   new_knows (Level past x a) r none = none
   new_knows (Rest n x a) r none = none
 
-module _ (fixed : ControllerConfig) {H : Type 0} (answer_of : H → Command → Answer) (after : H → Command → H) (settings : ReaderConfig) where
+module _ (fixed : ControllerConfig) {H : Type 0} (answer_of : H → Command → Answer) (after : H → Command → H) where
   -- the front that counts as reported is no matter once the reader knows no number
   any_front : (front shown : List Event) (events : List Event) (t : Account) → EventsAre Now front events t → EventsAre Now shown events t
   any_front front shown events t are = events_moved Now Now front shown events t t refl refl refl (λ past is. is) are
 
-  gone : (since : Restarted) (at : Stage) (l : Link H) → At fixed answer_of after settings since at l → EventsAre Now [] [] (reader_restarted l.account)
+  gone : (since : Restarted) (at : Stage) (l : Link H) → At fixed answer_of after since at l → EventsAre Now [] [] (reader_restarted l.account)
   gone Never at l h =
       gone_before Never (shown_at at) (unreported_at at) l.reader.queue.events l.account tt (front_at fixed Never at l.reader tt h.reader) h.account.offered h.account.told
   gone Before at l h =
       gone_before Before (shown_at at) (unreported_at at) l.reader.queue.events l.account tt (front_at fixed Before at l.reader tt h.reader) h.account.offered h.account.told
   gone Now at l h = gone_now l.account l.reader.queue.events (any_front (shown_at at) [] l.reader.queue.events l.account h.account.told)
 
-  pub restarting_reader : (address : ℕ) (handler : H) (room : Room) (since : Restarted) (at : Stage) (l : Link H) → At fixed answer_of after settings since at l
-      → At fixed answer_of after settings Now at (link.restarts_reader address handler room l)
-  restarting_reader address handler room since at l h = record {
+  pub restarting_reader : (config : ReaderConfig) (handler : H) (room : Room) (since : Restarted) (at : Stage) (l : Link H) → At fixed answer_of after since at l
+      → At fixed answer_of after Now at (link.restarts_reader config handler room l)
+  restarting_reader config handler room since at l h = record {
     stage = h.stage;
     controller = h.controller;
     waiting = h.waiting;
-    reader = new_knows fixed at (new_reader (record l.reader.config { address = address }) handler room) refl;
-    answering = record { id = h.answering.id; caps = h.answering.caps };
+    reader = new_knows fixed at (new_reader config handler room) refl;
     to_reader = h.to_reader;
     to_controller = line_since fixed since Now (λ may. tt) at l.to_controller h.to_controller;
     account = record {

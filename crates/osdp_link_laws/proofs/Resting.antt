@@ -6,13 +6,12 @@ use Rattle.osdp_controller.specs.Sessions.{seen}
 use Rattle.osdp_controller.specs.declared.config.ControllerConfig.{ControllerConfig}
 use Rattle.osdp_controller.specs.declared.state.State.{State}
 use Rattle.osdp_controller.specs.declared.state.State.TheVariants.{Closed, Idle}
-use Rattle.osdp_reader.specs.declared.config.ReaderConfig.{ReaderConfig}
 use Rattle.osdp_reader.specs.declared.handler.Answer.{Answer}
 use Rattle.osdp_link_laws.specs.Link.{Link, run}
 use Rattle.osdp_link_laws.specs.Peers.{ReadEachOther}
 use Rattle.osdp_link_laws.specs.Progress.{ComesThroughFromRest, ComesToRest, SetsNoAddress, round, rounds}
 use Rattle.osdp_link_laws.proofs.Due.{closed_rests}
-use Rattle.osdp_link_laws.proofs.InARow.{assumed_of, stands}
+use Rattle.osdp_link_laws.proofs.InARow.{assumed, stands}
 use Rattle.osdp_link_laws.proofs.Lines.{each_all}
 use Rattle.osdp_link_laws.proofs.Once.{going_bare}
 use Rattle.osdp_link_laws.proofs.Parts.{At}
@@ -27,25 +26,24 @@ idle_lasts state (due, idle) closed = let same : Idle due ≡ Closed = sym idle 
 module _ {H : Type 0} (answer_of : H → Command → Answer) (after : H → Command → H) where
   pub comes_to_rest : ReadEachOther answer_of after → ComesToRest answer_of after
   comes_to_rest peers l moves now b fits clear due more =
-      let settings = l.reader.config in
       let afterwards = run answer_of after moves l in
       let next = run answer_of after (round now) afterwards in
       let s = stands answer_of after peers l moves b fits in
       let session = afterwards.controller.session in
       let lasts : session.state ≡ Closed → ⊥ = λ closed. closed_rests session.state (seen now session) afterwards.controller.waiting closed due in
-      let holds = going_bare s.fixed answer_of after settings afterwards s.goes lasts in
-      let same = config_is s.fixed answer_of after settings holds.0 holds.1 afterwards holds.2 lasts in
-      let still = clear_still s.fixed answer_of after settings afterwards clear same in
-      let all = assumed_of answer_of after peers l s.fixed s.device in
-      let held = held_after s.fixed answer_of after settings all now afterwards more.1.0 holds in
-      elim (first_round s.fixed answer_of after settings all now afterwards holds still due more.1.0) [
+      let holds = going_bare s.fixed answer_of after afterwards s.goes lasts in
+      let same = config_is s.fixed answer_of after holds.0 holds.1 afterwards holds.2 lasts in
+      let still = clear_still s.fixed answer_of after afterwards clear same in
+      let all = assumed answer_of after peers s.fixed s.device in
+      let held = held_after s.fixed answer_of after all now afterwards more.1.0 holds in
+      elim (first_round s.fixed answer_of after all now afterwards holds still due more.1.0) [
         | inl closed ↦ inl closed
         | inr idle ↦ inr (
           record {
             to_reader = idle.still.to_reader;
             to_controller = idle.still.to_controller;
             address = idle.still.ready.here
-                ∙ sym (ap (λ c. c.address) (config_is s.fixed answer_of after settings held.0 held.1 next held.2 (idle_lasts next.controller.session.state idle.idle)));
+                ∙ sym (ap (λ c. c.address) (config_is s.fixed answer_of after held.0 held.1 next held.2 (idle_lasts next.controller.session.state idle.idle)));
             ready = idle.still.ready.ready;
             issued = each_all SetsNoAddress next.account.issued idle.still.issued;
           },
@@ -53,9 +51,9 @@ module _ {H : Type 0} (answer_of : H → Command → Answer) (after : H → Comm
         )
       ]
 
-module _ (fixed : ControllerConfig) {H : Type 0} (answer_of : H → Command → Answer) (after : H → Command → H) (settings : ReaderConfig) where
+module _ (fixed : ControllerConfig) {H : Type 0} (answer_of : H → Command → Answer) (after : H → Command → H) where
   -- at rest a reader that hasn't restarted knows its last number
-  known : (since : Restarted) (at : Stage) (l : Link H) → At fixed answer_of after settings since at l → (due : ℕ) → l.controller.session.state ≡ Idle due
+  known : (since : Restarted) (at : Stage) (l : Link H) → At fixed answer_of after since at l → (due : ℕ) → l.controller.session.state ≡ Idle due
       → l.reader.config.address ≡ fixed.address → l.account.restarts ≡ 0 → (n : ℕ) × (l.reader.last ≡ Some n)
   known since Fresh l h due idle here none = absurd (subst (λ st. Waits fixed st l.controller.session) idle h.controller)
   known since (Behind past x) l h due idle here none = absurd (subst (λ st. Asks fixed st (number_after past) x l.controller.session) idle h.controller)
@@ -67,24 +65,23 @@ module _ (fixed : ControllerConfig) {H : Type 0} (answer_of : H → Command → 
 module _ {H : Type 0} (answer_of : H → Command → Answer) (after : H → Command → H) where
   pub comes_through_from_rest : ReadEachOther answer_of after → ComesThroughFromRest answer_of after
   comes_through_from_rest peers l moves moments b fits clear rest hears due more =
-      let settings = l.reader.config in
       let afterwards = run answer_of after moves l in
       let last = run answer_of after (rounds moments) afterwards in
       let s = stands answer_of after peers l moves b fits in
       let lasts = idle_lasts afterwards.controller.session.state rest in
-      let holds = going_bare s.fixed answer_of after settings afterwards s.goes lasts in
-      let same = config_is s.fixed answer_of after settings holds.0 holds.1 afterwards holds.2 lasts in
-      let still = clear_still s.fixed answer_of after settings afterwards clear same in
-      let idle : IsIdle s.fixed answer_of after settings afterwards = record {
+      let holds = going_bare s.fixed answer_of after afterwards s.goes lasts in
+      let same = config_is s.fixed answer_of after holds.0 holds.1 afterwards holds.2 lasts in
+      let still = clear_still s.fixed answer_of after afterwards clear same in
+      let idle : IsIdle s.fixed answer_of after afterwards = record {
         idle = rest;
         still = still;
         known = elim hears [
-          | inl none ↦ known s.fixed answer_of after settings holds.0 holds.1 afterwards holds.2 rest.0 rest.1 still.ready.here none
+          | inl none ↦ known s.fixed answer_of after holds.0 holds.1 afterwards holds.2 rest.0 rest.1 still.ready.here none
           | inr knows ↦ knows
         ];
       } in
-      let all = assumed_of answer_of after peers l s.fixed s.device in
-      let come = through s.fixed answer_of after settings all moments afterwards holds idle due more in
+      let all = assumed answer_of after peers s.fixed s.device in
+      let come = through s.fixed answer_of after all moments afterwards holds idle due more in
       let few = min-le_left (counted afterwards.account + length moments) (all_of last.account) in
       let every = min-le_right (counted afterwards.account + length moments) (all_of last.account) in
       let whole = come.1 in

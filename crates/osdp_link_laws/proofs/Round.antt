@@ -15,7 +15,6 @@ use Rattle.osdp_controller.specs.declared.exchange.Exchange.{Exchange}
 use Rattle.osdp_controller.specs.declared.exchange.Exchange.TheVariants.{Opening, Polling, Asking}
 use Rattle.osdp_controller.specs.declared.session.Session.{Session}
 use Rattle.osdp_controller.specs.declared.state.State.TheVariants.{Closed, Idle}
-use Rattle.osdp_reader.specs.declared.config.ReaderConfig.{ReaderConfig}
 use Rattle.osdp_reader.specs.declared.handler.Answer.{Answer}
 use Rattle.osdp_reader.specs.Replies.{refused}
 use Rattle.osdp_reader.specs.Table.{hears, kind_of}
@@ -52,14 +51,14 @@ module _ {H : Type 0} (answer_of : H → Command → Answer) (after : H → Comm
   abbrev pub goes : ℕ → Link H → Link H
   goes now l = delivered now (at_tick now l)
 
-module _ (fixed : ControllerConfig) {H : Type 0} (answer_of : H → Command → Answer) (after : H → Command → H) (settings : ReaderConfig) where
+module _ (fixed : ControllerConfig) {H : Type 0} (answer_of : H → Command → Answer) (after : H → Command → H) where
   -- the exchange that waits for its answer is the one of the stage
   pub record IsAwaited (x : Exchange) (at : Stage) (s : Session) : Type 0 where
     pub out : IsOut at
     pub exchange : exchange_at at ≡ x
     pub session : IsOpen fixed (number_at at) s
 
-  pub awaited : (since : Restarted) (at : Stage) (l : Link H) (x : Exchange) → At fixed answer_of after settings since at l → Awaits x l.controller.session.state → IsAwaited x at l.controller.session
+  pub awaited : (since : Restarted) (at : Stage) (l : Link H) (x : Exchange) → At fixed answer_of after since at l → Awaits x l.controller.session.state → IsAwaited x at l.controller.session
   awaited since Fresh l x h (until, k, o, state, is) = absurd (subst (λ st. Waits fixed st l.controller.session) state h.controller)
   awaited since (Behind past y) l x h (until, k, o, state, is) =
       let asks = subst (λ st. Asks fixed st (number_after past) y l.controller.session) state h.controller in
@@ -70,7 +69,7 @@ module _ (fixed : ControllerConfig) {H : Type 0} (answer_of : H → Command → 
   awaited since (Rest n y a) l x h (until, k, o, state, is) = absurd (subst (λ st. Rests fixed st n l.controller.session) state h.controller)
 
   -- no COMSET to a device's address was issued, so the exchange asks none
-  pub moves_none : (since : Restarted) (at : Stage) (l : Link H) → At fixed answer_of after settings since at l → IsOut at → Each SetsNoAddress l.account.issued → MovesNone (exchange_at at)
+  pub moves_none : (since : Restarted) (at : Stage) (l : Link H) → At fixed answer_of after since at l → IsOut at → Each SetsNoAddress l.account.issued → MovesNone (exchange_at at)
   moves_none since Fresh l h out all = absurd out
   moves_none since (Behind past Opening) l h out all = tt
   moves_none since (Behind past Polling) l h out all = tt
@@ -114,8 +113,8 @@ module _ (fixed : ControllerConfig) {H : Type 0} (answer_of : H → Command → 
       }) settles
 
   -- a number that is refused ends the session
-  refused_closes : Premises fixed answer_of after settings → (now : ℕ) (x : Exchange) (n : ℕ) (l : Link H) → l.to_reader ≡ frame fixed x n ∷ [] → l.to_controller ≡ []
-      → Refused fixed answer_of after settings x n l.reader → Awaits x l.controller.session.state → IsOpen fixed n l.controller.session
+  refused_closes : Premises fixed answer_of after → (now : ℕ) (x : Exchange) (n : ℕ) (l : Link H) → l.to_reader ≡ frame fixed x n ∷ [] → l.to_controller ≡ []
+      → Refused fixed answer_of after x n l.reader → Awaits x l.controller.session.state → IsOpen fixed n l.controller.session
       → (delivered answer_of after now l).controller.session.state ≡ Closed
   refused_closes given now x n l asks none says awaits opened =
       let p = frame fixed x n in
@@ -130,27 +129,27 @@ module _ (fixed : ControllerConfig) {H : Type 0} (answer_of : H → Command → 
   -- the frame of the awaited exchange is answered, and the answer settles it
   pub record IsAnswered (now : ℕ) (x : Exchange) (at : Stage) (l : Link H) : Type 0 where
     pub a : Reply
-    pub replies : Replies fixed answer_of after settings x (number_at at) l.reader a
+    pub replies : Replies fixed answer_of after x (number_at at) l.reader a
     pub is : delivered answer_of after now l ≡ answered_link now (frame fixed x (number_at at)) x a l
 
   -- .. or its number is refused, and the session ends
   abbrev pub IsAnsweredOrEnds : ℕ → Exchange → Stage → Link H → Type 0
   IsAnsweredOrEnds now x at l = IsAnswered now x at l ⊎ ((delivered answer_of after now l).controller.session.state ≡ Closed)
 
-  pub is_answered : Premises fixed answer_of after settings → (now : ℕ) (x : Exchange) (since : Restarted) (at : Stage) (l : Link H) → At fixed answer_of after settings since at l
-      → Awaits x l.controller.session.state → IsAwaited x at l.controller.session → IsReady fixed answer_of after settings l.reader
+  pub is_answered : Premises fixed answer_of after → (now : ℕ) (x : Exchange) (since : Restarted) (at : Stage) (l : Link H) → At fixed answer_of after since at l
+      → Awaits x l.controller.session.state → IsAwaited x at l.controller.session → IsReady fixed answer_of after l.reader
       → MovesNone x → l.to_reader ≡ frame fixed x (number_at at) ∷ [] → l.to_controller ≡ []
-      → SaysFit fixed answer_of after settings (frame fixed x (number_at at)) l.reader
+      → SaysFit fixed answer_of after (frame fixed x (number_at at)) l.reader
       → IsAnsweredOrEnds now x at l
   is_answered given now x since at l h awaits is ready none asks quiet fits =
-      subst (λ y. SaysFit fixed answer_of after settings (frame fixed y (number_at at)) l.reader → l.to_reader ≡ frame fixed y (number_at at) ∷ []
+      subst (λ y. SaysFit fixed answer_of after (frame fixed y (number_at at)) l.reader → l.to_reader ≡ frame fixed y (number_at at) ∷ []
       → MovesNone y → Awaits y l.controller.session.state → IsAnsweredOrEnds now y at l) is.exchange
       (λ fit line stays waits.
       let n = number_at at in
-      elim (replies_at fixed answer_of after settings given since at l h is.out ready fit) [
+      elim (replies_at fixed answer_of after given since at l h is.out ready fit) [
         | inl (a, r) ↦
             let says : packets.meaning_of (answer fixed n a) ≡ Plain a = given.hears n a r.acted.0.fits ∙ given.plain a r.acted.0.plain in
-            let settles = settles_now fixed settings.id (exchange_at at) n a now l.controller.session waits is.session stays r.acted.1 says in
+            let settles = settles_now fixed (exchange_at at) n a now l.controller.session waits is.session stays r.acted.1 says in
             inl (record { a = a; replies = r; is = come_through now (exchange_at at) n a l line quiet r.sent settles })
         | inr refuses ↦ inr (refused_closes given now (exchange_at at) n l line quiet refuses waits is.session)
       ])
@@ -160,7 +159,7 @@ module _ (fixed : ControllerConfig) {H : Type 0} (answer_of : H → Command → 
   pub record IsStill (l : Link H) : Type 0 where
     pub to_reader : l.to_reader ≡ []
     pub to_controller : l.to_controller ≡ []
-    pub ready : IsReady fixed answer_of after settings l.reader
+    pub ready : IsReady fixed answer_of after l.reader
     pub issued : Each SetsNoAddress l.account.issued
 
   pub record IsIdle (l : Link H) : Type 0 where
@@ -178,8 +177,8 @@ module _ (fixed : ControllerConfig) {H : Type 0} (answer_of : H → Command → 
       ∙ ap (λ p. p ∷ []) (frame_is fixed (number_at at) x x t.session is.session refl)
 
   -- a round from a tick that sends: the exchange has ended, or the session has
-  pub has_come : Premises fixed answer_of after settings → (now : ℕ) (x : Exchange) (since : Restarted) (at : Stage) (l : Link H) → IsStill l
-      → Sends x (ticks now l.controller.session l.controller.waiting) → At fixed answer_of after settings since at (at_tick now l)
+  pub has_come : Premises fixed answer_of after → (now : ℕ) (x : Exchange) (since : Restarted) (at : Stage) (l : Link H) → IsStill l
+      → Sends x (ticks now l.controller.session l.controller.waiting) → At fixed answer_of after since at (at_tick now l)
       → SaysWhatFits answer_of after (at_tick now l).to_reader l.reader
       → ((goes answer_of after now l).controller.session.state ≡ Closed) ⊎ IsIdle (goes answer_of after now l)
   has_come given now x since at l still sends h fits =

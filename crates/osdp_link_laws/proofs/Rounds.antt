@@ -8,7 +8,6 @@ use Rattle.osdp_controller.specs.Ticking.{ticks}
 use Rattle.osdp_controller.specs.declared.config.ControllerConfig.{ControllerConfig}
 use Rattle.osdp_controller.specs.declared.state.State.TheVariants.{Idle}
 use Rattle.osdp_frame.specs.Packet.{next_sequence}
-use Rattle.osdp_reader.specs.declared.config.ReaderConfig.{ReaderConfig}
 use Rattle.osdp_reader.specs.declared.handler.Answer.{Answer}
 use Rattle.osdp_reader.specs.Queue.{released}
 use Rattle.osdp_reader.specs.State.{ReaderState}
@@ -32,12 +31,12 @@ counted t = length t.settled + length t.reported
 abbrev pub all_of : Account → ℕ
 all_of t = length t.issued + length t.kept
 
-module _ (fixed : ControllerConfig) {H : Type 0} (answer_of : H → Command → Answer) (after : H → Command → H) (settings : ReaderConfig) where
+module _ (fixed : ControllerConfig) {H : Type 0} (answer_of : H → Command → Answer) (after : H → Command → H) where
   abbrev Idles : Link H → Type 0
-  Idles l = IsIdle fixed answer_of after settings l
+  Idles l = IsIdle fixed answer_of after l
 
   -- where no exchange is outstanding, and no command and no event waits, all is settled and reported
-  done_all : (since : Restarted) (at : Stage) (l : Link H) → Hears since → At fixed answer_of after settings since at l → (due : ℕ) → l.controller.session.state ≡ Idle due → l.controller.waiting ≡ []
+  done_all : (since : Restarted) (at : Stage) (l : Link H) → Hears since → At fixed answer_of after since at l → (due : ℕ) → l.controller.session.state ≡ Idle due → l.controller.waiting ≡ []
       → l.reader.queue.events ≡ [] → all_of l.account ≤ counted l.account
   done_all since Fresh l hears h due idle none empty = absurd (subst (λ st. Waits fixed st l.controller.session) idle h.controller)
   done_all since (Behind past x) l hears h due idle none empty =
@@ -75,10 +74,10 @@ module _ (fixed : ControllerConfig) {H : Type 0} (answer_of : H → Command → 
   issues_none (c ∷ waiting) events r t = refl
 
   abbrev Given : Type 0
-  Given = Premises fixed answer_of after settings
+  Given = Premises fixed answer_of after
 
   -- the controller waits for nothing again
-  pub rested_idle : (now : ℕ) (l : Link H) → Idles l → Idles (rested_link fixed answer_of after settings now l)
+  pub rested_idle : (now : ℕ) (l : Link H) → Idles l → Idles (rested_link fixed answer_of after now l)
   rested_idle now l idle = record {
     idle = (later l.controller.session.config.poll_interval (seen now (record (seen now l.controller.session) { number = next_sequence l.controller.session.number })), refl);
     still = record {
@@ -92,7 +91,7 @@ module _ (fixed : ControllerConfig) {H : Type 0} (answer_of : H → Command → 
   }
 
   -- a reader that knows its last number hears
-  hears_known : (since : Restarted) (at : Stage) (l : Link H) → At fixed answer_of after settings since at l → Idles l → Hears since
+  hears_known : (since : Restarted) (at : Stage) (l : Link H) → At fixed answer_of after since at l → Idles l → Hears since
   hears_known Never at l h idle = tt
   hears_known Before at l h idle = tt
   hears_known Now Fresh l h idle = absurd (subst (λ st. Waits fixed st l.controller.session) idle.idle.1 h.controller)
@@ -101,25 +100,25 @@ module _ (fixed : ControllerConfig) {H : Type 0} (answer_of : H → Command → 
   hears_known Now (Rest n x a) l h idle = absurd (let e = sym idle.known.1 ∙ h.reader in cc)
 
   -- a round from a controller that waits for nothing is an exchange from rest
-  pub idle_exchange : Given → (now : ℕ) (l : Link H) → HoldsAtSomeStage fixed answer_of after settings l → Idles l
+  pub idle_exchange : Given → (now : ℕ) (l : Link H) → HoldsAtSomeStage fixed answer_of after l → Idles l
       → Acts (ticks now l.controller.session l.controller.waiting) → SaysWhatFits answer_of after (at_tick now l).to_reader l.reader
-      → goes answer_of after now l ≡ rested_link fixed answer_of after settings now l
+      → goes answer_of after now l ≡ rested_link fixed answer_of after now l
   idle_exchange given now l (since, at, h) idle does fits = by_stage at h
     where
-      by_stage : (at : Stage) → At fixed answer_of after settings since at l → goes answer_of after now l ≡ rested_link fixed answer_of after settings now l
+      by_stage : (at : Stage) → At fixed answer_of after since at l → goes answer_of after now l ≡ rested_link fixed answer_of after now l
       by_stage Fresh h = absurd (subst (λ st. Waits fixed st l.controller.session) idle.idle.1 h.controller)
       by_stage (Behind past x) h =
           absurd (subst (λ st. Asks fixed st (number_after past) x l.controller.session) idle.idle.1 h.controller)
       by_stage (Level past x a) h =
           absurd (subst (λ st. Asks fixed st (number_after past) x l.controller.session) idle.idle.1 h.controller)
       by_stage (Rest n y b) h =
-          exchange_from_rest fixed answer_of after settings given now idle.idle.0 since n y b l (hears_known since (Rest n y b) l h idle) h idle.idle.1
+          exchange_from_rest fixed answer_of after given now idle.idle.0 since n y b l (hears_known since (Rest n y b) l h idle) h idle.idle.1
           (subst (λ st. Rests fixed st n l.controller.session) idle.idle.1 h.controller) idle.still does fits
 
   -- .. which settles or reports one more, unless all is
-  pub idle_round : Given → (now : ℕ) (l : Link H) → HoldsAtSomeStage fixed answer_of after settings l → Idles l
+  pub idle_round : Given → (now : ℕ) (l : Link H) → HoldsAtSomeStage fixed answer_of after l → Idles l
       → Acts (ticks now l.controller.session l.controller.waiting) → SaysWhatFits answer_of after (at_tick now l).to_reader l.reader
-      → HoldsAtSomeStage fixed answer_of after settings (goes answer_of after now l) → Idles (goes answer_of after now l) × OneMore l.account (goes answer_of after now l).account
+      → HoldsAtSomeStage fixed answer_of after (goes answer_of after now l) → Idles (goes answer_of after now l) × OneMore l.account (goes answer_of after now l).account
   idle_round given now l held idle does fits afterwards =
       let is = idle_exchange given now l held idle does fits in
       let m = goes answer_of after now l in

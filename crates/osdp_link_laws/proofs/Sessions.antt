@@ -11,7 +11,6 @@ use Rattle.osdp_controller.specs.declared.exchange.Exchange.{Exchange}
 use Rattle.osdp_controller.specs.declared.exchange.Exchange.TheVariants.{Opening, Polling, Asking}
 use Rattle.osdp_controller.specs.declared.state.State.{State}
 use Rattle.osdp_controller.specs.declared.state.State.TheVariants.{Closed, Quiet, Idle, Waiting, Pausing}
-use Rattle.osdp_reader.specs.declared.config.ReaderConfig.{ReaderConfig}
 use Rattle.osdp_reader.specs.declared.handler.Answer.{Answer}
 use Rattle.osdp_reader.specs.State.{ReaderState}
 use Rattle.osdp_link_laws.specs.Headline.{IsBeginning, asked}
@@ -104,8 +103,8 @@ no_more_than k n m few = omega (arith, few)
 pub begins_with : {A : Type 0} (xs ys zs rest : List A) → zs ≡ (xs ++ ys) ++ rest → IsBeginning xs zs
 begins_with xs ys zs rest is = (ys ++ rest, is ∙ append_assoc xs ys rest)
 
-module _ (fixed : ControllerConfig) {H : Type 0} (answer_of : H → Command → Answer) (after : H → Command → H) (settings : ReaderConfig) where
-  left : (since : Restarted) (at : Stage) (l : Link H) → At fixed answer_of after settings since at l → l.controller.session.state ≡ Closed
+module _ (fixed : ControllerConfig) {H : Type 0} (answer_of : H → Command → Answer) (after : H → Command → H) where
+  left : (since : Restarted) (at : Stage) (l : Link H) → At fixed answer_of after since at l → l.controller.session.state ≡ Closed
       → Left l.account l.account.unsettled l.controller.waiting
   left since Fresh l h closed =
       left_untaken l.account l.account.unsettled l.controller.waiting [] (taken_commands l.account [] h.account.answered h.account.settled)
@@ -171,7 +170,7 @@ module _ (fixed : ControllerConfig) {H : Type 0} (answer_of : H → Command → 
     restart = inr (count, offered);
   }
 
-  pub leaves : (l : Link H) → Goes fixed answer_of after settings l → l.controller.session.state ≡ Closed
+  pub leaves : (l : Link H) → Goes fixed answer_of after l → l.controller.session.state ≡ Closed
       → Leaves l.account l.controller.waiting l.reader.queue.events
   leaves l h closed =
       let s = as_waiting l in
@@ -187,7 +186,7 @@ module _ (fixed : ControllerConfig) {H : Type 0} (answer_of : H → Command → 
       }
 
   -- a session that lasts has told nothing unsettled, and forgotten and removed none
-  lasts : (l : Link H) → Goes fixed answer_of after settings l → (l.controller.session.state ≡ Closed → ⊥)
+  lasts : (l : Link H) → Goes fixed answer_of after l → (l.controller.session.state ≡ Closed → ⊥)
       → (l.account.unsettled ≡ []) × (l.account.forgotten ≡ []) × (l.account.removed ≡ [])
   lasts l h open_at = by_quiet h.quiet
     where
@@ -200,7 +199,7 @@ module _ (fixed : ControllerConfig) {H : Type 0} (answer_of : H → Command → 
       )
       by_quiet (inr closed) = absurd (open_at closed)
 
-  pub lasts_or_leaves : (state : State) (l : Link H) → l.controller.session.state ≡ state → Goes fixed answer_of after settings l → LastsOrLeaves state l
+  pub lasts_or_leaves : (state : State) (l : Link H) → l.controller.session.state ≡ state → Goes fixed answer_of after l → LastsOrLeaves state l
   lasts_or_leaves Closed l is h = leaves l h is
   lasts_or_leaves (Quiet until) l is h = lasts l h (λ e. absurd (let f = sym is ∙ e in cc))
   lasts_or_leaves (Idle due) l is h = lasts l h (λ e. absurd (let f = sym is ∙ e in cc))

@@ -80,16 +80,16 @@ module _ (fixed : ControllerConfig) where
       ∙ ap (λ w. (hears_in (Waiting until k o) n w t).session.state) says
       ∙ ap (λ b. (cond b (waiting_hears NumberRefused k o t) (ignores t)).session.state) numbered
 
-module _ (fixed : ControllerConfig) (pd : PdId) where
-  rests_after : (x : Exchange) (n : ℕ) (a : Reply) (s : Session) → MovesNone x → IsAnswerTo pd x n a → answered x a s ≡ rests (report_of x a) s
-  rests_after Opening zero a s stays is =
+module _ (fixed : ControllerConfig) where
+  rests_after : (x : Exchange) (n : ℕ) (a : Reply) (s : Session) → MovesNone x → IsAnswerTo x n a → answered x a s ≡ rests (report_of x a) s
+  rests_after Opening zero a s stays (pd, is) =
       ap (λ b. opening_answered (pd_id_of b) s) is ∙ sym (ap (λ b. rests (opened (pd_id_of b)) s) is)
   rests_after Opening (suc n) a s stays is = absurd is
   rests_after Polling n a s stays is = refl
   rests_after (Asking c) n a s stays is = ap (λ o. command_answered o c a s) (stays_put c a stays)
 
   pub settles_now : (x : Exchange) (n : ℕ) (a : Reply) (now : ℕ) (s : Session) → Awaits x s.state → IsOpen fixed n s → MovesNone x
-      → IsAnswerTo pd x n a → meaning_of (answer fixed n a) ≡ Plain a → hears (answer fixed n a) now s ≡ rests (report_of x a) (seen now s)
+      → IsAnswerTo x n a → meaning_of (answer fixed n a) ≡ Plain a → hears (answer fixed n a) now s ≡ rests (report_of x a) (seen now s)
   settles_now x n a now s (until, k, o, state, is) (config, number) stays answers says =
       let q = answer fixed n a in
       let t = seen now s in

@@ -76,7 +76,8 @@ module _ (fixed : ControllerConfig) (s u : Restarted) (more : MayRefuse s → Ma
   says_since : (n : ℕ) (a : Reply) (p : Packet) → Says fixed s n a p → Says fixed u n a p
   says_since n a p (inl busy) = inl busy
   says_since n a p (inr (inl is)) = inr (inl is)
-  says_since n a p (inr (inr (may, refused))) = inr (inr (more may, refused))
+  says_since n a p (inr (inr (inl (may, refused)))) = inr (inr (inl (more may, refused)))
+  says_since n a p (inr (inr (inr introduces))) = inr (inr (inr introduces))
 
   old_since : (past : Past) (p : Packet) → SaysOld fixed s past p → SaysOld fixed u past p
   old_since Start p is = is

@@ -17,7 +17,6 @@ use Rattle.osdp_controller.specs.declared.state.State.{State}
 use Rattle.osdp_controller.specs.declared.state.State.TheVariants.{Closed, Quiet, Idle, Waiting, Pausing}
 use Rattle.osdp_controller.specs.Exchanges.{exchange_body}
 use Rattle.osdp_msg.specs.Events.{event_in}
-use Rattle.osdp_reader.specs.declared.config.ReaderConfig.{ReaderConfig}
 use Rattle.osdp_reader.specs.declared.handler.Answer.{Answer}
 use Rattle.osdp_reader.specs.Queue.{Queue}
 use Rattle.osdp_reader.specs.State.{ReaderState}
@@ -180,35 +179,29 @@ pub record EventsAre (restarted : Restarted) (front events : List Event) (t : Ac
   pub without : IsWithout t.thrown_away left past
   pub reported : PastIs restarted past front t
 
--- what the reader answers to ID and CAP
-pub record Answering (settings config : ReaderConfig) : Type 0 where
-  pub id : config.id ≡ settings.id
-  pub caps : config.caps ≡ settings.caps
+-- the answer to an exchange with this number: to the opening a device says who it is
+pub record IsAnswer (r : Reply) : Type 0 where
+  pub plain : IsPlain r
+  pub fits : ReplyFits r
 
-module _ (pd : PdId) where
-  -- the answer to an exchange with this number
-  pub record IsAnswer (r : Reply) : Type 0 where
-    pub plain : IsPlain r
-    pub fits : ReplyFits r
+abbrev pub IsAnswerTo : Exchange → ℕ → Reply → Type 0
+IsAnswerTo Opening zero r = (pd : PdId) × (r ≡ reply.PdId pd)
+IsAnswerTo Opening (suc n) r = ⊥
+IsAnswerTo Polling n r = n ≢ 0
+IsAnswerTo (Asking command) n r = n ≢ 0
 
-  abbrev pub IsAnswerTo : Exchange → ℕ → Reply → Type 0
-  IsAnswerTo Opening zero r = r ≡ reply.PdId pd
-  IsAnswerTo Opening (suc n) r = ⊥
-  IsAnswerTo Polling n r = n ≢ 0
-  IsAnswerTo (Asking command) n r = n ≢ 0
+abbrev pub Acted : ℕ → Exchange → Reply → Type 0
+Acted n x r = IsAnswer r × IsAnswerTo x n r
 
-  abbrev pub Acted : ℕ → Exchange → Reply → Type 0
-  Acted n x r = IsAnswer r × IsAnswerTo x n r
+abbrev pub IsPast : Past → Type 0
+IsPast Start = Unit {0}
+IsPast (After n x r) = Acted n x r
 
-  abbrev pub IsPast : Past → Type 0
-  IsPast Start = Unit {0}
-  IsPast (After n x r) = Acted n x r
-
-  abbrev pub IsStage : Stage → Type 0
-  IsStage Fresh = Unit {0}
-  IsStage (Behind past x) = IsPast past × IsAsked past x
-  IsStage (Level past x r) = IsPast past × IsAsked past x × Acted (number_after past) x r
-  IsStage (Rest n x r) = Acted n x r
+abbrev pub IsStage : Stage → Type 0
+IsStage Fresh = Unit {0}
+IsStage (Behind past x) = IsPast past × IsAsked past x
+IsStage (Level past x r) = IsPast past × IsAsked past x × Acted (number_after past) x r
+IsStage (Rest n x r) = Acted n x r
 
 module _ (fixed : ControllerConfig) where
   -- the frame of an exchange with a number, and the packet of an answer to it
@@ -265,8 +258,12 @@ module _ (fixed : ControllerConfig) where
   abbrev pub Refuses : Restarted → Packet → Type 0
   Refuses restarted p = MayRefuse restarted × ((n : ℕ) × (p ≡ answer n (refused UnexpectedSequence)))
 
+  -- .. and to the opening a device says who it is that has come in place of the one that said it before
+  abbrev pub Introduces : ℕ → Packet → Type 0
+  Introduces n p = (n ≡ 0) × ((pd : PdId) × ReplyFits (reply.PdId pd) × (p ≡ answer 0 (reply.PdId pd)))
+
   abbrev pub Says : Restarted → ℕ → Reply → Packet → Type 0
-  Says restarted n r p = (p ≡ answer 0 reply.Busy) ⊎ ((p ≡ answer n r) ⊎ Refuses restarted p)
+  Says restarted n r p = (p ≡ answer 0 reply.Busy) ⊎ ((p ≡ answer n r) ⊎ (Refuses restarted p ⊎ Introduces n p))
 
   abbrev pub SaysOld : Restarted → Past → Packet → Type 0
   SaysOld restarted Start p = p ≡ answer 0 reply.Busy
@@ -305,7 +302,7 @@ module _ (fixed : ControllerConfig) where
     ReaderAt restarted (Level past x r) reader = Knows restarted (number_after past) x r reader
     ReaderAt restarted (Rest n x r) reader = Knows restarted n x r reader
 
-    module _ (answer_of : H → Command → Answer) (after : H → Command → H) (settings : ReaderConfig) where
+    module _ (answer_of : H → Command → Answer) (after : H → Command → H) where
       pub record Accounts (restarted : Restarted) (pend : List Command) (owing : List (Command × Reply)) (lost : List Command) (front new : List Event) (waiting : List Command) (events : List Event) (t : Account) : Type 0 where
         pub issued : t.issued ≡ t.taken ++ (pend ++ waiting)
         pub answered : map asked t.given ≡ t.taken
@@ -317,11 +314,10 @@ module _ (fixed : ControllerConfig) where
 
       -- all of it
       pub record Holds (restarted : Restarted) (at : Stage) (l : Link H) : Type 0 where
-        pub stage : IsStage settings.id at
+        pub stage : IsStage at
         pub controller : ControllerAt at l.controller.session
         pub waiting : Each MaySubmit l.controller.waiting
         pub reader : ReaderAt restarted at l.reader
-        pub answering : Answering settings l.reader.config
         pub to_reader : ToReaderAt at l.to_reader
         pub to_controller : ToControllerAt restarted at l.to_controller
         pub account : Accounts restarted (pending_at at) (owed_at at) (given_up_at at l.controller.session.state) (shown_at at) (unreported_at at) l.controller.waiting l.reader.queue.events l.account

@@ -236,7 +236,7 @@ module _ {H : Type 0} (answer_of : H → Command → Answer) (after : H → Comm
   events_go Withdraw l on = same_as l (link.withdraws l).account (same_events l.account (link.withdraws l).account refl refl refl refl)
   events_go (Retarget address) l on = retargets_go (controllers.retarget_refusal address l.controller) address l
   events_go WithdrawEvent l on = withdraws_go l
-  events_go (RestartReader address handler room) l on = record {
+  events_go (RestartReader config handler room) l on = record {
     took = [];
     queued = sym (append-nil l.account.queued);
     withdrawn = sym (append-nil l.account.withdrawn);

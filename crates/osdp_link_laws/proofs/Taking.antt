@@ -1,9 +1,10 @@
 -- A frame comes to the reader: how far the session has come then.
 use Rattle.std.proofs.Common.{◌≡◌, ◌≢◌, ◌<◌, ℕ, zero, suc, List, [], ◌∷◌, ◌++◌, Some, None, Ok, refl, sym, subst, ap, ◌∙◌, inl, inr}
 use Rattle.std.proofs.lemmas.List.{append-nil}
-use Rattle.std.specs.Prelude.{option_to_list}
+use Rattle.std.specs.Prelude.{option_to_list, IfSome}
 use Rattle.std.proofs.lemmas.Bool.Decides.{eqb_tells}
 use Rattle.osdp_frame.specs.Packet.{Packet}
+use Rattle.osdp_msg.specs.ReplyTable.{ReplyFits}
 use Rattle.osdp_msg.specs.declared.command.Command.{Command}
 use Rattle.osdp_msg.specs.declared.command.Command.TheVariants as command
 use Rattle.osdp_msg.specs.declared.reply.Reply.{Reply}
@@ -11,7 +12,6 @@ use Rattle.osdp_msg.specs.declared.reply.Reply.TheVariants as reply
 use Rattle.osdp_controller.specs.declared.config.ControllerConfig.{ControllerConfig}
 use Rattle.osdp_controller.specs.declared.exchange.Exchange.{Exchange}
 use Rattle.osdp_controller.specs.declared.exchange.Exchange.TheVariants.{Opening, Polling, Asking}
-use Rattle.osdp_reader.specs.declared.config.ReaderConfig.{ReaderConfig}
 use Rattle.osdp_reader.specs.declared.handler.Answer.{Answer}
 use Rattle.osdp_reader.specs.declared.kind.Kind.{Kind}
 use Rattle.osdp_reader.specs.declared.kind.Kind.TheVariants.{Zero, Busy}
@@ -28,9 +28,14 @@ use Rattle.osdp_link_laws.proofs.Parts.{At, with_to_controller}
 use Rattle.osdp_link_laws.proofs.Since.{events_moved, line_since}
 use Rattle.osdp_link_laws.proofs.Stages.{Accounts, Acted, Before, HasActed, Knows, Never, Now, PastIs, ReaderAt, Restarted, Says, Stage, ToControllerAt, answer, frame, given_up_at, owed_at, pending_at, shown, shown_at, unreported_at}
 
-module _ (fixed : ControllerConfig) {H : Type 0} (answer_of : H → Command → Answer) (after : H → Command → H) (settings : ReaderConfig) (since : Restarted) where
+module _ {H : Type 0} (answer_of : H → Command → Answer) (after : H → Command → H) where
+  -- what is said anew is of the table of replies
+  abbrev pub FitsBy : Kind → Packet → Link H → Type 0
+  FitsBy kind p l = IfSome (outcome answer_of after kind l.reader p).said ReplyFits
+
+module _ (fixed : ControllerConfig) {H : Type 0} (answer_of : H → Command → Answer) (after : H → Command → H) (since : Restarted) where
   abbrev AtStage : Stage → Link H → Type 0
-  AtStage at l = At fixed answer_of after settings since at l
+  AtStage at l = At fixed answer_of after since at l
 
   -- what comes of a packet that meets this line of the reader's table
   abbrev pub gets_by : Kind → Packet → Link H → Link H
@@ -45,12 +50,12 @@ module _ (fixed : ControllerConfig) {H : Type 0} (answer_of : H → Command → 
   -- the reader stays as it is, and says this
   pub says : (at : Stage) (l : Link H) (q : Packet) → AtStage at l → ToControllerAt fixed since at (l.to_controller ++ q ∷ [])
       → AtStage at (record l { to_controller = l.to_controller ++ q ∷ [] })
-  says at l q h line = with_to_controller fixed answer_of after settings since at l (l.to_controller ++ q ∷ []) h line
+  says at l q h line = with_to_controller fixed answer_of after since at l (l.to_controller ++ q ∷ []) h line
 
   -- .. or nothing
   says_nothing : (at : Stage) (l : Link H) → AtStage at l → AtStage at (record l { to_controller = l.to_controller ++ [] })
   says_nothing at l h =
-      with_to_controller fixed answer_of after settings since at l (l.to_controller ++ []) h
+      with_to_controller fixed answer_of after since at l (l.to_controller ++ []) h
       (subst (ToControllerAt fixed since at) (sym (append-nil l.to_controller)) h.to_controller)
 
   pub away : (at : Stage) (x : Exchange) (n : ℕ) (l : Link H) → fixed.address < 127 → l.reader.config.address ≢ fixed.address
@@ -69,12 +74,12 @@ module _ (fixed : ControllerConfig) {H : Type 0} (answer_of : H → Command → 
   pub zero_heard : (new : Restarted) (at : Stage) (a : Reply) (l : Link H) → command_in (frame fixed Opening 0) ≡ Ok (command.Id 0) → AtStage at l
       → ((r : ReaderState H) → HasActed fixed 0 Opening a r → ReaderAt fixed new at r)
       → ToControllerAt fixed new at (l.to_controller ++ answer fixed 0 (reply.PdId l.reader.config.id) ∷ [])
-      → Accounts fixed answer_of after settings new (pending_at at) (owed_at at) (given_up_at at l.controller.session.state) (shown_at at) (unreported_at at)
+      → Accounts fixed answer_of after new (pending_at at) (owed_at at) (given_up_at at l.controller.session.state) (shown_at at) (unreported_at at)
       l.controller.waiting l.reader.queue.events l.account
-      → At fixed answer_of after settings new at (gets_by Zero (frame fixed Opening 0) l)
+      → At fixed answer_of after new at (gets_by Zero (frame fixed Opening 0) l)
   zero_heard new at a l reads h puts line account =
       let p = frame fixed Opening 0 in
-      subst (λ c. At fixed answer_of after settings new at (record l {
+      subst (λ c. At fixed answer_of after new at (record l {
         reader = (begun answer_of after c l.reader p).reader;
         to_controller = l.to_controller ++ option_to_list (begun answer_of after c l.reader p).reply;
         account = link.taken Zero (begun answer_of after c l.reader p).command (begun answer_of after c l.reader p).said (link.front_of l.reader) l.account;
@@ -83,30 +88,36 @@ module _ (fixed : ControllerConfig) {H : Type 0} (answer_of : H → Command → 
         controller = h.controller;
         waiting = h.waiting;
         reader = puts _ (record { here = λ e. (refl, tt); offer = refl });
-        answering = record { id = h.answering.id; caps = h.answering.caps };
         to_reader = h.to_reader;
         to_controller = line;
         account = account;
       })
 
+  -- it says who the device is, be it the one that was there before or another
+  pub introduces : (a : Reply) (l : Link H) → command_in (frame fixed Opening 0) ≡ Ok (command.Id 0) → FitsBy answer_of after Zero (frame fixed Opening 0) l
+      → Says fixed since 0 a (answer fixed 0 (reply.PdId l.reader.config.id))
+  introduces a l reads fits =
+      inr (inr (inr (
+        refl,
+        (l.reader.config.id, subst (λ c. IfSome (begun answer_of after c l.reader (frame fixed Opening 0)).said ReplyFits) reads fits, refl),
+      )))
+
   -- .. again
   zero_again : (at : Stage) (a : Reply) (l : Link H) → command_in (frame fixed Opening 0) ≡ Ok (command.Id 0) → AtStage at l
-      → HasActed fixed 0 Opening a l.reader → a ≡ reply.PdId settings.id
-      → Grows at 0 a l → Puts at 0 Opening a
+      → Grows at 0 a l → Puts at 0 Opening a → FitsBy answer_of after Zero (frame fixed Opening 0) l
       → AtStage at (gets_by Zero (frame fixed Opening 0) l)
-  zero_again at a l reads h acted is grows puts =
-      zero_heard since at a l reads h puts
-      (grows _ (inr (inl (ap (λ i. answer fixed 0 (reply.PdId i)) h.answering.id ∙ sym (ap (answer fixed 0) is))))) h.account
+  zero_again at a l reads h grows puts fits =
+      zero_heard since at a l reads h puts (grows (answer fixed 0 (reply.PdId l.reader.config.id)) (introduces a l reads fits)) h.account
 
   -- the frame of an exchange that the reader has acted on
   pub again : (at : Stage) (n : ℕ) (x : Exchange) (a : Reply) (l : Link H) → fixed.address < 127
       → command_in (frame fixed Opening 0) ≡ Ok (command.Id 0) → AtStage at l
-      → HasActed fixed n x a l.reader → Acted settings.id n x a
-      → Grows at n a l → Puts at n x a
+      → HasActed fixed n x a l.reader → Acted n x a
+      → Grows at n a l → Puts at n x a → FitsBy answer_of after (kind_of l.reader (frame fixed x n)) (frame fixed x n) l
       → AtStage at (gets_by (kind_of l.reader (frame fixed x n)) (frame fixed x n) l)
-  again at n x a l device reads h acted is grows puts =
+  again at n x a l device reads h acted is grows puts fits =
       elim (eqb_tells l.reader.config.address fixed.address) [
-        | inl same ↦ by_exchange n x acted is grows puts same.1
+        | inl same ↦ by_exchange n x acted is grows puts same.1 fits
         | inr other ↦ away at x n l device other.1 h
       ]
     where
@@ -119,20 +130,20 @@ module _ (fixed : ControllerConfig) {H : Type 0} (answer_of : H → Command → 
           (subst (λ o. AtStage at (record l { to_controller = l.to_controller ++ option_to_list o })) (sym kept.1)
           (says at l (answer fixed n a) h (grows (answer fixed n a) (inr (inl refl)))))
 
-      by_exchange : (n : ℕ) (x : Exchange) → HasActed fixed n x a l.reader → Acted settings.id n x a
-          → Grows at n a l → Puts at n x a → l.reader.config.address ≡ fixed.address
+      by_exchange : (n : ℕ) (x : Exchange) → HasActed fixed n x a l.reader → Acted n x a
+          → Grows at n a l → Puts at n x a → l.reader.config.address ≡ fixed.address → FitsBy answer_of after (kind_of l.reader (frame fixed x n)) (frame fixed x n) l
           → AtStage at (gets_by (kind_of l.reader (frame fixed x n)) (frame fixed x n) l)
-      by_exchange zero Opening acted is grows puts same =
-          subst (λ k. AtStage at (gets_by k (frame fixed Opening 0) l)) (sym (kind_zero fixed l.reader Opening same))
-          (both (λ k. AtStage at (gets_by k (frame fixed Opening 0) l)) l.reader.busy Busy Zero
-          (says at l (answer fixed 0 reply.Busy) h (grows (answer fixed 0 reply.Busy) (inl refl)))
-          (zero_again at a l reads h acted is.1 grows puts))
-      by_exchange (suc n) Opening acted is grows puts same = absurd is.1
-      by_exchange n Polling acted is grows puts same = repeated n Polling is.1 same (acted.here same) grows
-      by_exchange n (Asking c) acted is grows puts same = repeated n (Asking c) is.1 same (acted.here same) grows
+      by_exchange zero Opening acted is grows puts same fits =
+          subst (λ k. FitsBy answer_of after k (frame fixed Opening 0) l → AtStage at (gets_by k (frame fixed Opening 0) l)) (sym (kind_zero fixed l.reader Opening same))
+          (both (λ k. FitsBy answer_of after k (frame fixed Opening 0) l → AtStage at (gets_by k (frame fixed Opening 0) l)) l.reader.busy Busy Zero
+          (λ f. says at l (answer fixed 0 reply.Busy) h (grows (answer fixed 0 reply.Busy) (inl refl)))
+          (λ f. zero_again at a l reads h grows puts f)) fits
+      by_exchange (suc n) Opening acted is grows puts same fits = absurd is.1
+      by_exchange n Polling acted is grows puts same fits = repeated n Polling is.1 same (acted.here same) grows
+      by_exchange n (Asking c) acted is grows puts same fits = repeated n (Asking c) is.1 same (acted.here same) grows
 
 -- a restarted reader that has heard number 0
-module _ (fixed : ControllerConfig) {H : Type 0} (answer_of : H → Command → Answer) (after : H → Command → H) (settings : ReaderConfig) where
+module _ (fixed : ControllerConfig) {H : Type 0} (answer_of : H → Command → Answer) (after : H → Command → H) where
   past_revived : (front : List Event) (past : List Event) (t : Account) → t.offered ≡ t.reported ++ [] → front ≡ [] → PastIs Now past front t
       → PastIs Before past front t
   past_revived front past t offered none is =
@@ -140,8 +151,8 @@ module _ (fixed : ControllerConfig) {H : Type 0} (answer_of : H → Command → 
 
   pub account_revived : (pend : List Command) (owing : List (Command × Reply)) (lost : List Command) (front new : List Event) (waiting : List Command) (events : List Event) (t : Account)
       → front ≡ [] → new ≡ []
-      → Accounts fixed answer_of after settings Now pend owing lost front new waiting events t
-      → Accounts fixed answer_of after settings Before pend owing lost front new waiting events t
+      → Accounts fixed answer_of after Now pend owing lost front new waiting events t
+      → Accounts fixed answer_of after Before pend owing lost front new waiting events t
   account_revived pend owing lost front new waiting events t none quiet a = record {
     issued = a.issued;
     answered = a.answered;
@@ -163,60 +174,65 @@ module _ (fixed : ControllerConfig) {H : Type 0} (answer_of : H → Command → 
   shows_none (Asking c) a is = absurd cc
 
   revived : (at : Stage) (a : Reply) (l : Link H) → command_in (frame fixed Opening 0) ≡ Ok (command.Id 0)
-      → At fixed answer_of after settings Now at l → a ≡ reply.PdId settings.id → TellsNone at
-      → Grows fixed answer_of after settings Now at 0 a l → Puts fixed answer_of after settings Before at 0 Opening a
-      → At fixed answer_of after settings Before at (gets_by fixed answer_of after settings Now Zero (frame fixed Opening 0) l)
-  revived at a l reads h is none grows puts =
-      zero_heard fixed answer_of after settings Now Before at a l reads h puts
-      (line_since fixed Now Before (λ may. may) at _ (grows _ (inr (inl (ap (λ i. answer fixed 0 (reply.PdId i)) h.answering.id ∙ sym (ap (answer fixed 0) is))))))
+      → At fixed answer_of after Now at l → TellsNone at
+      → Grows fixed answer_of after Now at 0 a l → Puts fixed answer_of after Before at 0 Opening a → FitsBy answer_of after Zero (frame fixed Opening 0) l
+      → At fixed answer_of after Before at (gets_by fixed answer_of after Now Zero (frame fixed Opening 0) l)
+  revived at a l reads h none grows puts fits =
+      zero_heard fixed answer_of after Now Before at a l reads h puts
+      (line_since fixed Now Before (λ may. may) at (l.to_controller ++ answer fixed 0 (reply.PdId l.reader.config.id) ∷ [])
+      (grows (answer fixed 0 (reply.PdId l.reader.config.id)) (introduces fixed answer_of after Now a l reads fits)))
       (account_revived (pending_at at) (owed_at at) (given_up_at at l.controller.session.state) (shown_at at) (unreported_at at)
       l.controller.waiting l.reader.queue.events l.account none.0 none.1 h.account)
 
   -- the frame of an exchange that the reader has acted on: it says its answer again, refuses the number, or hears number 0
   abbrev HeardAt : Stage → Link H → Type 0
-  HeardAt at m = (since : Restarted) × At fixed answer_of after settings since at m
+  HeardAt at m = (since : Restarted) × At fixed answer_of after since at m
 
   refuses_it : (at : Stage) (n : ℕ) (x : Exchange) (a : Reply) (l : Link H) → n ≢ 0 → l.reader.config.address ≡ fixed.address → l.reader.last ≡ None
-      → At fixed answer_of after settings Now at l → Grows fixed answer_of after settings Now at n a l
-      → HeardAt at (gets_by fixed answer_of after settings Now (kind_of l.reader (frame fixed x n)) (frame fixed x n) l)
+      → At fixed answer_of after Now at l → Grows fixed answer_of after Now at n a l
+      → HeardAt at (gets_by fixed answer_of after Now (kind_of l.reader (frame fixed x n)) (frame fixed x n) l)
   refuses_it at n x a l above here none h grows = (
     Now,
-    subst (λ k. At fixed answer_of after settings Now at (gets_by fixed answer_of after settings Now k (frame fixed x n) l)) (sym (kind_unknown fixed l.reader x n here above none))
-        (says fixed answer_of after settings Now at l (answer fixed n (refused UnexpectedSequence)) h
-        (grows (answer fixed n (refused UnexpectedSequence)) (inr (inr (tt, (n, refl)))))),
+    subst (λ k. At fixed answer_of after Now at (gets_by fixed answer_of after Now k (frame fixed x n) l)) (sym (kind_unknown fixed l.reader x n here above none))
+        (says fixed answer_of after Now at l (answer fixed n (refused UnexpectedSequence)) h
+        (grows (answer fixed n (refused UnexpectedSequence)) (inr (inr (inl (tt, (n, refl))))))),
   )
 
   unknown : (at : Stage) (n : ℕ) (x : Exchange) (a : Reply) (l : Link H) → fixed.address < 127
-      → command_in (frame fixed Opening 0) ≡ Ok (command.Id 0) → At fixed answer_of after settings Now at l
-      → l.reader.last ≡ None → Acted settings.id n x a → (x ≡ Opening → TellsNone at)
-      → Grows fixed answer_of after settings Now at n a l → Puts fixed answer_of after settings Before at n x a
-      → HeardAt at (gets_by fixed answer_of after settings Now (kind_of l.reader (frame fixed x n)) (frame fixed x n) l)
-  unknown at n x a l device reads h none is silent grows puts =
+      → command_in (frame fixed Opening 0) ≡ Ok (command.Id 0) → At fixed answer_of after Now at l
+      → l.reader.last ≡ None → Acted n x a → (x ≡ Opening → TellsNone at)
+      → Grows fixed answer_of after Now at n a l → Puts fixed answer_of after Before at n x a
+      → FitsBy answer_of after (kind_of l.reader (frame fixed x n)) (frame fixed x n) l
+      → HeardAt at (gets_by fixed answer_of after Now (kind_of l.reader (frame fixed x n)) (frame fixed x n) l)
+  unknown at n x a l device reads h none is silent grows puts fits =
       elim (eqb_tells l.reader.config.address fixed.address) [
-        | inl same ↦ by_exchange n x is silent grows puts same.1
-        | inr other ↦ (Now, away fixed answer_of after settings Now at x n l device other.1 h)
+        | inl same ↦ by_exchange n x is silent grows puts same.1 fits
+        | inr other ↦ (Now, away fixed answer_of after Now at x n l device other.1 h)
       ]
     where
-      by_exchange : (n : ℕ) (x : Exchange) → Acted settings.id n x a → (x ≡ Opening → TellsNone at)
-          → Grows fixed answer_of after settings Now at n a l → Puts fixed answer_of after settings Before at n x a → l.reader.config.address ≡ fixed.address
-          → HeardAt at (gets_by fixed answer_of after settings Now (kind_of l.reader (frame fixed x n)) (frame fixed x n) l)
-      by_exchange zero Opening is silent grows puts same =
-          subst (λ k. HeardAt at (gets_by fixed answer_of after settings Now k (frame fixed Opening 0) l)) (sym (kind_zero fixed l.reader Opening same))
-          (both (λ k. HeardAt at (gets_by fixed answer_of after settings Now k (frame fixed Opening 0) l)) l.reader.busy Busy Zero
-          (Now, says fixed answer_of after settings Now at l (answer fixed 0 reply.Busy) h (grows (answer fixed 0 reply.Busy) (inl refl)))
-          (Before, revived at a l reads h is.1 (silent refl) grows puts))
-      by_exchange (suc n) Opening is silent grows puts same = absurd is.1
-      by_exchange n Polling is silent grows puts same = refuses_it at n Polling a l is.1 same none h grows
-      by_exchange n (Asking c) is silent grows puts same = refuses_it at n (Asking c) a l is.1 same none h grows
+      by_exchange : (n : ℕ) (x : Exchange) → Acted n x a → (x ≡ Opening → TellsNone at)
+          → Grows fixed answer_of after Now at n a l → Puts fixed answer_of after Before at n x a → l.reader.config.address ≡ fixed.address
+          → FitsBy answer_of after (kind_of l.reader (frame fixed x n)) (frame fixed x n) l
+          → HeardAt at (gets_by fixed answer_of after Now (kind_of l.reader (frame fixed x n)) (frame fixed x n) l)
+      by_exchange zero Opening is silent grows puts same fits =
+          let p = frame fixed Opening 0 in
+          subst (λ k. FitsBy answer_of after k p l → HeardAt at (gets_by fixed answer_of after Now k p l)) (sym (kind_zero fixed l.reader Opening same))
+          (both (λ k. FitsBy answer_of after k p l → HeardAt at (gets_by fixed answer_of after Now k p l)) l.reader.busy Busy Zero
+          (λ f. (Now, says fixed answer_of after Now at l (answer fixed 0 reply.Busy) h (grows (answer fixed 0 reply.Busy) (inl refl))))
+          (λ f. (Before, revived at a l reads h (silent refl) grows puts f))) fits
+      by_exchange (suc n) Opening is silent grows puts same fits = absurd is.1
+      by_exchange n Polling is silent grows puts same fits = refuses_it at n Polling a l is.1 same none h grows
+      by_exchange n (Asking c) is silent grows puts same fits = refuses_it at n (Asking c) a l is.1 same none h grows
 
   pub heard_again : (since : Restarted) (at : Stage) (n : ℕ) (x : Exchange) (a : Reply) (l : Link H) → fixed.address < 127
-      → command_in (frame fixed Opening 0) ≡ Ok (command.Id 0) → At fixed answer_of after settings since at l
-      → Knows fixed since n x a l.reader → Acted settings.id n x a → (x ≡ Opening → TellsNone at)
-      → Grows fixed answer_of after settings since at n a l → ((s : Restarted) (r : ReaderState H) → Knows fixed s n x a r → ReaderAt fixed s at r)
-      → HeardAt at (gets_by fixed answer_of after settings since (kind_of l.reader (frame fixed x n)) (frame fixed x n) l)
-  heard_again Never at n x a l device reads h knows is silent grows puts =
-      (Never, again fixed answer_of after settings Never at n x a l device reads h knows is grows (puts Never))
-  heard_again Before at n x a l device reads h knows is silent grows puts =
-      (Before, again fixed answer_of after settings Before at n x a l device reads h knows is grows (puts Before))
-  heard_again Now at n x a l device reads h knows is silent grows puts =
-      unknown at n x a l device reads h knows is silent grows (puts Before)
+      → command_in (frame fixed Opening 0) ≡ Ok (command.Id 0) → At fixed answer_of after since at l
+      → Knows fixed since n x a l.reader → Acted n x a → (x ≡ Opening → TellsNone at)
+      → Grows fixed answer_of after since at n a l → ((s : Restarted) (r : ReaderState H) → Knows fixed s n x a r → ReaderAt fixed s at r)
+      → FitsBy answer_of after (kind_of l.reader (frame fixed x n)) (frame fixed x n) l
+      → HeardAt at (gets_by fixed answer_of after since (kind_of l.reader (frame fixed x n)) (frame fixed x n) l)
+  heard_again Never at n x a l device reads h knows is silent grows puts fits =
+      (Never, again fixed answer_of after Never at n x a l device reads h knows is grows (puts Never) fits)
+  heard_again Before at n x a l device reads h knows is silent grows puts fits =
+      (Before, again fixed answer_of after Before at n x a l device reads h knows is grows (puts Before) fits)
+  heard_again Now at n x a l device reads h knows is silent grows puts fits =
+      unknown at n x a l device reads h knows is silent grows (puts Before) fits

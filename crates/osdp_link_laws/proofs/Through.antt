@@ -17,7 +17,6 @@ use Rattle.osdp_controller.specs.declared.report.Report.TheVariants as report
 use Rattle.osdp_controller.specs.declared.session.Session.{Session}
 use Rattle.osdp_controller.specs.declared.state.State.{State}
 use Rattle.osdp_controller.specs.declared.state.State.TheVariants.{Closed, Quiet, Idle, Waiting, Pausing}
-use Rattle.osdp_reader.specs.declared.config.ReaderConfig.{ReaderConfig}
 use Rattle.osdp_reader.specs.declared.handler.Answer.{Answer}
 use Rattle.osdp_reader.specs.Table.{hears, kind_of}
 use Rattle.osdp_link_laws.specs.Headline.{MovesFit, SaysWhatFits}
@@ -27,7 +26,7 @@ use Rattle.osdp_link_laws.specs.Progress.{AreDue, ComeOn, ComesThrough, IsClear,
 use Rattle.osdp_link_laws.specs.Peers.{ReadEachOther}
 use Rattle.osdp_link_laws.proofs.Due.{Acts, closed_rests, due_sends}
 use Rattle.osdp_link_laws.proofs.Growing.{taken_takes}
-use Rattle.osdp_link_laws.proofs.InARow.{assumed_of, stands}
+use Rattle.osdp_link_laws.proofs.InARow.{assumed, stands}
 use Rattle.osdp_link_laws.proofs.Lines.{both, each_of}
 use Rattle.osdp_link_laws.proofs.Moves.{Premises}
 use Rattle.osdp_link_laws.proofs.Once.{going_bare}
@@ -69,9 +68,9 @@ module _ {H : Type 0} (answer_of : H → Command → Answer) (after : H → Comm
       both (λ heard. heard.session.state ≡ Closed) (is_from_reader q s) (hears_in s.state q.sequence (said_by q) (seen now s)) (ignores (seen now s))
       (subst (λ state. (hears_in state q.sequence (said_by q) (seen now s)).session.state ≡ Closed) (sym closed) closed) closed
 
-module _ (fixed : ControllerConfig) {H : Type 0} (answer_of : H → Command → Answer) (after : H → Command → H) (settings : ReaderConfig) where
+module _ (fixed : ControllerConfig) {H : Type 0} (answer_of : H → Command → Answer) (after : H → Command → H) where
   -- a session that has not ended has the settings that it began with
-  pub config_is : (since : Restarted) (at : Stage) (l : Link H) → At fixed answer_of after settings since at l → (l.controller.session.state ≡ Closed → ⊥)
+  pub config_is : (since : Restarted) (at : Stage) (l : Link H) → At fixed answer_of after since at l → (l.controller.session.state ≡ Closed → ⊥)
       → l.controller.session.config ≡ fixed
   config_is since Fresh l h not = waits_config fixed l.controller.session.state l.controller.session h.controller not
   config_is since (Behind past x) l h not = asks_config fixed l.controller.session.state (number_after past) x l.controller.session not h.controller
@@ -84,20 +83,20 @@ module _ (fixed : ControllerConfig) {H : Type 0} (answer_of : H → Command → 
       to_controller_closed answer_of after m.to_controller now m (to_reader_closed answer_of after (at_tick now l).to_reader (at_tick now l) closed)
 
   abbrev Given : Type 0
-  Given = Premises fixed answer_of after settings
+  Given = Premises fixed answer_of after
 
   abbrev Holds : Link H → Type 0
-  Holds l = HoldsAtSomeStage fixed answer_of after settings l
+  Holds l = HoldsAtSomeStage fixed answer_of after l
 
   pub held_after : Given → (now : ℕ) (l : Link H) → SaysWhatFits answer_of after (at_tick now l).to_reader l.reader → Holds l → Holds (goes answer_of after now l)
   held_after given now l fits held =
       let m = link.to_reader answer_of after (at_tick now l).to_reader Delivered (at_tick now l) in
-      moving_inside fixed answer_of after settings given (ToController Delivered now) m tt tt
-      (moving_inside fixed answer_of after settings given (ToReader Delivered) (at_tick now l) tt fits
-      (moving_inside fixed answer_of after settings given (Tick now) l tt tt held))
+      moving_inside fixed answer_of after given (ToController Delivered now) m tt tt
+      (moving_inside fixed answer_of after given (ToReader Delivered) (at_tick now l) tt fits
+      (moving_inside fixed answer_of after given (Tick now) l tt tt held))
 
   -- a link that is clear
-  pub clear_still : (l : Link H) → IsClear l → l.controller.session.config ≡ fixed → IsStill fixed answer_of after settings l
+  pub clear_still : (l : Link H) → IsClear l → l.controller.session.config ≡ fixed → IsStill fixed answer_of after l
   clear_still l clear same = record {
     to_reader = clear.to_reader;
     to_controller = clear.to_controller;
@@ -106,14 +105,14 @@ module _ (fixed : ControllerConfig) {H : Type 0} (answer_of : H → Command → 
   }
 
   -- the first round: the controller comes to rest, or the session ends
-  pub first_round : Given → (now : ℕ) (l : Link H) → Holds l → IsStill fixed answer_of after settings l
+  pub first_round : Given → (now : ℕ) (l : Link H) → Holds l → IsStill fixed answer_of after l
       → Acts (ticks now l.controller.session l.controller.waiting) → SaysWhatFits answer_of after (at_tick now l).to_reader l.reader
-      → ((goes answer_of after now l).controller.session.state ≡ Closed) ⊎ IsIdle fixed answer_of after settings (goes answer_of after now l)
+      → ((goes answer_of after now l).controller.session.state ≡ Closed) ⊎ IsIdle fixed answer_of after (goes answer_of after now l)
   first_round given now l held still does fits =
-      let there = moving_inside fixed answer_of after settings given (Tick now) l tt tt held in
+      let there = moving_inside fixed answer_of after given (Tick now) l tt tt held in
       elim (due_sends now l.controller.session l.controller.waiting does) [
         | inl closed ↦ inl (closed_after now l closed)
-        | inr (x, sends) ↦ has_come fixed answer_of after settings given now x there.0 there.1 l still sends there.2 fits
+        | inr (x, sends) ↦ has_come fixed answer_of after given now x there.0 there.1 l still sends there.2 fits
       ]
 
   -- a round issues nothing, and keeps the events
@@ -179,12 +178,12 @@ module _ (fixed : ControllerConfig) {H : Type 0} (answer_of : H → Command → 
   Through moments l m =
       ((counted l.account + length moments ≤ counted m.account) ⊎ (all_of l.account ≤ counted m.account)) × (all_of m.account ≡ all_of l.account)
 
-  pub through : Given → (moments : List ℕ) (l : Link H) → Holds l → IsIdle fixed answer_of after settings l → AreDue answer_of after moments l
+  pub through : Given → (moments : List ℕ) (l : Link H) → Holds l → IsIdle fixed answer_of after l → AreDue answer_of after moments l
       → MovesFit answer_of after (rounds moments) l → Through moments l (run answer_of after (rounds moments) l)
   through given [] l held idle due fits = (inl (omega arith), refl)
   through given (now ∷ later) l held idle due fits =
       let afterwards = held_after given now l fits.1.0 held in
-      let one = idle_round fixed answer_of after settings given now l held idle due.0 fits.1.0 afterwards in
+      let one = idle_round fixed answer_of after given now l held idle due.0 fits.1.0 afterwards in
       let more = through given later (goes answer_of after now l) afterwards one.0 due.1 fits.1.1.1 in
       let same = all_same now l in (
         elim one.1 [
@@ -226,20 +225,19 @@ module _ {H : Type 0} (answer_of : H → Command → Answer) (after : H → Comm
       let few = min-le_left (counted t + (length {A = ℕ} [] - 1)) (all_of t) in
       omega (arith, few)
   comes_through peers l moves (now ∷ later) b fits clear due more =
-      let settings = l.reader.config in
       let afterwards = run answer_of after moves l in
       let s = stands answer_of after peers l moves b fits in
       let session = afterwards.controller.session in
       let lasts : session.state ≡ Closed → ⊥ = λ closed. closed_rests session.state (seen now session) afterwards.controller.waiting closed due.0 in
-      let holds = going_bare s.fixed answer_of after settings afterwards s.goes lasts in
-      let same = config_is s.fixed answer_of after settings holds.0 holds.1 afterwards holds.2 lasts in
-      let still = clear_still s.fixed answer_of after settings afterwards clear same in
-      let all = assumed_of answer_of after peers l s.fixed s.device in
+      let holds = going_bare s.fixed answer_of after afterwards s.goes lasts in
+      let same = config_is s.fixed answer_of after holds.0 holds.1 afterwards holds.2 lasts in
+      let still = clear_still s.fixed answer_of after afterwards clear same in
+      let all = assumed answer_of after peers s.fixed s.device in
       let first = run answer_of after (round now) afterwards in
-      let held = held_after s.fixed answer_of after settings all now afterwards more.1.0 holds in
-      let more_first = goes_more s.fixed answer_of after settings now afterwards in
-      elim (first_round s.fixed answer_of after settings all now afterwards holds still due.0 more.1.0) [
+      let held = held_after s.fixed answer_of after all now afterwards more.1.0 holds in
+      let more_first = goes_more s.fixed answer_of after now afterwards in
+      elim (first_round s.fixed answer_of after all now afterwards holds still due.0 more.1.0) [
         | inl closed ↦ ended now later afterwards.account first closed due.1 more_first
-        | inr idle ↦ at_least s.fixed answer_of after settings later now afterwards.account first (run answer_of after (rounds later) first) more_first
-            (through s.fixed answer_of after settings all later first held idle due.1 more.1.1.1)
+        | inr idle ↦ at_least s.fixed answer_of after later now afterwards.account first (run answer_of after (rounds later) first) more_first
+            (through s.fixed answer_of after all later first held idle due.1 more.1.1.1)
       ]

@@ -29,7 +29,7 @@ use Rattle.osdp_link_laws.specs.Peers.{ReadEachOther}
 use Rattle.osdp_link_laws.specs.Refusals.{reports, told_by, told_by_front}
 use Rattle.osdp_link_laws.proofs.Deliveries.{IsRead, all_read}
 use Rattle.osdp_link_laws.proofs.GivenAnswers.{AreAnswers, IsAnswerOf, first_given, move_given}
-use Rattle.osdp_link_laws.proofs.InARow.{Assumed, Stands, assumed_of, begins, is_once_now, standing}
+use Rattle.osdp_link_laws.proofs.InARow.{Assumed, Stands, assumed, begins, is_once_now, standing}
 use Rattle.osdp_link_laws.proofs.Lines.{both, each_all, each_append}
 use Rattle.osdp_link_laws.proofs.Numbers.{is_true}
 use Rattle.osdp_link_laws.proofs.Reports.{MayBring, heard_so, tick_so}
@@ -106,17 +106,17 @@ module _ {H : Type 0} (answer_of : H → Command → Answer) (after : H → Comm
       told_so (hears p now l.controller.session).report l.account (heard_read p now l.controller.session read.0) are once
   front_told how ps now l read are once = tt
 
-module _ {H : Type 0} (answer_of : H → Command → Answer) (after : H → Command → H) (settings : ReaderConfig) where
-  pub move_told : Assumed answer_of after settings → (move : Move H) (l : Link H) → MoveFits answer_of after move l
-      → Stands answer_of after settings l → AreAnswers answer_of after l.account → ToldAsAsked (told_by move l)
+module _ {H : Type 0} (answer_of : H → Command → Answer) (after : H → Command → H) where
+  pub move_told : Assumed answer_of after → (move : Move H) (l : Link H) → MoveFits answer_of after move l
+      → Stands answer_of after l → AreAnswers answer_of after l.account → ToldAsAsked (told_by move l)
   move_told given (Tick now) l fits h are = tick_so ToldAsAsked tt (λ o. tt) l.controller.session.state (seen now l.controller.session) l.controller.waiting
   move_told given (ToController how now) l fits h are =
       let new = after_move answer_of after (ToController how now) l in
-      let next = standing answer_of after settings given (ToController how now) l fits h in
+      let next = standing answer_of after given (ToController how now) l fits h in
       let held = h.goes.holds in
       front_told answer_of after how l.to_controller now l
-      (all_read h.fixed answer_of after settings held.0 (given h.fixed h.device) held.1 (as_waiting l) held.2)
-      (move_given answer_of after (ToController how now) l are) (is_once_now answer_of after settings new next)
+      (all_read h.fixed answer_of after held.0 (given h.fixed h.device) held.1 (as_waiting l) held.2)
+      (move_given answer_of after (ToController how now) l are) (is_once_now answer_of after new next)
   move_told given (Submit c) l fits h are = tt
   move_told given (QueueEvent e) l fits h are = tt
   move_told given (SetBusy busy) l fits h are = tt
@@ -128,20 +128,20 @@ module _ {H : Type 0} (answer_of : H → Command → Answer) (after : H → Comm
   move_told given (LoseToController place) l fits h are = tt
   move_told given Withdraw l fits h are = tt
   move_told given (Retarget address) l fits h are = tt
-  move_told given (RestartReader address handler room) l fits h are = tt
+  move_told given (RestartReader config handler room) l fits h are = tt
   move_told given (RestartController config room) l fits h are = tt
 
-  each_told : Assumed answer_of after settings → (moves : List (Move H)) (l : Link H) → MovesFit answer_of after moves l → Stands answer_of after settings l
+  each_told : Assumed answer_of after → (moves : List (Move H)) (l : Link H) → MovesFit answer_of after moves l → Stands answer_of after l
       → AreAnswers answer_of after l.account → Each IsToldAsAsked (reports answer_of after moves l)
   each_told given [] l fits h are = tt
   each_told given (move ∷ moves) l fits h are =
       let new = after_move answer_of after move l in
       each_append IsToldAsAsked (option_to_list (told_by move l)) (reports answer_of after moves new)
       (one_report IsToldAsAsked (told_by move l) (move_told given move l fits.0 h are))
-      (each_told given moves new fits.1 (standing answer_of after settings given move l fits.0 h) (move_given answer_of after move l are))
+      (each_told given moves new fits.1 (standing answer_of after given move l fits.0 h) (move_given answer_of after move l are))
 
 module _ {H : Type 0} (answer_of : H → Command → Answer) (after : H → Command → H) where
   pub tell_as_asked : ReadEachOther answer_of after → TellAsAsked answer_of after
   tell_as_asked peers l moves b fits =
       each_all IsToldAsAsked (reports answer_of after moves l)
-      (each_told answer_of after l.reader.config (assumed_of answer_of after peers l) moves l fits (begins answer_of after l b) (first_given answer_of after l b))
+      (each_told answer_of after (assumed answer_of after peers) moves l fits (begins answer_of after l b) (first_given answer_of after l b))

@@ -36,7 +36,7 @@ use Rattle.osdp_link_laws.specs.Link as link
 use Rattle.osdp_link_laws.specs.Link.{Account, Delivered, Delivery, Link, Lost, Move, Queue as QueueEvent, Reopen, Repeated, RestartController, RestartReader, Retarget, SetBusy, SetHandler, Submit, Tick, ToController, ToReader, Withdraw, WithdrawEvent, after_move, run, after_report, event_withdrawn, lost_at, LoseToReader, LoseToController, unoffered_in}
 use Rattle.osdp_link_laws.specs.TwoLists.{IsInStep, IsLevel, IsOneOrNone, IsRead, IsReadOff, IsStepOf, Issue, KeepsInStep, May, MovesInStep, Offer, Offers, OffersOnce, Queue, Report as Tell, Settle, Step, Take, ThrowAway, TwoLists, WithdrawEvent as WithdrawPlace, after_step, two_lists}
 use Rattle.osdp_link_laws.specs.Peers.{ReadEachOther}
-use Rattle.osdp_link_laws.proofs.InARow.{all_once, assumed_of, is_once_now, standing, stands}
+use Rattle.osdp_link_laws.proofs.InARow.{all_once, assumed, is_once_now, standing, stands}
 use Rattle.osdp_link_laws.proofs.Offered.{stands_apart}
 use Rattle.osdp_link_laws.proofs.Withdrawing.{Splits, but_oldest_is, splits}
 use Rattle.osdp_link_laws.proofs.Lines.{both}
@@ -148,7 +148,7 @@ offered_heard past front new rest events t is kept reported offered = (
       ∙ ap (λ es. es ++ (new ++ rest)) (sym reported) ∙ sym (append_assoc t.reported new rest) ∙ ap (λ es. es ++ rest) (sym offered),
 )
 
-module _ (fixed : ControllerConfig) {H : Type 0} (answer_of : H → Command → Answer) (after : H → Command → H) (settings : ReaderConfig) where
+module _ (fixed : ControllerConfig) {H : Type 0} (answer_of : H → Command → Answer) (after : H → Command → H) where
   offered_first : (since : Restarted) (at : Stage) (r : ReaderState H) (t : Account) → ReaderAt fixed since at r
       → t.offered ≡ t.reported ++ unreported_at at → EventsAre since (shown_at at) r.queue.events t → IsBeginning t.offered t.kept
   offered_first Never at r t is offered are =
@@ -159,7 +159,7 @@ module _ (fixed : ControllerConfig) {H : Type 0} (answer_of : H → Command → 
       offered_heard are.past (shown_at at) (unreported_at at) front.0 r.queue.events t front.1 are.kept are.reported offered
   offered_first Now at r t is offered are = (r.queue.events, are.kept ∙ ap (λ es. es ++ r.queue.events) (sym are.reported))
 
-  offers_at : (l : Link H) → Goes fixed answer_of after settings l → Offers l.account
+  offers_at : (l : Link H) → Goes fixed answer_of after l → Offers l.account
   offers_at l h =
       let at = h.holds.1 in
       let held = h.holds.2 in
@@ -318,8 +318,8 @@ module _ {H : Type 0} (answer_of : H → Command → Answer) (after : H → Comm
   reopens None (p ∷ ps) qs now l = inl refl
   reopens (Some fault) ps qs now l = inl refl
 
-  restarts_would : (address : ℕ) (handler : H) (room : Room) (t : Account) → Offers t → Would {H = H} (RestartReader address handler room) t (link.reader_restarted t)
-  restarts_would address handler room t o =
+  restarts_would : (config : ReaderConfig) (handler : H) (room : Room) (t : Account) → Offers t → Would {H = H} (RestartReader config handler room) t (link.reader_restarted t)
+  restarts_would config handler room t o =
       inr (ThrowAway, tt, tt, ap (λ es. record (two_lists t) { queued = es }) (is_front t.offered t.kept o.offered.0 o.offered.1))
 
   retargets_would : (refusal : Option ControllerFault) (address : ℕ) (l : Link H) → two_lists (link.retargets refusal address l).account ≡ two_lists l.account
@@ -368,8 +368,8 @@ module _ {H : Type 0} (answer_of : H → Command → Answer) (after : H → Comm
   one_or_none (SetHandler handler) l apart offers before later = inl refl
   one_or_none Withdraw l apart offers before later = inl refl
   one_or_none (Retarget address) l apart offers before later = inl (retargets_would (controllers.retarget_refusal address l.controller) address l)
-  one_or_none (RestartReader address handler room) l apart offers before later =
-      is_one (RestartReader address handler room) l.account (link.reader_restarted l.account) before later (restarts_would address handler room l.account offers)
+  one_or_none (RestartReader config handler room) l apart offers before later =
+      is_one (RestartReader config handler room) l.account (link.reader_restarted l.account) before later (restarts_would config handler room l.account offers)
   one_or_none (RestartController config room) l apart offers before later = inl refl
 
 -- ---- all moves
@@ -378,7 +378,7 @@ module _ {H : Type 0} (answer_of : H → Command → Answer) (after : H → Comm
   pub offers_once : OffersOnce answer_of after
   offers_once l moves b fits =
       let s = stands answer_of after peers l moves b fits in
-      offers_at s.fixed answer_of after l.reader.config (run answer_of after moves l) s.goes
+      offers_at s.fixed answer_of after (run answer_of after moves l) s.goes
 
   once_now : (l : Link H) (moves : List (Move H)) → Begins l → MovesFit answer_of after moves l → IsOnce (run answer_of after moves l).account
   once_now l moves b fits = (all_once answer_of after peers l moves b fits).0
@@ -395,16 +395,15 @@ module _ {H : Type 0} (answer_of : H → Command → Answer) (after : H → Comm
       → MoveFits answer_of after move (run answer_of after moves l)
       → IsInStep (two_lists (after_move answer_of after move (run answer_of after moves l)).account)
   next_counts l moves move b fits fit =
-      let settings = l.reader.config in
       let later = run answer_of after moves l in
       let next = after_move answer_of after move later in
-      let given = assumed_of answer_of after peers l in
-      let s = standing answer_of after settings given move later fit (stands answer_of after peers l moves b fits) in
-      in_step next.account (is_once_now answer_of after settings next s) (offers_at s.fixed answer_of after settings next s.goes)
+      let given = assumed answer_of after peers in
+      let s = standing answer_of after given move later fit (stands answer_of after peers l moves b fits) in
+      in_step next.account (is_once_now answer_of after next s) (offers_at s.fixed answer_of after next s.goes)
 
   pub moves_in_step : MovesInStep answer_of after
   moves_in_step l moves move b fits fit =
       let s = stands answer_of after peers l moves b fits in
-      let apart = stands_apart s.fixed answer_of after l.reader.config (run answer_of after moves l) s.goes in
+      let apart = stands_apart s.fixed answer_of after (run answer_of after moves l) s.goes in
       one_or_none answer_of after move (run answer_of after moves l)
       (apart.more, apart.kept) (offers_once l moves b fits) (read_off l moves b fits).0 (next_counts l moves move b fits fit)

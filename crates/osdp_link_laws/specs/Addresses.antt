@@ -10,7 +10,7 @@ use Rattle.osdp_link_laws.specs.Sessions.{all_submitted}
 -- no other address is set, and both ends restart where they are
 abbrev pub SetsNoOther : {H : Type 0} → ℕ → ℕ → Move H → Type 0
 SetsNoOther reader controller (Retarget address) = address ≡ controller
-SetsNoOther reader controller (RestartReader address handler room) = address ≡ reader
+SetsNoOther reader controller (RestartReader config handler room) = config.address ≡ reader
 SetsNoOther reader controller (RestartController config room) = config.address ≡ controller
 SetsNoOther reader controller _ = Unit {0}
 

@@ -5,6 +5,7 @@ use Rattle.osdp_msg.specs.declared.command.Command.{Command}
 use Rattle.osdp_msg.specs.declared.event.Event.{Event}
 use Rattle.osdp_controller.specs.Machine.{AreSettings}
 use Rattle.osdp_controller.specs.declared.config.ControllerConfig.{ControllerConfig}
+use Rattle.osdp_reader.specs.declared.config.ReaderConfig.{ReaderConfig}
 use Rattle.osdp_reader.specs.declared.handler.Answer.{Answer}
 use Rattle.osdp_link_laws.specs.Effects.{Forgets, SameButController, SameCommands}
 use Rattle.osdp_link_laws.specs.Headline.{Begins, IsBeginning, IsWithout, MovesFit}
@@ -49,20 +50,20 @@ module _ {H : Type 0} where
     -- what may be reported in this session after the restart: what was offered before it, and what is queued after it, but those of these that
     -- are withdrawn. Whatever was thrown away is none of these.
     abbrev pub ReportsNoMore : Type 0
-    ReportsNoMore = (l : Link H) (moves : List (Move H)) (address : ℕ) (handler : H) (room : Room) (more : List (Move H)) → Begins l
+    ReportsNoMore = (l : Link H) (moves : List (Move H)) (config : ReaderConfig) (handler : H) (room : Room) (more : List (Move H)) → Begins l
         → MovesFit answer_of after moves l
         → let before = run answer_of after moves l in
-        let next = after_move answer_of after (RestartReader address handler room) before in
+        let next = after_move answer_of after (RestartReader config handler room) before in
         let last = run answer_of after more next in
-        MovesFit answer_of after (RestartReader address handler room ∷ more) before → All KeepsReader more
+        MovesFit answer_of after (RestartReader config handler room ∷ more) before → All KeepsReader more
         → length last.earlier ≡ length before.earlier
         → ReportsOnly before.account.offered (all_queued answer_of after more next) next.account last.account
 
     abbrev pub ReaderRestartCosts : Type 0
-    ReaderRestartCosts = (l : Link H) (moves : List (Move H)) (address : ℕ) (handler : H) (room : Room) → Begins l
+    ReaderRestartCosts = (l : Link H) (moves : List (Move H)) (config : ReaderConfig) (handler : H) (room : Room) → Begins l
         → MovesFit answer_of after moves l
         → let before = run answer_of after moves l in
-        ReaderCosts before (after_move answer_of after (RestartReader address handler room) before)
+        ReaderCosts before (after_move answer_of after (RestartReader config handler room) before)
 
     abbrev pub ControllerRestartCosts : Type 0
     ControllerRestartCosts = (l : Link H) (moves : List (Move H)) (config : ControllerConfig) (room : Room) → Begins l

@@ -13,6 +13,7 @@ use Rattle.osdp_controller.specs.declared.state.State.TheVariants.{Closed}
 use Rattle.osdp_reader.specs.Replies.{refused}
 use Rattle.osdp_reader.specs.State.{ReaderState}
 use Rattle.osdp_reader.specs.Table.{answer_to, command_in, hears, kind_of}
+use Rattle.osdp_reader.specs.declared.config.ReaderConfig.{ReaderConfig}
 use Rattle.osdp_reader.specs.declared.handler.Answer.{Answer}
 use Rattle.osdp_reader.specs.declared.kind.Kind.TheVariants.{Repeat, Taken}
 use Rattle.osdp_reader_laws.specs.Laws.{ComesTo, DiffersByHandler}
@@ -74,10 +75,9 @@ LosesOne {A} place old new =
     × (length old ≤ place → new ≡ old)
 
 module _ {H : Type 0} where
-  -- the same device at this address, with this handler and this room: nothing was taken and nothing is stored, no event waits, and it isn't
-  -- busy
-  pub record IsNewReader (here : ℕ) (answering : H) (room : Room) (old new : ReaderState H) : Type 0 where
-    pub config : new.config ≡ record old.config { address = here }
+  -- a device with these settings, this handler and this room: nothing was taken and nothing is stored, no event waits, and it isn't busy
+  pub record IsNewReader (made : ReaderConfig) (answering : H) (room : Room) (new : ReaderState H) : Type 0 where
+    pub config : new.config ≡ made
     pub last : new.last ≡ None
     pub stored : new.stored ≡ None
     pub queue : new.queue ≡ record { events = []; capacity = room.messages; room = room.bytes; offered = false; ever_offered = false }
@@ -140,7 +140,7 @@ module _ {H : Type 0} where
   -- how often the reader restarts
   abbrev pub restarts_in : List (Move H) → ℕ
   restarts_in [] = 0
-  restarts_in (RestartReader address handler room ∷ moves) = suc (restarts_in moves)
+  restarts_in (RestartReader config handler room ∷ moves) = suc (restarts_in moves)
   restarts_in (move ∷ moves) = restarts_in moves
 
   module _ (answer_of : H → Command → Answer) (after : H → Command → H) where
@@ -160,9 +160,9 @@ module _ {H : Type 0} where
         × ((hears answer_of after new p).reader ≡ new)
 
     -- the reader is new, and what its queue held and it had not offered in the session is thrown away
-    pub record HasNewReader (address : ℕ) (handler : H) (room : Room) (l next : Link H) : Type 0 where
+    pub record HasNewReader (config : ReaderConfig) (handler : H) (room : Room) (l next : Link H) : Type 0 where
       pub others : SameButReader l next
-      pub reader : IsNewReader address handler room l.reader next.reader
+      pub reader : IsNewReader config handler room next.reader
       pub refuses : RefusesNumbers next.reader
       pub account : (gone : List Event) → l.account.kept ≡ l.account.offered ++ gone → ThrowsAway gone l.account next.account
 
@@ -209,8 +209,8 @@ module _ {H : Type 0} where
       pub withdraw : Withdraws
       pub event : WithdrawsEvents
       pub retarget : Retargets
-      pub reader : (l : Link H) (address : ℕ) (handler : H) (room : Room)
-          → HasNewReader address handler room l (after_move answer_of after (RestartReader address handler room) l)
+      pub reader : (l : Link H) (config : ReaderConfig) (handler : H) (room : Room)
+          → HasNewReader config handler room l (after_move answer_of after (RestartReader config handler room) l)
       pub controller : (l : Link H) (config : ControllerConfig) (room : Room)
           → HasNewController config room l (after_move answer_of after (RestartController config room) l)
       pub losses : Loses

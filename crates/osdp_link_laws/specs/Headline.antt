@@ -85,7 +85,7 @@ module _ {H : Type 0} where
     MoveFits Withdraw l = Unit {0}
     MoveFits (Retarget address) l = Unit {0}
     MoveFits WithdrawEvent l = Unit {0}
-    MoveFits (RestartReader address handler room) l = (address < 127) × AreRoom room.messages room.bytes
+    MoveFits (RestartReader config handler room) l = (config.address < 127) × AreRoom room.messages room.bytes
     MoveFits (RestartController config room) l = AreSettings config room.messages room.bytes
     MoveFits (LoseToReader place) l = Unit {0}
     MoveFits (LoseToController place) l = Unit {0}

@@ -18,6 +18,7 @@ use Rattle.osdp_controller.specs.Hearing as controller
 use Rattle.osdp_controller.specs.Machine as controllers
 use Rattle.osdp_controller.specs.Machine.{Machine}
 use Rattle.osdp_controller.specs.Ticking.{Ticked, ticks}
+use Rattle.osdp_reader.specs.declared.config.ReaderConfig.{ReaderConfig}
 use Rattle.osdp_reader.specs.declared.handler.Answer.{Answer}
 use Rattle.osdp_reader.specs.declared.kind.Kind.{Kind}
 use Rattle.osdp_reader.specs.declared.kind.Kind.TheVariants as kind
@@ -95,9 +96,9 @@ pub data Delivery : Type 0 where
 -- what may happen to a link, at any moment. `Reopen`: a session begins again. `SetHandler`: the device has another handler from now on.
 -- `Withdraw`: where the controller is closed, the command that has waited longest is taken back. `Retarget`: where it is closed, its
 -- address is set. `WithdrawEvent`: the device takes the oldest event back that it has never offered, if there is one. `RestartReader`: the reader
--- is new, at this address, with this handler and room for events. `RestartController`: the controller is new, with these settings and room for
--- commands. What is on the line stays on it. `LoseToReader`, `LoseToController`: what stands at this place of the line, the front at 0, is lost,
--- beside what others say on it.
+-- is new, with these settings, this handler and this room for events: the same device where its identity and its capabilities are as before, and
+-- else another in its place. `RestartController`: the controller is new, with these settings and room for commands. What is on the line stays on
+-- it. `LoseToReader`, `LoseToController`: what stands at this place of the line, the front at 0, is lost, beside what others say on it.
 pub data Move (H : Type 0) : Type 0 where
   Submit : Command → Move H
   Queue : Event → Move H
@@ -110,7 +111,7 @@ pub data Move (H : Type 0) : Type 0 where
   Withdraw : Move H
   Retarget : ℕ → Move H
   WithdrawEvent : Move H
-  RestartReader : ℕ → H → Room → Move H
+  RestartReader : ReaderConfig → H → Room → Move H
   RestartController : ControllerConfig → Room → Move H
   LoseToReader : ℕ → Move H
   LoseToController : ℕ → Move H
@@ -247,10 +248,10 @@ module _ {H : Type 0} where
   abbrev pub withdraws_event : Link H → Link H
   withdraws_event l = record l { reader = readers.after_withdraw_event l.reader; account = event_withdrawn l.reader.queue l.account }
 
-  -- the same device, with nothing taken, nothing stored and no event
-  abbrev pub restarts_reader : ℕ → H → Room → Link H → Link H
-  restarts_reader address handler room l = record l {
-    reader = readers.new_reader (record l.reader.config { address = address }) handler room;
+  -- a device with nothing taken, nothing stored and no event, the same or another
+  abbrev pub restarts_reader : ReaderConfig → H → Room → Link H → Link H
+  restarts_reader config handler room l = record l {
+    reader = readers.new_reader config handler room;
     account = reader_restarted l.account;
   }
 
@@ -296,7 +297,7 @@ module _ {H : Type 0} where
     after_move Withdraw l = withdraws l
     after_move (Retarget address) l = retargets (controllers.retarget_refusal address l.controller) address l
     after_move WithdrawEvent l = withdraws_event l
-    after_move (RestartReader address handler room) l = restarts_reader address handler room l
+    after_move (RestartReader config handler room) l = restarts_reader config handler room l
     after_move (RestartController config room) l = restarts_controller config room l
     after_move (LoseToReader place) l = record l { to_reader = lost_at place l.to_reader }
     after_move (LoseToController place) l = record l { to_controller = lost_at place l.to_controller }

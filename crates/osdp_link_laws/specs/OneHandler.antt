@@ -12,13 +12,17 @@ use Rattle.osdp_link_laws.specs.Link.{Account, Link, Move, RestartReader, SetHan
 -- the reader doesn't restart, and its handler isn't set
 abbrev pub KeepsDevice : {H : Type 0} → Move H → Type 0
 KeepsDevice (SetHandler handler) = ⊥
-KeepsDevice (RestartReader address handler room) = ⊥
+KeepsDevice (RestartReader config handler room) = ⊥
 KeepsDevice _ = Unit {0}
 
--- .. or it has the handler that it has already
+-- this device, at whatever address, says the same to ID and to CAP
+abbrev pub IsSameModel : ReaderConfig → ReaderConfig → Type 0
+IsSameModel config now = (config.id ≡ now.id) × (config.caps ≡ now.caps)
+
+-- .. or it is the same model, with the handler that it has already: one of another model is another device
 abbrev pub KeepsHandler : {H : Type 0} → Move H → Link H → Type 0
 KeepsHandler (SetHandler handler) l = handler ≡ l.reader.handler
-KeepsHandler (RestartReader address handler room) l = handler ≡ l.reader.handler
+KeepsHandler (RestartReader config handler room) l = (handler ≡ l.reader.handler) × IsSameModel config l.reader.config
 KeepsHandler _ l = Unit {0}
 
 module _ {H : Type 0} (answer_of : H → Command → Answer) (after : H → Command → H) where

@@ -11,7 +11,7 @@ use Rattle.osdp_link_laws.specs.Sessions.{HaveLeft, Leaves, settled_commands}
 abbrev pub IsOrdinary : {H : Type 0} → Move H → Type 0
 IsOrdinary Withdraw = ⊥
 IsOrdinary WithdrawEvent = ⊥
-IsOrdinary (RestartReader address handler room) = ⊥
+IsOrdinary (RestartReader config handler room) = ⊥
 IsOrdinary (RestartController config room) = ⊥
 IsOrdinary _ = Unit {0}
 
@@ -21,7 +21,7 @@ IsSteady (SetHandler handler) = ⊥
 IsSteady Withdraw = ⊥
 IsSteady WithdrawEvent = ⊥
 IsSteady (Retarget address) = ⊥
-IsSteady (RestartReader address handler room) = ⊥
+IsSteady (RestartReader config handler room) = ⊥
 IsSteady (RestartController config room) = ⊥
 IsSteady (LoseToReader place) = ⊥
 IsSteady (LoseToController place) = ⊥

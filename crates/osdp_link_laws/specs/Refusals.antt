@@ -22,7 +22,7 @@ told_by_front _ _ now s = None
 
 -- the reader doesn't restart
 abbrev pub KeepsReader : {H : Type 0} → Move H → Type 0
-KeepsReader (RestartReader address handler room) = ⊥
+KeepsReader (RestartReader config handler room) = ⊥
 KeepsReader _ = Unit {0}
 
 abbrev pub IsOtherCause : LostCause → Type 0

@@ -94,7 +94,7 @@ IsStepOf (link.ToReader how) Take = Unit {0}
 IsStepOf (link.ToReader how) Offer = Unit {0}
 IsStepOf (link.ToController how now) Settle = Unit {0}
 IsStepOf (link.ToController how now) Report = Unit {0}
-IsStepOf (link.RestartReader address handler room) ThrowAway = Unit {0}
+IsStepOf (link.RestartReader config handler room) ThrowAway = Unit {0}
 IsStepOf link.WithdrawEvent (WithdrawEvent place) = Unit {0}
 IsStepOf _ _ = ⊥
 

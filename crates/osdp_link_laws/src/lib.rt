@@ -56,15 +56,16 @@ pub fn read_each_other<H: Handler>()
 
 /// Within each session, opened by ID on a quiet line, commands are taken once and in order, settled with the answers that the reader gave to them
 /// then, and events are reported once and in order, but those that the device has withdrawn, and those that a restart of the reader threw away
-/// before they were offered. So it is over every list of losses, repeats and detected damage, whatever the device tells, and whoever restarts.
+/// before they were offered. So it is over every list of losses, repeats and detected damage, whatever the device tells, whoever restarts, and
+/// whatever model comes back.
 pub fn holds_once<H: Handler>()
     ensures { HoldsOnce H.answer_of H.after }
 {
     read_each_other::<H>();
 }
 
-/// Where the device never changes, the answers given are its settings' to ID, CAP and COMSET, and its handler's to all others, in order. Where
-/// the reader doesn't restart either, the events reported are a beginning of all that were queued and not withdrawn.
+/// Where the device stays the same model, with one handler, the answers given are its settings' to ID, CAP and COMSET, and its handler's to all
+/// others, in order. Where the reader doesn't restart either, the events reported are a beginning of all that were queued and not withdrawn.
 pub fn answers_of_one_handler<H: Handler>()
     ensures answers { GivesItsAnswers H.answer_of H.after }
     ensures once { OneHandlerHoldsOnce H.answer_of H.after }
@@ -90,7 +91,7 @@ pub fn sessions_in_a_row<H: Handler>()
 
 /// A restart of the reader costs exactly the events in its queue, but the one in front where it has offered that in this session, which
 /// is reported already or may be heard later; and at most the session. No command is lost. Nothing else is reported in that session but what
-/// was offered before, and what is queued since and not withdrawn.
+/// was offered before, and what is queued since and not withdrawn. A spare of another model in its place costs the same.
 ///
 /// Of the controller: the outstanding command, of which it isn't known whether the reader has taken it, and those that waited. All others had
 /// ended before, and no event is lost.

@@ -12,7 +12,6 @@ use Rattle.osdp_controller.specs.Ticking.{ticks}
 use Rattle.osdp_controller.specs.declared.fault.ControllerFault.{ControllerFault}
 use Rattle.osdp_reader.specs.Queue.{event_for, lacks_room, never_offered, released}
 use Rattle.osdp_reader.specs.Table.{begun, command_in, event_or_answer, kind_of, outcome, taken}
-use Rattle.osdp_reader.specs.declared.config.ReaderConfig.{ReaderConfig}
 use Rattle.osdp_reader.specs.declared.handler.Answer.{Answer}
 use Rattle.osdp_reader.specs.declared.kind.Kind.{Kind}
 use Rattle.osdp_reader.specs.declared.kind.Kind.TheVariants as kind
@@ -27,7 +26,7 @@ use Rattle.osdp_link_laws.specs.Link.{Account, Delivered, Delivery, Link, Lost, 
 use Rattle.osdp_link_laws.specs.Peers.{ReadEachOther}
 use Rattle.osdp_link_laws.specs.Refusals.{told_by_front}
 use Rattle.osdp_link_laws.specs.Sessions.{accepted, all_queued, all_submitted, queued, submitted, unless_full}
-use Rattle.osdp_link_laws.proofs.InARow.{Assumed, Stands, assumed_of, begins, standing}
+use Rattle.osdp_link_laws.proofs.InARow.{Assumed, Stands, assumed, begins, standing}
 use Rattle.osdp_link_ledger.specs.Accounts.{LedgerTellsAccounts, in_all}
 use Rattle.osdp_link_ledger.specs.Steps.{acts, after_steps, all_steps, leaves, leaves_and_acts, leaving, opens, queued_before, queues, steps_before, steps_of, submits, submitted_before, ticked, to_reader, told}
 use Rattle.osdp_link_ledger.proofs.Keeping.{keeps_one}
@@ -144,8 +143,8 @@ module _ {H : Type 0} (answer_of : H → Command → Answer) (after : H → Comm
   to_reader_tally Lost (p ∷ ps) l h reads i = i
   to_reader_tally Repeated (p ∷ ps) l h reads i = by_kind p l h (kind_of l.reader p) refl (reads p ps refl) i
 
-module _ {H : Type 0} (answer_of : H → Command → Answer) (after : H → Command → H) (settings : ReaderConfig) where
-  tallies_one : Assumed answer_of after settings → (cs : List Command) (es : List Event) (move : Move H) (l : Link H) (h : History) → Stands answer_of after settings l
+module _ {H : Type 0} (answer_of : H → Command → Answer) (after : H → Command → H) where
+  tallies_one : Assumed answer_of after → (cs : List Command) (es : List Event) (move : Move H) (l : Link H) (h : History) → Stands answer_of after l
       → IsTied l h.ledger → TallyOf cs es l h
       → TallyOf (cs ++ submitted move l) (es ++ queued move l) (after_move answer_of after move l) (runs (steps_of answer_of after move l h.ledger) h)
   tallies_one given cs es move l h s tied i = by_move move
@@ -165,7 +164,7 @@ module _ {H : Type 0} (answer_of : H → Command → Answer) (after : H → Comm
           (tells cs es l.earlier t.step.report l.account (runs first h) h.ledger (opening cs es l.earlier l.controller.session.state t.step.frame l.account h i)))
       by_move (ToReader how) =
           still (link.to_reader answer_of after l.to_reader how l) (to_reader answer_of after l.to_reader how l.reader h.ledger)
-          (to_reader_tally answer_of after cs es how l.to_reader l h (λ p rest is. read s.fixed answer_of after settings (given s.fixed s.device) p rest l is s.goes) i)
+          (to_reader_tally answer_of after cs es how l.to_reader l h (λ p rest is. read s.fixed answer_of after (given s.fixed s.device) p rest l is s.goes) i)
       by_move (ToController how now) =
           still (link.to_controller l.to_controller how now l) (told (told_by_front how l.to_controller now l.controller.session) h.ledger)
           (to_controller_tally cs es how l.to_controller now l h i)
@@ -181,9 +180,9 @@ module _ {H : Type 0} (answer_of : H → Command → Answer) (after : H → Comm
           let t = link.event_withdrawn l.reader.queue l.account in
           still (link.withdraws_event l) (steps_of answer_of after WithdrawEvent l h.ledger)
           (withdrawing_event_tally cs es l.earlier (never_offered l.reader.queue) l.reader.queue.ever_offered t.stayed t.kept l.account h h.ledger i)
-      by_move (RestartReader address handler room) =
+      by_move (RestartReader config handler room) =
           let t = link.reader_restarted l.account in
-          still (link.restarts_reader address handler room l) (steps_of answer_of after (RestartReader address handler room) l h.ledger)
+          still (link.restarts_reader config handler room l) (steps_of answer_of after (RestartReader config handler room) l h.ledger)
           (device_tally cs es l.earlier t.kept t.thrown_away t.restarts l.account h i)
       by_move (RestartController config room) =
           let state = l.controller.session.state in
@@ -193,19 +192,19 @@ module _ {H : Type 0} (answer_of : H → Command → Answer) (after : H → Comm
       by_move (LoseToReader place) = still l [] i
       by_move (LoseToController place) = still l [] i
 
-  tallies_all : Assumed answer_of after settings → (moves : List (Move H)) (cs : List Command) (es : List Event) (l : Link H) (h : History) → MovesFit answer_of after moves l
-      → Stands answer_of after settings l → Events h → IsTied l h.ledger → TallyOf cs es l h
+  tallies_all : Assumed answer_of after → (moves : List (Move H)) (cs : List Command) (es : List Event) (l : Link H) (h : History) → MovesFit answer_of after moves l
+      → Stands answer_of after l → Events h → IsTied l h.ledger → TallyOf cs es l h
       → TallyOf (cs ++ all_submitted answer_of after moves l) (es ++ all_queued answer_of after moves l) (run answer_of after moves l) (runs (all_steps answer_of after moves l h.ledger) h)
   tallies_all given [] cs es l h fits s i tied tally = as_before cs es l.earlier l.account h tally
   tallies_all given (move ∷ moves) cs es l h fits s i tied tally =
-      let one = keeps_one answer_of after settings given move l h.ledger (placed h i) fits.0 s tied in
+      let one = keeps_one answer_of after given move l h.ledger (placed h i) fits.0 s tied in
       let steps = steps_of answer_of after move l h.ledger in
       let next = after_move answer_of after move l in
       let last = run answer_of after moves next in
       let same = runs_after steps h in
       let more_commands = all_submitted answer_of after moves next in
       let more_events = all_queued answer_of after moves next in
-      let rest = tallies_all given moves (cs ++ submitted move l) (es ++ queued move l) next (runs steps h) fits.1 (standing answer_of after settings given move l fits.0 s) (events_keep steps h one.0 i)
+      let rest = tallies_all given moves (cs ++ submitted move l) (es ++ queued move l) next (runs steps h) fits.1 (standing answer_of after given move l fits.0 s) (events_keep steps h one.0 i)
       (subst (IsTied next) (sym same) one.1) (tallies_one given cs es move l h s tied tally) in
       let more = all_steps answer_of after moves next (after_steps steps h.ledger) in
       let placed_so : TallyOf (cs ++ (submitted move l ++ more_commands)) (es ++ (queued move l ++ more_events)) last (runs more (runs steps h)) =
@@ -278,7 +277,7 @@ module _ {H : Type 0} (answer_of : H → Command → Answer) (after : H → Comm
       let last = run answer_of after moves l in
       let cs = l.controller.waiting ++ all_submitted answer_of after moves l in
       let es = l.reader.queue.events ++ all_queued answer_of after moves l in
-      let rest = tallies_all answer_of after l.reader.config (assumed_of answer_of after peers l) moves l.controller.waiting l.reader.queue.events l h fits (begins answer_of after l b)
+      let rest = tallies_all answer_of after (assumed answer_of after peers) moves l.controller.waiting l.reader.queue.events l h fits (begins answer_of after l b)
       (events_keep before new_history first.0 at_first) (subst (IsTied l) (sym same) first.1) (begins_tally l b) in
       let more = all_steps answer_of after moves l (after_steps before new_ledger) in
       let i : TallyOf cs es last (runs (before ++ more) new_history) =

@@ -21,7 +21,7 @@ module _ {H : Type 0} (answer_of : H → Command → Answer) (after : H → Comm
 
   keeps_handler : (m : Move H) (l : Link H) → KeepsDevice m → KeepsHandler m l
   keeps_handler (SetHandler handler) l keeps = absurd keeps
-  keeps_handler (RestartReader address handler room) l keeps = absurd keeps
+  keeps_handler (RestartReader config handler room) l keeps = absurd keeps
   keeps_handler m l keeps = tt
 
   pub keep_handler : (ms : List (Move H)) (l : Link H) → Each KeepsDevice ms → KeepHandler answer_of after ms l

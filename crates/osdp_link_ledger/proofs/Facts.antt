@@ -13,7 +13,6 @@ use Rattle.osdp_controller.specs.declared.exchange.Exchange.TheVariants.{Opening
 use Rattle.osdp_controller.specs.declared.session.Session.{Session}
 use Rattle.osdp_controller.specs.declared.state.State.{State}
 use Rattle.osdp_controller.specs.declared.state.State.TheVariants.{Closed, Quiet, Idle, Waiting, Pausing}
-use Rattle.osdp_reader.specs.declared.config.ReaderConfig.{ReaderConfig}
 use Rattle.osdp_reader.specs.declared.handler.Answer.{Answer}
 use Rattle.osdp_link_laws.specs.Headline.{asked}
 use Rattle.osdp_link_laws.specs.Link.{Link, outstanding_command}
@@ -102,8 +101,8 @@ module _ (fixed : ControllerConfig) where
   out_at (Level past x a) s is way = asks_out s.state (number_after past) x s is way ∙ sym (owed_is x a)
   out_at (Rest n x a) s is way = rests_out s.state n s is way
 
-  module _ {H : Type 0} (answer_of : H → Command → Answer) (after : H → Command → H) (settings : ReaderConfig) where
-    pub facts : (l : Link H) → Goes fixed answer_of after settings l → Facts l
+  module _ {H : Type 0} (answer_of : H → Command → Answer) (after : H → Command → H) where
+    pub facts : (l : Link H) → Goes fixed answer_of after l → Facts l
     facts l h =
         let at = h.holds.1 in
         let held = h.holds.2 in

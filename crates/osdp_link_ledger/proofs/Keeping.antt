@@ -20,7 +20,6 @@ use Rattle.osdp_reader.specs.Queue.{Queue as EventQueue, event_for, lacks_room, 
 use Rattle.osdp_reader.specs.State.{ReaderState}
 use Rattle.osdp_reader.specs.Table as reader
 use Rattle.osdp_reader.specs.Table.{begun, command_in, event_or_answer, kind_of, moved, new_address, outcome}
-use Rattle.osdp_reader.specs.declared.config.ReaderConfig.{ReaderConfig}
 use Rattle.osdp_reader.specs.declared.handler.Answer.{Answer}
 use Rattle.osdp_reader.specs.declared.kind.Kind.{Kind}
 use Rattle.osdp_reader.specs.declared.kind.Kind.TheVariants as kind
@@ -361,24 +360,24 @@ module _ {H : Type 0} (answer_of : H → Command → Answer) (after : H → Comm
 
 -- ---- each move
 
-module _ {H : Type 0} (answer_of : H → Command → Answer) (after : H → Command → H) (settings : ReaderConfig) where
-  pub keeps_one : Assumed answer_of after settings → (move : Move H) (l : Link H) (g : Ledger) → Placed g → MoveFits answer_of after move l
-      → Stands answer_of after settings l → IsTied l g → Leads (steps_of answer_of after move l g) g (IsTied (after_move answer_of after move l))
+module _ {H : Type 0} (answer_of : H → Command → Answer) (after : H → Command → H) where
+  pub keeps_one : Assumed answer_of after → (move : Move H) (l : Link H) (g : Ledger) → Placed g → MoveFits answer_of after move l
+      → Stands answer_of after l → IsTied l g → Leads (steps_of answer_of after move l g) g (IsTied (after_move answer_of after move l))
   keeps_one given move l g placed fits s h = by_move move fits (λ fits. next_facts move fits)
     where
       now : Facts l
-      now = facts s.fixed answer_of after settings l s.goes
+      now = facts s.fixed answer_of after l s.goes
 
       next_facts : (move : Move H) → MoveFits answer_of after move l → Facts (after_move answer_of after move l)
       next_facts move fits =
-          let n = standing answer_of after settings given move l fits s in
-          facts n.fixed answer_of after settings (after_move answer_of after move l) n.goes
+          let n = standing answer_of after given move l fits s in
+          facts n.fixed answer_of after (after_move answer_of after move l) n.goes
 
-      premises : Premises s.fixed answer_of after settings
+      premises : Premises s.fixed answer_of after
       premises = given s.fixed s.device
 
       all_are_read : Each IsRead l.to_controller
-      all_are_read = all_read s.fixed answer_of after settings s.goes.holds.0 premises s.goes.holds.1 (as_waiting l) s.goes.holds.2
+      all_are_read = all_read s.fixed answer_of after s.goes.holds.0 premises s.goes.holds.1 (as_waiting l) s.goes.holds.2
 
       by_move : (move : Move H) → MoveFits answer_of after move l → (MoveFits answer_of after move l → Facts (after_move answer_of after move l))
           → Leads (steps_of answer_of after move l g) g (IsTied (after_move answer_of after move l))
@@ -390,7 +389,7 @@ module _ {H : Type 0} (answer_of : H → Command → Answer) (after : H → Comm
           ticking l g h now (ticks now_at l.controller.session l.controller.waiting)
           (record { owing = k.owing; untold = k.untold; given = k.given; offered = k.offered }) (tick_is now_at l.controller.session l.controller.waiting)
       by_move (ToReader how) fits next =
-          reading answer_of after premises.tells l g placed h now how l.to_reader refl (λ p rest is. read s.fixed answer_of after settings premises p rest l is s.goes) (next fits)
+          reading answer_of after premises.tells l g placed h now how l.to_reader refl (λ p rest is. read s.fixed answer_of after premises p rest l is s.goes) (next fits)
       by_move (ToController how at) fits next =
           let k = next fits in
           hearing l g h now how l.to_controller at refl all_are_read (record { owing = k.owing; untold = k.untold; given = k.given; offered = k.offered })
@@ -399,9 +398,9 @@ module _ {H : Type 0} (answer_of : H → Command → Answer) (after : H → Comm
       by_move Withdraw fits next = withdrawing l.controller.session.state l.controller.waiting l.reader.queue l.to_reader l.to_controller l.account g h
       by_move (Retarget address) fits next = (tt, retargeting (controllers.retarget_refusal address l.controller) address l g h)
       by_move WithdrawEvent fits next =
-          let apart = stands_apart s.fixed answer_of after settings l s.goes in
+          let apart = stands_apart s.fixed answer_of after l s.goes in
           withdrawing_event l.reader.queue l.controller.session.state l.controller.waiting l.to_reader l.to_controller l.account g (l.account.offered ++ apart.more) placed apart.kept h
-      by_move (RestartReader address handler room) fits next =
+      by_move (RestartReader config handler room) fits next =
           restarting_device l.controller.session.state l.controller.waiting l.reader.queue l.to_reader l.to_controller l.account g room h
       by_move (RestartController config room) fits next = restarting_panel l g now h
       by_move (LoseToReader place) fits next = (

@@ -155,7 +155,7 @@ module _ {H : Type 0} (answer_of : H → Command → Answer) (after : H → Comm
   move_plain link.Withdraw l g ordinary = absurd ordinary
   move_plain (Retarget address) l g ordinary = tt
   move_plain link.WithdrawEvent l g ordinary = absurd ordinary
-  move_plain (RestartReader address handler room) l g ordinary = absurd ordinary
+  move_plain (RestartReader config handler room) l g ordinary = absurd ordinary
   move_plain (RestartController config room) l g ordinary = absurd ordinary
   move_plain (LoseToReader place) l g ordinary = tt
   move_plain (LoseToController place) l g ordinary = tt

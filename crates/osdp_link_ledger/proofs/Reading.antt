@@ -15,7 +15,6 @@ use Rattle.osdp_controller.specs.declared.exchange.Exchange.{Exchange}
 use Rattle.osdp_controller.specs.declared.exchange.Exchange.TheVariants.{Opening, Polling, Asking}
 use Rattle.osdp_reader.specs.Queue.{Queue as EventQueue, released}
 use Rattle.osdp_reader.specs.Table.{command_in, kind_of}
-use Rattle.osdp_reader.specs.declared.config.ReaderConfig.{ReaderConfig}
 use Rattle.osdp_reader.specs.declared.handler.Answer.{Answer}
 use Rattle.osdp_reader.specs.declared.kind.Kind.{Kind}
 use Rattle.osdp_reader.specs.declared.kind.Kind.TheVariants as kind
@@ -100,9 +99,9 @@ repeat = ((λ e. cc), (λ e. cc))
 wrong : Neither kind.Wrong
 wrong = ((λ e. cc), (λ e. cc))
 
-module _ (fixed : ControllerConfig) {H : Type 0} (answer_of : H → Command → Answer) (after : H → Command → H) (settings : ReaderConfig) where
+module _ (fixed : ControllerConfig) {H : Type 0} (answer_of : H → Command → Answer) (after : H → Command → H) where
   abbrev Given : Type 0
-  Given = Premises fixed answer_of after settings
+  Given = Premises fixed answer_of after
 
   neither : (p : Packet) (l : Link H) → Neither (kind_of l.reader p) → IsReadAs p l
   neither p l n = record { taken = λ e. absurd (n.0 e); zero = λ e. absurd (n.1 e) }
@@ -127,7 +126,7 @@ module _ (fixed : ControllerConfig) {H : Type 0} (answer_of : H → Command → 
   numbered_again Now n x a l above here last knows =
       neither (frame fixed x n) l (other_kind (kind_of l.reader (frame fixed x n)) kind.Wrong (kind_unknown fixed l.reader x n here above knows) wrong)
 
-  again_here : Given → (since : Restarted) (n : ℕ) (x : Exchange) (a : Reply) (l : Link H) → Acted settings.id n x a → Knows fixed since n x a l.reader
+  again_here : Given → (since : Restarted) (n : ℕ) (x : Exchange) (a : Reply) (l : Link H) → Acted n x a → Knows fixed since n x a l.reader
       → l.reader.config.address ≡ fixed.address → IsReadAs (frame fixed x n) l
   again_here given since zero Opening a l acted knows here = opening given l here
   again_here given since (suc n) Opening a l acted knows here = absurd acted.1
@@ -136,7 +135,7 @@ module _ (fixed : ControllerConfig) {H : Type 0} (answer_of : H → Command → 
   again_here given since n (Asking c) a l acted knows here =
       numbered_again since n (Asking c) a l acted.1 here (λ k hears. ((has_acted fixed since n (Asking c) a l.reader hears k).here here).0) knows
 
-  again : Given → (since : Restarted) (n : ℕ) (x : Exchange) (a : Reply) (l : Link H) → Acted settings.id n x a → Knows fixed since n x a l.reader → IsReadAs (frame fixed x n) l
+  again : Given → (since : Restarted) (n : ℕ) (x : Exchange) (a : Reply) (l : Link H) → Acted n x a → Knows fixed since n x a l.reader → IsReadAs (frame fixed x n) l
   again given since n x a l acted knows =
       elim (eqb_tells l.reader.config.address fixed.address) [
         | inl same ↦ again_here given since n x a l acted knows same.1
@@ -144,7 +143,7 @@ module _ (fixed : ControllerConfig) {H : Type 0} (answer_of : H → Command → 
       ]
 
   -- the next one is
-  takes : (since : Restarted) (n : ℕ) (y : Exchange) (b : Reply) (x : Exchange) (l : Link H) → Hears since → Given → At fixed answer_of after settings since (Behind (After n y b) x) (as_waiting l)
+  takes : (since : Restarted) (n : ℕ) (y : Exchange) (b : Reply) (x : Exchange) (l : Link H) → Hears since → Given → At fixed answer_of after since (Behind (After n y b) x) (as_waiting l)
       → TakesNext (frame fixed x (next_sequence n)) l
   takes since n y b x l hears given h =
       let acted = has_acted fixed since n y b l.reader hears h.reader in
@@ -174,7 +173,7 @@ module _ (fixed : ControllerConfig) {H : Type 0} (answer_of : H → Command → 
       reported Before hears past is = is
       reported Now hears past is = absurd hears
 
-  next_here : (since : Restarted) (n : ℕ) (y : Exchange) (b : Reply) (x : Exchange) (l : Link H) → Given → At fixed answer_of after settings since (Behind (After n y b) x) (as_waiting l)
+  next_here : (since : Restarted) (n : ℕ) (y : Exchange) (b : Reply) (x : Exchange) (l : Link H) → Given → At fixed answer_of after since (Behind (After n y b) x) (as_waiting l)
       → l.reader.config.address ≡ fixed.address → IsReadAs (frame fixed x (next_sequence n)) l
   next_here Never n y b x l given h here = record {
     taken = λ e. takes Never n y b x l tt given h;
@@ -188,7 +187,7 @@ module _ (fixed : ControllerConfig) {H : Type 0} (answer_of : H → Command → 
       neither (frame fixed x (next_sequence n)) l
       (other_kind (kind_of l.reader (frame fixed x (next_sequence n))) kind.Wrong (kind_unknown fixed l.reader x (next_sequence n) here (next_above_zero n) h.reader) wrong)
 
-  next : (since : Restarted) (n : ℕ) (y : Exchange) (b : Reply) (x : Exchange) (l : Link H) → Given → At fixed answer_of after settings since (Behind (After n y b) x) (as_waiting l)
+  next : (since : Restarted) (n : ℕ) (y : Exchange) (b : Reply) (x : Exchange) (l : Link H) → Given → At fixed answer_of after since (Behind (After n y b) x) (as_waiting l)
       → IsReadAs (frame fixed x (next_sequence n)) l
   next since n y b x l given h =
       elim (eqb_tells l.reader.config.address fixed.address) [
@@ -207,7 +206,7 @@ module _ (fixed : ControllerConfig) {H : Type 0} (answer_of : H → Command → 
   first given (Asking c) l asked = absurd asked
 
   read_at : Given → (since : Restarted) (at : Stage) (p : Packet) (ps : List Packet) (l : Link H) → ToReaderAt fixed at (p ∷ ps)
-      → At fixed answer_of after settings since at (as_waiting l) → IsReadAs p l
+      → At fixed answer_of after since at (as_waiting l) → IsReadAs p l
   read_at given since Fresh p ps l line h = absurd cc
   read_at given since (Behind Start x) p ps l (inl old) h = absurd old.0
   read_at given since (Behind Start x) p ps l (inr new) h = subst (λ q. IsReadAs q l) (sym new.0) (first given x l h.stage.1)
@@ -216,5 +215,5 @@ module _ (fixed : ControllerConfig) {H : Type 0} (answer_of : H → Command → 
   read_at given since (Level past x a) p ps l line h = subst (λ q. IsReadAs q l) (sym line.0) (again given since (number_after past) x a l h.stage.2 h.reader)
   read_at given since (Rest n x a) p ps l line h = subst (λ q. IsReadAs q l) (sym line.0) (again given since n x a l h.stage h.reader)
 
-  pub read : Given → (p : Packet) (ps : List Packet) (l : Link H) → l.to_reader ≡ p ∷ ps → Goes fixed answer_of after settings l → IsReadAs p l
+  pub read : Given → (p : Packet) (ps : List Packet) (l : Link H) → l.to_reader ≡ p ∷ ps → Goes fixed answer_of after l → IsReadAs p l
   read given p ps l is h = read_at given h.holds.0 h.holds.1 p ps l (subst (ToReaderAt fixed h.holds.1) is h.holds.2.to_reader) h.holds.2

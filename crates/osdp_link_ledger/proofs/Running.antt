@@ -4,7 +4,6 @@ use Rattle.std.proofs.lemmas.List.{append-nil, map-append}
 use Rattle.osdp_msg.specs.declared.command.Command.{Command}
 use Rattle.osdp_msg.specs.declared.event.Event.{Event}
 use Rattle.osdp_msg.specs.declared.reply.Reply.{Reply}
-use Rattle.osdp_reader.specs.declared.config.ReaderConfig.{ReaderConfig}
 use Rattle.osdp_reader.specs.declared.handler.Answer.{Answer}
 use Rattle.osdp_ledger.specs.History.{AreAllowed, History, new_history, runs, steps_on}
 use Rattle.osdp_ledger.specs.Laws.{KeepsEvents, KeepsOrders}
@@ -14,7 +13,7 @@ use Rattle.osdp_ledger.proofs.Waiting.{Events}
 use Rattle.osdp_link_laws.specs.Headline.{Begins, MovesFit}
 use Rattle.osdp_link_laws.specs.Link.{Link, Move, after_move, run}
 use Rattle.osdp_link_laws.specs.Peers.{ReadEachOther}
-use Rattle.osdp_link_laws.proofs.InARow.{Assumed, Stands, assumed_of, begins, standing}
+use Rattle.osdp_link_laws.proofs.InARow.{Assumed, Stands, assumed, begins, standing}
 use Rattle.osdp_link_ledger.specs.Laws.{HoldsByLedger, IsLedgerOf, LinkKeepsLedger, answered_in, is_under_way, unreported_in}
 use Rattle.osdp_link_ledger.specs.Steps.{after_steps, all_steps, queued_before, steps_before, steps_from, steps_of, submitted_before}
 use Rattle.osdp_link_ledger.proofs.Facts.{out_of}
@@ -144,16 +143,16 @@ module _ {H : Type 0} where
       offered_by going (inr (inr s)) = s.offers.untold
 
 module _ {H : Type 0} (answer_of : H → Command → Answer) (after : H → Command → H) where
-  pub keeps_all : (settings : ReaderConfig) → Assumed answer_of after settings → (moves : List (Move H)) (l : Link H) (h : History) → MovesFit answer_of after moves l
-      → Stands answer_of after settings l → Events h → IsTied l h.ledger
+  pub keeps_all : Assumed answer_of after → (moves : List (Move H)) (l : Link H) (h : History) → MovesFit answer_of after moves l
+      → Stands answer_of after l → Events h → IsTied l h.ledger
       → AreAllowed (all_steps answer_of after moves l h.ledger) h × IsTied (run answer_of after moves l) (runs (all_steps answer_of after moves l h.ledger) h).ledger
-  keeps_all settings given [] l h fits s i tied = (tt, tied)
-  keeps_all settings given (move ∷ moves) l h fits s i tied =
-      let one = keeps_one answer_of after settings given move l h.ledger (placed h i) fits.0 s tied in
+  keeps_all given [] l h fits s i tied = (tt, tied)
+  keeps_all given (move ∷ moves) l h fits s i tied =
+      let one = keeps_one answer_of after given move l h.ledger (placed h i) fits.0 s tied in
       let steps = steps_of answer_of after move l h.ledger in
       let next = after_move answer_of after move l in
       let same = runs_after steps h in
-      let rest = keeps_all settings given moves next (runs steps h) fits.1 (standing answer_of after settings given move l fits.0 s) (events_keep steps h one.0 i)
+      let rest = keeps_all given moves next (runs steps h) fits.1 (standing answer_of after given move l fits.0 s) (events_keep steps h one.0 i)
       (subst (IsTied next) (sym same) one.1) in
       let more = all_steps answer_of after moves next (after_steps steps h.ledger) in
       let later : AreAllowed more (runs steps h) × IsTied (run answer_of after moves next) (runs more (runs steps h)).ledger =
@@ -169,7 +168,7 @@ module _ {H : Type 0} (answer_of : H → Command → Answer) (after : H → Comm
       let first = begins_tied l b in
       let h = runs before new_history in
       let same = runs_after before new_history in
-      let rest = keeps_all l.reader.config (assumed_of answer_of after peers l) moves l h fits (begins answer_of after l b) (events_keep before new_history first.0 at_first)
+      let rest = keeps_all (assumed answer_of after peers) moves l h fits (begins answer_of after l b) (events_keep before new_history first.0 at_first)
       (subst (IsTied l) (sym same) first.1) in
       let more = all_steps answer_of after moves l (after_steps before new_ledger) in
       let later : AreAllowed more h × IsTied (run answer_of after moves l) (runs more h).ledger =

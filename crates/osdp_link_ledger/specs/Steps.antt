@@ -165,7 +165,7 @@ module _ {H : Type 0} (answer_of : H → Command → Answer) (after_command : H 
   steps_of link.Withdraw l g = withdraws (withdrawn_in l.controller.session.state l.controller.waiting) g
   steps_of (Retarget address) l g = []
   steps_of link.WithdrawEvent l g = withdraws_event (never_offered l.reader.queue) l.reader.queue.ever_offered g
-  steps_of (RestartReader address handler room) l g = RestartDevice ∷ []
+  steps_of (RestartReader config handler room) l g = RestartDevice ∷ []
   steps_of (RestartController config room) l g = RestartPanel (is_some (outstanding_command l.controller.session.state)) ∷ []
   steps_of (LoseToReader place) l g = []
   steps_of (LoseToController place) l g = []

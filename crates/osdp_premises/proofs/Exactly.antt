@@ -32,7 +32,7 @@ module _ {H : Type 0} where
   order_decides (TickDevice k now) places l = always tt
   order_decides (Silence k now) places l = always tt
   order_decides (Pending k) places l = always tt
-  order_decides (NewDevice k address handler room gap) places l = always tt
+  order_decides (NewDevice k config handler room gap) places l = always tt
   order_decides (NewPanel config addresses) places l = always tt
 
   quiet_decides : (call : Call H) (places : List ℕ) (l : InUse H) → Decides (is_quiet call places l) (QuietOpening call places l)
@@ -46,15 +46,17 @@ module _ {H : Type 0} where
   quiet_decides (TickDevice k now) places l = always tt
   quiet_decides (Silence k now) places l = always tt
   quiet_decides (Pending k) places l = always tt
-  quiet_decides (NewDevice k address handler room gap) places l = always tt
+  quiet_decides (NewDevice k config handler room gap) places l = always tt
   quiet_decides (NewPanel config addresses) places l = always tt
 
   addresses_decide : (call : Call H) (l : InUse H) → Decides (has_addresses call l) (Addresses call l)
   addresses_decide (OfPanel call) l = panel_decides call l
-  addresses_decide (NewDevice k address handler room gap) l =
-      if_decides (λ (t : Station H). stands_at address t || is_free_for k address l t)
-      (λ (t : Station H). (t.reader.config.address ≡ address) ⊎ IsFreeFor k address t l)
-      (λ t. Decides-or (stands_at address t) (is_free_for k address l t) (Decides-eqb t.reader.config.address address) (free_decides k address l t))
+  addresses_decide (NewDevice k config handler room gap) l =
+      if_decides (λ (t : Station H). stands_at config.address t || is_free_for k config.address l t)
+      (λ (t : Station H). (t.reader.config.address ≡ config.address) ⊎ IsFreeFor k config.address t l)
+      (λ t.
+      Decides-or (stands_at config.address t) (is_free_for k config.address l t) (Decides-eqb t.reader.config.address config.address)
+      (free_decides k config.address l t))
       (site_at k l.stations)
   addresses_decide (NewPanel config addresses) l = apart_decides addresses l
   addresses_decide (SubmitEvent k event) l = always tt

@@ -37,7 +37,7 @@ module _ {H : Type 0} where
   panel_stays (Silence i now) = always tt
   panel_stays (Next i) = always tt
   panel_stays (Pending i) = always tt
-  panel_stays (NewDevice i address handler room gap) = always tt
+  panel_stays (NewDevice i config handler room gap) = always tt
 
   device_stays : (k : ℕ) (call : Call H) → Decides (keeps_device k call) (KeepsDevice k call)
   device_stays k (NewPanel config addresses) = always tt
@@ -51,7 +51,7 @@ module _ {H : Type 0} where
   device_stays k (Silence i now) = always tt
   device_stays k (Next i) = always tt
   device_stays k (Pending i) = always tt
-  device_stays k (NewDevice i address handler room gap) = another i k
+  device_stays k (NewDevice i config handler room gap) = another i k
 
   handler_stays : (k : ℕ) (call : Call H) → Decides (keeps_handler k call) (KeepsHandler k call)
   handler_stays k (NewPanel config addresses) = always tt
@@ -65,7 +65,7 @@ module _ {H : Type 0} where
   handler_stays k (Silence i now) = always tt
   handler_stays k (Next i) = always tt
   handler_stays k (Pending i) = always tt
-  handler_stays k (NewDevice i address handler room gap) = another i k
+  handler_stays k (NewDevice i config handler room gap) = another i k
 
   ordinary_decides : (k : ℕ) (call : Call H) → Decides (is_ordinary k call) (IsOrdinaryOf k call)
   ordinary_decides k (NewPanel config addresses) = never (λ h. h)
@@ -79,7 +79,7 @@ module _ {H : Type 0} where
   ordinary_decides k (Silence i now) = always tt
   ordinary_decides k (Next i) = always tt
   ordinary_decides k (Pending i) = always tt
-  ordinary_decides k (NewDevice i address handler room gap) = another i k
+  ordinary_decides k (NewDevice i config handler room gap) = another i k
 
   can_stand : (call : Call H) → KeepsPanel call → CanStand call
   can_stand (NewPanel config addresses) keeps = absurd keeps
@@ -93,7 +93,7 @@ module _ {H : Type 0} where
   can_stand (Silence i now) keeps = tt
   can_stand (Next i) keeps = tt
   can_stand (Pending i) keeps = tt
-  can_stand (NewDevice i address handler room gap) keeps = tt
+  can_stand (NewDevice i config handler room gap) keeps = tt
 
   pub leaving_exact : LeavingIsExact H
   leaving_exact = record {

@@ -1,7 +1,7 @@
 -- The long day keeps the premises: by the tests of each call, and since its values are in their ranges.
 use Rattle.std.proofs.Common.{◌≡◌, ◌≢◌, ◌<◌, ◌≤◌, ℕ, zero, suc, true, IfSome, List, [], ◌∷◌, length, Option, Some, None, is_some, refl, sym, subst, ap, ◌∙◌, arith}
 use Rattle.std.proofs.lemmas.Bool.{and_parts}
-use Rattle.std.specs.Prelude.{drop, slice_index, take}
+use Rattle.std.specs.Prelude.{All, drop, slice_index, take}
 use Rattle.osdp_frame.specs.Held.{decided}
 use Rattle.osdp_frame.specs.Items.{items, left_over}
 use Rattle.osdp_frame.specs.declared.check_kind.CheckKind.TheVariants.{Sum}
@@ -29,7 +29,7 @@ use Rattle.osdp_calls.specs.Premises.{AllKeep, InRange, IsSetUp, Keeps, NextInRa
 use Rattle.osdp_premises.specs.Deciding.{each_of}
 use Rattle.osdp_premises.specs.Exactly.{AllInRange}
 use Rattle.osdp_premises.specs.Leaving.{keeps_panel}
-use Rattle.osdp_premises.specs.LongDay.{LongDayKeeps, RestartHappens, RestartsHappen, calls, device_at, first_line, four, long_day, station_at, twice}
+use Rattle.osdp_premises.specs.LongDay.{LongDayKeeps, RestartHappens, RestartsHappen, calls, device_at, first_line, four, long_day, spare_at, station_at, twice}
 use Rattle.osdp_premises.proofs.Exactly.{fair_keep}
 use Rattle.osdp_premises.proofs.Leaving.{leaving_exact}
 
@@ -47,6 +47,12 @@ vendor_bytes (suc (suc (suc i))) = omega arith
 
 pub id_fits : PdIdFits (device_at 3).id
 id_fits = record { vendor_length = refl; vendor = vendor_bytes; model = omega arith; version = omega arith; serial = omega arith; firmware_major = omega arith; firmware_minor = omega arith; firmware_build = omega arith }
+
+spare_fits : PdIdFits (spare_at 9).id
+spare_fits = record { vendor_length = refl; vendor = vendor_bytes; model = omega arith; version = omega arith; serial = omega arith; firmware_major = omega arith; firmware_minor = omega arith; firmware_build = omega arith }
+
+spare_can : All CapabilityFits (spare_at 9).caps.items
+spare_can = each_all CapabilityFits (spare_at 9).caps.items ((omega arith, omega arith, omega arith), tt)
 
 key_bytes : (i : ℕ) → slice_index (49 ∷ []) i < 256
 key_bytes zero = omega arith
@@ -133,7 +139,7 @@ module _ {H : Type 0} (answer_of : H → Command → Answer) (after : H → Comm
   abbrev pub RangeOf : Call H → InUse H → Type 0
   RangeOf (OfPanel call) l = PanelInRange answer_of after call
   RangeOf (Next k) l = NextEach (site_at k l.stations)
-  RangeOf (NewDevice k address handler room gap) l = (address < 127) × AreRoom room.messages room.bytes
+  RangeOf (NewDevice k config handler room gap) l = (config.address < 127) × AreRoom room.messages room.bytes
   RangeOf (NewPanel config addresses) l = IsBusConfig config × Each (λ a. a < 127) addresses × (length l.stations ≤ length addresses)
   RangeOf (SubmitEvent k event) l = Unit {0}
   RangeOf (SetBusy k busy) l = Unit {0}
@@ -152,7 +158,7 @@ module _ {H : Type 0} (answer_of : H → Command → Answer) (after : H → Comm
   range_of : (call : Call H) (l : InUse H) → RangeOf call l → InRange answer_of after call l
   range_of (OfPanel call) l fits = fits
   range_of (Next k) l fits = next_range (site_at k l.stations) fits
-  range_of (NewDevice k address handler room gap) l fits = fits
+  range_of (NewDevice k config handler room gap) l fits = fits
   range_of (NewPanel config addresses) l fits = (fits.0, each_all (λ a. a < 127) addresses fits.1, fits.2)
   range_of (SubmitEvent k event) l fits = tt
   range_of (SetBusy k busy) l fits = tt
@@ -175,7 +181,7 @@ module _ {H : Type 0} (answer_of : H → Command → Answer) (after : H → Comm
   ranges : (handler other : H) → AllRanges (long_day handler other) (first_line handler)
   unfolding items left_over decided reply_of reply_fault reply_at command_of command_fault command_at
   ranges handler other =
-      (tt, (tt, (tt, (tt, (tt, (tt, ((id_fits, tt), (tt, ((tt, tt), (tt, (tt, (tt, (omega arith, (tt, (tt, ((id_fits, tt), (tt, (tt, (tt, (tt, (tt, (tt, (tt, (tt, (tt, (((omega arith, each_all CapabilityFits [] tt), tt), (tt, ((tt, tt), (tt, (tt, (tt, (tt, (tt, (tt, ((tt, tt), (tt, (tt, (tt, (tt, ((tt, tt), (tt, (tt, (tt, (tt, ((key_fits, tt), (tt, (tt, (tt, (tt, ((tt, tt), (tt, (tt, (tt, (tt, (tt, (tt, (omega arith, (tt, (tt, (tt, (tt, (tt, (tt, ((omega arith, room_fits), (tt, ((record { reason = tt; room = omega arith; detail = no_bytes }, tt), (tt, (tt, (tt, (tt, ((id_fits, tt), (tt, (tt, (tt, (tt, ((key_fits, tt), (tt, (tt, ((omega arith, omega arith), (tt, (tt, (((omega arith, omega arith), tt), (tt, (tt, (tt, (tt, (tt, ((id_fits, tt), (tt, (tt, ((omega arith, omega arith), (tt, (tt, (((omega arith, omega arith), tt), (tt, (tt, ((tt, tt), (tt, (tt, (tt, (tt, (tt, (tt, ((id_fits, tt), (tt, (tt, ((omega arith, room_fits), (tt, (tt, (tt, (tt, (tt, (tt, (tt, (tt, ((id_fits, tt), (tt, (tt, (omega arith, (tt, (tt, (((omega arith, each_all CapabilityFits [] tt), tt), ((twice_fits, (omega arith, (omega arith, (omega arith, tt))), omega arith), (tt, (tt, (tt, ((id_fits, tt), (tt, (tt, (tt, (tt, (tt, (tt, (omega arith, (tt, (tt, (tt, ((tt, tt), (tt, (tt, (tt, (tt, ((tt, (tt, (tt, tt))), (tt, (tt, (tt, (tt, (tt, tt))))))))))))))))))))))))))))))))))))))))))))))))))))))))))))))))))))))))))))))))))))))))))))))))))))))))))))))))))))))))))))))))))))))))))))))))))))
+      (tt, (tt, (tt, (tt, (tt, (tt, ((id_fits, tt), (tt, ((tt, tt), (tt, (tt, (tt, (omega arith, (tt, (tt, ((id_fits, tt), (tt, (tt, (tt, (tt, (tt, (tt, (tt, (tt, (tt, (((omega arith, each_all CapabilityFits [] tt), tt), (tt, ((tt, tt), (tt, (tt, (tt, (tt, (tt, (tt, ((tt, tt), (tt, (tt, (tt, (tt, ((tt, tt), (tt, (tt, (tt, (tt, ((key_fits, tt), (tt, (tt, (tt, (tt, ((tt, tt), (tt, (tt, (tt, (tt, (tt, (tt, (omega arith, (tt, (tt, (tt, (tt, (tt, (tt, ((omega arith, room_fits), (tt, ((record { reason = tt; room = omega arith; detail = no_bytes }, tt), (tt, (tt, (tt, (tt, ((id_fits, tt), (tt, (tt, (tt, (tt, ((key_fits, tt), (tt, (tt, ((omega arith, omega arith), (tt, (tt, (((omega arith, omega arith), tt), (tt, (tt, (tt, (tt, (tt, ((id_fits, tt), (tt, (tt, ((omega arith, omega arith), (tt, (tt, (((omega arith, omega arith), tt), (tt, (tt, ((tt, tt), (tt, (tt, (tt, (tt, (tt, (tt, ((id_fits, tt), (tt, (tt, ((omega arith, room_fits), (tt, (tt, (tt, (tt, (tt, (tt, (tt, (tt, ((spare_fits, tt), (tt, (tt, (omega arith, (tt, (tt, (((omega arith, spare_can), tt), ((twice_fits, (omega arith, (omega arith, (omega arith, tt))), omega arith), (tt, (tt, (tt, ((spare_fits, tt), (tt, (tt, (tt, (tt, (tt, (tt, (omega arith, (tt, (tt, (tt, ((tt, tt), (tt, (tt, (tt, (tt, ((tt, (tt, (tt, tt))), (tt, (tt, (tt, (tt, (tt, ((omega arith, room_fits), tt)))))))))))))))))))))))))))))))))))))))))))))))))))))))))))))))))))))))))))))))))))))))))))))))))))))))))))))))))))))))))))))))))))))))))))))))))))))
 
   pub day_keeps : (handler other : H) → LongDayKeeps answer_of after handler other
   unfolding items left_over decided reply_of reply_fault reply_at command_of command_fault command_at
@@ -189,6 +195,7 @@ module _ {H : Type 0} (answer_of : H → Command → Answer) (after : H → Comm
     none_refused = (refl, (refl, (refl, tt)));
     openings = refl;
     addresses = refl;
+    spare = refl;
     taken = refl;
     settled = refl;
     in_doubt = refl;
@@ -253,13 +260,17 @@ module _ {H : Type 0} (answer_of : H → Command → Answer) (after : H → Comm
         };
       }
 
-  in_place : (handler other : H) → RestartHappens answer_of after 63 1 (NewDevice 1 4 other four 20) handler other
+  in_place : (handler other : H) → RestartHappens answer_of after 63 1 (NewDevice 1 (device_at 4) other four 20) handler other
   unfolding items left_over decided reply_of reply_fault reply_at command_of command_fault command_at
-  in_place handler other = restart 63 1 (NewDevice 1 4 other four 20) handler other (station_at 4 handler) refl refl refl refl refl refl
+  in_place handler other = restart 63 1 (NewDevice 1 (device_at 4) other four 20) handler other (station_at 4 handler) refl refl refl refl refl refl
 
-  elsewhere : (handler other : H) → RestartHappens answer_of after 106 0 (NewDevice 0 9 handler four 20) handler other
+  elsewhere : (handler other : H) → RestartHappens answer_of after 106 0 (NewDevice 0 (spare_at 9) handler four 20) handler other
   unfolding items left_over decided reply_of reply_fault reply_at command_of command_fault command_at
-  elsewhere handler other = restart 106 0 (NewDevice 0 9 handler four 20) handler other (station_at 3 handler) refl refl refl refl refl refl
+  elsewhere handler other = restart 106 0 (NewDevice 0 (spare_at 9) handler four 20) handler other (station_at 3 handler) refl refl refl refl refl refl
+
+  in_its_place : (handler other : H) → RestartHappens answer_of after 148 1 (NewDevice 1 (spare_at 4) handler four 20) handler other
+  unfolding items left_over decided reply_of reply_fault reply_at command_of command_fault command_at
+  in_its_place handler other = restart 148 1 (NewDevice 1 (spare_at 4) handler four 20) handler other (station_at 4 handler) refl refl refl refl refl refl
 
   of_panel : (handler other : H) → RestartHappens answer_of after 122 0 (NewPanel twice (9 ∷ 4 ∷ 20 ∷ [])) handler other
   unfolding items left_over decided reply_of reply_fault reply_at command_of command_fault command_at
@@ -267,4 +278,9 @@ module _ {H : Type 0} (answer_of : H → Command → Answer) (after : H → Comm
 
   pub restarts_happen : (handler other : H) → RestartsHappen answer_of after handler other
   restarts_happen handler other =
-      record { in_place = in_place handler other; elsewhere = elsewhere handler other; panel = of_panel handler other }
+      record {
+        in_place = in_place handler other;
+        elsewhere = elsewhere handler other;
+        replaced = in_its_place handler other;
+        panel = of_panel handler other;
+      }

@@ -73,8 +73,9 @@ panel_decides bus.NextReport b notes = always tt
 module _ {H : Type 0} where
   pub rule_exact : RuleIsExact H
   rule_exact (OfPanel call) l notes = panel_decides call l.bus notes
-  rule_exact (NewDevice k address handler room gap) l notes =
-      if_decides (stands_at address) (λ (t : Station H). t.reader.config.address ≡ address) (λ t. Decides-eqb t.reader.config.address address) (site_at k l.stations)
+  rule_exact (NewDevice k config handler room gap) l notes =
+      if_decides (stands_at config.address) (λ (t : Station H). t.reader.config.address ≡ config.address)
+      (λ t. Decides-eqb t.reader.config.address config.address) (site_at k l.stations)
   rule_exact (NewPanel config addresses) l notes =
       let known = λ (k : ℕ). if_there (λ a. if_there (λ d. is_known a d (notes k)) (device_of k l.bus)) (site_at k addresses) in
       Decides-like (keeps_rule (NewPanel config addresses) l notes)

@@ -54,7 +54,7 @@ module _ {H : Type 0} where
   all_said (TickDevice k now) places l all = tt
   all_said (Silence k now) places l all = tt
   all_said (Pending k) places l all = tt
-  all_said (NewDevice k address handler room gap) places l all = tt
+  all_said (NewDevice k config handler room gap) places l all = tt
   all_said (NewPanel config addresses) places l all = tt
 
   all_ours : (call : Call H) (places : List ℕ) (l : InUse H) → Each (λ p. IsOfOthers l p → ⊥) (read_in call l) → InOrder call places l
@@ -69,7 +69,7 @@ module _ {H : Type 0} where
   all_ours (TickDevice k now) places l none order = tt
   all_ours (Silence k now) places l none order = tt
   all_ours (Pending k) places l none order = tt
-  all_ours (NewDevice k address handler room gap) places l none order = tt
+  all_ours (NewDevice k config handler room gap) places l none order = tt
   all_ours (NewPanel config addresses) places l none order = tt
 
   all_others : (call : Call H) (l : InUse H) → Each (IsOfOthers l) (read_in call l) → InOrder call [] l
@@ -83,7 +83,7 @@ module _ {H : Type 0} where
   all_others (TickDevice k now) l all = tt
   all_others (Silence k now) l all = tt
   all_others (Pending k) l all = tt
-  all_others (NewDevice k address handler room gap) l all = tt
+  all_others (NewDevice k config handler room gap) l all = tt
   all_others (NewPanel config addresses) l all = tt
 
   pub spares_others : SparesOthers H

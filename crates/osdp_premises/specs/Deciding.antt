@@ -138,7 +138,7 @@ module _ {H : Type 0} where
   is_in_order (TickDevice k now) places l = true
   is_in_order (Silence k now) places l = true
   is_in_order (Pending k) places l = true
-  is_in_order (NewDevice k address handler room gap) places l = true
+  is_in_order (NewDevice k config handler room gap) places l = true
   is_in_order (NewPanel config addresses) places l = true
 
   abbrev pub is_quiet : Call H → List ℕ → InUse H → Bool
@@ -152,7 +152,7 @@ module _ {H : Type 0} where
   is_quiet (TickDevice k now) places l = true
   is_quiet (Silence k now) places l = true
   is_quiet (Pending k) places l = true
-  is_quiet (NewDevice k address handler room gap) places l = true
+  is_quiet (NewDevice k config handler room gap) places l = true
   is_quiet (NewPanel config addresses) places l = true
 
   abbrev pub is_no_others : ℕ → ℕ → InUse H → Bool
@@ -202,8 +202,8 @@ module _ {H : Type 0} where
 
   abbrev pub has_addresses : Call H → InUse H → Bool
   has_addresses (OfPanel call) l = panel_addresses call l
-  has_addresses (NewDevice k address handler room gap) l =
-      if_there (λ (t : Station H). stands_at address t || is_free_for k address l t) (site_at k l.stations)
+  has_addresses (NewDevice k config handler room gap) l =
+      if_there (λ (t : Station H). stands_at config.address t || is_free_for k config.address l t) (site_at k l.stations)
   has_addresses (NewPanel config addresses) l = panel_is_apart addresses l
   has_addresses (SubmitEvent k event) l = true
   has_addresses (SetBusy k busy) l = true

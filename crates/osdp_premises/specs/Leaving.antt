@@ -37,10 +37,10 @@ module _ {H : Type 0} where
   keeps_panel (Silence i now) = true
   keeps_panel (Next i) = true
   keeps_panel (Pending i) = true
-  keeps_panel (NewDevice i address handler room gap) = true
+  keeps_panel (NewDevice i config handler room gap) = true
 
   abbrev pub keeps_device : ℕ → Call H → Bool
-  keeps_device k (NewDevice i address handler room gap) = not (i == k)
+  keeps_device k (NewDevice i config handler room gap) = not (i == k)
   keeps_device k (NewPanel config addresses) = true
   keeps_device k (OfPanel call) = true
   keeps_device k (SubmitEvent i event) = true
@@ -55,7 +55,7 @@ module _ {H : Type 0} where
 
   abbrev pub keeps_handler : ℕ → Call H → Bool
   keeps_handler k (SetHandler i handler) = not (i == k)
-  keeps_handler k (NewDevice i address handler room gap) = not (i == k)
+  keeps_handler k (NewDevice i config handler room gap) = not (i == k)
   keeps_handler k (NewPanel config addresses) = true
   keeps_handler k (OfPanel call) = true
   keeps_handler k (SubmitEvent i event) = true
@@ -69,7 +69,7 @@ module _ {H : Type 0} where
 
   abbrev pub is_ordinary : ℕ → Call H → Bool
   is_ordinary k (OfPanel call) = leaves_commands k call
-  is_ordinary k (NewDevice i address handler room gap) = not (i == k)
+  is_ordinary k (NewDevice i config handler room gap) = not (i == k)
   is_ordinary k (NewPanel config addresses) = false
   is_ordinary k (WithdrawEvent i) = not (i == k)
   is_ordinary k (SubmitEvent i event) = true

@@ -1,6 +1,7 @@
 -- A list of calls in which all of it happens that a line knows: two devices, bytes in pieces, damage, lost packets and repeated ones, a packet that is
 -- read twice, a busy device, an event that is told again, orders and events that are taken back, another handler, a COMSET that is settled and one
--- that is in doubt, devices that restart where they are and elsewhere, a panel that restarts, and a reader of another make, whose entry is the last.
+-- that is in doubt, a device that restarts where it is, spares of another model that come in a device's place and elsewhere, a panel that restarts, and a reader of
+-- another make, whose entry is the last.
 use Rattle.std.specs.Prelude.{◌≡◌, ℕ, true, false, All, List, [], ◌∷◌, ◌++◌, map, length, take, drop, Option, Some, None}
 use Rattle.osdp_frame.specs.Packed.{packed}
 use Rattle.osdp_frame.specs.Receiving.{new_line}
@@ -17,6 +18,7 @@ use Rattle.osdp_bus.specs.declared.config.BusConfig.{BusConfig}
 use Rattle.osdp_bus.specs.declared.entry.Entry.{Entry}
 use Rattle.osdp_bus_laws.specs.Calls as bus
 use Rattle.osdp_link_laws.specs.Link.{Account, new_account}
+use Rattle.osdp_controller.specs.declared.report.Report.TheVariants.{Opened}
 use Rattle.osdp_reader.specs.State.{new_reader}
 use Rattle.osdp_reader.specs.declared.config.ReaderConfig.{ReaderConfig}
 use Rattle.osdp_reader.specs.declared.handler.Answer.{Answer}
@@ -41,6 +43,14 @@ device_at address = record {
   address = address;
   id = record { vendor = 1 ∷ 2 ∷ 3 ∷ []; model = 4; version = 5; serial = 6; firmware_major = 7; firmware_minor = 8; firmware_build = 9 };
   caps = record { items = [] };
+}
+
+-- a spare of another model
+abbrev pub spare_at : ℕ → ReaderConfig
+spare_at address = record {
+  address = address;
+  id = record { vendor = 1 ∷ 2 ∷ 3 ∷ []; model = 10; version = 1; serial = 11; firmware_major = 2; firmware_minor = 0; firmware_build = 1 };
+  caps = record { items = record { function = 13; level = 0; count = 1 } ∷ [] };
 }
 
 -- the bytes of a packet to this address, and of one from it, with this number and this body
@@ -176,7 +186,7 @@ module _ {H : Type 0} where
   restart handler other =
       calls (OfPanel (bus.Begin 0 1171)) []
       ∷ calls (OfPanel (bus.Tick 1172)) []
-      ∷ calls (NewDevice 1 4 other four 20) []
+      ∷ calls (NewDevice 1 (device_at 4) other four 20) []
       ∷ calls (Take 1 (asks 4 3 (96 ∷ [])) 1173) []
       ∷ calls (Next 1) (18 ∷ [])
       ∷ calls (OfPanel (bus.OnBytes (answers 4 3 (65 ∷ 4 ∷ [])) 1174)) (19 ∷ [])
@@ -236,10 +246,10 @@ module _ {H : Type 0} where
       ∷ calls (OfPanel bus.NextReport) []
       ∷ []
 
-  -- The device loses power, and comes back at 9. Its session is lost, and the panel finds it there.
+  -- The device is replaced by a spare of another model, at 9. Its session is lost, and the panel finds the spare there, which says who it is.
   abbrev pub elsewhere : H → H → List (Step H)
   elsewhere handler other =
-      calls (NewDevice 0 9 handler four 20) []
+      calls (NewDevice 0 (spare_at 9) handler four 20) []
       ∷ calls (OfPanel (bus.Tick 2890)) []
       ∷ calls (OfPanel (bus.Tick 3090)) []
       ∷ calls (OfPanel (bus.Tick 3290)) []
@@ -249,7 +259,7 @@ module _ {H : Type 0} where
       ∷ calls (OfPanel (bus.Tick 3691)) []
       ∷ calls (Take 0 (asks 9 0 (97 ∷ 0 ∷ [])) 3692) []
       ∷ calls (Next 0) (35 ∷ [])
-      ∷ calls (OfPanel (bus.OnBytes (answers 9 0 (69 ∷ 1 ∷ 2 ∷ 3 ∷ 4 ∷ 5 ∷ 6 ∷ 0 ∷ 0 ∷ 0 ∷ 7 ∷ 8 ∷ 9 ∷ [])) 3694)) (36 ∷ [])
+      ∷ calls (OfPanel (bus.OnBytes (answers 9 0 (69 ∷ 1 ∷ 2 ∷ 3 ∷ 10 ∷ 1 ∷ 11 ∷ 0 ∷ 0 ∷ 0 ∷ 2 ∷ 0 ∷ 1 ∷ [])) 3694)) (36 ∷ [])
       ∷ calls (OfPanel bus.NextReport) []
       ∷ []
 
@@ -265,7 +275,7 @@ module _ {H : Type 0} where
       ∷ calls (OfPanel (bus.Tick 4100)) []
       ∷ calls (Take 0 (asks 9 0 (97 ∷ 0 ∷ [])) 4101) []
       ∷ calls (Next 0) (39 ∷ [])
-      ∷ calls (OfPanel (bus.OnBytes (answers 9 0 (69 ∷ 1 ∷ 2 ∷ 3 ∷ 4 ∷ 5 ∷ 6 ∷ 0 ∷ 0 ∷ 0 ∷ 7 ∷ 8 ∷ 9 ∷ [])) 4103)) (40 ∷ [])
+      ∷ calls (OfPanel (bus.OnBytes (answers 9 0 (69 ∷ 1 ∷ 2 ∷ 3 ∷ 10 ∷ 1 ∷ 11 ∷ 0 ∷ 0 ∷ 0 ∷ 2 ∷ 0 ∷ 1 ∷ [])) 4103)) (40 ∷ [])
       ∷ calls (OfPanel bus.NextReport) []
       ∷ calls (OfPanel (bus.OnSilence 4104)) []
       ∷ calls (TickDevice 0 4104) []
@@ -294,6 +304,10 @@ module _ {H : Type 0} where
       ∷ calls (OfPanel bus.NextReport) []
       ∷ []
 
+  -- At the end of the day the other device is replaced by a spare too, where it is.
+  abbrev pub replaced : H → H → List (Step H)
+  replaced handler other = calls (NewDevice 1 (spare_at 4) handler four 20) [] ∷ []
+
   abbrev pub long_day : H → H → List (Step H)
   long_day handler other =
       opening handler other
@@ -308,6 +322,7 @@ module _ {H : Type 0} where
       ++ elsewhere handler other
       ++ panel_restart handler other
       ++ strangers handler other
+      ++ replaced handler other
 
   -- the accounts of the sessions of an entry, the last of them first
   abbrev pub sessions_of : Option (Station H) → List Account
@@ -331,6 +346,9 @@ module _ {H : Type 0} where
       pub none_refused : NoneRefused (3 ∷ 4 ∷ 20 ∷ []) (new_bus twice)
       pub openings : map (λ (o : Opening). o.entry) (line_at_night handler other).openings ≡ 0 ∷ 0 ∷ 0 ∷ 0 ∷ 0 ∷ 1 ∷ 0 ∷ []
       pub addresses : map (λ (o : Opening). o.address) (line_at_night handler other).openings ≡ 9 ∷ 9 ∷ 7 ∷ 5 ∷ 3 ∷ 4 ∷ 3 ∷ []
+      -- the spare is told by its own identity
+      pub spare : (after_calls answer_of after (take 117 (long_day handler other)) (first_line handler)).bus.devices.report
+          ≡ Some (0, Opened (spare_at 9).id)
       pub taken : map (λ (a : Account). length a.taken) (first_sessions handler other) ≡ 0 ∷ 1 ∷ 0 ∷ 1 ∷ 1 ∷ 1 ∷ 0 ∷ []
       pub settled : map (λ (a : Account). length a.settled) (first_sessions handler other) ≡ 0 ∷ 0 ∷ 0 ∷ 0 ∷ 1 ∷ 1 ∷ 0 ∷ []
       pub in_doubt : map (λ (a : Account). a.unsettled) (first_sessions handler other) ≡ [] ∷ [] ∷ [] ∷ (away 7 ∷ []) ∷ [] ∷ [] ∷ [] ∷ []
@@ -351,8 +369,9 @@ module _ {H : Type 0} where
       pub happens : IsBeforeAndAfter answer_of after (first_line handler) (take count (long_day handler other)) (calls call []) k first before next
           entry next_entry
 
-    -- a device comes back where it is, and one elsewhere; and the panel
+    -- a device comes back where it is, and another model comes elsewhere, and in its place; and the panel
     pub record RestartsHappen (handler other : H) : Type 0 where
-      pub in_place : RestartHappens 63 1 (NewDevice 1 4 other four 20) handler other
-      pub elsewhere : RestartHappens 106 0 (NewDevice 0 9 handler four 20) handler other
+      pub in_place : RestartHappens 63 1 (NewDevice 1 (device_at 4) other four 20) handler other
+      pub elsewhere : RestartHappens 106 0 (NewDevice 0 (spare_at 9) handler four 20) handler other
+      pub replaced : RestartHappens 148 1 (NewDevice 1 (spare_at 4) handler four 20) handler other
       pub panel : RestartHappens 122 0 (NewPanel twice (9 ∷ 4 ∷ 20 ∷ [])) handler other

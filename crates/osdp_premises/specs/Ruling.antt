@@ -48,7 +48,7 @@ panel_keeps_rule bus.NextReport b notes = true
 module _ {H : Type 0} where
   abbrev pub keeps_rule : Call H → InUse H → (ℕ → Note) → Bool
   keeps_rule (OfPanel call) l notes = panel_keeps_rule call l.bus notes
-  keeps_rule (NewDevice k address handler room gap) l notes = if_there (stands_at address) (site_at k l.stations)
+  keeps_rule (NewDevice k config handler room gap) l notes = if_there (stands_at config.address) (site_at k l.stations)
   keeps_rule (NewPanel config addresses) l notes =
       each_below (λ k. if_there (λ a. if_there (λ d. is_known a d (notes k)) (device_of k l.bus)) (site_at k addresses)) (length addresses)
   keeps_rule (SubmitEvent k event) l notes = true

@@ -17,6 +17,7 @@ use Rattle.osdp_controller.specs.declared.fault.ControllerFault.{ControllerFault
 use Rattle.osdp_controller.specs.declared.fault.ControllerFault.TheVariants.{OutOfRange}
 use Rattle.osdp_controller.specs.declared.state.State.{State}
 use Rattle.osdp_controller.specs.declared.state.State.TheVariants.{Closed, Quiet, Idle, Waiting, Pausing}
+use Rattle.osdp_reader.specs.declared.config.ReaderConfig.{ReaderConfig}
 use Rattle.osdp_reader.specs.declared.handler.Answer.{Answer}
 use Rattle.osdp_link_laws.specs.Link as link
 use Rattle.osdp_link_laws.specs.Link.{lost_at}
@@ -378,15 +379,15 @@ module _ {H : Type 0} where
 
     -- ---- a reader restarts: where it is, or at an address that is free
 
-    pub restarting : (i address : ℕ) (handler : H) (room : Room) (n : Net H)
-        → ((s : Site H) → site_at i n.sites ≡ Some s → (reader_address s ≡ address) ⊎ IsFreeFor i address s n) → Apart n
-        → Apart (line.change_at i (site_at i n.sites) (calls answer_of after (link.RestartReader address handler room)) n)
-    restarting i address handler room n may a =
-        change_keeps (λ s. false) i (site_at i n.sites) (calls answer_of after (link.RestartReader address handler room)) n refl
+    pub restarting : (i : ℕ) (config : ReaderConfig) (handler : H) (room : Room) (n : Net H)
+        → ((s : Site H) → site_at i n.sites ≡ Some s → (reader_address s ≡ config.address) ⊎ IsFreeFor i config.address s n) → Apart n
+        → Apart (line.change_at i (site_at i n.sites) (calls answer_of after (link.RestartReader config handler room)) n)
+    restarting i config handler room n may a =
+        change_keeps (λ s. false) i (site_at i n.sites) (calls answer_of after (link.RestartReader config handler room)) n refl
         (λ s at none. restarted s at (may s at)) a
       where
-        restarted : (s : Site H) → site_at i n.sites ≡ Some s → (reader_address s ≡ address) ⊎ IsFreeFor i address s n
-            → Apart (record n { sites = changed i (calls answer_of after (link.RestartReader address handler room) s) n.sites })
+        restarted : (s : Site H) → site_at i n.sites ≡ Some s → (reader_address s ≡ config.address) ⊎ IsFreeFor i config.address s n
+            → Apart (record n { sites = changed i (calls answer_of after (link.RestartReader config handler room) s) n.sites })
         restarted s at may =
             let h = a.kept i s at in
             one_changes i s t n at names (record {
@@ -399,7 +400,7 @@ module _ {H : Type 0} where
             }) (inr (refl, λ is. is)) a
           where
             t : Site H
-            t = calls answer_of after (link.RestartReader address handler room) s
+            t = calls answer_of after (link.RestartReader config handler room) s
 
             names : NamesGo i s t n.sites
             names b (inl is) = inl (inl is)
@@ -410,8 +411,8 @@ module _ {H : Type 0} where
             names b (inr (IsSaid is)) = inl (inr (IsSaid is))
             names b (inr (IsAsked is)) = inl (inr (IsAsked is))
 
-            away : (reader_address s ≡ address) ⊎ IsFreeFor i address s n → Each (IsAway i address) s.coming
+            away : (reader_address s ≡ config.address) ⊎ IsFreeFor i config.address s n → Each (IsAway i config.address) s.coming
             away (inl there) = subst (λ b. Each (IsAway i b) s.coming) there (a.kept i s at).away
             away (inr free) =
-                each_map (λ (q : ℕ × Packet). q.0 ≢ i → q.1.address ≢ address) (IsAway i address) (λ q far other e. far other (sym e)) s.coming
-                (each_of (λ (q : ℕ × Packet). q.0 ≢ i → q.1.address ≢ address) s.coming free.coming)
+                each_map (λ (q : ℕ × Packet). q.0 ≢ i → q.1.address ≢ config.address) (IsAway i config.address) (λ q far other e. far other (sym e)) s.coming
+                (each_of (λ (q : ℕ × Packet). q.0 ≢ i → q.1.address ≢ config.address) s.coming free.coming)

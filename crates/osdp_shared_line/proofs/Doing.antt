@@ -89,10 +89,10 @@ module _ {H : Type 0} (answer_of : H → Command → Answer) (after : H → Comm
     withdraws = each_withdraws does.withdraw;
     events = each_withdraws_events does.event;
     retargets = each_retargets does.retarget;
-    reader = λ n k address handler room s t h.
-        subst (HasNewReader answer_of after address handler room (view k s n))
-        (sym (one_after n (RestartReader k address handler room) k s t (link.RestartReader address handler room) h tt refl))
-        (does.reader (view k s n) address handler room);
+    reader = λ n k config handler room s t h.
+        subst (HasNewReader answer_of after config handler room (view k s n))
+        (sym (one_after n (RestartReader k config handler room) k s t (link.RestartReader config handler room) h tt refl))
+        (does.reader (view k s n) config handler room);
     panel = λ n settings k s t h.
         let from = restart_from answer_of after 0 k k settings t n.sites (omega arith) h.comes in (
           subst (HasNewController (settings k).0 (settings k).1 (view k s n)) (sym (viewed_after n (RestartPanel settings) k s t h tt))
@@ -131,8 +131,8 @@ module _ {H : Type 0} (answer_of : H → Command → Answer) (after : H → Comm
       others_stay (λ s. false) (λ s. record s { coming = link.lost_at place s.coming }) i k (site_at i n.sites) n (λ e. other (e ∙ speaks))
   changes_no_other n (Reopen i now) j k speaks other =
       others_stay (λ s. false) (calls answer_of after (link.Reopen now)) i k (site_at i n.sites) n (λ e. other (e ∙ speaks))
-  changes_no_other n (RestartReader i address h room) j k speaks other =
-      others_stay (λ s. false) (calls answer_of after (link.RestartReader address h room)) i k (site_at i n.sites) n (λ e. other (e ∙ speaks))
+  changes_no_other n (RestartReader i config h room) j k speaks other =
+      others_stay (λ s. false) (calls answer_of after (link.RestartReader config h room)) i k (site_at i n.sites) n (λ e. other (e ∙ speaks))
   changes_no_other n (Tick i now) j k speaks other = absurd speaks
   changes_no_other n (ToReader i how) j k speaks other = absurd speaks
   changes_no_other n (ToPanel how now) j k speaks other = absurd speaks

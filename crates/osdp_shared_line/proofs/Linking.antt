@@ -100,8 +100,8 @@ module _ {H : Type 0} (answer_of : H → Command → Answer) (after : H → Comm
       (loss_to_reader (own_place k place s.coming) k s n) tt
   move_fits (LoseToPanel place) k s n is fits = loss_to_panel (own_place k place n.to_panel) k s n
   move_fits (Reopen i now) k s n is fits = one_fits i k s n (link.Reopen now) (λ e. tt)
-  move_fits (RestartReader i address h room) k s n is fits =
-      one_fits i k s n (link.RestartReader address h room) (λ e. (fits s (subst (λ j. site_at j n.sites ≡ Some s) (sym e) is)).0)
+  move_fits (RestartReader i config h room) k s n is fits =
+      one_fits i k s n (link.RestartReader config h room) (λ e. (fits s (subst (λ j. site_at j n.sites ≡ Some s) (sym e) is)).0)
   move_fits (RestartPanel settings) k s n is fits = ((fits k s is).0, tt)
 
   quietly : (move : NetMove H) (n : Net H) → NetMoveFits answer_of after move n → OpensQuietly move n

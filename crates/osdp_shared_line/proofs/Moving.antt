@@ -476,8 +476,8 @@ module _ {H : Type 0} (answer_of : H → Command → Answer) (after : H → Comm
           let u = calls answer_of after (link.Reopen now) t in
           becomes k s s (one_if i k (link.Reopen now)) [] n (record n { sites = changed i u n.sites }) (one_not i k (link.Reopen now) other)
           (at_other k i u n.sites (λ e. other (sym e)) ∙ is) refl
-  each_is_its_own n (RestartReader i address h room) heard quiet k s is =
-      changes_always i k s (link.RestartReader address h room) (calls answer_of after (link.RestartReader address h room)) n is refl
+  each_is_its_own n (RestartReader i config h room) heard quiet k s is =
+      changes_always i k s (link.RestartReader config h room) (calls answer_of after (link.RestartReader config h room)) n is refl
   each_is_its_own n (RestartPanel settings) heard quiet k s is =
       becomes k s (restarts answer_of after (settings k) s) (link.RestartController (settings k).0 (settings k).1 ∷ [])
       (link.RestartController (settings k).0 (settings k).1 ∷ []) n (after_net answer_of after (RestartPanel settings) n) refl

@@ -133,7 +133,7 @@ module _ {H : Type 0} where
     )
     fits (Retarget i address) n notes rest rule h =
         λ s at taken j t other there may. h.apart j i t s other there at address ((h.sites j t there).may address may) (rule s at taken)
-    fits (RestartReader i address handler room) n notes rest rule h = λ s at. let r = rest s at in (r.0, inl r.1)
+    fits (RestartReader i config handler room) n notes rest rule h = λ s at. let r = rest s at in (r.0, inl r.1)
     fits (RestartPanel settings) n notes rest rule h = λ k s at. (rest k s at, λ j t other there name. panel k s at j t other there name)
       where
         may_before : (j : ℕ) (t : Site H) (a : ℕ) → MayComeTo a j (restarts answer_of after (settings j) t) → MayComeTo a j t

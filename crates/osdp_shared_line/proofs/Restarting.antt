@@ -7,6 +7,7 @@ use Rattle.osdp_frame.specs.Packet.{Packet}
 use Rattle.osdp_msg.specs.declared.command.Command.{Command}
 use Rattle.osdp_controller.specs.Hearing.{comset_of}
 use Rattle.osdp_controller.specs.declared.config.ControllerConfig.{ControllerConfig}
+use Rattle.osdp_reader.specs.declared.config.ReaderConfig.{ReaderConfig}
 use Rattle.osdp_reader.specs.declared.handler.Answer.{Answer}
 use Rattle.osdp_link_laws.specs.Costs.{ControllerCosts, ControllerRestartCosts, ReaderCosts, ReaderRestartCosts, ReportsNoMore, ReportsOnly}
 use Rattle.osdp_link_laws.specs.Headline.{MovesFit}
@@ -48,7 +49,7 @@ module _ {H : Type 0} (P : Move H → Type 0) (k : ℕ) where
   HoldsOf (LoseToReader i place) = (q : ℕ) → P (link.LoseToReader q)
   HoldsOf (LoseToPanel place) = (q : ℕ) → P (link.LoseToController q)
   HoldsOf (Reopen i now) = i ≡ k → P (link.Reopen now)
-  HoldsOf (RestartReader i address handler room) = i ≡ k → P (link.RestartReader address handler room)
+  HoldsOf (RestartReader i config handler room) = i ≡ k → P (link.RestartReader config handler room)
   HoldsOf (RestartPanel settings) = P (link.RestartController (settings k).0 (settings k).1)
 
   one_holds : (i : ℕ) (m : Move H) → (i ≡ k → P m) → Each P (one_if i k m)
@@ -113,7 +114,7 @@ module _ {H : Type 0} (P : Move H → Type 0) (k : ℕ) where
       (loss_to_reader holds (own_place k place s.coming)) tt
   move_holds (LoseToPanel place) s n holds = loss_to_panel holds (own_place k place n.to_panel)
   move_holds (Reopen i now) s n holds = one_holds i (link.Reopen now) holds
-  move_holds (RestartReader i address h room) s n holds = one_holds i (link.RestartReader address h room) holds
+  move_holds (RestartReader i config h room) s n holds = one_holds i (link.RestartReader config h room) holds
   move_holds (RestartPanel settings) s n holds = (holds, tt)
 
   module _ (answer_of : H → Command → Answer) (after : H → Command → H) where
@@ -138,7 +139,7 @@ module _ {H : Type 0} (k : ℕ) where
   reader_kept (LoseToReader i place) keeps = λ q. tt
   reader_kept (LoseToPanel place) keeps = λ q. tt
   reader_kept (RestartPanel settings) keeps = tt
-  reader_kept (RestartReader i address handler room) keeps = λ e. absurd (keeps e)
+  reader_kept (RestartReader i config handler room) keeps = λ e. absurd (keeps e)
   reader_kept _ keeps = λ e. tt
 
   device_kept : (move : NetMove H) → KeepsDeviceOf k move → HoldsOf KeepsDevice k move
@@ -154,16 +155,16 @@ module _ {H : Type 0} (k : ℕ) where
 module _ {H : Type 0} (answer_of : H → Command → Answer) (after : H → Command → H) where
   -- ---- one restart
 
-  restarted : (n : Net H) (k address : ℕ) (handler : H) (room : Room) (s t : Site H) → Apart n → site_at k n.sites ≡ Some s
-      → site_at k (after_net answer_of after (RestartReader k address handler room) n).sites ≡ Some t
-      → view k t (after_net answer_of after (RestartReader k address handler room) n)
-      ≡ after_move answer_of after (link.RestartReader address handler room) (view k s n)
-  restarted n k address handler room s t a is there =
-      let move = RestartReader k address handler room in
+  restarted : (n : Net H) (k : ℕ) (config : ReaderConfig) (handler : H) (room : Room) (s t : Site H) → Apart n → site_at k n.sites ≡ Some s
+      → site_at k (after_net answer_of after (RestartReader k config handler room) n).sites ≡ Some t
+      → view k t (after_net answer_of after (RestartReader k config handler room) n)
+      ≡ after_move answer_of after (link.RestartReader config handler room) (view k s n)
+  restarted n k config handler room s t a is there =
+      let move = RestartReader k config handler room in
       let m = each_is_its_own answer_of after n move (by_own n a) tt k s is in
-      subst (λ u. view k u (after_net answer_of after move n) ≡ after_move answer_of after (link.RestartReader address handler room) (view k s n))
+      subst (λ u. view k u (after_net answer_of after move n) ≡ after_move answer_of after (link.RestartReader config handler room) (view k s n))
       (some_same m.site t (sym m.there ∙ there))
-      (m.moved ∙ ap (λ ms. link.run answer_of after ms (view k s n)) (one_is k k (link.RestartReader address handler room) refl))
+      (m.moved ∙ ap (λ ms. link.run answer_of after ms (view k s n)) (one_is k k (link.RestartReader config handler room) refl))
 
   panel_restarted : (n : Net H) (settings : ℕ → ControllerConfig × Room) (k : ℕ) (s t : Site H) → Apart n → site_at k n.sites ≡ Some s
       → site_at k (after_net answer_of after (RestartPanel settings) n).sites ≡ Some t
@@ -177,14 +178,14 @@ module _ {H : Type 0} (answer_of : H → Command → Answer) (after : H → Comm
 
   module _ (reads : ReadsWhatIsAsked) (links : EachIsALink answer_of after) where
     pub each_reader_restart_costs : ReaderRestartCosts answer_of after → EachReaderRestartCosts answer_of after
-    each_reader_restart_costs costs n moves k address handler room first s t h =
+    each_reader_restart_costs costs n moves k config handler room first s t h =
         let before = run answer_of after moves n in
         let own = links n moves h.up h.fits k first h.was in
         let same = viewed answer_of after links n moves k first s own h.is in
         let a = apart_all answer_of after reads moves n h.fits (apart_first n h.up) in
-        subst (ReaderCosts (view k s before)) (sym (restarted before k address handler room s t a h.is h.comes))
-        (subst (λ (v : Link H). ReaderCosts v (after_move answer_of after (link.RestartReader address handler room) v)) (sym same)
-        (costs (view k first n) (moves_of answer_of after k moves n) address handler room (h.up.begins k first h.was) own.fits))
+        subst (ReaderCosts (view k s before)) (sym (restarted before k config handler room s t a h.is h.comes))
+        (subst (λ (v : Link H). ReaderCosts v (after_move answer_of after (link.RestartReader config handler room) v)) (sym same)
+        (costs (view k first n) (moves_of answer_of after k moves n) config handler room (h.up.begins k first h.was) own.fits))
 
     pub each_panel_restart_costs : ControllerRestartCosts answer_of after → EachPanelRestartCosts answer_of after
     each_panel_restart_costs costs n moves settings k first s t h ranges =
@@ -200,10 +201,10 @@ module _ {H : Type 0} (answer_of : H → Command → Answer) (after : H → Comm
         )
 
     pub each_reports_no_more : ReportsNoMore answer_of after → EachReportsNoMore answer_of after
-    each_reports_no_more no_more n moves k address handler room more first s t last h fits keep there inside =
+    each_reports_no_more no_more n moves k config handler room more first s t last h fits keep there inside =
         let before = run answer_of after moves n in
-        let move = RestartReader k address handler room in
-        let alone = link.RestartReader address handler room in
+        let move = RestartReader k config handler room in
+        let alone = link.RestartReader config handler room in
         let next = after_net answer_of after move before in
         let own = links n moves h.up h.fits k first h.was in
         let l = view k first n in
@@ -212,7 +213,7 @@ module _ {H : Type 0} (answer_of : H → Command → Answer) (after : H → Comm
         let same = viewed answer_of after links n moves k first s own h.is in
         let a = apart_all answer_of after reads moves n h.fits (apart_first n h.up) in
         let on = is_its_link answer_of after reads more next fits.1 (apart_after answer_of after reads move before fits.0 a) k t h.comes in
-        let restart = restarted before k address handler room s t a h.is h.comes ∙ ap (after_move answer_of after alone) same in
+        let restart = restarted before k config handler room s t a h.is h.comes ∙ ap (after_move answer_of after alone) same in
         let end : view k last (run answer_of after more next) ≡ link.run answer_of after rest (view k t next) =
         subst (λ u. view k u (run answer_of after more next) ≡ link.run answer_of after rest (view k t next))
         (some_same on.moved.site last (sym on.moved.there ∙ there)) on.moved.moved
@@ -223,7 +224,7 @@ module _ {H : Type 0} (answer_of : H → Command → Answer) (after : H → Comm
         (each_holds (KeepsReaderOf k) (HoldsOf KeepsReader k) (reader_kept k) more (each_of (KeepsReaderOf k) more keep))) in
         let first_fits = subst (λ (v : Link H). MovesFit answer_of after (alone ∷ []) v) same ((fits.0 s h.is).0, tt) in
         let restarted_link = after_move answer_of after alone (link.run answer_of after ms l) in
-        let result = no_more l ms address handler room rest (h.up.begins k first h.was) own.fits
+        let result = no_more l ms config handler room rest (h.up.begins k first h.was) own.fits
         (first_fits.0, subst (MovesFit answer_of after rest) restart on.fits) kept
         (sym (ap (λ (v : Link H). length v.earlier) all_end) ∙ inside ∙ ap (λ (v : Link H). length v.earlier) same) in
         subst (λ (v : Link H). ReportsOnly s.account.offered (all_queued answer_of after rest v) v.account last.account) (sym restart)

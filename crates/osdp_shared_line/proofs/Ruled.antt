@@ -265,8 +265,8 @@ module _ {H : Type 0} (answer_of : H → Command → Answer) (after : H → Comm
       noted_after (LoseToPanel place) rest rule =
           all_as_is (LoseToPanel place) (lost_at place n.to_panel) (λ k s. refl) (λ k s all. each_kept (OwnFrom k s) place n.to_panel all)
       noted_after (Reopen i now) rest rule = reopening answer_of after n notes h i now rest
-      noted_after (RestartReader i address handler room) rest rule =
-          quiet_call answer_of after n notes h i (RestartReader i address handler room) (calls answer_of after (link.RestartReader address handler room)) (λ k s. refl)
+      noted_after (RestartReader i config handler room) rest rule =
+          quiet_call answer_of after n notes h i (RestartReader i config handler room) (calls answer_of after (link.RestartReader config handler room)) (λ k s. refl)
           (λ s at. record { address = refl; left = all_left (unended s); reader = sym (rest s at).1; coming = Nothing refl; opens = λ is. is })
       noted_after (RestartPanel settings) rest rule = restarting answer_of after reads n notes h whole settings rule
 

@@ -95,7 +95,7 @@ module _ {H : Type 0} (answer_of : H → Command → Answer) (after : H → Comm
     apart_after (LoseToPanel place) n fits a =
         with_panel n (link.lost_at place n.to_panel) (each_kept (IsToClosed n.sites) place n.to_panel a.panel) a
     apart_after (Reopen i now) n fits a = reopening answer_of after i now n fits a
-    apart_after (RestartReader i address h room) n fits a = restarting answer_of after i address h room n (λ s at. (fits s at).1) a
+    apart_after (RestartReader i config h room) n fits a = restarting answer_of after i config h room n (λ s at. (fits s at).1) a
     apart_after (RestartPanel settings) n fits a = restarting_all settings n fits a
 
     pub apart_all : (moves : List (NetMove H)) (n : Net H) → NetMovesFit answer_of after moves n → Apart n → Apart (run answer_of after moves n)

@@ -132,10 +132,10 @@ module _ {H : Type 0} where
     NetMoveFits (LoseToReader k place) n = Unit {0}
     NetMoveFits (LoseToPanel place) n = Unit {0}
     NetMoveFits (Reopen k now) n = OpensQuietly (Reopen k now) n
-    NetMoveFits (RestartReader k address handler room) n =
+    NetMoveFits (RestartReader k config handler room) n =
         (s : Site H) → site_at k n.sites ≡ Some s
-        → MoveFits answer_of after (link.RestartReader address handler room) (view k s n)
-        × ((s.reader.config.address ≡ address) ⊎ IsFreeFor k address s n)
+        → MoveFits answer_of after (link.RestartReader config handler room) (view k s n)
+        × ((s.reader.config.address ≡ config.address) ⊎ IsFreeFor k config.address s n)
     NetMoveFits (RestartPanel settings) n =
         (k : ℕ) (s : Site H) → site_at k n.sites ≡ Some s
         → AreSettings (settings k).0 (settings k).1.messages (settings k).1.bytes

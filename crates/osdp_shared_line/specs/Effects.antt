@@ -5,6 +5,7 @@ use Rattle.osdp_msg.specs.declared.command.Command.{Command}
 use Rattle.osdp_msg.specs.declared.event.Event.{Event}
 use Rattle.osdp_controller.specs.declared.config.ControllerConfig.{ControllerConfig}
 use Rattle.osdp_controller.specs.declared.state.State.TheVariants.{Closed}
+use Rattle.osdp_reader.specs.declared.config.ReaderConfig.{ReaderConfig}
 use Rattle.osdp_reader.specs.declared.handler.Answer.{Answer}
 use Rattle.osdp_link_laws.specs.Effects.{AnswersBy, HasAddress, HasHandler, HasNewController, HasNewReader, HasTakenBack, HasWithdrawn}
 use Rattle.osdp_shared_line.specs.Line.{LoseToReader, Net, NetMove, Queue, Reopen, RestartPanel, RestartReader, Retarget, SetBusy, SetHandler, Site, Submit, Withdraw, WithdrawEvent, after_net, is_retarget_accepted, site_at}
@@ -22,7 +23,7 @@ module _ {H : Type 0} where
   SpeaksOf k (WithdrawEvent i) = i ≡ k
   SpeaksOf k (LoseToReader i place) = i ≡ k
   SpeaksOf k (Reopen i now) = i ≡ k
-  SpeaksOf k (RestartReader i address handler room) = i ≡ k
+  SpeaksOf k (RestartReader i config handler room) = i ≡ k
   SpeaksOf k _ = ⊥
 
   module _ (answer_of : H → Command → Answer) (after : H → Command → H) where
@@ -63,9 +64,9 @@ module _ {H : Type 0} where
       pub withdraws : EachWithdraws
       pub events : EachWithdrawsEvents
       pub retargets : EachRetargets
-      pub reader : (n : Net H) (k address : ℕ) (handler : H) (room : Room) (s t : Site H) → IsChanged n (RestartReader k address handler room) k s t
-          → HasNewReader answer_of after address handler room (view k s n)
-          (view k t (after_net answer_of after (RestartReader k address handler room) n))
+      pub reader : (n : Net H) (k : ℕ) (config : ReaderConfig) (handler : H) (room : Room) (s t : Site H) → IsChanged n (RestartReader k config handler room) k s t
+          → HasNewReader answer_of after config handler room (view k s n)
+          (view k t (after_net answer_of after (RestartReader k config handler room) n))
       pub panel : (n : Net H) (settings : ℕ → ControllerConfig × Room) (k : ℕ) (s t : Site H) → IsChanged n (RestartPanel settings) k s t
           → HasNewController (settings k).0 (settings k).1 (view k s n) (view k t (after_net answer_of after (RestartPanel settings) n))
           × (t.reserved ≡ None)

@@ -18,6 +18,7 @@ use Rattle.osdp_controller.specs.declared.fault.ControllerFault.{ControllerFault
 use Rattle.osdp_controller.specs.declared.report.Report.{Report}
 use Rattle.osdp_controller.specs.declared.report.Report.TheVariants as report
 use Rattle.osdp_reader.specs.State.{ReaderState}
+use Rattle.osdp_reader.specs.declared.config.ReaderConfig.{ReaderConfig}
 use Rattle.osdp_reader.specs.declared.handler.Answer.{Answer}
 use Rattle.osdp_link_laws.specs.Link as link
 use Rattle.osdp_link_laws.specs.Link.{Account, Delivered, Delivery, Link, Lost, Move, Repeated, after_move, lost_at}
@@ -53,7 +54,7 @@ pub data NetMove (H : Type 0) : Type 0 where
   LoseToReader : (site place : ℕ) → NetMove H
   LoseToPanel : ℕ → NetMove H
   Reopen : (site now : ℕ) → NetMove H
-  RestartReader : (site address : ℕ) → H → Room → NetMove H
+  RestartReader : (site : ℕ) → ReaderConfig → H → Room → NetMove H
   RestartPanel : (ℕ → ControllerConfig × Room) → NetMove H
 
 abbrev pub site_at : {A : Type 0} → ℕ → List A → Option A
@@ -250,8 +251,8 @@ module _ {H : Type 0} where
         change_at k (site_at k n.sites) (λ s. record s { coming = lost_at place s.coming }) n
     after_net (LoseToPanel place) n = record n { to_panel = lost_at place n.to_panel }
     after_net (Reopen k now) n = change_at k (site_at k n.sites) (calls (link.Reopen now)) n
-    after_net (RestartReader k address handler room) n =
-        change_at k (site_at k n.sites) (calls (link.RestartReader address handler room)) n
+    after_net (RestartReader k config handler room) n =
+        change_at k (site_at k n.sites) (calls (link.RestartReader config handler room)) n
     after_net (RestartPanel settings) n = record n { sites = all_restart 0 settings n.sites }
 
     abbrev pub run : List (NetMove H) → Net H → Net H

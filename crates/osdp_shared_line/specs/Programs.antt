@@ -100,9 +100,9 @@ module _ {H : Type 0} where
     abbrev pub RestFits : NetMove H → Net H → Type 0
     RestFits (Submit k command) n = CommandFits command
     RestFits (Retarget k address) n = Unit {0}
-    RestFits (RestartReader k address handler room) n =
+    RestFits (RestartReader k config handler room) n =
         (s : Site H) → site_at k n.sites ≡ Some s
-        → MoveFits answer_of after (link.RestartReader address handler room) (view k s n) × (s.reader.config.address ≡ address)
+        → MoveFits answer_of after (link.RestartReader config handler room) (view k s n) × (s.reader.config.address ≡ config.address)
     RestFits (RestartPanel settings) n = (k : ℕ) (s : Site H) → site_at k n.sites ≡ Some s → AreSettings (settings k).0 (settings k).1.messages (settings k).1.bytes
     RestFits move n = NetMoveFits answer_of after move n
 

@@ -4,6 +4,7 @@ use Rattle.osdp_msg.specs.declared.limits.Room.{Room}
 use Rattle.osdp_msg.specs.declared.command.Command.{Command}
 use Rattle.osdp_controller.specs.Machine.{AreSettings}
 use Rattle.osdp_controller.specs.declared.config.ControllerConfig.{ControllerConfig}
+use Rattle.osdp_reader.specs.declared.config.ReaderConfig.{ReaderConfig}
 use Rattle.osdp_reader.specs.declared.handler.Answer.{Answer}
 use Rattle.osdp_link_laws.specs.Costs.{ControllerCosts, ReaderCosts, ReportsOnly}
 use Rattle.osdp_link_laws.specs.OneHandler.{AreOnce}
@@ -18,20 +19,20 @@ use Rattle.osdp_shared_line.specs.Views.{view}
 module _ {H : Type 0} where
   -- the reader of the site at this place doesn't restart
   abbrev pub KeepsReaderOf : ℕ → NetMove H → Type 0
-  KeepsReaderOf k (RestartReader i address handler room) = i ≢ k
+  KeepsReaderOf k (RestartReader i config handler room) = i ≢ k
   KeepsReaderOf k _ = Unit {0}
 
   -- .. and its handler isn't set
   abbrev pub KeepsDeviceOf : ℕ → NetMove H → Type 0
   KeepsDeviceOf k (SetHandler i handler) = i ≢ k
-  KeepsDeviceOf k (RestartReader i address handler room) = i ≢ k
+  KeepsDeviceOf k (RestartReader i config handler room) = i ≢ k
   KeepsDeviceOf k _ = Unit {0}
 
   -- neither of its ends restarts, and no command or event of it is withdrawn
   abbrev pub IsOrdinaryOf : ℕ → NetMove H → Type 0
   IsOrdinaryOf k (Withdraw i) = i ≢ k
   IsOrdinaryOf k (WithdrawEvent i) = i ≢ k
-  IsOrdinaryOf k (RestartReader i address handler room) = i ≢ k
+  IsOrdinaryOf k (RestartReader i config handler room) = i ≢ k
   IsOrdinaryOf k (RestartPanel settings) = ⊥
   IsOrdinaryOf k _ = Unit {0}
 
@@ -47,20 +48,20 @@ module _ {H : Type 0} where
     -- ---- what restarts cost
 
     abbrev pub EachReaderRestartCosts : Type 0
-    EachReaderRestartCosts = (n : Net H) (moves : List (NetMove H)) (k address : ℕ) (handler : H) (room : Room) (first s t : Site H)
-        → IsBeforeAndAfter n moves (RestartReader k address handler room) k first s t
+    EachReaderRestartCosts = (n : Net H) (moves : List (NetMove H)) (k : ℕ) (config : ReaderConfig) (handler : H) (room : Room) (first s t : Site H)
+        → IsBeforeAndAfter n moves (RestartReader k config handler room) k first s t
         → let before = run answer_of after moves n in
-        ReaderCosts (view k s before) (view k t (after_net answer_of after (RestartReader k address handler room) before))
+        ReaderCosts (view k s before) (view k t (after_net answer_of after (RestartReader k config handler room) before))
 
     -- nothing else is reported in the session of the restart but what was offered before it and what is queued since, but those of these that
     -- are withdrawn
     abbrev pub EachReportsNoMore : Type 0
-    EachReportsNoMore = (n : Net H) (moves : List (NetMove H)) (k address : ℕ) (handler : H) (room : Room) (more : List (NetMove H))
+    EachReportsNoMore = (n : Net H) (moves : List (NetMove H)) (k : ℕ) (config : ReaderConfig) (handler : H) (room : Room) (more : List (NetMove H))
         (first s t last : Site H)
-        → IsBeforeAndAfter n moves (RestartReader k address handler room) k first s t
+        → IsBeforeAndAfter n moves (RestartReader k config handler room) k first s t
         → let before = run answer_of after moves n in
-        let next = after_net answer_of after (RestartReader k address handler room) before in
-        NetMovesFit answer_of after (RestartReader k address handler room ∷ more) before → All (KeepsReaderOf k) more
+        let next = after_net answer_of after (RestartReader k config handler room) before in
+        NetMovesFit answer_of after (RestartReader k config handler room ∷ more) before → All (KeepsReaderOf k) more
         → site_at k (run answer_of after more next).sites ≡ Some last → length last.earlier ≡ length s.earlier
         → ReportsOnly s.account.offered (all_queued answer_of after (moves_of answer_of after k more next) (view k t next)) t.account last.account
 

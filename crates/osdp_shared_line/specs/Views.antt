@@ -72,7 +72,7 @@ module _ {H : Type 0} where
       if i == k then option_to_list (option_map link.LoseToReader (own_place k place s.coming)) else []
   move_of k s (LoseToPanel place) n = option_to_list (option_map link.LoseToController (own_place k place n.to_panel))
   move_of k s (Reopen i now) n = one_if i k (link.Reopen now)
-  move_of k s (RestartReader i address handler room) n = one_if i k (link.RestartReader address handler room)
+  move_of k s (RestartReader i config handler room) n = one_if i k (link.RestartReader config handler room)
   move_of k s (RestartPanel settings) n = link.RestartController (settings k).0 (settings k).1 ∷ []
 
   -- ---- a quiet line

@@ -198,7 +198,7 @@ module _ {H : Type 0} (answer_of : H → Command → Answer) (after : H → Comm
   move_within link.Withdraw l w = refl
   move_within link.WithdrawEvent l w = refl
   move_within (link.Retarget address) l w = retargets_within (controllers.retarget_refusal address l.controller) address l
-  move_within (link.RestartReader address handler room) l w = refl
+  move_within (link.RestartReader config handler room) l w = refl
   move_within (link.RestartController config room) l w = refl
   move_within (link.LoseToReader place) l w = refl
   move_within (link.LoseToController place) l w = refl
