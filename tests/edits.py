@@ -5,7 +5,7 @@ import sys
 TOP = os.path.dirname(os.path.dirname(os.path.realpath(__file__)))
 sys.dont_write_bytecode = True
 sys.path.insert(0, f"{TOP}/tools")
-from operators import code_operators, code_special, definition_operators, definitions, donors, items, pairs, shadows, spelling  # noqa: E402
+from operators import code_operators, code_special, definition_operators, definitions, donors, items, pairs, pinned, shadows, short, spelling  # noqa: E402
 from operators.facts import Facts  # noqa: E402
 
 CODE = """/// Whether a < b.
@@ -58,6 +58,32 @@ MADE_ONE_AFTER_THE_OTHER = {
 MADE_WIDE = {
     ("another number", "if a < 7 {"), ("a special case", "Fits a b = (b ≡ 0) × (a ≤ b → (c : ℕ) × (c ≡ a))"), ("a special case", "Fits a b = a ≡ 0"),
 }
+# what short lists have
+MADE_SHORTLY = {
+    ("a case told apart", "if ((a < 3) && b == 0) {"), ("a case told apart", "((b == 4 && a != 2) || a > 0)"), ("another expression of the function", "if a < b {"), ("another expression of the function", "return b == 4;"),
+    ("another term of the definition", "Fits a b = (c ≡ a) → (c : ℕ) × (c ≡ a)"), ("another term of the definition", "Fits a b = 0 ≤ b → (c : ℕ) × (c ≡ a)"), ("another term of the definition", "Fits a b = a ≤ b → (c : ℕ) × (c ≡ b)"),
+}
+# clauses that give what comes of a function by equations, each with its left side, and clauses that don't
+EQUATIONS = {
+    "result ≡ f self.old": "result", "f self.old ≡ self.new.items": "self.new.items", "OnOk result (string_bytes text.new ≡ f text.old)": "OnOk: string_bytes text.new",
+    "IfOk result (λ made. made.items ≡ f words.now)": "IfOk made: made.items", "IsTrue result ↔ Fits self.now": "result", "(command : Command) → result ≡ f command": "result",
+    "result ≤ f self.old": None, "self.old ≡ [] → result ≡ None": None, "IsRead self.old result self.new": None, "result ≡ f self.new": None, "(result ≡ a) ⊎ (result ≡ b)": None,
+    "IfOk result (λ made. f made ≡ g made)": None, "OnOk result (a ≡ b)": None,
+}
+GIVEN = """pub fn takes(&mut self, place: &mut Place<'_>) -> Result<u8, Fault>
+    requires { a < 7 }
+    ensures taken { self.new ≡ f self.old }
+    ensures place { OnOk result (place.new.items ≡ f self.old) }
+{
+    1
+}
+
+fn bounds(a: u8) -> u8
+    ensures { result ≤ 7 }
+{
+    a
+}
+"""
 
 
 def lines_of(text, found):
@@ -95,6 +121,15 @@ def main():
     assert MADE_OF_DEFINITION <= made, f"not made: {MADE_OF_DEFINITION - made}"
     made |= lines_of(CODE, again)
     assert MADE_WIDE <= made, f"not made: {MADE_WIDE - made}"
+
+    made = lines_of(CODE, [*short.Short(items.File(CODE), items.File(CODE).units[0], Facts([items.File(CODE)], [])).make()])
+    made |= lines_of(DEFINITION, [*short.ShortTerms(file, file.units[0]).make()])
+    assert MADE_SHORTLY <= made, f"not made: {MADE_SHORTLY - made}"
+
+    assert {it: pinned.left_side(it) for it in EQUATIONS} == EQUATIONS, f"left sides: { {it: pinned.left_side(it) for it in EQUATIONS} }"
+    given = pinned.functions(GIVEN)
+    assert given["takes"].left_sides() == ["self.new", "OnOk: place.new.items"] and given["takes"].results() == ["result", "self.new", "place.new"], "a contract of equations"
+    assert given["bounds"].left_sides() is None, "a bound leaves values"
 
     file = items.File(CHANGING)
     made = lines_of(CHANGING, [*code_special.Special(file, file.units[1], Facts([file], [])).make()])

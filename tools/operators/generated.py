@@ -5,7 +5,7 @@ import os
 import re
 
 from . import code, definitions, items
-from . import definition_operators, code_operators, code_special, donors
+from . import definition_operators, code_operators, code_special, donors, short
 from .facts import Facts
 from .spelling import code_form, term_form
 
@@ -30,6 +30,7 @@ def parsed(path):
     return items.File(read(path)) if path.endswith(".rt") else definitions.File(read(path))
 
 
+@functools.cache
 def paths_of(crate, part):
     ending = "src/**/*.rt" if part == "src" else "specs/**/*.antt"
     found = [os.path.relpath(it, TOP) for it in glob.glob(f"{TOP}/crates/{crate}/{ending}", recursive=True)]
@@ -185,6 +186,19 @@ def special_of_unit(path, unit, below, near=None, words=None):
         maker = code_special.Special(parsed(path), unit, code_facts(path.split("/")[1], below), near, words)
         for operator, start, end, new in maker.make():
             yield Generated(path, unit, operator, start, end, new)
+
+
+def short_of_unit(path, unit, below):
+    """Returns the special cases and other expressions of one unit in their short lists."""
+    crate, file = path.split("/")[1], parsed(path)
+    if unit.tree is None:
+        return []
+    if path.endswith(".rt"):
+        found = [] if is_law(unit) else short.Short(file, unit, code_facts(crate, below)).make()
+    else:
+        found = short.ShortTerms(file, unit).make()
+    edits = {(start, end, new): Generated(path, unit, operator, start, end, new) for operator, start, end, new in found}
+    return list(edits.values())
 
 
 def donated_of_unit(path, unit, near=None, wanted=None):

@@ -5,8 +5,11 @@ import os
 import re
 from collections import Counter, defaultdict
 
-from . import code, code_special, definitions, donors, generated, items, pairs, shadows
+from . import code, code_special, definitions, donors, generated, items, pairs, pinned, shadows
 from .spelling import code_form, term_form
+
+# words by which forms differ though they mean the same
+SPELLED = ("let", "_", "true", "false", "len", "is_empty", "return", "else", "if", "then")
 
 
 def outside(text, file):
@@ -102,7 +105,9 @@ def made(edits, below, with_special=False):
             if near and (one := it.form()) in [wanted.form for wanted in near]:
                 made_of[place, one].append(it)
         for it in found:
-            if with_special and (place, it.form) not in made_of:
+            if (place, it.form) not in made_of:
+                made_of[place, it.form] += told_shortly(it, crates)
+            if with_special and not made_of[place, it.form]:
                 made_of[place, it.form] += special(it, crates)
     for edit, found in kept:
         yield edit, chosen([made_of[it.place, it.form] for it in found])
@@ -116,6 +121,20 @@ def shadow(edit, below):
         return None
     wanted = shadows.kept_as(path, texts[path])
     return wanted and next((it for it in shadows.of_file(path, tuple(below(path.split("/")[1]))) if it.key() == wanted.key()), None)
+
+
+def told_shortly(change, below):
+    """Returns the edits of the short lists that are the same as a change."""
+    wanted = names_in(change.words_gained())
+    for it in generated.short_of_unit(change.path, change.unit, below):
+        if change.is_near(it) and names_in(gained(it.new, generated.read(it.path)[it.start:it.end])) == wanted and it.form() == change.form:
+            return [it]
+    return []
+
+
+def names_in(words):
+    """The names among words that a text gained or lost, without those that ask the same in other words."""
+    return {it for it in words if re.match(r"[^\W\d]", it) and it not in SPELLED}
 
 
 def special(change, below):
@@ -155,8 +174,8 @@ def remove(tools, words):
     crates = [it for it in words if it not in ("--remove", "--special")] or [it for it in tools.USES if glob.glob(f"{generated.TOP}/crates/{it}/planted/*.edit")]
     kept, count, spelled, by_runs = [], 0, 0, 0
     for edit in [it for found in tools.wanted(crates).values() for it in found]:
-        # what runs alone refuses isn't tried with what operators make
-        if any(kind != "law" for _, _, kind in edit.targets()):
+        # a program in C isn't run with what operators make: the other runs are, with `--generate --runs`
+        if any(kind == "c" for _, _, kind in edit.targets()):
             by_runs += 1
             continue
         try:
@@ -164,6 +183,14 @@ def remove(tools, words):
             kept.append(edit)
         except tools.Bad as why:
             print(f"{edit.label()}: stays: {why}")
+    listed = 0
+    for edit in [it for it in kept if pinned.changed(it)]:
+        kept.remove(edit)
+        listed += 1
+        print(f"{edit.label()} : {' '.join(pinned.changed(edit)[1])} of {pinned.changed(edit)[0]}: given by equations", flush=True)
+        if is_to_remove:
+            pinned.take(edit)
+            os.remove(edit.path)
     for edit, same in made(kept, tools.below, with_special):
         if same is None:
             continue
@@ -174,5 +201,6 @@ def remove(tools, words):
         if is_to_remove:
             os.remove(edit.path)
     done = "removed" if is_to_remove else "made by operators"
-    print(f"{len(kept)} kept edits: {count} {done}, of these {spelled} in another spelling; {len(kept) - count} stay, and {by_runs} that runs alone refuse")
+    print(f"{listed} bugs in functions that are given by equations{', removed' if is_to_remove else ''}")
+    print(f"{len(kept)} kept edits: {count} {done}, of these {spelled} in another spelling; {len(kept) - count} stay, and {by_runs} that programs in C refuse")
     return 0

@@ -3,7 +3,9 @@ import random
 
 from . import generated, pairs, shadows
 
-KINDS = ("--laws", "--pairs", "--special")
+KINDS = ("--laws", "--pairs", "--short", "--special")
+# of which there are so many that a sample alone is tried
+LONG = ("--laws", "--pairs", "--special")
 
 
 def all_of(kind, crate, below, is_wide):
@@ -17,12 +19,17 @@ def all_of(kind, crate, below, is_wide):
         return
     for path in [*generated.paths_of(crate, "src"), *generated.paths_of(crate, "specs")]:
         for unit in generated.parsed(path).units:
+            if kind == "--short":
+                yield from generated.short_of_unit(path, unit, below)
+                continue
             yield from generated.special_of_unit(path, unit, below)
             yield from generated.donated_of_unit(path, unit)
 
 
 def some_of(edits, most, seed):
-    """Takes so many of them, each as likely as each other."""
+    """Takes so many of them, each as likely as each other, or all."""
+    if most is None:
+        return list(edits)
     order, taken = random.Random(seed), []
     for i, it in enumerate(edits):
         if len(taken) < most:

@@ -12,9 +12,11 @@ import signal
 import subprocess
 import sys
 
-from . import generated, pairs, shadows, streams
+from . import generated, pairs, runs, shadows, streams
 
 ERROR = re.compile(r"^(?:\./)?(src/\S+?|specs/\S+?):(\d+):\d+: error(?:\[[\w-]+\])?: (.*)$", re.M)
+# why an edit is no text that compiles
+UNREAD = re.compile(r"it can't be read|the edited text cannot be read|it did not reach the prover")
 REFUSED, EQUAL, SURVIVED, NOT_TRIED, BY_CODE = "refused", "equal", "survived", "not tried", "refused by code alone"
 
 
@@ -86,11 +88,14 @@ def texts_of(crate):
 class Trial:
     """What comes of the edits of one crate."""
 
-    def __init__(self, tools, copy, crate, budget, told=print):
-        self.tools, self.copy, self.crate, self.budget, self.told = tools, copy, crate, budget, told
+    def __init__(self, tools, copy, crate, budget, told=print, asks_runs=False):
+        self.tools, self.copy, self.crate, self.budget, self.told, self.asks_runs = tools, copy, crate, budget, told, asks_runs
         self.results = {}
 
     def say(self, edit, result, why=""):
+        # what the proofs let through, or a proof's shape alone stops, is asked of what runs
+        if self.asks_runs and (result == SURVIVED or result == NOT_TRIED and not UNREAD.match(why)) and (ran_why := runs.refusing(self.tools, edit)):
+            result, why = REFUSED, ran_why
         self.results[edit] = (result, why)
         if result in (SURVIVED, BY_CODE):
             self.told(f"{self.crate}: {result.upper()}{': ' + why if why else ''}\n{shown(edit)}", flush=True)
@@ -302,12 +307,15 @@ def chosen(crate, tools, most, seed, is_wide=True):
     return [it for it in edits if it not in same], same
 
 
-def try_crate(tools, crate, most, seed, budget, is_wide=True, kind=None):
+def try_crate(tools, crate, most, seed, budget, is_wide=True, kind=None, asks_runs=False):
     """Tries edits of a crate, and returns how many of each result there were."""
     if kind is None:
         edits, same = chosen(crate, tools, most, seed, is_wide)
     else:
-        edits, same = streams.some_of(streams.all_of(kind, crate, tuple(tools.below(crate)), is_wide), most, f"{seed} {crate}"), []
+        equal, _ = known_equal(crate)
+        edits = streams.some_of(streams.all_of(kind, crate, tuple(tools.below(crate)), is_wide), most, f"{seed} {crate}")
+        same = [it for it in edits if key_of(it) in equal]
+        edits = [it for it in edits if it not in same]
     copy = tools.Copy({crate, *tools.below(crate)})
     try:
         said = ran(["rt", "check", "--jobs", "1"], copy.folder(crate), budget)
@@ -320,7 +328,7 @@ def try_crate(tools, crate, most, seed, budget, is_wide=True, kind=None):
                 tools.stop(why)
             print(why, flush=True)
             return {}
-        trial = Trial(tools, copy, crate, budget)
+        trial = Trial(tools, copy, crate, budget, asks_runs=asks_runs)
         trial.try_all(edits)
     finally:
         copy.remove()
@@ -378,10 +386,10 @@ def main(tools, words):
             value = words[place + 1]
             del words[place:place + 2]
             most, seed = (int(value), seed) if name == "--most" else (most, value)
-    only, is_wide = "--list" in words, "--wide" in words
+    only, is_wide, asks_runs = "--list" in words, "--wide" in words, "--runs" in words
     kind = next((it for it in streams.KINDS if it in words), None)
-    words = [it.strip("/").removeprefix("crates/") for it in words if it not in ("--list", "--wide", *streams.KINDS)]
-    if kind and most is None and not only:
+    words = [it.strip("/").removeprefix("crates/") for it in words if it not in ("--list", "--wide", "--runs", *streams.KINDS)]
+    if kind in streams.LONG and most is None and not only:
         tools.stop(f"with {kind} so many are made that a sample alone is tried: say --most N")
     failed = 0
     for crate in words:
@@ -390,7 +398,7 @@ def main(tools, words):
         if only:
             show(tools, crate, most, seed, is_wide, kind)
             continue
-        failed += try_crate(tools, crate, most, seed, Budget(None), is_wide, kind).get(SURVIVED, 0)
+        failed += try_crate(tools, crate, most, seed, Budget(None), is_wide, kind, asks_runs).get(SURVIVED, 0)
     return 1 if failed else 0
 
 

@@ -1,0 +1,52 @@
+"""Asks what runs unproved whether it refuses an edit that the proofs let through: tests, programs with their own input, and rows of the program `osdp`."""
+import functools
+import glob
+import os
+import re
+
+from . import generated
+
+
+@functools.cache
+def tests_in(crate):
+    """Whether functions of a crate are tests."""
+    return any("#[test]" in generated.read(os.path.relpath(it, generated.TOP)) for it in glob.glob(f"{generated.TOP}/crates/{crate}/src/**/*.rt", recursive=True))
+
+
+def is_program(crate):
+    return all(os.path.isfile(f"{generated.TOP}/crates/{crate}/{it}") for it in ("stdin", "stdout"))
+
+
+def asked(tools, crate):
+    """Returns what runs with a crate: of each its crate, its kind and its file, the quick ones first."""
+    over = [it for it in tools.USES if it == crate or crate in tools.below(it)]
+    found = [(it, "test", "") for it in over if tests_in(it)] + [(it, "program", "") for it in over if is_program(it)]
+    if "osdp" in over:
+        found += [("osdp", "row", os.path.relpath(it, generated.TOP)) for it in sorted(glob.glob(f"{generated.TOP}/tests/rows/*.txt"))]
+    return found
+
+
+def refusing(tools, edit):
+    """Returns what refuses an edit as it runs, or nothing."""
+    texts = edit.texts()
+    for crate, kind, path in asked(tools, edit.crate()):
+        copy = tools.Copy({crate, *tools.below(crate)}, False)
+        try:
+            copy.write({it: text for it, text in texts.items() if os.path.isdir(f"{copy.root}/crates/{it.split('/')[1]}")})
+            why = refusal(tools, copy, crate, kind, path)
+        finally:
+            copy.remove()
+        if why:
+            return why
+    return ""
+
+
+def refusal(tools, copy, crate, kind, path):
+    if kind == "test":
+        _, text = tools.ran(["rt", "try", "--test"], copy.folder(crate))
+        failed = re.search(r"^test (\S+) \.\.\. FAILED", text, re.M)
+        return f"test `{crate}::{failed[1]}`" if failed else ""
+    try:
+        return tools.failing_program(copy, crate) if kind == "program" else tools.failing_row(copy, path)
+    except tools.Bad:
+        return ""
