@@ -4,3 +4,5 @@ pub mod Held
 pub mod Fronts
 pub mod Hearing
 pub mod Timed
+pub mod Retelling
+pub mod Telling

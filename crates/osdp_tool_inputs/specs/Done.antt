@@ -1,6 +1,6 @@
 -- What is done with an input.
-use Rattle.std.specs.Prelude.{◌≡◌, ◌&&◌, ◌||◌, ℕ, Bool, true, false, List, [], ◌++◌, codes, Option, None, Some, Result, Ok, Err}
-use Rattle.std.specs.Io.KnownBytes.{Keeps}
+use Rattle.std.specs.Prelude.{◌≡◌, ◌&&◌, not, ℕ, Bool, true, false, List, [], ◌++◌, codes, take, Option, None, Some, Result, Ok, Err}
+use Rattle.std.specs.Io.KnownBytes.{Appends, Keeps}
 use Rattle.osdp_tool_captures.specs.Captures.{capture_fault, capture_text}
 use Rattle.osdp_tool_captures.specs.Whole.{ReadWhole}
 use Rattle.osdp_tool_captures.specs.declared.fault.BadLine.{BadLine}
@@ -9,11 +9,17 @@ use Rattle.osdp_tool_captures.specs.declared.format.Format.TheVariants.{Bytes, D
 use Rattle.osdp_tool_monitor.specs.Ending as monitor
 use Rattle.osdp_tool_monitor.specs.declared.mode.MonitorMode.{MonitorMode}
 use Rattle.osdp_tool_show.specs.Ending.{Ends, EndsWhole, Stream}
+use Rattle.osdp_tool_objects.specs.Streams.{objects_of}
+use Rattle.osdp_tool_streams.specs.Cut.{ended_lines}
 use Rattle.osdp_tool_streams.specs.ToolFault.{status_of as fault_status}
 use Rattle.osdp_tool_streams.specs.declared.fault.ToolFault.{ToolFault}
 use Rattle.osdp_tool_streams.specs.declared.fault.ToolFault.TheVariants.{NoMemory, WriteFailed}
+use Rattle.osdp_tool_show.specs.declared.detail.Detail.{Detail}
+use Rattle.osdp_tool_streams.specs.declared.form.Form.{Form}
 use Rattle.osdp_tool_inputs.specs.Asked.{form_of, has_lines}
+use Rattle.osdp_tool_inputs.specs.Heard.{printed_of}
 use Rattle.osdp_tool_inputs.specs.Moments.{Tells}
+use Rattle.osdp_tool_inputs.specs.Times.{timed_text}
 use Rattle.osdp_tool_inputs.specs.declared.asked.Asked.{Asked}
 use Rattle.osdp_tool_inputs.specs.declared.asked.Task.{Task}
 use Rattle.osdp_tool_inputs.specs.declared.asked.Task.TheVariants.{Listen, Print, Time}
@@ -24,25 +30,68 @@ use Rattle.osdp_tool_inputs.specs.declared.told.Told.TheVariants.{Bad, Failed, R
 
 -- ---- digits or bytes
 
+-- a command ends so with an input and an output, and answers this
+abbrev pub Ending : Type 1
+Ending = Result Bool ToolFault → Stream → Stream → Type 0
+
+-- as `show` and `check` do
+abbrev pub Shows : Detail → Form → ℕ → Ending
+Shows detail form limit result input output = Ends detail form limit input output result × EndsWhole detail form limit input output result
+
 -- as the monitor does, at moments of a clock that begins now
-pub record EndsHeard (mode : MonitorMode) (input output : Stream) (result : Result Bool ToolFault) : Type 0 where
+pub record EndsHeard (mode : MonitorMode) (result : Result Bool ToolFault) (input output : Stream) : Type 0 where
   pub start : Clock
   pub end : Clock
   pub begins : start.last ≡ 0
   pub ends : monitor.Ends Tells mode start end input.before input.after input.failed output.before output.after output.failed result
 
--- with moments, and of objects, nothing is said here of the lines
-abbrev pub Listens : Bool → MonitorMode → Stream → Stream → Result Bool ToolFault → Type 0
-Listens false mode input output result = EndsHeard mode input output result
-Listens true mode input output result = Unit {0}
+-- ---- a text that is retold: with the moments in it
 
--- What is asked is done with a stream of digits or bytes; these are all its bytes, where they were read before. With stamps, nothing is said here of the
--- lines that stand after them.
+-- a command ends so with all of this text, and prints this
+pub record InMemory (ends : Ending) (text shown : List ℕ) (result : Result Bool ToolFault) : Type 0 where
+  pub input : Stream
+  pub memory : Stream
+  pub text_is : input.before ≡ Some text
+  pub empty : memory.before ≡ Some []
+  pub shown_is : memory.after ≡ Some shown
+  pub done : ends result input memory
+
+module _ (ends : Ending) (retold : List ℕ → List ℕ) (text : List ℕ) (output : Stream) where
+  -- what is printed so is retold, and the answer stays
+  pub record RetellsAll (result : Result Bool ToolFault) : Type 0 where
+    pub shown : List ℕ
+    pub heard : InMemory ends text shown result
+    pub written : Appends output.before output.after (retold shown)
+    pub output_well : output.failed ≡ false
+
+  -- the output fails, and takes a beginning of it
+  pub record RetellsPart : Type 0 where
+    pub answer : Result Bool ToolFault
+    pub shown : List ℕ
+    pub heard : InMemory ends text shown answer
+    pub count : ℕ
+    pub written : Appends output.before output.after (take count (retold shown))
+    pub output_failed : output.failed ≡ true
+
+  -- by the answer; where memory runs out, nothing is printed
+  abbrev pub Retells : Result Bool ToolFault → Type 0
+  Retells (Err NoMemory) = Keeps output.before output.after × (output.failed ≡ false)
+  Retells (Err WriteFailed) = RetellsPart
+  Retells result = RetellsAll result
+
+-- ---- what is asked
+
+-- by whether moments are told; else the lines are told, also where objects are made of them
+abbrev pub Listens : Bool → MonitorMode → List ℕ → Ending
+Listens true mode text result input output = Retells (EndsHeard mode) (printed_of mode.json text) text output result
+Listens false mode text result input output = EndsHeard mode result input output
+
+-- what is asked is done with a stream of digits or bytes; these are all its bytes, where they were read before
 abbrev pub Does : Task → Format → ℕ → List ℕ → Stream → Stream → Result Bool ToolFault → Type 0
-Does (Print detail join) format limit bytes input output result =
-    Ends detail (form_of format join) limit input output result × EndsWhole detail (form_of format join) limit input output result
-Does (Time detail join) format limit bytes input output result = Unit {0}
-Does (Listen mode) format limit bytes input output result = Listens (mode.json || (mode.times && has_lines format)) mode input output result
+Does (Print detail join) format limit bytes input output result = Shows detail (form_of format join) limit result input output
+Does (Time detail join) format limit bytes input output result =
+    Retells (Shows detail (form_of format join) LONGEST) (timed_text bytes) bytes output result
+Does (Listen mode) format limit bytes input output result = Listens (mode.times && has_lines format) mode bytes result input output
 
 -- ---- any form
 
@@ -117,6 +166,29 @@ pub record DoesDirectly (asked : Asked) (limit : ℕ) (input output : Stream) (r
 abbrev pub DoesInput : Bool → Asked → ℕ → Stream → Stream → Result Told ToolFault → Type 0
 DoesInput true asked limit input output result = EndsWholly asked limit input output result
 DoesInput false asked limit input output result = DoesDirectly asked limit input output result
+
+-- ---- objects of JSON
+
+-- they are made of lines as these are told, where no moments are
+abbrev pub has_objects : Task → Format → Bool
+has_objects (Print detail join) format = false
+has_objects (Time detail join) format = false
+has_objects (Listen mode) format = mode.json && not (mode.times && has_lines format)
+
+-- the lines are told to an output that stands between: where it holds something, they come after that
+pub record TellsObjects (asked : Asked) (limit : ℕ) (input output : Stream) (result : Result Told ToolFault) : Type 0 where
+  pub between : Stream
+  pub front : List ℕ
+  pub lines : List ℕ
+  pub before : between.before ≡ Some front
+  pub after : between.after ≡ Some (front ++ lines)
+  pub done : DoesInput (is_whole asked.format asked.task) asked limit input between result
+  pub written : Appends output.before output.after (objects_of (ended_lines lines))
+
+-- by the answer: where the output or memory fails, nothing is said of what was written
+abbrev pub DoesObjects : Asked → ℕ → Stream → Stream → Result Told ToolFault → Type 0
+DoesObjects asked limit input output (Ok told) = TellsObjects asked limit input output (Ok told)
+DoesObjects asked limit input output (Err fault) = Unit {0}
 
 -- ---- statuses
 

@@ -2,10 +2,11 @@
 
 ghost use Rattle.std.specs.Prelude.{◌≡◌, ◌++◌, ◌∷◌, [], IfOk, OnOk, flat_map, is_some, string_bytes};
 ghost use Rattle.memchr.specs.Find.{first_of, is_byte, places};
-ghost use Rattle.osdp_tool_inputs.specs.Heard.{answer_objects, answer_times, names_run, stamped_object, told_line, told_objects, told_text};
-ghost use Rattle.osdp_tool_inputs.specs.Times.{parts};
+ghost use Rattle.osdp_tool_inputs.specs.Heard.{heard_objects, heard_text, names_run, printed_of, stamped_object, told_line};
+ghost use Rattle.osdp_tool_inputs.specs.Times.{no_stamp, parts, stamps_below};
 ghost use Rattle.osdp_tool_streams.specs.Cut.{lines_of};
 ghost use Rattle.osdp_tool_times.specs.Captures.{after_lines, heard_of, nothing_heard};
+ghost use Rattle.osdp_tool_times.specs.Text.{times_objects, times_text};
 
 use crate::lines::cut_lines;
 use crate::times::{is_decimal, push_line, stamp_for, stamps};
@@ -57,12 +58,11 @@ fn push_all(text: &mut Vec<u8>, stamps: &[&[u8]], lines: &[&[u8]]) -> Result<(),
     Ok(())
 }
 
-/// What the monitor prints of the digits in a text, its lines about a run after the moment and the way of it; a hyphen where it has none.
-pub fn told_lines(alloc: Global, text: &[u8], shown: &[u8]) -> Result<Vec<u8>, AllocError>
-    ensures { IfOk result (λ lines. lines.items ≡ told_text text.now shown.now) }
+/// What the monitor prints of a capture of these lines, its lines about a run after the moment and the way of it; a hyphen where it has none.
+fn told_lines(alloc: Global, lines: &[&[u8]], shown: &[u8]) -> Result<Vec<u8>, AllocError>
+    ensures { IfOk result (λ told. told.items ≡ flat_map (told_line (stamps_below no_stamp (parts lines.now))) (lines_of shown.now)) }
 {
-    let lines = cut_lines(alloc, text)?;
-    let stamps = stamps(alloc, lines.as_slice())?;
+    let stamps = stamps(alloc, lines)?;
     let lines = cut_lines(alloc, shown)?;
     let mut told = Vec::new(alloc);
     push_all(&mut told, stamps.as_slice(), lines.as_slice())?;
@@ -84,12 +84,11 @@ fn push_objects(
     Ok(())
 }
 
-/// What the monitor prints of the digits in a text as objects of JSON, those about a run with the moment and the way of it.
-pub fn told_objects(alloc: Global, text: &[u8], shown: &[u8]) -> Result<Vec<u8>, AllocError>
-    ensures { IfOk result (λ lines. lines.items ≡ told_objects text.now shown.now) }
+/// The same as objects of JSON.
+fn told_objects(alloc: Global, lines: &[&[u8]], shown: &[u8]) -> Result<Vec<u8>, AllocError>
+    ensures { IfOk result (λ told. told.items ≡ flat_map (stamped_object (stamps_below no_stamp (parts lines.now))) (lines_of shown.now)) }
 {
-    let lines = cut_lines(alloc, text)?;
-    let stamps = stamps(alloc, lines.as_slice())?;
+    let stamps = stamps(alloc, lines)?;
     let lines = cut_lines(alloc, shown)?;
     let mut told = Vec::new(alloc);
     push_objects(alloc, &mut told, stamps.as_slice(), lines.as_slice())?;
@@ -106,32 +105,66 @@ fn hear_all(timed: &mut Timed, lines: &[&[u8]]) -> Result<(), AllocError>
     Ok(())
 }
 
-/// What was heard of a text.
-fn heard_in(alloc: Global, text: &[u8]) -> Result<Timed, AllocError>
-    ensures { IfOk result (λ timed. heard_of timed ≡ after_lines nothing_heard (lines_of text.now)) }
+/// What was heard of a capture of these lines.
+fn heard_in(alloc: Global, lines: &[&[u8]]) -> Result<Timed, AllocError>
+    ensures { IfOk result (λ timed. heard_of timed ≡ after_lines nothing_heard (parts lines.now)) }
 {
-    let lines = cut_lines(alloc, text)?;
     let mut timed = Timed::new(alloc)?;
-    hear_all(&mut timed, lines.as_slice())?;
+    hear_all(&mut timed, lines)?;
     Ok(timed)
 }
 
-/// The answer times of each device, by the moments in a text.
-pub fn answer_times(alloc: Global, text: &[u8]) -> Result<String, AllocError>
-    ensures { IfOk result (λ lines. string_bytes lines ≡ answer_times text.now) }
+/// The answer times of each device, by the moments in the lines of a capture.
+fn answer_times(alloc: Global, lines: &[&[u8]]) -> Result<String, AllocError>
+    ensures { IfOk result (λ told. string_bytes told ≡ times_text (after_lines nothing_heard (parts lines.now)).times) }
 {
-    let timed = heard_in(alloc, text)?;
+    let timed = heard_in(alloc, lines)?;
     let mut told = String::new(alloc);
     timed.push_times(&mut told)?;
     Ok(told)
 }
 
 /// The same as objects of JSON.
-pub fn answer_objects(alloc: Global, text: &[u8]) -> Result<String, AllocError>
-    ensures { IfOk result (λ lines. string_bytes lines ≡ answer_objects text.now) }
+fn answer_objects(alloc: Global, lines: &[&[u8]]) -> Result<String, AllocError>
+    ensures { IfOk result (λ told. string_bytes told ≡ times_objects (after_lines nothing_heard (parts lines.now)).times) }
 {
-    let timed = heard_in(alloc, text)?;
+    let timed = heard_in(alloc, lines)?;
     let mut told = String::new(alloc);
     timed.push_objects(&mut told)?;
     Ok(told)
+}
+
+/// What the monitor prints of the digits in a text, with the moments in it, and then the answer times of each device.
+fn heard_text(alloc: Global, text: &[u8], shown: &[u8]) -> Result<Vec<u8>, AllocError>
+    ensures { IfOk result (λ told. told.items ≡ heard_text text.now shown.now) }
+{
+    let lines = cut_lines(alloc, text)?;
+    let mut told = told_lines(alloc, lines.as_slice(), shown)?;
+    told.extend_from_slice(answer_times(alloc, lines.as_slice())?.as_bytes())?;
+    Ok(told)
+}
+
+/// The same as objects of JSON.
+fn heard_objects(alloc: Global, text: &[u8], shown: &[u8]) -> Result<Vec<u8>, AllocError>
+    ensures { IfOk result (λ told. told.items ≡ heard_objects text.now shown.now) }
+{
+    let lines = cut_lines(alloc, text)?;
+    let mut told = told_objects(alloc, lines.as_slice(), shown)?;
+    told.extend_from_slice(answer_objects(alloc, lines.as_slice())?.as_bytes())?;
+    Ok(told)
+}
+
+/// What the monitor prints with the moments in a text, as lines or as objects of JSON.
+pub(crate) fn retold(
+    alloc: Global,
+    json: bool,
+    text: &[u8],
+    shown: &[u8],
+) -> Result<Vec<u8>, AllocError>
+    ensures { IfOk result (λ told. told.items ≡ printed_of json text.now shown.now) }
+{
+    if json {
+        return heard_objects(alloc, text, shown);
+    }
+    heard_text(alloc, text, shown)
 }

@@ -1,16 +1,18 @@
 //! The inputs of the commands that read captures: standard input, or files by their names.
 
-ghost use Rattle.std.specs.Prelude.{◌≡◌, IfErr, IfOk, OnOk, false};
+ghost use Rattle.std.specs.Prelude.{◌≡◌, IfErr, IfOk, OnOk, false, true};
 ghost use Rattle.std.specs.Io.KnownBytes.{Appends};
-ghost use Rattle.osdp_tool_inputs.specs.Done.{DoesDirectly, DoesInput, EndsWholly, bad_of, heading, is_whole, status_of, text_of};
+ghost use Rattle.osdp_tool_inputs.specs.Done.{DoesDirectly, DoesInput, DoesObjects, EndsWholly, bad_of, has_objects, heading, is_whole, status_of, text_of};
+ghost use Rattle.osdp_tool_objects.specs.Outputs.{IsNew, output_of};
 ghost use Rattle.osdp_tool_show.specs.Ending.{watched};
 ghost use Rattle.osdp_tool_streams.specs.Watched.{has_failed, inner_of};
 
-use crate::asked::{Asked, Task};
+use crate::asked::{Asked, Task, has_lines};
 use crate::hinted::Hinted;
 use crate::tasks::{LONGEST, do_task};
 use crate::told::{Told, told_of, told_with};
 use osdp_tool_captures::{Format, Translated, Whole, read_whole, translate};
+use osdp_tool_objects::Objects;
 use osdp_tool_streams::{LIMIT, ToolFault, Watched, flush_out, write_out};
 use std::fs;
 use std::io::{Read, Write};
@@ -60,6 +62,16 @@ fn is_whole(format: Format, task: Task) -> bool
     }
 }
 
+/// Whether objects of JSON are made of the lines that are told. With moments they are made of all lines at the end.
+fn has_objects(task: Task, format: Format) -> bool
+    ensures { result ≡ has_objects task format }
+{
+    match task {
+        Task::Print(..) | Task::Time(..) => false,
+        Task::Listen(mode) => mode.json && !(mode.times && has_lines(format)),
+    }
+}
+
 /// Does what is asked with an input as it comes. Where the output or memory fails, nothing more is done.
 fn do_directly<R: Read, W: Write>(
     rt: &HostRuntime,
@@ -91,6 +103,41 @@ fn do_input<R: Read, W: Write>(
     do_directly(rt, asked, input, output)
 }
 
+/// Does what is asked with an input, and writes the lines that are told as objects of JSON. Where the output or memory fails, nothing more is done.
+fn do_objects<R: Read, W: Write>(
+    rt: &HostRuntime,
+    asked: &Asked<'_>,
+    input: &mut Watched<R>,
+    output: &mut Watched<Objects<W>>,
+) -> Result<Told, ToolFault>
+    requires objects { has_objects asked.now.task asked.now.format ≡ true }
+    requires input { has_failed input.old ≡ false }
+    requires output { has_failed output.old ≡ false }
+    requires new { IsNew W.contents (inner_of output.old) }
+    ensures { DoesObjects asked.now LIMIT (watched R.remaining input.old input.new) (watched W.contents (output_of (inner_of output.old)) (output_of (inner_of output.new))) result }
+{
+    let told = do_input(rt, asked, input, output);
+    match output.get_ref().fault() {
+        None => told,
+        Some(fault) => Err(fault),
+    }
+}
+
+/// Does what is asked with an input, and prints it, as objects of JSON where they are asked for.
+fn print_told<R: Read>(
+    rt: &HostRuntime,
+    asked: &Asked<'_>,
+    input: &mut Watched<R>,
+) -> Result<Told, ToolFault>
+    requires { has_failed input.old ≡ false }
+{
+    if has_objects(asked.task, asked.format) {
+        let mut output = Watched::new(Objects::new(rt.alloc(), rt.stdout()));
+        return do_objects(rt, asked, input, &mut output);
+    }
+    do_input(rt, asked, input, &mut Watched::new(rt.stdout()))
+}
+
 /// Does what is asked with an input, prints it, and tells where the input plainly has another form.
 fn print_input<R: Read + Drop>(
     rt: &HostRuntime,
@@ -98,8 +145,7 @@ fn print_input<R: Read + Drop>(
     stream: R,
 ) -> Result<Told, ToolFault> {
     let mut hinted = Hinted::new(rt, asked.format, stream);
-    let mut output = Watched::new(rt.stdout());
-    let told = do_input(rt, asked, &mut Watched::new(&mut hinted), &mut output);
+    let told = print_told(rt, asked, &mut Watched::new(&mut hinted));
     hinted.tell();
     told
 }

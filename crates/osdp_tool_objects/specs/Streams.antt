@@ -1,5 +1,6 @@
 -- The lines of `monitor` as they are written, and the objects that are written for them.
-use Rattle.std.specs.Prelude.{ℕ, List, [], flat_map}
+use Rattle.std.specs.Prelude.{◌&&◌, ◌||◌, ◌+◌, ℕ, Bool, true, false, if◌then◌else◌, List, [], ◌∷◌, ◌++◌, flat_map, length, map, Option, None, Some}
+use Rattle.std.specs.Str.{bytes_eq}
 use Rattle.osdp_tool_streams.specs.Cut.{ended_after, unended_after}
 use Rattle.osdp_tool_objects.specs.Objects.{object_of}
 
@@ -14,3 +15,29 @@ written_after held bytes = objects_of (ended_after held bytes)
 -- what stands then of a line that has not ended
 abbrev pub held_after : List ℕ → List ℕ → List ℕ
 held_after held bytes = unended_after held bytes
+
+-- ---- an output of lines, whose objects are written to another output
+
+-- the bytes that were noted
+abbrev pub noted : List (ℕ × Unit {0}) → List ℕ
+noted notes = map (λ note. note.0) notes
+
+-- what an output holds at first, in a form that shows where it ends
+unfoldable pub marked : Option (List ℕ) → List ℕ
+marked None = 0 ∷ []
+marked (Some bytes) = (length bytes + 1) ∷ bytes
+
+-- what it holds now is that and these bytes, where it is known
+abbrev pub has_appended : Option (List ℕ) → Option (List ℕ) → List ℕ → Bool
+has_appended None now bytes = true
+has_appended (Some start) None bytes = false
+has_appended (Some start) (Some now) bytes = bytes_eq now (start ++ bytes)
+
+-- of the lines that were taken the objects were written, and nothing else, and what has not ended of them is held
+abbrev pub is_written : Option (List ℕ) → Option (List ℕ) → List ℕ → List ℕ → Bool
+is_written start now held taken = has_appended start now (written_after [] taken) && bytes_eq held (held_after [] taken)
+
+-- What it holds as an output of lines: what stood in the other output at first, and the lines that it took. It is known as long as their objects are
+-- written, and of one that has failed too.
+abbrev pub taken_so : Bool → Option (List ℕ) → List ℕ → Option (List ℕ)
+taken_so known start taken = if known then Some (marked start ++ taken) else None

@@ -1,13 +1,14 @@
 //! An output that takes the lines of `monitor`, and writes an object of JSON for each.
 
-ghost use Rattle.std.specs.Prelude.{◌≡◌, ◌++◌, ◌≤◌, [], false, length, IfOk, OnOk};
+ghost use Rattle.std.specs.Prelude.{◌≡◌, ◌++◌, ◌≤◌, [], length, IfOk, OnOk};
 ghost use Rattle.std.specs.Io.{WritesAtMost};
-ghost use Rattle.std.specs.Io.KnownBytes.{Appends, Keeps};
+ghost use Rattle.std.specs.Io.KnownBytes.{Appends, Keeps, WriteAppends};
 ghost use Rattle.osdp_tool_streams.specs.Watched.{inner_of};
 ghost use Rattle.osdp_tool_objects.specs.Objects.{object_of};
-ghost use Rattle.osdp_tool_objects.specs.Streams.{held_after, written_after};
+ghost use Rattle.osdp_tool_objects.specs.Streams.{held_after, noted, written_after};
 
 use crate::object::push_object;
+use http_server::Log;
 use osdp_tool_captures::line_length;
 use osdp_tool_streams::{ToolFault, Watched, flush_out, write_out};
 use std::alloc::{AllocError, Global};
@@ -22,8 +23,12 @@ pub struct Objects<W> {
     inner: Watched<W>,
     /// The line that has not ended.
     held: Vec<u8>,
-    /// Whether memory ran out.
-    lacks_memory: bool,
+    /// Why a write failed.
+    fault: Option<ToolFault>,
+    /// The output as it was at first, which proofs alone read.
+    start: Log<Watched<W>, ()>,
+    /// The bytes of the lines that were taken, which proofs alone read.
+    taken: Log<u8, ()>,
 }
 
 /// A line has ended, with these characters after those held: its object is added.
@@ -60,62 +65,89 @@ fn take_bytes(
     held.extend_from_slice(&bytes[at..])
 }
 
+/// Notes bytes for proofs.
+fn note(notes: &mut Log<u8, ()>, bytes: &[u8])
+    ensures { noted notes.new.items ≡ noted notes.old.items ++ bytes.now }
+{
+    for byte in bytes {
+        *notes = notes.and(byte, &());
+    }
+}
+
+/// Writes the objects of the lines that end in these bytes.
+fn write_objects<W: Write>(
+    alloc: Global,
+    held: &mut Vec<u8>,
+    bytes: &[u8],
+    output: &mut Watched<W>,
+) -> Result<(), ToolFault>
+    ensures written { OnOk result (Appends (W.contents (inner_of output.old)) (W.contents (inner_of output.new)) (written_after held.old.items bytes.now)) }
+    ensures held { OnOk result (held.new.items ≡ held_after held.old.items bytes.now) }
+{
+    let mut text = Vec::new(alloc);
+    match take_bytes(alloc, held, bytes, &mut text) {
+        Ok(()) => {}
+        Err(_) => return Err(ToolFault::NoMemory),
+    }
+    write_out(output, text.as_slice())
+}
+
 impl<W: Write> Objects<W> {
+    ghost use Rattle.osdp_tool_objects.specs.Outputs.{IsNew, fault_of, output_of};
+
     /// An output to which nothing was written.
     pub fn new(alloc: Global, inner: W) -> Objects<W>
-        ensures inner { inner_of result.inner ≡ inner }
-        ensures held { result.held.items ≡ [] }
-        ensures memory { result.lacks_memory ≡ false }
+        ensures output { inner_of (output_of result) ≡ inner }
+        ensures new { IsNew W.contents result }
     {
+        let inner = Watched::new(inner);
+        let start = Log::new().and(&inner, &());
         Objects {
             alloc,
-            inner: Watched::new(inner),
+            inner,
             held: Vec::new(alloc),
-            lacks_memory: false,
+            fault: None,
+            start,
+            taken: Log::new(),
         }
     }
 
-    /// Whether memory ran out in a write, which answered an error then.
-    pub fn lacks_memory(&self) -> bool
-        ensures { result ≡ self.now.lacks_memory }
+    /// Why a write failed; None where each write wrote the objects of its lines.
+    pub fn fault(&self) -> Option<ToolFault>
+        ensures { result ≡ fault_of self.now }
     {
-        self.lacks_memory
-    }
-
-    /// Writes the objects of the lines that end in these bytes.
-    fn write_objects(&mut self, bytes: &[u8]) -> Result<(), ToolFault>
-        ensures written { OnOk result (Appends (W.contents (inner_of self.old.inner)) (W.contents (inner_of self.new.inner)) (written_after self.old.held.items bytes.now)) }
-        ensures held { OnOk result (self.new.held.items ≡ held_after self.old.held.items bytes.now) }
-    {
-        let mut text = Vec::new(self.alloc);
-        match take_bytes(self.alloc, &mut self.held, bytes, &mut text) {
-            Ok(()) => {}
-            Err(_) => return Err(ToolFault::NoMemory),
-        }
-        write_out(&mut self.inner, text.as_slice())
+        self.fault
     }
 }
 
 impl<W: Write> Write for Objects<W> {
+    ghost use Rattle.osdp_tool_objects.specs.Outputs.{lines_taken, output_of};
+
+    ghost contents = { lines_taken W.contents };
+
     /// Takes all bytes. An error is one of the output, or out of memory: nothing is known of the objects then.
     fn write(&mut self, buf: &[u8]) -> io::Result<usize>
         ensures bound { WritesAtMost result buf.now }
+        ensures bytes { WriteAppends (lines_taken W.contents self.old) (lines_taken W.contents self.new) result buf.now }
         ensures all { IfOk result (λ count. count ≡ length buf.now) }
-        ensures written { IfOk result (λ count. Appends (W.contents (inner_of self.old.inner)) (W.contents (inner_of self.new.inner)) (written_after self.old.held.items buf.now)) }
+        ensures written { IfOk result (λ count. Appends (W.contents (inner_of (output_of self.old))) (W.contents (inner_of (output_of self.new))) (written_after self.old.held.items buf.now)) }
         ensures held { IfOk result (λ count. self.new.held.items ≡ held_after self.old.held.items buf.now) }
     {
-        match self.write_objects(buf) {
-            Ok(()) => Ok(buf.len()),
-            Err(ToolFault::NoMemory) => {
-                self.lacks_memory = true;
-                Err(io::Error::from(ErrorKind::OutOfMemory))
+        match write_objects(self.alloc, &mut self.held, buf, &mut self.inner) {
+            Ok(()) => {
+                note(&mut self.taken, buf);
+                Ok(buf.len())
             }
-            Err(_) => Err(io::Error::from(ErrorKind::Other)),
+            Err(fault) => {
+                self.fault = Some(fault);
+                Err(io::Error::from(ErrorKind::Other))
+            }
         }
     }
 
     fn flush(&mut self) -> io::Result<()>
-        ensures bytes { Keeps (W.contents (inner_of self.old.inner)) (W.contents (inner_of self.new.inner)) }
+        ensures bytes { Keeps (lines_taken W.contents self.old) (lines_taken W.contents self.new) }
+        ensures written { Keeps (W.contents (inner_of (output_of self.old))) (W.contents (inner_of (output_of self.new))) }
         ensures held { self.new.held ≡ self.old.held }
     {
         match flush_out(&mut self.inner) {

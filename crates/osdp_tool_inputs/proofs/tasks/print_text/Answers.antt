@@ -1,0 +1,11 @@
+use Rattle.std.proofs.Common.{◌||◌, ◌∙◌, Bool, false, ap}
+use Rattle.osdp_tool_streams.specs.Watched.{inner_of, has_failed}
+use Rattle.osdp_tool_monitor.proofs.Writing.{wrote_flushed}
+use Rattle.osdp_tool_inputs.proofs.tasks.print_text.Goals as goal
+
+pub returns : goal.returns
+returns g c =
+    let before = g.W.Write.contents (inner_of c.args.output.now) in
+    let mid = g.W.Write.contents (inner_of c.write_out.new.output) in
+    wrote_flushed c.args.text.now before mid _ (has_failed c.write_out.new.output) _ c.flush_out.result c.in_ok-write_out.ensures.ok c.flush_out.ensures.bytes
+    c.flush_out.ensures.fault c.flush_out.ensures.failed (c.in_ok-write_out.ensures.failed ∙ ap (λ (b : Bool). b || false) c.requires)
