@@ -18,6 +18,8 @@ WAIT = 200
 PACKETS = 60
 START = datetime(2024, 2, 29, 23, 59, 55, tzinfo=timezone.utc)
 IN_TIME = re.compile(r"^times: 5 answered (\d+) in (\d+) to (\d+) ms, half below (\d+), 95 of 100 below (\d+)$", re.M)
+TOOK = re.compile(r" \(it took (\d+) ms, the panel waited (\d+) ms\)$", re.M)
+TOLD = re.compile(r"^\S+ (?:in|out|trace) (\d+):0 device 5: a late answer: .*waits(?: \(it took (\d+) ms, the panel waited (\d+) ms\))?$", re.M)
 LATE = re.compile(r"^times: 5 answered (\d+) late, after (\d+) ms at most: the panel waits (\d+) ms$", re.M)
 
 
@@ -66,6 +68,27 @@ def told(words, text):
     return subprocess.run([PROGRAM, "monitor", *words], input=text.encode(), capture_output=True, check=False).stdout.decode()
 
 
+def waits_of(bursts, delay):
+    """For each reply, by its run, how long the panel waited after the packet that it answers, and after the one before."""
+    sent = [moment for moment, own, _ in bursts if own]
+    after = {moment: later - moment for moment, later in zip(sent, sent[1:])}
+    before = {later: later - moment for moment, later in zip(sent, sent[1:])}
+    return {run: {after.get(moment - delay), before.get(moment - delay)} for run, (moment, own, _) in enumerate(bursts, 1) if not own}
+
+
+def line_faults(bursts, delay, with_times):
+    """What is wrong with the times that stand where late answers are told."""
+    waits = waits_of(bursts, delay)
+    told = TOLD.findall(with_times)
+    for run, took, waited in told:
+        if took and (int(took) != delay or int(waited) not in waits[int(run)]):
+            yield f"run {run} is told by {took} ms and {waited} ms, made with {delay} ms and {waits[int(run)]}"
+    if len(TOOK.findall(with_times)) != sum(bool(took) for _, took, _ in told):
+        yield "times stand after another line"
+    if delay > WAIT and not any(took for _, took, _ in told) or delay <= WAIT and told:
+        yield f"{len(told)} late answers are told"
+
+
 def faults_of(delay, repeats, form):
     """What is wrong with what is told of a line."""
     bursts = line(delay, repeats)
@@ -80,7 +103,9 @@ def faults_of(delay, repeats, form):
             yield f"the shares are not of {delay}: {in_time[0]}"
     elif not late or late[2] != str(delay) or late[3] != str(WAIT) or in_time:
         yield f"told {late and late[0]}, {in_time and in_time[0]}"
+    yield from line_faults(bursts, delay, with_times)
     plain = told(words, text)
+    with_times = TOOK.sub("", with_times)
     unstamped = re.sub(r"^\S+ (?:in|out|trace) (\d+:)", r"\1", re.sub(r"^times: .*\n", "", with_times, flags=re.M), flags=re.M)
     if unstamped != plain:
         yield "the lines are others than without moments"

@@ -43,12 +43,12 @@ beyond run stamps h =
     elim (run == 0) as (λ t. cond t no_stamp (get_or stamps (run - 1) no_stamp) ≡ no_stamp)
     [ true ↦ refl | false ↦ get_or_past stamps (run - 1) no_stamp (omega arith) ]
 
--- a number that goes on from here is beyond them too
-pub too_great : (n b : ℕ) (line : List ℕ) (stamps : List (List ℕ)) → is_decimal b ≡ true → length stamps < n * 10 + (b - 48)
-    → stamp_at (number_after n (b ∷ line)) stamps ≡ no_stamp
-too_great n b line stamps h more =
+-- a number that goes on from here is greater too
+pub too_great : (n b : ℕ) (line : List ℕ) (most : ℕ) → is_decimal b ≡ true → most < n * 10 + (b - 48) → most < number_after n (b ∷ line)
+too_great n b line most h more =
     let grows = number_grows (n * 10 + (b - 48)) line in
-    ap (λ m. stamp_at m stamps) (goes n b line h) ∙ beyond (number_after (n * 10 + (b - 48)) line) stamps (omega arith)
+    let same = goes n b line h in
+    omega arith
 
 -- ---- line by line
 
@@ -110,6 +110,8 @@ module _ (n at : ℕ) (line : List ℕ) (total : ℕ) (so_far : number_after n (
     pub step_goes : (next : ℕ) → is_decimal (get_or line at 0) ≡ true → next ≡ n * 10 + (get_or line at 0 - 48) → number_after next (drop (at + 1) line) ≡ total
     step_goes next h e = ap (λ m. number_after m (drop (at + 1) line)) e ∙ sym (goes n (get_or line at 0) (drop (at + 1) line) h) ∙ head
 
-    pub step_great : (stamps : List (List ℕ)) → is_decimal (get_or line at 0) ≡ true → length stamps < n * 10 + (get_or line at 0 - 48)
-        → stamp_at total stamps ≡ no_stamp
-    step_great stamps h more = ap (λ m. stamp_at m stamps) (sym head) ∙ too_great n (get_or line at 0) (drop (at + 1) line) stamps h more
+    pub step_great : (most : ℕ) → is_decimal (get_or line at 0) ≡ true → most < n * 10 + (get_or line at 0 - 48) → most < total
+    step_great most h more =
+        let great = too_great n (get_or line at 0) (drop (at + 1) line) most h more in
+        let same = head in
+        omega arith

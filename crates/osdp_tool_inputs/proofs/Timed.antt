@@ -2,9 +2,11 @@
 use Rattle.std.proofs.Common.{◌≡◌, inl, inr, ℕ, List, [], ◌∷◌, ◌++◌, codes, flat_map, refl, sym, ap, ◌∙◌, append_assoc}
 use Rattle.std.proofs.lemmas.Bool.{cases_Bool, cond-false, cond-true}
 use Rattle.osdp_tool_streams.specs.Cut.{line_feed, lines_of}
-use Rattle.osdp_tool_inputs.specs.Heard.{names_run, told_line}
-use Rattle.osdp_tool_inputs.specs.Laws.{AreFronts, IsFront, MomentsLeaveLines, lines_after}
-use Rattle.osdp_tool_inputs.specs.Times.{run_of, stamp_at, stamps_of, timed_line}
+use Rattle.osdp_tool_inputs.specs.Heard.{late_notice, names_run, tells_at, tells_of, times_after, told_line, took_text}
+use Rattle.osdp_tool_inputs.specs.Laws.{AreEdges, Edges, IsFront, IsTail, MomentsLeaveLines, lines_between}
+use Rattle.osdp_tool_inputs.specs.Times.{ends_so, run_of, stamp_at, stamps_of}
+use Rattle.osdp_tool_times.specs.declared.waits.Told.{Told}
+use Rattle.osdp_tool_times.specs.declared.waits.Told.TheVariants.{InTime, Late, Nothing}
 
 -- ---- a line after its front
 
@@ -17,33 +19,53 @@ stamped_line stamp line rest =
     ∙ ap (λ t. stamp ++ t) (append_assoc (codes " ") (line ++ line_feed ∷ []) rest ∙ ap (λ t. codes " " ++ t) (append_assoc line (line_feed ∷ []) rest))
     ∙ sym (append_assoc stamp (codes " ") (line ++ line_feed ∷ rest))
 
-abbrev Fronted : List (List ℕ) → List ℕ → Type 0
-Fronted stamps line = (front : List ℕ) × IsFront stamps line front × ((rest : List ℕ) → told_line stamps line ++ rest ≡ front ++ (line ++ line_feed ∷ rest))
+-- what stands after a line
+tail_is : (line : List ℕ) (told : Told)
+    → (times_after line told ≡ []) ⊎ ((took : ℕ) × (waited : ℕ) × (told ≡ Late took waited) × (times_after line told ≡ took_text took waited))
+tail_is line Nothing = inl refl
+tail_is line (InTime time) = inl refl
+tail_is line (Late took waited) = elim (cases_Bool (ends_so line late_notice)) [
+  | inl late ↦ inr (took, waited, refl, cond-true (ends_so line late_notice) (took_text took waited) [] late)
+  | inr other ↦ inl (cond-false (ends_so line late_notice) (took_text took waited) [] other)
+]
 
-one_front : (stamps : List (List ℕ)) (line : List ℕ) → Fronted stamps line
-one_front stamps line =
+abbrev Edged : List (List ℕ) → List Told → List ℕ → Type 0
+Edged stamps tells line =
+    (edge : Edges) × IsFront stamps line edge.front × IsTail tells line edge.tail
+    × ((rest : List ℕ) → told_line stamps tells line ++ rest ≡ edge.front ++ (line ++ (edge.tail ++ line_feed ∷ rest)))
+
+one_edge : (stamps : List (List ℕ)) (tells : List Told) (line : List ℕ) → Edged stamps tells line
+one_edge stamps tells line =
     let stamp = stamp_at (run_of line) stamps in
+    let tail = times_after line (tells_at (run_of line) tells) in
+    let stamped = stamp ++ (codes " " ++ ((line ++ tail) ++ line_feed ∷ [])) in
     elim (cases_Bool (names_run line)) [
       | inl names ↦ (
-        stamp ++ codes " ",
+        record { front = stamp ++ codes " "; tail = tail },
         inr refl,
-        λ rest. ap (λ t. t ++ rest) (cond-true (names_run line) (timed_line stamps line) (line ++ line_feed ∷ []) names) ∙ stamped_line stamp line rest,
+        tail_is line (tells_at (run_of line) tells),
+        λ rest. ap (λ t. t ++ rest) (cond-true (names_run line) stamped (line ++ line_feed ∷ []) names) ∙ stamped_line stamp (line ++ tail) rest
+            ∙ ap (λ t. (stamp ++ codes " ") ++ t) (append_assoc line tail (line_feed ∷ rest)),
       )
       | inr plain ↦ (
-        [],
+        record { front = []; tail = [] },
         inl refl,
-        λ rest. ap (λ t. t ++ rest) (cond-false (names_run line) (timed_line stamps line) (line ++ line_feed ∷ []) plain) ∙ plain_line line rest,
+        inl refl,
+        λ rest. ap (λ t. t ++ rest) (cond-false (names_run line) stamped (line ++ line_feed ∷ []) plain) ∙ plain_line line rest,
       )
     ]
 
-all_fronts : (stamps lines : List (List ℕ)) → (fronts : List (List ℕ)) × AreFronts stamps lines fronts
-    × (flat_map (told_line stamps) lines ≡ lines_after fronts lines)
-unfolding lines_after
-all_fronts stamps [] = ([], tt, refl)
-all_fronts stamps (line ∷ lines) =
-    let first = one_front stamps line in
-    let more = all_fronts stamps lines in
-    (first.0 ∷ more.0, (first.1, more.1), first.2 (flat_map (told_line stamps) lines) ∙ ap (λ t. first.0 ++ (line ++ line_feed ∷ t)) more.2)
+all_edges : (stamps : List (List ℕ)) (tells : List Told) (lines : List (List ℕ)) → (edges : List Edges) × AreEdges stamps tells lines edges
+    × (flat_map (told_line stamps tells) lines ≡ lines_between edges lines)
+unfolding lines_between
+all_edges stamps tells [] = ([], tt, refl)
+all_edges stamps tells (line ∷ lines) =
+    let first = one_edge stamps tells line in
+    let more = all_edges stamps tells lines in (
+      first.0 ∷ more.0,
+      (first.1, first.2, more.1),
+      first.3 (flat_map (told_line stamps tells) lines) ∙ ap (λ t. first.0.front ++ (line ++ (first.0.tail ++ line_feed ∷ t))) more.2,
+    )
 
 pub moments_leave_lines : MomentsLeaveLines
-moments_leave_lines text shown = all_fronts (stamps_of text) (lines_of shown)
+moments_leave_lines text shown = all_edges (stamps_of text) (tells_of text) (lines_of shown)

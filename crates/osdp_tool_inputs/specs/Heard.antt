@@ -1,23 +1,58 @@
--- The lines of `monitor`, those about a run after the moment and the way of it, and then the answer times of each device.
-use Rattle.std.specs.Prelude.{ℕ, ◌&&◌, Bool, List, [], ◌∷◌, ◌++◌, flat_map, get_or, is_some, if◌then◌else◌}
+-- The lines of `monitor`, those about a run after the moment and the way of it, a late answer before its times, and then the answer times of each device.
+use Rattle.std.specs.Prelude.{ℕ, ◌==◌, ◌-◌, ◌&&◌, Bool, List, [], ◌∷◌, ◌++◌, codes, flat_map, get_or, is_some, if◌then◌else◌}
+use Rattle.std.specs.Fmt.{decimal}
 use Rattle.memchr.specs.Find.{is_byte, places, first_of}
 use Rattle.osdp_tool_captures.specs.Lines.{is_decimal}
 use Rattle.osdp_tool_streams.specs.Cut.{line_feed, lines_of}
 use Rattle.osdp_tool_objects.specs.Objects.{object_of}
-use Rattle.osdp_tool_inputs.specs.Times.{run_of, stamp_at, stamps_of, timed_line}
-use Rattle.osdp_tool_times.specs.Captures.{after_lines, nothing_heard}
+use Rattle.osdp_tool_inputs.specs.Times.{ends_so, has_digits, run_of, stamp_at, stamps_of}
+use Rattle.osdp_tool_times.specs.Captures.{Heard, after_line, after_lines, line_told, nothing_heard}
+use Rattle.osdp_tool_times.specs.declared.waits.Told.{Told}
+use Rattle.osdp_tool_times.specs.declared.waits.Told.TheVariants.{InTime, Late, Nothing}
 use Rattle.osdp_tool_times.specs.Text.{times_objects, times_text}
 
 -- a line about a run begins with its number, and a colon stands in it: none stands in a row of a table
 abbrev pub names_run : List ℕ → Bool
 names_run line = is_decimal (get_or line 0 0) && is_some (first_of (places (is_byte 58) line))
 
-abbrev pub told_line : List (List ℕ) → List ℕ → List ℕ
-told_line stamps line = if names_run line then timed_line stamps line else line ++ line_feed ∷ []
+-- what each line of digits tells of its answer time, by the moments of a text
+unfoldable pub tells_below : Heard → List (List ℕ) → List Told
+tells_below h [] = []
+tells_below h (line ∷ lines) =
+    if has_digits line then line_told h line ∷ tells_below (after_line h line) lines else tells_below (after_line h line) lines
+
+abbrev pub tells_of : List ℕ → List Told
+tells_of text = tells_below nothing_heard (lines_of text)
+
+-- what a run tells, of which the first is run 1
+abbrev pub tells_at : ℕ → List Told → Told
+tells_at run tells = if run == 0 then Nothing else get_or tells (run - 1) Nothing
+
+-- what the monitor tells of a late answer
+abbrev pub late_notice : List ℕ
+late_notice = codes "a late answer: the reader takes longer than the panel waits"
+
+-- how long it took, and how long the panel waited
+abbrev pub took_text : ℕ → ℕ → List ℕ
+took_text took waited = codes " (it took " ++ (decimal took ++ (codes " ms, the panel waited " ++ (decimal waited ++ codes " ms)")))
+
+-- what stands after a line about a run
+abbrev pub times_after : List ℕ → Told → List ℕ
+times_after line Nothing = []
+times_after line (InTime time) = []
+times_after line (Late took waited) = if ends_so line late_notice then took_text took waited else []
+
+-- a line about a run, and the times of a late answer
+abbrev pub whole_line : List Told → List ℕ → List ℕ
+whole_line tells line = line ++ times_after line (tells_at (run_of line) tells)
+
+abbrev pub told_line : List (List ℕ) → List Told → List ℕ → List ℕ
+told_line stamps tells line =
+    if names_run line then stamp_at (run_of line) stamps ++ (codes " " ++ (whole_line tells line ++ line_feed ∷ [])) else line ++ line_feed ∷ []
 
 -- what the monitor prints of the digits in a text, with the stamps of the text
 abbrev pub told_text : List ℕ → List ℕ → List ℕ
-told_text text shown = flat_map (told_line (stamps_of text)) (lines_of shown)
+told_text text shown = flat_map (told_line (stamps_of text) (tells_of text)) (lines_of shown)
 
 -- the answer times of each device, by the stamps of the text
 abbrev pub answer_times : List ℕ → List ℕ
@@ -29,11 +64,11 @@ heard_text text shown = told_text text shown ++ answer_times text
 -- ---- the same as objects of JSON
 
 -- a line about a run has the stamp of that in it
-abbrev pub stamped_object : List (List ℕ) → List ℕ → List ℕ
-stamped_object stamps line = object_of (stamp_at (run_of line) stamps) line
+abbrev pub stamped_object : List (List ℕ) → List Told → List ℕ → List ℕ
+stamped_object stamps tells line = object_of (stamp_at (run_of line) stamps) (whole_line tells line)
 
 abbrev pub told_objects : List ℕ → List ℕ → List ℕ
-told_objects text shown = flat_map (stamped_object (stamps_of text)) (lines_of shown)
+told_objects text shown = flat_map (stamped_object (stamps_of text) (tells_of text)) (lines_of shown)
 
 abbrev pub answer_objects : List ℕ → List ℕ
 answer_objects text = times_objects (after_lines nothing_heard (lines_of text)).times

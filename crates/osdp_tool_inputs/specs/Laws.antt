@@ -3,10 +3,12 @@ use Rattle.std.specs.Prelude.{◌≡◌, ◌⊎◌, ◌+◌, ◌<◌, ◌^◌, �
 use Rattle.std.specs.Fmt.{decimal}
 use Rattle.osdp_tool_monitor.specs.Ending.{Told}
 use Rattle.osdp_tool_streams.specs.Cut.{line_feed, lines_of}
-use Rattle.osdp_tool_inputs.specs.Heard.{told_text}
+use Rattle.osdp_tool_inputs.specs.Heard.{tells_at, tells_of, told_text, took_text}
 use Rattle.osdp_tool_inputs.specs.Moments.{AreInOrder, Tells}
 use Rattle.osdp_tool_inputs.specs.Times.{has_digits, is_stamp, no_stamp, run_of, stamp_at, stamps_below, stamps_of}
 use Rattle.osdp_tool_inputs.specs.declared.clock.Clock.{Clock}
+use Rattle.osdp_tool_times.specs.declared.waits.Told as waits
+use Rattle.osdp_tool_times.specs.declared.waits.Told.TheVariants.{Late}
 
 -- the moments that a clock tells are in order
 abbrev pub TellsInOrder : Type 0
@@ -27,21 +29,32 @@ TimesByRuns =
 abbrev pub IsFront : List (List ℕ) → List ℕ → List ℕ → Type 0
 IsFront stamps line front = (front ≡ []) ⊎ (front ≡ stamp_at (run_of line) stamps ++ codes " ")
 
+-- nothing stands after it, or the times of its run, where that is told as late
+abbrev pub IsTail : List waits.Told → List ℕ → List ℕ → Type 0
+IsTail tells line tail =
+    (tail ≡ []) ⊎ ((took : ℕ) × (waited : ℕ) × (tells_at (run_of line) tells ≡ Late took waited) × (tail ≡ took_text took waited))
+
+-- what stands before a line, and after it
+pub record Edges : Type 0 where
+  pub front : List ℕ
+  pub tail : List ℕ
+
 -- one for each line
-abbrev pub AreFronts : List (List ℕ) → List (List ℕ) → List (List ℕ) → Type 0
-AreFronts stamps [] [] = Unit {0}
-AreFronts stamps [] (front ∷ fronts) = ⊥
-AreFronts stamps (line ∷ lines) [] = ⊥
-AreFronts stamps (line ∷ lines) (front ∷ fronts) = IsFront stamps line front × AreFronts stamps lines fronts
+abbrev pub AreEdges : List (List ℕ) → List waits.Told → List (List ℕ) → List Edges → Type 0
+AreEdges stamps tells [] [] = Unit {0}
+AreEdges stamps tells [] (edge ∷ edges) = ⊥
+AreEdges stamps tells (line ∷ lines) [] = ⊥
+AreEdges stamps tells (line ∷ lines) (edge ∷ edges) = IsFront stamps line edge.front × IsTail tells line edge.tail × AreEdges stamps tells lines edges
 
--- each line after its front
-unfoldable pub lines_after : List (List ℕ) → List (List ℕ) → List ℕ
-lines_after [] lines = []
-lines_after (front ∷ fronts) [] = []
-lines_after (front ∷ fronts) (line ∷ lines) = front ++ (line ++ line_feed ∷ lines_after fronts lines)
+-- each line between them
+unfoldable pub lines_between : List Edges → List (List ℕ) → List ℕ
+lines_between [] lines = []
+lines_between (edge ∷ edges) [] = []
+lines_between (edge ∷ edges) (line ∷ lines) = edge.front ++ (line ++ (edge.tail ++ line_feed ∷ lines_between edges lines))
 
--- What the monitor tells with moments is what it tells without: each line stands there after its moment, none is left out, and none comes to it.
+-- What the monitor tells with moments is what it tells without: each line stands there after its moment, and before its times, none is left out, and none comes to
+-- it.
 abbrev pub MomentsLeaveLines : Type 0
 MomentsLeaveLines =
-    (text shown : List ℕ) → (fronts : List (List ℕ)) × AreFronts (stamps_of text) (lines_of shown) fronts
-    × (told_text text shown ≡ lines_after fronts (lines_of shown))
+    (text shown : List ℕ) → (edges : List Edges) × AreEdges (stamps_of text) (tells_of text) (lines_of shown) edges
+    × (told_text text shown ≡ lines_between edges (lines_of shown))

@@ -1,19 +1,22 @@
 //! The lines of `monitor` with the moments of a capture, and the answer times of its devices.
 
-ghost use Rattle.std.specs.Prelude.{◌≡◌, ◌++◌, ◌∷◌, [], IfOk, OnOk, flat_map, is_some, string_bytes};
+ghost use Rattle.std.specs.Prelude.{◌≡◌, ◌++◌, ◌∷◌, ℕ, [], List, IfOk, OnOk, flat_map, is_some, string_bytes};
 ghost use Rattle.memchr.specs.Find.{first_of, is_byte, places};
-ghost use Rattle.osdp_tool_inputs.specs.Heard.{heard_objects, heard_text, names_run, printed_of, stamped_object, told_line};
-ghost use Rattle.osdp_tool_inputs.specs.Times.{no_stamp, parts, stamps_below};
+ghost use Rattle.osdp_tool_inputs.specs.Heard.{heard_objects, heard_text, names_run, printed_of, stamped_object, tells_at, tells_below, times_after, told_line, took_text, whole_line};
+ghost use Rattle.osdp_tool_inputs.specs.Times.{no_stamp, parts, run_of, stamps_below};
 ghost use Rattle.osdp_tool_streams.specs.Cut.{lines_of};
-ghost use Rattle.osdp_tool_times.specs.Captures.{after_lines, heard_of, nothing_heard};
+ghost use Rattle.osdp_tool_times.specs.Captures.{after_line, after_lines, heard_of, nothing_heard};
 ghost use Rattle.osdp_tool_times.specs.Text.{times_objects, times_text};
 
 use crate::lines::cut_lines;
-use crate::times::{is_decimal, push_line, stamp_for, stamps};
+use crate::times::{has_digits, is_decimal, push_line, run_in, stamp_for, stamps};
 use memchr::memchr;
 use osdp_tool_objects::push_object;
-use osdp_tool_times::Timed;
+use osdp_tool_times::{Timed, Told};
 use std::alloc::{AllocError, Global};
+
+/// What the monitor tells of a late answer.
+const LATE: &[u8] = b"a late answer: the reader takes longer than the panel waits";
 
 /// Whether a colon stands in a line.
 fn has_colon(line: &[u8]) -> bool
@@ -38,34 +41,120 @@ fn push_plain(text: &mut Vec<u8>, line: &[u8]) -> Result<(), AllocError>
     Ok(())
 }
 
-/// Adds a line, where it is about a run after the stamp of that.
-fn push_told(text: &mut Vec<u8>, stamps: &[&[u8]], line: &[u8]) -> Result<(), AllocError>
-    ensures { OnOk result (text.new.items ≡ text.old.items ++ told_line (parts stamps.now) line.now) }
+/// A line comes: what it tells is added to what those before it tell, where it is one of digits.
+fn find_told(timed: &mut Timed, found: &mut Vec<Told>, line: &[u8]) -> Result<(), AllocError>
+    ensures heard { OnOk result (heard_of timed.new ≡ after_line (heard_of timed.old) line.now) }
+    ensures tells { OnOk result ((lines : List (List ℕ)) → found.new.items ++ tells_below (heard_of timed.new) lines ≡ found.old.items ++ tells_below (heard_of timed.old) (line.now ∷ lines)) }
+{
+    let told = timed.hear_line(line)?;
+    if !has_digits(line) {
+        return Ok(());
+    }
+    found.push(told)?;
+    Ok(())
+}
+
+/// What a run tells, of which the first is run 1.
+fn tells_at(tells: &[Told], run: usize) -> Told
+    ensures { result ≡ tells_at run tells.now }
+{
+    match run {
+        0 => Told::Nothing,
+        _ => tells.get(run - 1).copied().unwrap_or(Told::Nothing),
+    }
+}
+
+/// What the run tells that a line begins with the number of.
+fn tells_for(tells: &[Told], line: &[u8]) -> Told
+    ensures { result ≡ tells_at (run_of line.now) tells.now }
+{
+    match run_in(line, tells.len()) {
+        None => Told::Nothing,
+        Some(run) => tells_at(tells, run),
+    }
+}
+
+/// How long a late answer took, and how long the panel waited.
+fn took_text(alloc: Global, took: u64, waited: u64) -> Result<String, AllocError>
+    ensures { IfOk result (λ text. string_bytes text ≡ took_text took waited) }
+{
+    format!(in alloc; " (it took {took} ms, the panel waited {waited} ms)")
+}
+
+/// What stands after a line about a run that tells this.
+fn times_after(alloc: Global, line: &[u8], told: Told) -> Result<String, AllocError>
+    ensures { IfOk result (λ text. string_bytes text ≡ times_after line.now told) }
+{
+    match told {
+        Told::Nothing | Told::InTime(_) => Ok(String::new(alloc)),
+        Told::Late(took, waited) => {
+            if line.ends_with(LATE) {
+                took_text(alloc, took, waited)
+            } else {
+                Ok(String::new(alloc))
+            }
+        }
+    }
+}
+
+/// A line about a run, and the times of a late answer.
+fn whole_line(alloc: Global, tells: &[Told], line: &[u8]) -> Result<Vec<u8>, AllocError>
+    ensures { IfOk result (λ whole. whole.items ≡ whole_line tells.now line.now) }
+{
+    let times = times_after(alloc, line, tells_for(tells, line))?;
+    let mut whole = Vec::new(alloc);
+    whole.extend_from_slice(line)?;
+    whole.extend_from_slice(times.as_bytes())?;
+    Ok(whole)
+}
+
+/// Adds a line, where it is about a run after the stamp of that, and before its times.
+fn push_told(
+    alloc: Global,
+    text: &mut Vec<u8>,
+    stamps: &[&[u8]],
+    tells: &[Told],
+    line: &[u8],
+) -> Result<(), AllocError>
+    ensures { OnOk result (text.new.items ≡ text.old.items ++ told_line (parts stamps.now) tells.now line.now) }
 {
     if names_run(line) {
-        return push_line(text, stamp_for(stamps, line), line);
+        let whole = whole_line(alloc, tells, line)?;
+        return push_line(text, stamp_for(stamps, line), whole.as_slice());
     }
     push_plain(text, line)
 }
 
 /// Adds lines.
-fn push_all(text: &mut Vec<u8>, stamps: &[&[u8]], lines: &[&[u8]]) -> Result<(), AllocError>
-    ensures { OnOk result (text.new.items ≡ text.old.items ++ flat_map (told_line (parts stamps.now)) (parts lines.now)) }
+fn push_all(
+    alloc: Global,
+    text: &mut Vec<u8>,
+    stamps: &[&[u8]],
+    tells: &[Told],
+    lines: &[&[u8]],
+) -> Result<(), AllocError>
+    ensures { OnOk result (text.new.items ≡ text.old.items ++ flat_map (told_line (parts stamps.now) tells.now) (parts lines.now)) }
 {
     for line in lines {
-        push_told(text, stamps, line)?;
+        push_told(alloc, text, stamps, tells, line)?;
     }
     Ok(())
 }
 
-/// What the monitor prints of a capture of these lines, its lines about a run after the moment and the way of it; a hyphen where it has none.
-fn told_lines(alloc: Global, lines: &[&[u8]], shown: &[u8]) -> Result<Vec<u8>, AllocError>
-    ensures { IfOk result (λ told. told.items ≡ flat_map (told_line (stamps_below no_stamp (parts lines.now))) (lines_of shown.now)) }
+/// What the monitor prints of a capture of these lines, its lines about a run after the moment and the way of it; a hyphen where it has none. A late answer stands before
+/// its times.
+fn told_lines(
+    alloc: Global,
+    lines: &[&[u8]],
+    tells: &[Told],
+    shown: &[u8],
+) -> Result<Vec<u8>, AllocError>
+    ensures { IfOk result (λ told. told.items ≡ flat_map (told_line (stamps_below no_stamp (parts lines.now)) tells.now) (lines_of shown.now)) }
 {
     let stamps = stamps(alloc, lines)?;
     let lines = cut_lines(alloc, shown)?;
     let mut told = Vec::new(alloc);
-    push_all(&mut told, stamps.as_slice(), lines.as_slice())?;
+    push_all(alloc, &mut told, stamps.as_slice(), tells, lines.as_slice())?;
     Ok(told)
 }
 
@@ -74,61 +163,76 @@ fn push_objects(
     alloc: Global,
     text: &mut Vec<u8>,
     stamps: &[&[u8]],
+    tells: &[Told],
     lines: &[&[u8]],
 ) -> Result<(), AllocError>
-    ensures { OnOk result (text.new.items ≡ text.old.items ++ flat_map (stamped_object (parts stamps.now)) (parts lines.now)) }
+    ensures { OnOk result (text.new.items ≡ text.old.items ++ flat_map (stamped_object (parts stamps.now) tells.now) (parts lines.now)) }
 {
     for line in lines {
-        push_object(alloc, text, stamp_for(stamps, line), line)?;
+        let whole = whole_line(alloc, tells, line)?;
+        push_object(alloc, text, stamp_for(stamps, line), whole.as_slice())?;
     }
     Ok(())
 }
 
 /// The same as objects of JSON.
-fn told_objects(alloc: Global, lines: &[&[u8]], shown: &[u8]) -> Result<Vec<u8>, AllocError>
-    ensures { IfOk result (λ told. told.items ≡ flat_map (stamped_object (stamps_below no_stamp (parts lines.now))) (lines_of shown.now)) }
+fn told_objects(
+    alloc: Global,
+    lines: &[&[u8]],
+    tells: &[Told],
+    shown: &[u8],
+) -> Result<Vec<u8>, AllocError>
+    ensures { IfOk result (λ told. told.items ≡ flat_map (stamped_object (stamps_below no_stamp (parts lines.now)) tells.now) (lines_of shown.now)) }
 {
     let stamps = stamps(alloc, lines)?;
     let lines = cut_lines(alloc, shown)?;
     let mut told = Vec::new(alloc);
-    push_objects(alloc, &mut told, stamps.as_slice(), lines.as_slice())?;
+    push_objects(alloc, &mut told, stamps.as_slice(), tells, lines.as_slice())?;
     Ok(told)
 }
 
-/// The lines of a capture come.
-fn hear_all(timed: &mut Timed, lines: &[&[u8]]) -> Result<(), AllocError>
-    ensures { OnOk result (heard_of timed.new ≡ after_lines (heard_of timed.old) (parts lines.now)) }
+/// The lines of a capture come: what each line of digits tells is added to what those before them tell.
+fn hear_all(timed: &mut Timed, tells: &mut Vec<Told>, lines: &[&[u8]]) -> Result<(), AllocError>
+    ensures heard { OnOk result (heard_of timed.new ≡ after_lines (heard_of timed.old) (parts lines.now)) }
+    ensures tells { OnOk result (tells.new.items ≡ tells.old.items ++ tells_below (heard_of timed.old) (parts lines.now)) }
 {
     for line in lines {
-        timed.hear_line(line)?;
+        find_told(timed, tells, line)?;
     }
     Ok(())
 }
 
-/// What was heard of a capture of these lines.
-fn heard_in(alloc: Global, lines: &[&[u8]]) -> Result<Timed, AllocError>
-    ensures { IfOk result (λ timed. heard_of timed ≡ after_lines nothing_heard (parts lines.now)) }
-{
-    let mut timed = Timed::new(alloc)?;
-    hear_all(&mut timed, lines)?;
-    Ok(timed)
+/// What was heard of a capture, and what each of its lines of digits tells.
+#[derive(Drop)]
+struct Capture {
+    timed: Timed,
+    tells: Vec<Told>,
 }
 
-/// The answer times of each device, by the moments in the lines of a capture.
-fn answer_times(alloc: Global, lines: &[&[u8]]) -> Result<String, AllocError>
-    ensures { IfOk result (λ told. string_bytes told ≡ times_text (after_lines nothing_heard (parts lines.now)).times) }
+/// What was heard of a capture of these lines.
+fn heard_in(alloc: Global, lines: &[&[u8]]) -> Result<Capture, AllocError>
+    ensures heard { IfOk result (λ capture. heard_of capture.timed ≡ after_lines nothing_heard (parts lines.now)) }
+    ensures tells { IfOk result (λ capture. capture.tells.items ≡ tells_below nothing_heard (parts lines.now)) }
 {
-    let timed = heard_in(alloc, lines)?;
+    let mut timed = Timed::new(alloc)?;
+    let mut tells = Vec::new(alloc);
+    hear_all(&mut timed, &mut tells, lines)?;
+    Ok(Capture { timed, tells })
+}
+
+/// The answer times of each device.
+fn answer_times(alloc: Global, timed: &Timed) -> Result<String, AllocError>
+    ensures { IfOk result (λ told. string_bytes told ≡ times_text (heard_of timed.now).times) }
+{
     let mut told = String::new(alloc);
     timed.push_times(&mut told)?;
     Ok(told)
 }
 
 /// The same as objects of JSON.
-fn answer_objects(alloc: Global, lines: &[&[u8]]) -> Result<String, AllocError>
-    ensures { IfOk result (λ told. string_bytes told ≡ times_objects (after_lines nothing_heard (parts lines.now)).times) }
+fn answer_objects(alloc: Global, timed: &Timed) -> Result<String, AllocError>
+    ensures { IfOk result (λ told. string_bytes told ≡ times_objects (heard_of timed.now).times) }
 {
-    let timed = heard_in(alloc, lines)?;
     let mut told = String::new(alloc);
     timed.push_objects(&mut told)?;
     Ok(told)
@@ -139,8 +243,9 @@ fn heard_text(alloc: Global, text: &[u8], shown: &[u8]) -> Result<Vec<u8>, Alloc
     ensures { IfOk result (λ told. told.items ≡ heard_text text.now shown.now) }
 {
     let lines = cut_lines(alloc, text)?;
-    let mut told = told_lines(alloc, lines.as_slice(), shown)?;
-    told.extend_from_slice(answer_times(alloc, lines.as_slice())?.as_bytes())?;
+    let Capture { timed, tells } = heard_in(alloc, lines.as_slice())?;
+    let mut told = told_lines(alloc, lines.as_slice(), tells.as_slice(), shown)?;
+    told.extend_from_slice(answer_times(alloc, &timed)?.as_bytes())?;
     Ok(told)
 }
 
@@ -149,8 +254,9 @@ fn heard_objects(alloc: Global, text: &[u8], shown: &[u8]) -> Result<Vec<u8>, Al
     ensures { IfOk result (λ told. told.items ≡ heard_objects text.now shown.now) }
 {
     let lines = cut_lines(alloc, text)?;
-    let mut told = told_objects(alloc, lines.as_slice(), shown)?;
-    told.extend_from_slice(answer_objects(alloc, lines.as_slice())?.as_bytes())?;
+    let Capture { timed, tells } = heard_in(alloc, lines.as_slice())?;
+    let mut told = told_objects(alloc, lines.as_slice(), tells.as_slice(), shown)?;
+    told.extend_from_slice(answer_objects(alloc, &timed)?.as_bytes())?;
     Ok(told)
 }
 

@@ -17,7 +17,8 @@ pub fn times_by_runs()
     ensures { TimesByRuns }
 {}
 
-/// With the moments of a capture the monitor tells the lines that it tells without, each after the moment and the way of its run: none is left out, none comes to them.
+/// With the moments of a capture the monitor tells the lines that it tells without, each after the moment and the way of its run, and a late answer before its times: none is
+/// left out, none comes to them.
 pub fn moments_leave_lines()
     ensures { MomentsLeaveLines }
 {}

@@ -19,7 +19,7 @@ fn is_stamp(line: &[u8]) -> bool
 }
 
 /// Whether a line is one of digits: no blank line and no comment.
-fn has_digits(line: &[u8]) -> bool
+pub(crate) fn has_digits(line: &[u8]) -> bool
     ensures { result ≡ has_digits line.now }
 {
     for byte in line {
@@ -78,21 +78,31 @@ pub(crate) fn is_decimal(byte: u8) -> bool
     byte >= b'0' && byte <= b'9'
 }
 
-/// The stamp of the run that a line of `show` begins with the number of.
-pub(crate) fn stamp_for<'a>(stamps: &[&'a [u8]], line: &[u8]) -> &'a [u8]
-    ensures { result.now ≡ stamp_at (run_of line.now) (parts stamps.now) }
+/// The number of the run that a line begins with; None where it is greater than this.
+pub(crate) fn run_in(line: &[u8], most: usize) -> Option<usize>
+    ensures { MatchOption result (most < run_of line.now) (λ run. run ≡ run_of line.now) }
 {
     let mut run = 0usize;
     for byte in line {
         if !is_decimal(*byte) {
-            return stamp_at(stamps, run);
+            return Some(run);
         }
-        match next_number(run, *byte, stamps.len()) {
+        match next_number(run, *byte, most) {
             Some(number) => run = number,
-            None => return NO_STAMP,
+            None => return None,
         }
     }
-    stamp_at(stamps, run)
+    Some(run)
+}
+
+/// The stamp of the run that a line of `show` begins with the number of.
+pub(crate) fn stamp_for<'a>(stamps: &[&'a [u8]], line: &[u8]) -> &'a [u8]
+    ensures { result.now ≡ stamp_at (run_of line.now) (parts stamps.now) }
+{
+    match run_in(line, stamps.len()) {
+        None => NO_STAMP,
+        Some(run) => stamp_at(stamps, run),
+    }
 }
 
 /// The number with one digit more; None where it is greater than this.

@@ -41,7 +41,7 @@ never_late exchanges e =
     ap (λ x. told_reply x e.number e.answered) (all_closed exchanges no_waits (λ s. refl) (of e)) ∙ in_time_is e
 
 late_is : (number next asked later answered : ℕ) → next ≢ number → asked ≤ later → later ≤ answered
-    → told_reply (sent next later (fresh (record { moment = asked; number = number }))) number answered ≡ Late (answered - asked)
+    → told_reply (sent next later (fresh (record { moment = asked; number = number }))) number answered ≡ Late (answered - asked) (later - asked)
 late_is number next asked later answered other first second =
     rw (eq-eqb number number refl, ne_eqb number next (λ e. other (sym e)), le-leb asked later first, le-leb later answered second) refl
 

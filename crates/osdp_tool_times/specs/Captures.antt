@@ -1,13 +1,15 @@
 -- A capture of lines of digits, some of which stand below a comment with their moment.
-use Rattle.std.specs.Prelude.{ℕ, ◌==◌, if◌then◌else◌, false, List, [], ◌∷◌, drop, replicate, Option, None, Some}
+use Rattle.std.specs.Prelude.{ℕ, ◌==◌, if◌then◌else◌, false, List, [], ◌∷◌, drop, replicate, slice_index_or, Option, None, Some}
 use Rattle.memchr.specs.Find.{first_of, is_byte, places}
 use Rattle.osdp_frame.specs.Held.{by_itself, decided}
 use Rattle.osdp_frame.specs.Reading.{RunItem, PacketItem, SkippedItem, RefusedItem}
 use Rattle.osdp_tool_streams.specs.Line.{kept, line_bytes}
 use Rattle.osdp_tool_times.specs.Moments.{moment_in}
-use Rattle.osdp_tool_times.specs.Times.{all_after, no_times}
+use Rattle.osdp_tool_times.specs.Times.{all_after, no_times, packet_told}
 use Rattle.osdp_tool_times.specs.declared.capture.Timed.{Timed}
 use Rattle.osdp_tool_times.specs.declared.table.Times.{Times}
+use Rattle.osdp_tool_times.specs.declared.waits.Told.{Told}
+use Rattle.osdp_tool_times.specs.declared.waits.Told.TheVariants.{Nothing}
 
 -- the moment of the next line of digits, where one is known, and what was counted of each address
 pub record Heard : Type 0 where
@@ -52,6 +54,27 @@ bytes_after (Some run) moment times = run_after run moment times
 
 abbrev pub after_line : Heard → List ℕ → Heard
 after_line h line = record { moment = moment_after (kept line) h.moment; times = bytes_after (line_bytes line) h.moment h.times }
+
+-- ---- what is told of a line
+
+abbrev pub item_told : Option RunItem → Option ℕ → List Times → Told
+item_told None moment times = Nothing
+item_told (Some (PacketItem p)) moment times = packet_told p moment (slice_index_or times p.address no_times)
+item_told (Some (SkippedItem b)) moment times = Nothing
+item_told (Some (RefusedItem fault)) moment times = Nothing
+
+abbrev pub run_told : List ℕ → Option ℕ → List Times → Told
+run_told run moment times = item_told (by_itself (decided false (from_start (start_in run) run))) moment times
+
+abbrev pub bytes_told : Option (List ℕ) → Option ℕ → List Times → Told
+bytes_told None moment times = Nothing
+bytes_told (Some run) moment times = run_told run moment times
+
+-- what the reply tells that a line is, where it is one
+abbrev pub line_told : Heard → List ℕ → Told
+line_told h line = bytes_told (line_bytes line) h.moment h.times
+
+-- ---- several lines
 
 -- one after the other
 unfoldable pub after_lines : Heard → List (List ℕ) → Heard

@@ -25,24 +25,24 @@ abbrev pub NeverTellsLate : Type 0
 NeverTellsLate = (exchanges : List Exchange) (e : Exchange)
     → told_reply (sent e.number e.asked (after_exchanges no_waits exchanges)) e.number e.answered ≡ InTime (e.answered - e.asked)
 
--- A device that answers after the panel has sent another packet with another number is told late, with the time that it took.
+-- A device that answers after the panel has sent another packet with another number is told late, with the time that it took, and the time that the panel waited.
 abbrev pub TellsLate : Type 0
 TellsLate = (exchanges : List Exchange) (number next asked later answered : ℕ) → next ≢ number → asked ≤ later → later ≤ answered
-    → told_reply (sent next later (sent number asked (after_exchanges no_waits exchanges))) number answered ≡ Late (answered - asked)
+    → told_reply (sent next later (sent number asked (after_exchanges no_waits exchanges))) number answered ≡ Late (answered - asked) (later - asked)
 
 -- A device that answers after the panel has sent its packet once more, and then that copy, is told late by its second answer, with the time of the first.
 abbrev pub TellsLateCopies : Type 0
 TellsLateCopies = (exchanges : List Exchange) (number asked again answered last : ℕ) → asked ≤ again → again ≤ answered
     → told_reply (after_reply number answered (sent number again (sent number asked (after_exchanges no_waits exchanges)))) number last
-    ≡ Late (answered - asked)
+    ≡ Late (answered - asked) (again - asked)
 
 -- It is told late as well where the panel has gone on by the first answer before the second one comes, with the time of the second.
 abbrev pub TellsLateSeconds : Type 0
 TellsLateSeconds = (exchanges : List Exchange) (number next asked again answered later last : ℕ) → next ≢ number → again ≤ later → later ≤ last
     → told_reply (sent next later (after_reply number answered (sent number again (sent number asked (after_exchanges no_waits exchanges))))) number last
-    ≡ Late (last - again)
+    ≡ Late (last - again) (later - again)
 
 -- A device that answers after the panel has sent two more packets, neither of them with its number, is told late.
 abbrev pub TellsLateFurther : Type 0
 TellsLateFurther = (exchanges : List Exchange) (number next last asked later latest answered : ℕ) → next ≢ number → last ≢ number → asked ≤ latest → latest ≤ answered
-    → told_reply (sent last latest (sent next later (sent number asked (after_exchanges no_waits exchanges)))) number answered ≡ Late (answered - asked)
+    → told_reply (sent last latest (sent next later (sent number asked (after_exchanges no_waits exchanges)))) number answered ≡ Late (answered - asked) (later - asked)

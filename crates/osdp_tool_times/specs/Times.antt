@@ -39,7 +39,7 @@ after_late time t = record t { late = one_more t.late; took = greater time t.too
 abbrev pub after_told : Told → Times → Times
 after_told Nothing t = t
 after_told (InTime time) t = after_in_time time t
-after_told (Late time) t = after_late time t
+after_told (Late took waited) t = after_late took t
 
 -- the panel goes on without an answer: of its waits the shortest is told
 abbrev pub after_missed : Option ℕ → Option Sent → ℕ → Times → Times
@@ -49,6 +49,11 @@ after_missed None (Some last) moment t = record t {
   missed = one_more t.missed;
   waited = if t.missed == 0 then moment - last.moment else lesser (moment - last.moment) t.waited;
 }
+
+-- what a packet tells: a reply at a known moment
+abbrev pub packet_told : Packet → Option ℕ → Times → Told
+packet_told p None t = Nothing
+packet_told p (Some moment) t = if p.reply then told_reply t.waits p.sequence moment else Nothing
 
 -- a packet without a moment leaves nothing open
 abbrev pub after_packet : Packet → Option ℕ → Times → Times

@@ -23,17 +23,18 @@ after_sent sent w =
 abbrev pub in_time : ℕ → ℕ → Told
 in_time sent answer = if nat_le sent answer then InTime (answer - sent) else Nothing
 
--- an answer that comes after the panel has sent its next packet is late, by the time from its own packet on
-abbrev pub late : ℕ → ℕ → ℕ → Told
-late sent next answer = if nat_le sent next && nat_le next answer then Late (answer - sent) else Nothing
+-- An answer that comes after the panel has sent its next packet, and maybe a last one after that, is late: it took the time from its own packet on, and the panel
+-- waited until its next packet.
+abbrev pub late : ℕ → ℕ → ℕ → ℕ → Told
+late sent next last answer = if nat_le sent last && nat_le last answer then Late (answer - sent) (next - sent) else Nothing
 
 abbrev pub in_time_from : Option Sent → ℕ → Told
 in_time_from None answer = Nothing
 in_time_from (Some last) answer = in_time last.moment answer
 
-abbrev pub late_from : Option Sent → Option Sent → ℕ → Told
-late_from (Some before) (Some last) answer = late before.moment last.moment answer
-late_from _ _ answer = Nothing
+abbrev pub late_from : Option Sent → Option Sent → Option Sent → ℕ → Told
+late_from (Some before) (Some next) (Some last) answer = late before.moment next.moment last.moment answer
+late_from _ _ _ answer = Nothing
 
 -- it has the number of a packet before, and the last packet has another
 abbrev pub is_of_older : Option Sent → Option Sent → ℕ → Bool
@@ -53,13 +54,13 @@ is_of_last (Some last) number = number == last.number
 -- one was late.
 abbrev pub told_first : Waits → Option ℕ → ℕ → Told
 told_first w None moment = if is_copied w.before w.last then Nothing else in_time_from w.last moment
-told_first w (Some first) moment = if is_copied w.before w.last then late_from w.before w.last first else Nothing
+told_first w (Some first) moment = if is_copied w.before w.last then late_from w.before w.last w.last first else Nothing
 
 -- what a reply with this number tells at this moment: it answers the oldest packet of its number
 abbrev pub told_reply : Waits → ℕ → ℕ → Told
 told_reply w number moment =
-    if is_of_older w.earlier w.last number then late_from w.earlier w.last moment
-    else (if is_of_older w.before w.last number then late_from w.before w.last moment
+    if is_of_older w.earlier w.last number then late_from w.earlier w.before w.last moment
+    else (if is_of_older w.before w.last number then late_from w.before w.last w.last moment
     else (if is_of_last w.last number then told_first w w.first moment else Nothing))
 
 abbrev pub first_or : Option ℕ → ℕ → Option ℕ

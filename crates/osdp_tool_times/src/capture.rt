@@ -7,6 +7,7 @@ use crate::object::push_objects;
 use crate::run::from_start;
 use crate::table::Times;
 use crate::text::push_times;
+use crate::waits::Told;
 use osdp_frame::{Item, whole_item};
 use osdp_tool_streams::{Digits, keep, read_line};
 use std::alloc::{AllocError, Global};
@@ -27,7 +28,7 @@ pub struct Timed {
 }
 
 impl Timed {
-    ghost use Rattle.osdp_tool_times.specs.Captures.{after_line, heard_of, nothing_heard, run_after};
+    ghost use Rattle.osdp_tool_times.specs.Captures.{after_line, heard_of, line_told, nothing_heard, run_after, run_told};
     ghost use Rattle.osdp_tool_times.specs.Text.{times_objects, times_text};
 
     /// Nothing was heard.
@@ -43,30 +44,33 @@ impl Timed {
         })
     }
 
-    /// The bytes of a line came at this moment.
-    fn hear_bytes(&mut self, moment: Option<u64>)
+    /// The bytes of a line came at this moment. What they tell.
+    fn hear_bytes(&mut self, moment: Option<u64>) -> Told
+        ensures told { result ≡ run_told self.old.bytes.items moment self.old.times.items }
         ensures times { self.new.times.items ≡ run_after self.old.bytes.items moment self.old.times.items }
         ensures moment { self.new.moment ≡ self.old.moment }
     {
         let bytes = from_start(&self.bytes);
         if let Some(Item::Packet(packet)) = whole_item(bytes) {
             let times = &mut self.times[usize::from(packet.address().get())];
-            times.take(&packet, moment);
+            return times.take(&packet, moment);
         }
+        Told::Nothing
     }
 
-    /// A line of the capture comes, without its end. A bad line, which is no line of digits, is passed over.
-    pub fn hear_line(&mut self, line: &[u8]) -> Result<(), AllocError>
-        ensures { OnOk result (heard_of self.new ≡ after_line (heard_of self.old) line.now) }
+    /// A line of the capture comes, without its end. What it tells, where it is a reply. A bad line, which is no line of digits, is passed over.
+    pub fn hear_line(&mut self, line: &[u8]) -> Result<Told, AllocError>
+        ensures told { IfOk result (λ told. told ≡ line_told (heard_of self.old) line.now) }
+        ensures after { OnOk result (heard_of self.new ≡ after_line (heard_of self.old) line.now) }
     {
         self.characters.clear();
         keep(&mut self.characters, line)?;
         let moment = self.moment;
         self.moment = moment_after(&self.characters, moment);
         if read_line(&self.digits, &mut self.characters, &[], &mut self.bytes)? {
-            self.hear_bytes(moment);
+            return Ok(self.hear_bytes(moment));
         }
-        Ok(())
+        Ok(Told::Nothing)
     }
 
     /// Writes what was heard: lines for each address that has answered.

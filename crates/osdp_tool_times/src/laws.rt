@@ -12,7 +12,7 @@ pub fn tells_late()
     ensures { TellsLate }
 {}
 
-/// A device that answers after the panel has sent its packet once more is told late by its second answer.
+/// A device that answers after the panel has sent its packet once more is told late by its second answer, with the time of the first and the panel's wait.
 pub fn tells_late_copies()
     ensures { TellsLateCopies }
 {}

@@ -13,3 +13,4 @@ mod text;
 mod waits;
 
 pub use capture::Timed;
+pub use waits::Told;

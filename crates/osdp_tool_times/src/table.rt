@@ -1,7 +1,7 @@
 //! What is counted of the answers of a device.
 
 ghost use Rattle.std.specs.Prelude.{◌≡◌, ◌<◌, ◌≤◌, length};
-ghost use Rattle.osdp_tool_times.specs.Times.{after_in_time, after_late, after_missed, after_packet, after_told, below, greater, half_below, lesser, most_below, no_times, one_more, step_at, step_of};
+ghost use Rattle.osdp_tool_times.specs.Times.{after_in_time, after_late, after_missed, after_packet, after_told, below, greater, half_below, lesser, most_below, no_times, one_more, packet_told, step_at, step_of};
 
 use crate::waits::{Sent, Told, Waits};
 use osdp_frame::FrameView;
@@ -138,26 +138,30 @@ impl Times {
         match told {
             Told::Nothing => {}
             Told::InTime(time) => self.count_in_time(time),
-            Told::Late(time) => self.count_late(time),
+            Told::Late(took, _) => self.count_late(took),
         }
     }
 
-    /// A packet to the device or from it came at this moment, where it is known.
-    pub fn take(&mut self, packet: &FrameView<'_>, moment: Option<u64>)
-        ensures { self.new ≡ after_packet packet.now moment self.old }
+    /// A packet to the device or from it came at this moment, where it is known. What it tells.
+    pub fn take(&mut self, packet: &FrameView<'_>, moment: Option<u64>) -> Told
+        ensures told { result ≡ packet_told packet.now moment self.old }
+        ensures after { self.new ≡ after_packet packet.now moment self.old }
     {
         let Some(moment) = moment else {
             self.waits = Waits::NONE;
-            return;
+            return Told::Nothing;
         };
         let number = packet.seq().get();
         let waits = self.waits;
         if packet.is_reply() {
-            self.count(waits.told_reply(number, moment));
+            let told = waits.told_reply(number, moment);
+            self.count(told);
             self.waits = waits.after_reply(number, moment);
+            told
         } else {
             self.count_missed(moment);
             self.waits = waits.after_sent(Sent { moment, number });
+            Told::Nothing
         }
     }
 

@@ -30,7 +30,7 @@ const OBJECTS: &str =
 fn heard(rt: &impl Abort, alloc: Global) -> Timed {
     let mut timed = Timed::new(alloc).expect(rt, "memory");
     for line in CAPTURE {
-        timed.hear_line(line.as_bytes()).expect(rt, "memory");
+        let _ = timed.hear_line(line.as_bytes()).expect(rt, "memory");
     }
     timed
 }

@@ -19,8 +19,8 @@ pub enum Told {
     Nothing,
     /// An answer came before the panel's next packet, after so many milliseconds.
     InTime(u64),
-    /// An answer came later than that, so many milliseconds after its packet.
-    Late(u64),
+    /// An answer came later than that: so many milliseconds after its packet, and so many the panel waited until its next packet.
+    Late(u64, u64),
 }
 
 /// What is open between a panel and a device.
@@ -47,12 +47,12 @@ fn in_time(sent: u64, answer: u64) -> Told
     }
 }
 
-/// What is told of an answer that came after the panel's next packet.
-fn late(sent: u64, next: u64, answer: u64) -> Told
-    ensures { result ≡ late sent next answer }
+/// What is told of an answer that came after the panel's next packet, and its last one.
+fn late(sent: u64, next: u64, last: u64, answer: u64) -> Told
+    ensures { result ≡ late sent next last answer }
 {
-    if sent <= next && next <= answer {
-        Told::Late(answer - sent)
+    if sent <= last && last <= answer {
+        Told::Late(answer - sent, next.saturating_sub(sent))
     } else {
         Told::Nothing
     }
@@ -68,12 +68,14 @@ fn in_time_from(last: Option<Sent>, answer: u64) -> Told
     }
 }
 
-/// What is told of a late answer to the packet before.
-fn late_from(before: Option<Sent>, last: Option<Sent>, answer: u64) -> Told
-    ensures { result ≡ late_from before last answer }
+/// What is told of a late answer to a packet before, after which the panel sent the next one, and the last one.
+fn late_from(before: Option<Sent>, next: Option<Sent>, last: Option<Sent>, answer: u64) -> Told
+    ensures { result ≡ late_from before next last answer }
 {
-    match (before, last) {
-        (Some(before), Some(last)) => late(before.moment, last.moment, answer),
+    match (before, next, last) {
+        (Some(before), Some(next), Some(last)) => {
+            late(before.moment, next.moment, last.moment, answer)
+        }
         _ => Told::Nothing,
     }
 }
@@ -165,7 +167,7 @@ impl Waits {
         match first {
             None if copied => Told::Nothing,
             None => in_time_from(self.last, moment),
-            Some(first) if copied => late_from(self.before, self.last, first),
+            Some(first) if copied => late_from(self.before, self.last, self.last, first),
             Some(_) => Told::Nothing,
         }
     }
@@ -175,9 +177,9 @@ impl Waits {
         ensures { result ≡ told_reply self number moment }
     {
         if is_of_older(self.earlier, self.last, number) {
-            late_from(self.earlier, self.last, moment)
+            late_from(self.earlier, self.before, self.last, moment)
         } else if is_of_older(self.before, self.last, number) {
-            late_from(self.before, self.last, moment)
+            late_from(self.before, self.last, self.last, moment)
         } else if is_of_last(self.last, number) {
             self.told_first(self.first, moment)
         } else {

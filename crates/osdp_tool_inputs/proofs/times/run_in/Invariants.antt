@@ -1,6 +1,6 @@
 use Rattle.std.proofs.Common.{◌≡◌, drop}
 use Rattle.osdp_tool_inputs.specs.Times.{number_after, run_of}
-use Rattle.osdp_tool_inputs.proofs.times.stamp_for.Given as goal
+use Rattle.osdp_tool_inputs.proofs.times.run_in.Given as goal
 
 -- the digits so far, and those to come
 abbrev pub invariant-loop-byte : goal.invariant-loop-byte
