@@ -76,16 +76,16 @@ def waits_of(bursts, delay):
     return {run: {after.get(moment - delay), before.get(moment - delay)} for run, (moment, own, _) in enumerate(bursts, 1) if not own}
 
 
-def line_faults(bursts, delay, with_times):
-    """What is wrong with the times that stand where late answers are told."""
+def line_faults(bursts, delay, repeats, with_times):
+    """What is wrong with the times that stand where late answers are told. A panel that doesn't repeat goes on without an answer: after two packets more none is told."""
     waits = waits_of(bursts, delay)
     told = TOLD.findall(with_times)
     for run, took, waited in told:
-        if took and (int(took) != delay or int(waited) not in waits[int(run)]):
+        if not took or int(took) != delay or int(waited) not in waits[int(run)]:
             yield f"run {run} is told by {took} ms and {waited} ms, made with {delay} ms and {waits[int(run)]}"
     if len(TOOK.findall(with_times)) != sum(bool(took) for _, took, _ in told):
         yield "times stand after another line"
-    if delay > WAIT and not any(took for _, took, _ in told) or delay <= WAIT and told:
+    if bool(told) != (delay > WAIT and (repeats or delay <= 2 * WAIT)):
         yield f"{len(told)} late answers are told"
 
 
@@ -103,7 +103,7 @@ def faults_of(delay, repeats, form):
             yield f"the shares are not of {delay}: {in_time[0]}"
     elif not late or late[2] != str(delay) or late[3] != str(WAIT) or in_time:
         yield f"told {late and late[0]}, {in_time and in_time[0]}"
-    yield from line_faults(bursts, delay, with_times)
+    yield from line_faults(bursts, delay, repeats, with_times)
     plain = told(words, text)
     with_times = TOOK.sub("", with_times)
     unstamped = re.sub(r"^\S+ (?:in|out|trace) (\d+:)", r"\1", re.sub(r"^times: .*\n", "", with_times, flags=re.M), flags=re.M)
