@@ -33,20 +33,31 @@ def refusing(tools, edit):
         copy = tools.Copy({crate, *tools.below(crate)}, False)
         try:
             copy.write({it: text for it, text in texts.items() if os.path.isdir(f"{copy.root}/crates/{it.split('/')[1]}")})
-            why = refusal(tools, copy, crate, kind, path)
+            found = refusals(tools, copy, crate, kind, path)
         finally:
             copy.remove()
-        if why:
-            return why
+        # what fails without any edit shows nothing
+        if found and (new := [it for it in found if it not in fails_unedited(tools, crate, kind, path)]):
+            return new[0]
     return ""
 
 
-def refusal(tools, copy, crate, kind, path):
+@functools.cache
+def fails_unedited(tools, crate, kind, path):
+    """Returns what a run tells as failed where nothing is edited."""
+    copy = tools.Copy({crate, *tools.below(crate)}, False)
+    try:
+        return tuple(refusals(tools, copy, crate, kind, path))
+    finally:
+        copy.remove()
+
+
+def refusals(tools, copy, crate, kind, path):
+    """Returns the tests that fail, or the row or the program that comes out otherwise."""
     if kind == "test":
         _, text = tools.ran(["rt", "try", "--test"], copy.folder(crate))
-        failed = re.search(r"^test (\S+) \.\.\. FAILED", text, re.M)
-        return f"test `{crate}::{failed[1]}`" if failed else ""
+        return [f"test `{crate}::{it}`" for it in re.findall(r"^test (\S+) \.\.\. FAILED", text, re.M)]
     try:
-        return tools.failing_program(copy, crate) if kind == "program" else tools.failing_row(copy, path)
+        return [tools.failing_program(copy, crate) if kind == "program" else tools.failing_row(copy, path)]
     except tools.Bad:
-        return ""
+        return []

@@ -10,6 +10,8 @@ from .facts import INTEGERS, plain
 OPERATOR, OTHER, STATEMENT = "a case told apart", "another expression of the function", "another statement of the function"
 VALUES = ("call", "method", "path", "field", "literal", "struct", "macro", "binary", "unary", "index", "tuple", "array", "cast", "matches", "if")
 LONGEST = 100
+# so many terms of a clause that are written alike may stand in place of each other
+MOST = 10
 # what may stand in place of a value whose type isn't known
 PLAIN = ("0", '""', "&[]")
 
@@ -176,8 +178,6 @@ def tests(path, kind):
 
 PARTS = ("apply", "binary", "name", "project", "group", "literal", "record", "lambda")
 TERM = "another term of the definition"
-# what may stand in place of a term that is written otherwise
-BESIDE = {"apply": ("name", "++", "∷"), "name": ("apply", "∷"), "∷": ("apply", "name"), "++": ("name", "apply")}
 
 
 class ShortTerms:
@@ -191,10 +191,9 @@ class ShortTerms:
 
     def make(self):
         """Yields each edit's operator, its place and its text."""
-        name, donors = self.unit.name.partition(".")[0], {}
-        units = [it for it in self.file.units if it.name.partition(".")[0] == name and it.tree is not None]
-        for it in [node for unit in units for node in unit.tree.walk()]:
-            if it.kind in PARTS and it.end - it.start <= 2 * LONGEST:
+        donors = {}
+        for it in self.unit.tree.walk():
+            if it.kind in PARTS and it.end - it.start <= LONGEST:
                 donors.setdefault(self.said(it), sort_of(it))
         for it in [one.text for one in self.unit.patterns if one.kind == "name" and one.text[:1].islower()] if self.unit.kind == "clause" else ():
             donors.setdefault(it, "name")
@@ -202,11 +201,13 @@ class ShortTerms:
             if node.kind in PARTS:
                 yield from self.at(node, donors)
         if self.unit.kind == "field":
-            yield from self.sides([it for it in units if it is not self.unit])
+            name = self.unit.name.partition(".")[0]
+            yield from self.sides([it for it in self.file.units if it is not self.unit and it.name.partition(".")[0] == name and it.tree is not None])
 
     def at(self, node, donors):
         own, sort = self.said(node), sort_of(node)
-        texts = [text for text, of in donors.items() if text != own and (of == sort or of in BESIDE.get(sort, ()) and len(text) <= 40)]
+        texts = [text for text, of in donors.items() if of == sort and text != own]
+        texts = texts if len(texts) <= MOST else []
         if sort == "statement":
             texts += ["⊥", NOTHING]
         elif sort == "name" and not own.rpartition(".")[2][:1].isupper():
@@ -220,7 +221,11 @@ class ShortTerms:
     def sides(self, others):
         """In a record of statements, what another field says that something is."""
         node = self.unit.tree
+        own = sort_of(node)
         for it in others:
+            # a whole statement, where both say a thing of the same sort
+            if own == "statement" and sort_of(it.tree) == own and node.kind == it.tree.kind == "apply":
+                yield TERM, node.start, node.end, self.said(it.tree)
             if all(one.kind == "binary" and one.sign.text in ("≡", "≤") for one in (node, it.tree)) and self.said(it.tree.right) != self.said(node.right):
                 yield TERM, node.right.start, node.right.end, self.said(it.tree.right)
 
