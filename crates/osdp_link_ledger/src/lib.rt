@@ -37,7 +37,7 @@ pub fn holds_by_ledger<H: Handler>()
 }
 
 /// Where the device never changes, each command that it acted on has the answer of its settings, to ID, CAP and COMSET, or of its one handler, to all
-/// others, in order. A restart with the handler that it has is no change.
+/// others, in order. A restart as the same model, with the handler that it has, is no change.
 pub fn acts_have_answers_of_one_handler<H: Handler>()
     ensures { ActsHaveAnswersOfOneHandler H.answer_of H.after }
 {
