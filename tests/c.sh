@@ -91,7 +91,7 @@ build session_checked "${session[@]}" c/heap_malloc.c "${counted[@]}" "$archive"
 build exchange bench/exchange.c c/heap_malloc.c "$archive" && passes "$work/exchange" &&
   { sed 's/^stack of //; s/ bytes, wanted.*//' "$work/said" | awk '
       BEGIN {
-        most["osdp_panel_new and add"] = 6000; most["osdp_device_new"] = 17000; most["osdp_command_text"] = 6200; most["osdp_panel_submit_text"] = 5200
+        most["osdp_panel_new and add"] = 6000; most["osdp_device_new"] = 17000; most["osdp_command_text"] = 6200
         most["osdp_monitor_new"] = 6000; most["osdp_monitor_bytes"] = 11000; most["osdp_monitor_silence"] = 11000
       }
       { taken = $NF; sub(/ +[0-9]+$/, ""); if (taken > ($0 in most ? most[$0] : 4096)) { print; more = 1 } }
