@@ -1,5 +1,6 @@
 #!/usr/bin/env python3
-"""How long `osdp monitor` takes beside `osdp check`, and with moments beside without: `bench/listening.py [MEGABYTES [ROUNDS [PROGRAM]]]`, 24 and 8 if left out.
+"""How long `osdp monitor` takes beside `osdp check`, and with moments beside without:
+`bench/listening.py [MEGABYTES [ROUNDS [PROGRAM]]]`, 24 and 8 if left out.
 
 The capture is made here: 16 devices are asked in turn each 50 ms, and each answers its POLL by an ACK 10 to 40 ms later. Above each burst stands a comment with its
 moment and its way. All packets have a CRC. `plain` is the same capture without these comments. The commands run in turn, and the least of all rounds counts:
@@ -36,7 +37,7 @@ def capture():
     packets = {(address, number, code): packet(address, number, code) for device in range(16) for number in range(4)
                for address, code in ((device, 0x60), (device + 128, 0x40))}
     while size < SIZE:
-        device, number, moment = turn % 16, (turn // 16) % 3 + 1 if turn >= 16 else 0, 1000 + 50 * turn
+        device, number, moment = turn % 16, (turn // 16 - 1) % 3 + 1 if turn >= 16 else 0, 1000 + 50 * turn
         answered = moment + 10 + turn * 7 % 31
         for when, way, text in ((moment, "out", packets[device, number, 0x60]), (answered, "in", packets[device + 128, number, 0x40])):
             made.append(f"# {when // 1000}.{when % 1000:03} {way}\n{text}\n")
@@ -51,7 +52,7 @@ def measured(source, words):
         _, status, used = os.wait4(child.pid, 0)
     if os.waitstatus_to_exitcode(status) > 1:
         sys.exit(f"osdp {' '.join(words)} failed")
-    return used.ru_utime + used.ru_stime, used.ru_maxrss
+    return used.ru_utime + used.ru_stime
 
 
 def main():
@@ -62,15 +63,15 @@ def main():
         timed, plain = Path(folder, "timed.hex"), Path(folder, "plain.hex")
         timed.write_text(text)
         plain.write_text("".join(line + "\n" for line in text.splitlines() if not line.startswith("#")))
-        rows = [("plain", plain, ["check", "--hex"]), ("plain", plain, ["monitor", "--hex"]), ("timed", timed, ["monitor", "--hex"]), ("timed", timed, ["monitor", "--hex", "--times"])]
-        rows[0][2].remove("--hex")
-        best = [(float("inf"), 0)] * len(rows)
+        listen = ["monitor", "--hex"]
+        rows = [("plain", plain, ["check"]), ("plain", plain, listen), ("timed", timed, listen), ("timed", timed, [*listen, "--times"])]
+        best = [float("inf")] * len(rows)
         for _ in range(ROUNDS):
             best = [min(least, measured(source, words)) for least, (_, source, words) in zip(best, rows)]
         print(f"{packets} packets; with moments {len(text) / 1e6:.1f} MB")
-        for (name, source, words), (seconds, memory) in zip(rows, best):
-            print(f"{name} {' '.join(words):24} {1000 * seconds:7.1f} ms {1e9 * seconds / packets:6.1f} ns a packet {memory:8} kB")
-        print(f"monitor beside check {best[1][0] / best[0][0]:.2f}, with moments beside without {best[3][0] / best[2][0]:.2f}")
+        for (name, source, words), seconds in zip(rows, best):
+            print(f"{name} {' '.join(words):24} {1000 * seconds:7.1f} ms {1e9 * seconds / packets:6.1f} ns a packet")
+        print(f"monitor beside check {best[1] / best[0]:.2f}, with moments beside without {best[3] / best[2]:.2f}")
 
 
 if __name__ == "__main__":
