@@ -88,6 +88,8 @@ impl Memory {
 
 impl BoxedMemory {
     /// No event was reported. It takes the memory for one.
+    // It stands by itself: that memory is made on the stack, and a controller too where a device is added, so they aren't there at the same time.
+    #[inline(never)]
     pub(crate) fn new(alloc: Global) -> Result<BoxedMemory, BusFault>
         ensures made { IfOk result (λ m. m ≡ nothing_yet) }
         ensures fault { IfErr result (λ fault. fault ≡ NoMemory) }
